@@ -1,0 +1,4 @@
+pub mod Fronts
+pub mod InputLemmas
+pub mod LookLemmas
+pub mod WindowLemmas

@@ -1,0 +1,42 @@
+-- The first line of the bytes that are held.
+use Rattle.std.proofs.Common.{◌≡◌, ℕ, ◌+◌, ◌<◌, ◌≤◌, List, [], ◌∷◌, ◌++◌, length, take, drop, min, refl, sym, ap, ◌∙◌, subst, arith}
+use Rattle.std.proofs.lemmas.List.{length-take, length-append, length-drop, take-append-drop, take-take, take_at, drop_at, append_assoc}
+use Rattle.aim_io.specs.Lines.{HasNoEnd, EndsAt, ShowsBytes}
+
+-- a byte 10 behind so many bytes stands there
+pub split_at : (bytes front tail : List ℕ) (at : ℕ) → bytes ≡ front ++ 10 ∷ tail → length front ≡ at → bytes ≡ take at bytes ++ 10 ∷ drop (at + 1) bytes
+split_at bytes front tail at is size =
+    let first : take at bytes ≡ front = ap (take at) is ∙ take_at front (10 ∷ tail) at size in
+    let joined : bytes ≡ (front ++ 10 ∷ []) ++ tail = is ∙ sym (append_assoc front (10 ∷ []) tail) in
+    let behind : drop (at + 1) bytes ≡ tail = ap (drop (at + 1)) joined ∙ drop_at (front ++ 10 ∷ []) tail (at + 1) (length-append front (10 ∷ []) ∙ ap (λ n. n + 1) size) in
+    rw (first, behind) is
+
+-- a line that ends among the first bytes ends there among all
+pub ends_in : (bytes : List ℕ) (size at : ℕ) → EndsAt (take size bytes) at → EndsAt bytes at
+ends_in bytes size at ends =
+    let fits : at < min size (length bytes) = omega (arith, ends.fits, length-take size bytes) in
+    let same : take at (take size bytes) ≡ take at bytes = take-take at size bytes (omega arith) in
+    let tail : List ℕ = drop (at + 1) (take size bytes) ++ drop size bytes in
+    let whole : bytes ≡ take at bytes ++ 10 ∷ tail =
+    sym (take-append-drop size bytes) ∙ ap (λ (l : List ℕ). l ++ drop size bytes) ends.split
+    ∙ append_assoc (take at (take size bytes)) (10 ∷ drop (at + 1) (take size bytes)) (drop size bytes) ∙ ap (λ (l : List ℕ). l ++ 10 ∷ tail) same in
+    record {
+      fits = omega (arith, fits);
+      no_end = subst HasNoEnd same ends.no_end;
+      split = split_at bytes (take at bytes) tail at whole (length-take at bytes ∙ omega arith);
+    }
+
+-- no end and no 401st byte up to the last byte that is taken, and a further one
+pub past_bytes : (given place size : ℕ) (bytes : List ℕ) → given < 262144 → place + size ≡ 67108864 → size ≤ 400 → size < length bytes
+    → HasNoEnd (take size bytes) → ShowsBytes given place bytes
+past_bytes given place size bytes few last short further no_end =
+    let size_is : length (take size bytes) ≡ size = length-take size bytes ∙ omega arith in record {
+      few = few;
+      front = take size bytes;
+      rest = drop size bytes;
+      split = sym (take-append-drop size bytes);
+      no_end = no_end;
+      last = omega (arith, size_is);
+      short = omega (arith, size_is);
+      further = omega (arith, length-drop size bytes);
+    }

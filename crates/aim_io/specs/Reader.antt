@@ -1,0 +1,46 @@
+-- What contracts see of a line reader, and what its calls answer.
+use Rattle.std.specs.Prelude.{◌≡◌, ◌≢◌, ◌≤◌, ◌<◌, ℕ, ◌+◌, List, [], ◌∷◌, ◌++◌, length, take, drop, Bool, true, false, Some, None, Result, Ok, Err, ⊤}
+use Rattle.std.specs.Borrow.{Bor}
+use Rattle.std.specs.declared.option.Option.{Option}
+use Rattle.std.specs.Io.KnownBytes.{Consumes, IsAtEnd, Keeps, prepend_known}
+use Rattle.aim_io.specs.declared.lines.LineFault.{LineFault}
+use Rattle.aim_io.specs.declared.lines.LineFault.TheVariants.{Read, Long, Bytes, Lines}
+use Rattle.aim_io.specs.Lines.{Outcome, Line, Stop, outcomes, HasNoEnd, ShowsLines, ShowsLong, ShowsBytes}
+
+-- a reader: the bytes that it has read ahead, the last line that it gave, how many lines it gave, how many bytes it took
+-- for them, the fault that it answers from now on, and whether it has seen the end of the input
+pub record Reader : Type 0 where
+  pub held : List ℕ
+  pub line : List ℕ
+  pub given : ℕ
+  pub place : ℕ
+  pub fault : Option LineFault
+  pub ended : Bool
+
+abbrev pub fresh : Reader
+fresh = record { held = []; line = []; given = 0; place = 0; fault = None; ended = false }
+
+-- what is still to come: the bytes read ahead, and then those that the source has left
+abbrev pub input : Reader → Option (List ℕ) → Option (List ℕ)
+input reader left = prepend_known reader.held left
+
+-- where the reader has seen the end of the input, the source has nothing left
+abbrev pub KnowsEnd : Reader → Option (List ℕ) → Type 0
+KnowsEnd reader left = reader.ended ≡ true → IsAtEnd left
+
+-- the answers from here on, if these bytes are still to come
+abbrev pub coming : Reader → List ℕ → List Outcome
+coming reader bytes = outcomes reader.given reader.place bytes
+
+-- the fault is the next answer of the bytes to come, or the source failed and nothing is answered of them
+abbrev pub Stops : Reader → List ℕ → LineFault → Type 0
+Stops reader bytes Read = ⊤
+Stops reader bytes fault = coming reader bytes ≡ Stop fault ∷ []
+
+-- what a call that asks for the next line answers, by the bytes to come before and after it
+abbrev pub Answers : Reader → Reader → Option (List ℕ) → Option (List ℕ) → Result Bool LineFault → Type 0
+Answers old new None after result = ⊤
+Answers old new (Some bytes) None result = ⊥
+Answers old new (Some bytes) (Some rest) (Ok true) = coming old bytes ≡ Line new.line ∷ coming new rest
+Answers old new (Some bytes) (Some rest) (Ok false) = (bytes ≡ []) × (rest ≡ [])
+Answers old new (Some bytes) (Some rest) (Err fault) = (rest ≡ bytes) × Stops old bytes fault

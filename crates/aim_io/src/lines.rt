@@ -1,0 +1,261 @@
+// Lines of at most 400 bytes, from any source.
+ghost use Rattle.std.specs.Prelude.{◌≡◌, ◌≢◌, ◌⊎◌, ◌+◌, ◌-◌, ◌<◌, ◌≤◌, ◌↔◌, ◌++◌, ◌∷◌, if◌then◌else◌, [], Some, None, Ok, Err, List, ℕ, length, take, drop, IfOk, IfErr, OnErr, OnOk, IfSome, IfNone, true, false, IsTrue, nat_lt};
+ghost use Rattle.std.specs.Bool.{OnFalse, OnTrue};
+ghost use Rattle.std.specs.Io.KnownBytes.{Consumes, IsAtEnd, Keeps};
+ghost use Rattle.aim_io.specs.Causes.{HasCause, Rose};
+ghost use Rattle.aim_io.specs.Lines.{HasNoEnd, EndsAt, IsOpen, with_end};
+ghost use Rattle.aim_io.specs.Look.{SaysOf};
+
+use crate::{Failed, Source};
+use std::marker::Model;
+
+// The byte that ends a line.
+const LINE_END: u8 = b'\n';
+
+// A line of so many bytes is too long.
+const TOO_LONG: usize = 401;
+
+// So many lines are given at most.
+const MOST_LINES: u32 = 262_144;
+
+// So many bytes of the input are taken at most.
+const MOST_BYTES: usize = 67_108_864;
+
+// The room for bytes that are read ahead.
+const ROOM: usize = 4096;
+
+/// Why no next line is given. A reader that has answered a fault answers it again for ever, and
+/// reads no more.
+#[derive(Clone, Copy, Debug, PartialEq, Eq)]
+pub enum LineFault {
+    /// The source has failed.
+    Read,
+    /// The line of this number, counted from 1, has a 401st byte, which is among the first
+    /// 67,108,864 bytes of the input.
+    Long(u32),
+    /// The next line has neither its end nor its 401st byte among the first 67,108,864 bytes of the
+    /// input, and a further byte is there.
+    Bytes,
+    /// 262,144 lines were given, and a further byte is there.
+    Lines,
+}
+
+// What the bytes that are held say of the next line.
+enum Look {
+    // It has so many bytes, and its end is held.
+    Line(usize),
+    // A fault stands in its place.
+    Stop(LineFault),
+    // Neither its end nor its 401st byte is held, and further bytes have to tell.
+    Open,
+}
+
+// Where the first line of some bytes ends, if a byte 10 is there.
+fn line_end(bytes: &[u8]) -> Option<usize>
+    ensures found { IfSome result (EndsAt bytes.now) }
+    ensures none { IfNone result (HasNoEnd bytes.now) }
+{
+    bytes.iter().position(|&byte| byte == LINE_END)
+}
+
+// What so many lines given, so many bytes gone and these bytes to come say of the next line.
+fn look_at(given: u32, place: usize, held: &[u8]) -> Look
+    requires { place ≤ 67108864 }
+    ensures { SaysOf given place held.now result }
+{
+    if given >= MOST_LINES {
+        return if held.is_empty() {
+            Look::Open
+        } else {
+            Look::Stop(LineFault::Lines)
+        };
+    }
+    let room = TOO_LONG.min(MOST_BYTES - place);
+    match line_end(&held[..room.min(held.len())]) {
+        Some(len) => Look::Line(len),
+        None if held.len() <= room && held.len() < TOO_LONG => Look::Open,
+        None if room == TOO_LONG => Look::Stop(LineFault::Long(given + 1)),
+        None => Look::Stop(LineFault::Bytes),
+    }
+}
+
+// Moves what is held to the front where no room is left behind it, and says where it begins.
+fn make_room(bytes: &mut [u8], start: usize, end: usize) -> usize
+    requires size { length bytes.old ≡ 4096 }
+    requires ordered { start ≤ end }
+    requires in_range { end ≤ 4096 }
+    requires short { end ≤ start + 400 }
+    ensures held { drop result (take (result + (end - start)) bytes.new) ≡ drop start (take end bytes.old) }
+    ensures room { result + (end - start) < 4096 }
+{
+    if end < ROOM {
+        return start;
+    }
+    bytes.copy_within(start..end, 0);
+    0
+}
+
+// Reads a piece of at most so many bytes to a place, and says how many there were.
+fn read_at<S: Source>(
+    source: &mut S,
+    bytes: &mut [u8],
+    at: usize,
+    most: usize,
+) -> Result<usize, Failed>
+    requires in_range { at < length bytes.old }
+    requires some { 0 < most }
+    ensures front { take at bytes.new ≡ take at bytes.old }
+    ensures fits { IfOk result (λ n. (at + n ≤ length bytes.new) × (n ≤ most)) }
+    ensures piece { IfOk result (λ n. Consumes (S.left source.old) (S.left source.new) (take n (drop at bytes.new))) }
+    ensures end { IfOk result (λ n. n ≡ 0 → IsAtEnd (S.left source.new)) }
+    ensures err { OnErr result (Keeps (S.left source.old) (S.left source.new)) }
+    ensures cause { HasCause (S.faults source.old) (S.faults source.new) result }
+{
+    let to = at + most.min(bytes.len() - at);
+    let count = source.read(&mut bytes[at..to])?;
+    Ok(count)
+}
+
+/// Cuts what a source gives into lines, and shows the last one. A line ends at a byte 10, which is
+/// not part of it, or at the end of the input.
+#[derive(Drop)]
+pub struct LineReader {
+    // The bytes from `start` to `end` were read ahead.
+    bytes: [u8; ROOM],
+    start: usize,
+    end: usize,
+    // The last line stands behind `line_start`.
+    line_start: usize,
+    line_len: usize,
+    given: u32,
+    place: usize,
+    fault: Option<LineFault>,
+    ended: bool,
+}
+
+impl Model for LineReader {
+    ghost use Rattle.std.specs.Prelude.{◌≡◌, ◌+◌, ◌≤◌, take, drop, true};
+    ghost use Rattle.aim_io.specs.Reader.{Reader};
+
+    ghost Value = { Reader };
+
+    ghost view = { λ r. record { held = drop r.start (take r.end r.bytes); line = take r.line_len (drop r.line_start r.bytes); given = r.given; place = r.place; fault = r.fault; ended = r.ended } };
+
+    ghost invariant = { λ r. (r.start ≤ r.end) × (r.end ≤ 4096) × (r.line_start + r.line_len ≤ 4096) × (r.given ≤ 262144) × (r.place ≤ 67108864) × (r.place + r.end ≤ 67108865 + r.start) × (r.ended ≡ true → r.start ≡ r.end) };
+}
+
+impl LineReader {
+    ghost use Rattle.aim_io.specs.Reader.{fresh, input, KnowsEnd, Answers};
+
+    /// A reader that has read nothing.
+    pub fn new() -> LineReader
+        ensures { result ≡ fresh }
+    {
+        LineReader {
+            bytes: [0; ROOM],
+            start: 0,
+            end: 0,
+            line_start: 0,
+            line_len: 0,
+            given: 0,
+            place: 0,
+            fault: None,
+            ended: false,
+        }
+    }
+
+    /// The line that the last call of `advance` took, or nothing where it took none.
+    pub fn line(&self) -> &[u8]
+        ensures { result.now ≡ self.now.line }
+    {
+        &self.bytes[self.line_start..self.line_start + self.line_len]
+    }
+
+    // What is held says of the next line.
+    fn look(&self) -> Look
+        ensures { SaysOf self.now.given self.now.place self.now.held result }
+    {
+        look_at(self.given, self.place, &self.bytes[self.start..self.end])
+    }
+
+    // Takes a line of so many bytes and its end, `size` bytes in all.
+    fn take(&mut self, len: usize)
+        requires given { self.old.given < 262144 }
+        requires held { len < length self.old.held }
+        requires within { self.old.place + len + 1 ≤ 67108864 }
+        ensures { self.new ≡ record self.old {
+            held = drop (len + 1) self.old.held;
+            line = take len self.old.held;
+            given = self.old.given + 1;
+            place = self.old.place + len + 1;
+        } }
+    {
+        self.line_start = self.start;
+        self.line_len = len;
+        self.start += len + 1;
+        self.place += len + 1;
+        self.given += 1;
+    }
+
+    // Takes all that is held as the last line of the input, if it is one.
+    fn take_rest(&mut self) -> bool
+        requires given { 0 < length self.old.held → self.old.given < 262144 }
+        requires within { self.old.place + length self.old.held ≤ 67108864 }
+        ensures line { result ≡ nat_lt 0 (length self.old.held) }
+        ensures new { self.new ≡ record self.old {
+            held = [];
+            line = self.old.held;
+            given = self.old.given + (if result then 1 else 0);
+            place = self.old.place + length self.old.held;
+            ended = true;
+        } }
+    {
+        let len = self.end - self.start;
+        self.line_start = self.start;
+        self.line_len = len;
+        self.start = self.end;
+        self.place += len;
+        self.ended = true;
+        if len == 0 {
+            return false;
+        }
+        self.given += 1;
+        true
+    }
+
+    // Reads a piece behind what is held, which must not decide the next line, and says whether
+    // there was one. None comes only at the end of the input.
+    fn fill<S: Source>(&mut self, source: &mut S) -> Result<bool, Failed>
+        requires is_open { IsOpen self.old.held }
+        requires within { self.old.place + length self.old.held ≤ 67108864 }
+        ensures same { self.new ≡ record self.old { held = self.new.held; line = self.new.line } }
+        ensures keeps { Keeps (input self.old (S.left source.old)) (input self.new (S.left source.new)) }
+        ensures more { IfOk result (λ more. OnTrue more (length self.old.held < length self.new.held)) }
+        ensures none { IfOk result (λ more. OnFalse more (self.new.held ≡ self.old.held)) }
+        ensures end { KnowsEnd self.old (S.left source.old) → IfOk result (λ more. OnFalse more (IsAtEnd (S.left source.new))) }
+        ensures err { OnErr result ((self.new.held ≡ self.old.held) × (self.old.ended ≡ false)) }
+        ensures ended { self.old.ended ≡ true → source.new ≡ source.old }
+        ensures cause { HasCause (S.faults source.old) (S.faults source.new) result }
+    {
+        if self.ended {
+            return Ok(false);
+        }
+        let held = self.end - self.start;
+        self.start = make_room(&mut self.bytes, self.start, self.end);
+        self.end = self.start + held;
+        let most = MOST_BYTES + 1 - self.place - held;
+        let count = read_at(source, &mut self.bytes, self.end, most)?;
+        self.end += count;
+        Ok(count > 0)
+    }
+
+    // Answers a fault, now and for ever.
+    fn fail(&mut self, fault: LineFault) -> Result<bool, LineFault>
+        ensures result { result ≡ Err fault }
+        ensures new { self.new ≡ record self.old { line = []; fault = Some fault } }
+    {
+        self.line_len = 0;
+        self.fault = Some(fault);
+        Err(fault)
+    }
+}
