@@ -1,3 +1,6 @@
 pub mod Texts
 pub mod Lines
 pub mod Same
+pub mod Faults
+pub mod Forms
+pub mod Reading
