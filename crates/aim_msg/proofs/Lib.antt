@@ -1,1 +1,2 @@
 pub mod ReadingExamples
+pub mod EntryReadingExamples

@@ -86,15 +86,24 @@ abbrev pub fault_at : Place → Words → Option LineKind
 fault_at p [] = Some kind.Words
 fault_at p (w ∷ ws) = word_fault p w
 
+-- the first fault from the left of the words that have a place
+abbrev pub first_fault : List Place → Words → Option LineKind
+first_fault [] words = None
+first_fault (p ∷ ps) words = option_or (fault_at p words) (first_fault ps (rest words))
+
+-- the words behind those that have a place
+abbrev pub behind : List Place → Words → Words
+behind [] words = words
+behind (p ∷ ps) words = behind ps (rest words)
+
 -- the fault of a word that has no place
 abbrev pub surplus_fault : Words → Option LineKind
 surplus_fault [] = None
 surplus_fault (w ∷ ws) = Some kind.Words
 
 -- the first fault from the left: each place wants its word, and each word its place
-abbrev pub first_fault : List Place → Words → Option LineKind
-first_fault [] words = surplus_fault words
-first_fault (p ∷ ps) words = option_or (fault_at p words) (first_fault ps (rest words))
+abbrev pub text_fault : List Place → Words → Option LineKind
+text_fault ps words = option_or (first_fault ps words) (surplus_fault (behind ps words))
 
 -- a number of 32 bits
 abbrev pub number32 : Place

@@ -2,32 +2,36 @@
 use Rattle.std.specs.Prelude.{ℕ, ◌+◌, ◌==◌, Bool, List, [], ◌∷◌, ◌++◌, length, map, replicate, Result, Ok, Err, codes, nat_le, ◌&&◌, if◌then◌else◌, bytes_eq}
 use Rattle.aim_msg.specs.declared.script.LineKind.{LineKind}
 use Rattle.aim_msg.specs.declared.script.LineKind.TheVariants as kind
-use Rattle.aim_msg.specs.declared.reading.forms.Form.{Form}
-use Rattle.aim_msg.specs.declared.reading.forms.Form.TheVariants as form
+use Rattle.aim_msg.specs.declared.reading.forms.MessageForm.{MessageForm}
+use Rattle.aim_msg.specs.declared.reading.forms.MessageForm.TheVariants as message
+use Rattle.aim_msg.specs.declared.reading.forms.ShapeForm.{ShapeForm}
+use Rattle.aim_msg.specs.declared.reading.forms.ShapeForm.TheVariants as shape
+use Rattle.aim_msg.specs.declared.reading.forms.LineForm.{LineForm}
+use Rattle.aim_msg.specs.declared.reading.forms.LineForm.TheVariants as form
 use Rattle.aim_msg.specs.Texts.{Words}
 use Rattle.aim_msg.specs.Faults.{Place, chosen, keyword, name, number, either, first, rest, from, word_at, begins_with_digit, value_of, number32, number8, turns, classes}
 
 -- the form in the row of that word, or that kind of fault where no row has it
-abbrev pub look_up : LineKind → List (List ℕ × Form) → List ℕ → Result Form LineKind
+abbrev pub look_up : {F : Type 0} → LineKind → List (List ℕ × F) → List ℕ → Result F LineKind
 look_up fault [] word = Err fault
 look_up fault (row ∷ rows) word = if bytes_eq word row.0 then Ok row.1 else look_up fault rows word
 
--- by the third word of an event
-abbrev pub event_forms : List (List ℕ × Form)
-event_forms =
-    (codes "request", form.Request) ∷ (codes "change", form.Change) ∷ (codes "cancel", form.Cancel) ∷ (codes "done", form.Done) ∷ []
+-- by the first word of a message
+abbrev pub message_form : List ℕ → Result MessageForm LineKind
+message_form word = look_up kind.Words
+    ((codes "request", message.Request) ∷ (codes "change", message.Change) ∷ (codes "cancel", message.Cancel) ∷ (codes "done", message.Done) ∷ []) word
 
 -- by the third word of an order
-abbrev pub order_forms : List (List ℕ × Form)
-order_forms = (codes "switch", form.Switch) ∷ (codes "stop", form.Stop) ∷ []
+abbrev pub order_form : List ℕ → Result LineForm LineKind
+order_form word = look_up kind.Words ((codes "switch", form.Switch) ∷ (codes "stop", form.Stop) ∷ []) word
 
 -- by the fourth word of a move
-abbrev pub move_forms : List (List ℕ × Form)
-move_forms = (codes "line", form.StraightMove) ∷ (codes "curve", form.CurvedMove) ∷ []
+abbrev pub shape_form : List ℕ → Result ShapeForm LineKind
+shape_form word = look_up kind.Words ((codes "line", shape.Line) ∷ (codes "curve", shape.Curve) ∷ []) word
 
 -- by the first word
-abbrev pub plain_forms : ℕ → List (List ℕ × Form)
-plain_forms version =
+abbrev pub plain_form : ℕ → List ℕ → Result LineForm LineKind
+plain_form version word = look_up kind.Unknown (
     (codes "aim", form.Version)
     ∷ (codes "grid", form.Grid)
     ∷ (codes "times", if version == 1 then form.Times else form.Times6)
@@ -43,15 +47,19 @@ plain_forms version =
     ∷ (codes "up", form.Up)
     ∷ (codes "down", form.Down)
     ∷ (codes "end", form.End)
-    ∷ []
+    ∷ []) word
+
+abbrev pub map_ok : {A B : Type 0} → (A → B) → Result A LineKind → Result B LineKind
+map_ok f (Ok a) = Ok (f a)
+map_ok f (Err k) = Err k
 
 -- the form that the words choose: a line that begins with a digit is an event
-abbrev pub form_of : ℕ → Words → Result Form LineKind
-form_of version words =
-    if begins_with_digit (word_at words 0) then look_up kind.Words event_forms (word_at words 2)
-    else if bytes_eq (word_at words 0) (codes "operator") then look_up kind.Words order_forms (word_at words 2)
-    else if bytes_eq (word_at words 0) (codes "move") then look_up kind.Words move_forms (word_at words 3)
-    else look_up kind.Unknown (plain_forms version) (word_at words 0)
+abbrev pub line_form : ℕ → Words → Result LineForm LineKind
+line_form version words =
+    if begins_with_digit (word_at words 0) then map_ok form.Event (message_form (word_at words 2))
+    else if bytes_eq (word_at words 0) (codes "operator") then order_form (word_at words 2)
+    else if bytes_eq (word_at words 0) (codes "move") then map_ok form.Move (shape_form (word_at words 3))
+    else plain_form version (word_at words 0)
 
 -- SPEED MAX ACCEL LENGTH WIDTH CLASS
 abbrev pub vehicle_places : List Place
@@ -85,38 +93,45 @@ windows = keyword (codes "early" ∷ codes "start" ∷ [])
 abbrev pub plan_places : List Place
 plan_places = chosen ∷ number32 ∷ number32 ∷ number32 ∷ number32 ∷ number8 ∷ turns ∷ vehicle_places
 
--- the places of a form's words
-abbrev pub places : ℕ → Form → Words → List Place
-places version form.Version words = chosen ∷ number32 ∷ []
-places version form.Grid words = chosen ∷ number32 ∷ number32 ∷ number32 ∷ number32 ∷ number32 ∷ number32 ∷ []
-places version form.Times words = chosen ∷ number32 ∷ number32 ∷ number32 ∷ number32 ∷ number32 ∷ []
-places version form.Times6 words = chosen ∷ number32 ∷ number32 ∷ number32 ∷ number32 ∷ number32 ∷ number32 ∷ []
-places version form.Lanes words = chosen ∷ number32 ∷ []
-places version form.StraightMove words = chosen ∷ number8 ∷ turns ∷ chosen ∷ number32 ∷ number32 ∷ number32 ∷ number32 ∷ number32 ∷ []
-places version form.CurvedMove words =
-    chosen ∷ number8 ∷ turns ∷ chosen ∷ number32 ∷ number32 ∷ number32 ∷ number32 ∷ number32 ∷ number32 ∷ number32 ∷ []
-places version form.Policy words = chosen ∷ name ∷ kinds version ∷ []
-places version form.Phase words = chosen ∷ number32 ∷ number32 ∷ lane_places 0 (from 3 words)
-places version form.Vehicles words = chosen ∷ number32 ∷ []
-places version form.Begin words = chosen ∷ []
-places version form.Request words = number32 ∷ number32 ∷ chosen ∷ number32 ∷ params_places
-places version form.Change words = number32 ∷ number32 ∷ chosen ∷ number32 ∷ number32 ∷ params_places
-places version form.Cancel words = number32 ∷ number32 ∷ chosen ∷ number32 ∷ number32 ∷ []
-places version form.Done words = number32 ∷ number32 ∷ chosen ∷ number32 ∷ number32 ∷ []
-places version form.Switch words = chosen ∷ number32 ∷ chosen ∷ name ∷ []
-places version form.Stop words = chosen ∷ number32 ∷ chosen ∷ []
-places version form.Until words = chosen ∷ number32 ∷ []
-places version form.Plan words = plan_places
-places version form.PlanInWindow words = plan_places ++ windows ∷ []
-places version form.ChangePlan words = chosen ∷ number32 ∷ number32 ∷ number32 ∷ []
-places version form.CancelPlan words = chosen ∷ number32 ∷ number32 ∷ []
-places version form.Up words = chosen ∷ number32 ∷ fate_places (from 2 words)
-places version form.Down words = chosen ∷ number32 ∷ fate_places (from 2 words)
-places version form.End words = chosen ∷ []
+-- the places of a message's words behind the first
+abbrev pub message_places : MessageForm → List Place
+message_places message.Request = number32 ∷ params_places
+message_places message.Change = number32 ∷ number32 ∷ params_places
+message_places message.Cancel = number32 ∷ number32 ∷ []
+message_places message.Done = number32 ∷ number32 ∷ []
+
+-- of a move's words behind the shape's
+abbrev pub shape_places : ShapeForm → List Place
+shape_places shape.Line = number32 ∷ number32 ∷ number32 ∷ number32 ∷ number32 ∷ []
+shape_places shape.Curve = number32 ∷ number32 ∷ number32 ∷ number32 ∷ number32 ∷ number32 ∷ number32 ∷ []
+
+-- the places of a line's words
+abbrev pub line_places : ℕ → LineForm → Words → List Place
+line_places version form.Version words = chosen ∷ number32 ∷ []
+line_places version form.Grid words = chosen ∷ number32 ∷ number32 ∷ number32 ∷ number32 ∷ number32 ∷ number32 ∷ []
+line_places version form.Times words = chosen ∷ number32 ∷ number32 ∷ number32 ∷ number32 ∷ number32 ∷ []
+line_places version form.Times6 words = chosen ∷ number32 ∷ number32 ∷ number32 ∷ number32 ∷ number32 ∷ number32 ∷ []
+line_places version form.Lanes words = chosen ∷ number32 ∷ []
+line_places version (form.Move s) words = chosen ∷ number8 ∷ turns ∷ chosen ∷ shape_places s
+line_places version form.Policy words = chosen ∷ name ∷ kinds version ∷ []
+line_places version form.Phase words = chosen ∷ number32 ∷ number32 ∷ lane_places 0 (from 3 words)
+line_places version form.Vehicles words = chosen ∷ number32 ∷ []
+line_places version form.Begin words = chosen ∷ []
+line_places version (form.Event m) words = number32 ∷ number32 ∷ chosen ∷ message_places m
+line_places version form.Switch words = chosen ∷ number32 ∷ chosen ∷ name ∷ []
+line_places version form.Stop words = chosen ∷ number32 ∷ chosen ∷ []
+line_places version form.Until words = chosen ∷ number32 ∷ []
+line_places version form.Plan words = plan_places
+line_places version form.PlanInWindow words = plan_places ++ windows ∷ []
+line_places version form.ChangePlan words = chosen ∷ number32 ∷ number32 ∷ number32 ∷ []
+line_places version form.CancelPlan words = chosen ∷ number32 ∷ number32 ∷ []
+line_places version form.Up words = chosen ∷ number32 ∷ fate_places (from 2 words)
+line_places version form.Down words = chosen ∷ number32 ∷ fate_places (from 2 words)
+line_places version form.End words = chosen ∷ []
 
 -- whether a line of the form may have so many words: 1 to 16 lanes, 1 to 64 fates, and of the others as many words as places
-abbrev pub has_count : Form → ℕ → Bool
+abbrev pub has_count : LineForm → ℕ → Bool
 has_count form.Phase n = nat_le 4 n && nat_le n 19
 has_count form.Up n = nat_le 3 n && nat_le n 66
 has_count form.Down n = nat_le 3 n && nat_le n 66
-has_count f n = n == length (places 1 f [])
+has_count f n = n == length (line_places 1 f [])

@@ -4,3 +4,4 @@ pub mod Same
 pub mod Faults
 pub mod Forms
 pub mod Reading
+pub mod Entries

@@ -12,11 +12,17 @@ use Rattle.aim_msg.specs.declared.script.Line.{Line}
 use Rattle.aim_msg.specs.declared.script.Line.TheVariants as line
 use Rattle.aim_msg.specs.declared.script.LineKind.{LineKind}
 use Rattle.aim_msg.specs.declared.script.LineKind.TheVariants as kind
-use Rattle.aim_msg.specs.declared.reading.forms.Form.{Form}
-use Rattle.aim_msg.specs.declared.reading.forms.Form.TheVariants as form
+use Rattle.aim_msg.specs.declared.messages.Message.{Message}
+use Rattle.aim_msg.specs.declared.script.MoveShape.{MoveShape}
+use Rattle.aim_msg.specs.declared.reading.forms.MessageForm.{MessageForm}
+use Rattle.aim_msg.specs.declared.reading.forms.MessageForm.TheVariants as message
+use Rattle.aim_msg.specs.declared.reading.forms.ShapeForm.{ShapeForm}
+use Rattle.aim_msg.specs.declared.reading.forms.ShapeForm.TheVariants as way
+use Rattle.aim_msg.specs.declared.reading.forms.LineForm.{LineForm}
+use Rattle.aim_msg.specs.declared.reading.forms.LineForm.TheVariants as form
 use Rattle.aim_msg.specs.Texts.{Words}
 use Rattle.aim_msg.specs.Faults.{words_of, word_at, from, value_of, first_fault}
-use Rattle.aim_msg.specs.Forms.{form_of, places, has_count}
+use Rattle.aim_msg.specs.Forms.{line_form, line_places, has_count}
 
 -- the number at a place
 abbrev pub at : Words → ℕ → ℕ
@@ -59,31 +65,37 @@ fates_of words = record { fates = map fate_of words ++ replicate (64 - length wo
 abbrev pub lanes_of : Words → ℕ
 lanes_of words = sum_by (λ w. 2 ^ value_of w) words
 
-abbrev pub event_of : Words → Body → Line
-event_of words b = line.Event (at words 0) (at words 1) (record { seq = at words 3; body = b })
+-- a message, of the words behind its first
+abbrev pub body_of : MessageForm → Words → Body
+body_of message.Request words = body.Request (params_at words 1 (at words 3) 4)
+body_of message.Change words = body.Change (at words 1) (params_at words 2 (at words 4) 5)
+body_of message.Cancel words = body.Cancel (at words 1)
+body_of message.Done words = body.Done (at words 1)
+
+abbrev pub message_of : MessageForm → Words → Message
+message_of m words = record { seq = at words 0; body = body_of m words }
+
+-- a move's way, of the words behind the shape's
+abbrev pub shape_of : ShapeForm → Words → MoveShape
+shape_of way.Line words = shape.Line (at words 0) (at words 1) (at words 2) (at words 3) (at words 4)
+shape_of way.Curve words = shape.Curve (at words 0) (at words 1) (at words 2) (at words 3) (at words 4) (at words 5) (at words 6)
 
 abbrev pub plan_of : Words → Bool → Line
 plan_of words ahead = line.PlanFor (at words 1) (at words 2) (at words 3) (at words 4) (params_at words 5 0 7) ahead
 
 -- the line of a form's words, where they have no fault
-abbrev pub line_of : Form → Words → Line
+abbrev pub line_of : LineForm → Words → Line
 line_of form.Version words = line.Version (at words 1)
 line_of form.Grid words = line.Grid (record { side = at words 1; n = at words 2; spacing = at words 3; fixed = at words 4; half = at words 5; spans = at words 6 })
 line_of form.Times words = line.Times (record { horizon = at words 1; longest = at words 2; clearance = at words 3; internal = at words 4; edge = at words 5 })
 line_of form.Times6 words = line.Times6 (record { horizon = at words 1; longest = at words 2; clearance = at words 3; early = at words 4; late = at words 5; edge = at words 6 })
 line_of form.Lanes words = line.Lanes (at words 1)
-line_of form.StraightMove words =
-    line.Move (at words 1) (turn_of (word_at words 2)) (shape.Line (at words 4) (at words 5) (at words 6) (at words 7) (at words 8))
-line_of form.CurvedMove words =
-    line.Move (at words 1) (turn_of (word_at words 2)) (shape.Curve (at words 4) (at words 5) (at words 6) (at words 7) (at words 8) (at words 9) (at words 10))
+line_of (form.Move s) words = line.Move (at words 1) (turn_of (word_at words 2)) (shape_of s (from 4 words))
 line_of form.Policy words = line.Policy (name_of (word_at words 1)) (kind_of (word_at words 2))
 line_of form.Phase words = line.Phase (at words 1) (at words 2) (lanes_of (from 3 words))
 line_of form.Vehicles words = line.Vehicles (at words 1)
 line_of form.Begin words = line.Begin
-line_of form.Request words = event_of words (body.Request (params_at words 4 (at words 6) 7))
-line_of form.Change words = event_of words (body.Change (at words 4) (params_at words 5 (at words 7) 8))
-line_of form.Cancel words = event_of words (body.Cancel (at words 4))
-line_of form.Done words = event_of words (body.Done (at words 4))
+line_of (form.Event m) words = line.Event (at words 0) (at words 1) (message_of m (from 3 words))
 line_of form.Switch words = line.SwitchTo (at words 1) (name_of (word_at words 3))
 line_of form.Stop words = line.StopAt (at words 1)
 line_of form.Until words = line.Until (at words 1)
@@ -101,16 +113,16 @@ unless a None = Ok a
 unless a (Some k) = Err k
 
 -- the first fault of the words of a form: their number comes before each of them
-abbrev pub form_fault : ℕ → Form → Words → Option LineKind
-form_fault version f words = if has_count f (length words) then first_fault (places version f words) words else Some kind.Words
+abbrev pub form_fault : ℕ → LineForm → Words → Option LineKind
+form_fault version f words = if has_count f (length words) then first_fault (line_places version f words) words else Some kind.Words
 
-abbrev pub line_in : ℕ → Words → Result Form LineKind → Result Line LineKind
+abbrev pub line_in : ℕ → Words → Result LineForm LineKind → Result Line LineKind
 line_in version words (Ok f) = unless (line_of f words) (form_fault version f words)
 line_in version words (Err k) = Err k
 
 -- what the bytes spell in a script of that version
 abbrev pub line_at : ℕ → List ℕ → Result Line LineKind
-line_at version bytes = line_in version (words_of bytes) (form_of version (words_of bytes))
+line_at version bytes = line_in version (words_of bytes) (line_form version (words_of bytes))
 
 abbrev pub fault_in : Result Line LineKind → Option LineKind
 fault_in (Ok l) = None

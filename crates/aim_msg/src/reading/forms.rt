@@ -1,23 +1,35 @@
-// The forms that script lines have.
+// The forms that texts have, each of which a word chooses.
 
-// A row of the table of line forms. Where a form has other words in another version, it is another form.
+/// The forms of messages.
 #[derive(Clone, Copy)]
-pub enum Form {
+pub enum MessageForm {
+    Request,
+    Change,
+    Cancel,
+    Done,
+}
+
+/// The forms of a move's way.
+#[derive(Clone, Copy)]
+pub enum ShapeForm {
+    Line,
+    Curve,
+}
+
+/// The forms of script lines. A form that has other words in another version is another form there.
+#[derive(Clone, Copy)]
+pub enum LineForm {
     Version,
     Grid,
     Times,
     Times6,
     Lanes,
-    StraightMove,
-    CurvedMove,
+    Move(ShapeForm),
     Policy,
     Phase,
     Vehicles,
     Begin,
-    Request,
-    Change,
-    Cancel,
-    Done,
+    Event(MessageForm),
     Switch,
     Stop,
     Until,
