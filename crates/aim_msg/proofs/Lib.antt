@@ -1,0 +1,2 @@
+pub mod ReadingExamples
+pub mod EntryReadingExamples

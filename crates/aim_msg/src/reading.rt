@@ -1,0 +1,3 @@
+//! Reads script lines and entries.
+
+mod forms;
