@@ -1,16 +1,20 @@
 //! Texts that are written. None takes memory but for the bytes that it appends.
 
 ghost use Rattle.std.specs.Prelude.{◌≡◌, ◌++◌, ◌<◌, ◌≤◌, take, length, decimal, OnOk, OnErr};
+ghost use Rattle.aim_msg.specs.Lines.{line_text, KeepsRanges};
 ghost use Rattle.aim_msg.specs.Texts.{entry_text, reply_text, spaced, message_words};
 
 mod entries;
+mod lines;
 mod text;
 mod words;
 
 use crate::entries::Entry;
 use crate::messages::Message;
 use crate::replies::Reply;
+use crate::script::Line;
 use crate::writing::entries::{put_entry, put_message, put_reply};
+use crate::writing::lines::put_line;
 use crate::writing::text::Text;
 use itoa::Buffer;
 pub use std::alloc::AllocError as NoMemory;
@@ -22,6 +26,19 @@ pub fn put_number(out: &mut Vec<u8>, n: u64) -> Result<(), NoMemory>
 {
     let mut buffer = Buffer::new();
     out.extend_from_slice(buffer.format(n).as_bytes())
+}
+
+/// Appends the spelling of a line in a script of that version. Where memory runs out, nothing is appended.
+#[tactic(auto, using(crate::proofs::Words::line_added))]
+pub fn write_line(line: &Line, version: u8, out: &mut Vec<u8>) -> Result<(), NoMemory>
+    requires version { (0 < version) × (version ≤ 3) }
+    requires ranges { KeepsRanges version line.now }
+    ensures ok { OnOk result (out.new.items ≡ out.old.items ++ line_text version line.now) }
+    ensures err { OnErr result (out.new.items ≡ out.old.items) }
+{
+    let mut text = Text::new();
+    put_line(&mut text, version, line);
+    out.extend_from_slice(text.line())
 }
 
 /// Appends the text of a message, as scripts and logs have it. Where memory runs out, nothing is appended.

@@ -29,7 +29,7 @@ fn put_params(out: &mut Text, params: &Params)
     ensures added { out.new ≡ added out.old (params_words params.now) }
     ensures len { length out.new ≤ length out.old + 96 }
 {
-    out.number(u32::from(params.lane));
+    out.number(params.lane);
     out.word(turn_text(params.turn));
     out.number(params.arrive);
     put_vehicle(out, params);
@@ -100,8 +100,8 @@ fn put_cell(out: &mut Text, word: &[u8], row: u8, col: u8, step: u32, n: u32)
     ensures len { length out.new ≤ length out.old + 50 }
 {
     out.word(word);
-    out.number(u32::from(row));
-    out.number(u32::from(col));
+    out.number(row);
+    out.number(col);
     out.number(step);
     out.number(n);
 }
@@ -124,7 +124,7 @@ fn put_reason(out: &mut Text, reason: &Reason)
         Reason::Far(reach) => put_field(out, b"far", *reach),
         Reason::Distance(distance) => {
             out.word(b"distance");
-            out.long_number(*distance);
+            out.number(*distance);
         }
         Reason::Emergency(lane) => put_field(out, b"emergency", u32::from(*lane)),
         Reason::Green {

@@ -3,7 +3,7 @@
 ghost use Rattle.std.specs.Prelude.{◌≡◌, ◌++◌, ◌∷◌, ◌+◌, ◌-◌, ◌≤◌, ◌<◌, [], ℕ, length, take, decimal};
 ghost use Rattle.aim_msg.specs.Writing.{added};
 
-use itoa::Buffer;
+use itoa::{Buffer, Integer};
 use std::marker::Model;
 
 /// Room for a line: no line of a script has more bytes, and no entry's text.
@@ -67,20 +67,10 @@ impl Text {
     }
 
     /// Adds a number.
-    pub(crate) fn number(&mut self, n: u32)
-        requires { length self.old + 11 ≤ 400 }
-        ensures added { self.new ≡ added self.old (decimal n ∷ []) }
-        ensures len { length self.new ≤ length self.old + 11 }
-    {
-        let mut buffer = Buffer::new();
-        self.word(buffer.format(n).as_bytes());
-    }
-
-    /// Adds a number of up to 64 bits.
-    pub(crate) fn long_number(&mut self, n: u64)
-        requires { length self.old + 21 ≤ 400 }
-        ensures added { self.new ≡ added self.old (decimal n ∷ []) }
-        ensures len { length self.new ≤ length self.old + 21 }
+    pub(crate) fn number<I: Integer>(&mut self, n: I)
+        requires { length self.old + I.MAX_STR_LEN < 400 }
+        ensures added { self.new ≡ added self.old (I.text n ∷ []) }
+        ensures len { length self.new ≤ length self.old + I.MAX_STR_LEN + 1 }
     {
         let mut buffer = Buffer::new();
         self.word(buffer.format(n).as_bytes());
