@@ -1,13 +1,59 @@
 //! The words of script lines.
 
-ghost use Rattle.std.specs.Prelude.{◌≡◌, ◌∷◌, ◌++◌, ◌+◌, ◌*◌, ◌≤◌, ◌<◌, [], length, map, decimal, if◌then◌else◌};
-ghost use Rattle.aim_msg.specs.Lines.{has_lane, name_word, fate_word, fate_words, lane_words, shape_words, window_words, line_words, KeepsRanges};
+ghost use Rattle.std.specs.Prelude.{◌≡◌, ◌∷◌, ◌++◌, ◌+◌, ◌*◌, ◌≤◌, ◌<◌, [], length, map, decimal, codes, if◌then◌else◌};
+ghost use Rattle.aim_msg.specs.Lines.{has_lane, name_word, kind_word, fate_word, fate_words, lane_words, shape_words, window_words, line_words, KeepsRanges};
+ghost use Rattle.aim_msg.specs.Texts.{turn_word, vehicle_words, message_words};
 ghost use Rattle.aim_msg.specs.Writing.{added};
 
-use crate::script::{FateList, Line, MoveShape, Name};
+use crate::messages::{Message, Params, Turn};
+use crate::script::{FateList, Grid6, Line, MoveShape, Name, Times5, Times6};
 use crate::writing::entries::{put_message, put_vehicle};
 use crate::writing::text::Text;
 use crate::writing::words::{kind_text, turn_text, window_text};
+
+impl Grid6 {
+    fn numbers(&self) -> [u32; 6]
+        ensures { result ≡ self.now.side ∷ self.now.n ∷ self.now.spacing ∷ self.now.fixed ∷ self.now.half ∷ self.now.spans ∷ [] }
+    {
+        [
+            self.side,
+            self.n,
+            self.spacing,
+            self.fixed,
+            self.half,
+            self.spans,
+        ]
+    }
+}
+
+impl Times5 {
+    fn numbers(&self) -> [u32; 5]
+        ensures { result ≡ self.now.horizon ∷ self.now.longest ∷ self.now.clearance ∷ self.now.internal ∷ self.now.edge ∷ [] }
+    {
+        [
+            self.horizon,
+            self.longest,
+            self.clearance,
+            self.internal,
+            self.edge,
+        ]
+    }
+}
+
+impl Times6 {
+    fn numbers(&self) -> [u32; 6]
+        ensures { result ≡ self.now.horizon ∷ self.now.longest ∷ self.now.clearance ∷ self.now.early ∷ self.now.late ∷ self.now.edge ∷ [] }
+    {
+        [
+            self.horizon,
+            self.longest,
+            self.clearance,
+            self.early,
+            self.late,
+            self.edge,
+        ]
+    }
+}
 
 fn put_numbers(out: &mut Text, numbers: &[u32])
     requires { length out.old + 11 * length numbers.now ≤ 400 }
@@ -99,11 +145,12 @@ fn put_fate(out: &mut Text, fate: u16)
     }
 }
 
-fn put_fates(out: &mut Text, fates: &FateList)
+fn put_fates(out: &mut Text, word: &[u8], vehicle: u32, fates: &FateList)
     requires some { fates.now.len ≤ 64 }
-    requires room { length out.old + 384 ≤ 400 }
-    ensures { out.new ≡ added out.old (fate_words fates.now) }
+    requires room { length out.old + length word.now + 396 ≤ 400 }
+    ensures { out.new ≡ added out.old (word.now ∷ decimal vehicle ∷ fate_words fates.now) }
 {
+    put_form(out, word, &[vehicle]);
     for fate in &fates.fates[..usize::from(fates.len)] {
         put_fate(out, *fate);
     }
@@ -119,6 +166,73 @@ fn put_window(out: &mut Text, version: u8, ahead: bool)
     }
 }
 
+fn put_move(out: &mut Text, lane: u8, turn: Turn, shape: &MoveShape)
+    requires { length out.old + 101 ≤ 400 }
+    ensures { out.new ≡ added out.old (codes "move" ∷ decimal lane ∷ turn_word turn ∷ shape_words shape.now) }
+{
+    out.word(b"move");
+    out.number(lane);
+    out.word(turn_text(turn));
+    put_shape(out, shape);
+}
+
+fn put_policy(out: &mut Text, name: &Name, kind: u8)
+    requires name { name.now.len ≤ 16 }
+    requires room { length out.old + 36 ≤ 400 }
+    ensures { out.new ≡ added out.old (codes "policy" ∷ name_word name.now ∷ kind_word kind ∷ []) }
+{
+    out.word(b"policy");
+    put_name(out, name);
+    out.word(kind_text(kind));
+}
+
+fn put_phase(out: &mut Text, red: u32, green: u32, lanes: u16)
+    requires { length out.old + 92 ≤ 400 }
+    ensures { out.new ≡ added out.old (codes "phase" ∷ decimal red ∷ decimal green ∷ lane_words lanes) }
+{
+    put_form(out, b"phase", &[red, green]);
+    put_lanes(out, lanes);
+}
+
+// Adds the words of an order up to what is ordered.
+fn put_order(out: &mut Text, moment: u32, what: &[u8])
+    requires { length out.old + length what.now + 21 ≤ 400 }
+    ensures added { out.new ≡ added out.old (codes "operator" ∷ decimal moment ∷ what.now ∷ []) }
+    ensures len { length out.new ≤ length out.old + length what.now + 21 }
+{
+    put_form(out, b"operator", &[moment]);
+    out.word(what);
+}
+
+fn put_switch(out: &mut Text, moment: u32, name: &Name)
+    requires name { name.now.len ≤ 16 }
+    requires room { length out.old + 44 ≤ 400 }
+    ensures { out.new ≡ added out.old (codes "operator" ∷ decimal moment ∷ codes "switch" ∷ name_word name.now ∷ []) }
+{
+    put_order(out, moment, b"switch");
+    put_name(out, name);
+}
+
+fn put_event(out: &mut Text, vehicle: u32, moment: u32, message: &Message)
+    requires { length out.old + 155 ≤ 400 }
+    ensures { out.new ≡ added out.old (decimal vehicle ∷ decimal moment ∷ message_words message.now) }
+{
+    out.number(vehicle);
+    out.number(moment);
+    put_message(out, message);
+}
+
+// Adds the words of a plan behind its numbers.
+fn put_planned(out: &mut Text, version: u8, params: &Params, ahead: bool)
+    requires { length out.old + 84 ≤ 400 }
+    ensures { out.new ≡ added out.old (decimal params.now.lane ∷ turn_word params.now.turn ∷ (vehicle_words params.now ++ window_words version ahead)) }
+{
+    out.number(params.lane);
+    out.word(turn_text(params.turn));
+    put_vehicle(out, params);
+    put_window(out, version, ahead);
+}
+
 /// Adds the words of a line of a script of that version.
 pub(crate) fn put_line(out: &mut Text, version: u8, line: &Line)
     requires new { out.old ≡ [] }
@@ -128,56 +242,22 @@ pub(crate) fn put_line(out: &mut Text, version: u8, line: &Line)
 {
     match line {
         Line::Version(n) => put_form(out, b"aim", &[*n]),
-        Line::Grid(g) => put_form(
-            out,
-            b"grid",
-            &[g.side, g.n, g.spacing, g.fixed, g.half, g.spans],
-        ),
-        Line::Times(t) => put_form(
-            out,
-            b"times",
-            &[t.horizon, t.longest, t.clearance, t.internal, t.edge],
-        ),
-        Line::Times6(t) => put_form(
-            out,
-            b"times",
-            &[t.horizon, t.longest, t.clearance, t.early, t.late, t.edge],
-        ),
+        Line::Grid(grid) => put_form(out, b"grid", &grid.numbers()),
+        Line::Times(times) => put_form(out, b"times", &times.numbers()),
+        Line::Times6(times) => put_form(out, b"times", &times.numbers()),
         Line::Lanes(n) => put_form(out, b"lanes", &[*n]),
-        Line::Move { lane, turn, shape } => {
-            out.word(b"move");
-            out.number(*lane);
-            out.word(turn_text(*turn));
-            put_shape(out, shape);
-        }
-        Line::Policy { name, kind } => {
-            out.word(b"policy");
-            put_name(out, name);
-            out.word(kind_text(*kind));
-        }
-        Line::Phase { red, green, lanes } => {
-            put_form(out, b"phase", &[*red, *green]);
-            put_lanes(out, *lanes);
-        }
+        Line::Move { lane, turn, shape } => put_move(out, *lane, *turn, shape),
+        Line::Policy { name, kind } => put_policy(out, name, *kind),
+        Line::Phase { red, green, lanes } => put_phase(out, *red, *green, *lanes),
         Line::Vehicles(n) => put_form(out, b"vehicles", &[*n]),
         Line::Begin => out.word(b"begin"),
         Line::Event {
             vehicle,
             moment,
             message,
-        } => {
-            put_numbers(out, &[*vehicle, *moment]);
-            put_message(out, message);
-        }
-        Line::SwitchTo { moment, name } => {
-            put_form(out, b"operator", &[*moment]);
-            out.word(b"switch");
-            put_name(out, name);
-        }
-        Line::StopAt { moment } => {
-            put_form(out, b"operator", &[*moment]);
-            out.word(b"stop");
-        }
+        } => put_event(out, *vehicle, *moment, message),
+        Line::SwitchTo { moment, name } => put_switch(out, *moment, name),
+        Line::StopAt { moment } => put_order(out, *moment, b"stop"),
         Line::Until(step) => put_form(out, b"until", &[*step]),
         Line::PlanFor {
             vehicle,
@@ -188,10 +268,7 @@ pub(crate) fn put_line(out: &mut Text, version: u8, line: &Line)
             ahead,
         } => {
             put_form(out, b"plan", &[*vehicle, *first, *lead, *resend]);
-            out.number(params.lane);
-            out.word(turn_text(params.turn));
-            put_vehicle(out, params);
-            put_window(out, version, *ahead);
+            put_planned(out, version, params, *ahead);
         }
         Line::ChangeAt {
             vehicle,
@@ -199,14 +276,8 @@ pub(crate) fn put_line(out: &mut Text, version: u8, line: &Line)
             lead,
         } => put_form(out, b"change", &[*vehicle, *step, *lead]),
         Line::CancelAt { vehicle, step } => put_form(out, b"cancel", &[*vehicle, *step]),
-        Line::Up { vehicle, fates } => {
-            put_form(out, b"up", &[*vehicle]);
-            put_fates(out, fates);
-        }
-        Line::Down { vehicle, fates } => {
-            put_form(out, b"down", &[*vehicle]);
-            put_fates(out, fates);
-        }
+        Line::Up { vehicle, fates } => put_fates(out, b"up", *vehicle, fates),
+        Line::Down { vehicle, fates } => put_fates(out, b"down", *vehicle, fates),
         Line::End => out.word(b"end"),
     }
 }
