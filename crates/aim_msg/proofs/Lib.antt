@@ -1,2 +1,3 @@
 pub mod ReadingExamples
 pub mod EntryReadingExamples
+pub mod Words

@@ -1,5 +1,5 @@
 -- How messages, replies and entries are spelled: a text is its words with a space between each two.
-use Rattle.std.specs.Prelude.{ℕ, Bool, List, [], ◌∷◌, ◌++◌, Option, Some, None, codes, decimal, if◌then◌else◌}
+use Rattle.std.specs.Prelude.{◌≡◌, ◌<◌, ℕ, Bool, List, [], ◌∷◌, ◌++◌, Option, Some, None, codes, decimal, if◌then◌else◌}
 use Rattle.std.specs.List.{join_with_byte}
 use Rattle.aim_msg.specs.declared.messages.Turn.{Turn}
 use Rattle.aim_msg.specs.declared.messages.Turn.TheVariants.{Left, Straight, Right}
@@ -103,6 +103,11 @@ reply_words reply.Stopped = codes "stopped" ∷ []
 abbrev pub caller_word : ℕ → Act → List ℕ
 caller_word caller (act.Message m) = decimal caller
 caller_word caller (act.Order o) = codes "operator"
+
+-- which caller may be an act's: the operator gives orders, a vehicle sends messages
+abbrev pub IsCallerOf : ℕ → Act → Type 0
+IsCallerOf caller (act.Message m) = caller < 65536
+IsCallerOf caller (act.Order o) = caller ≡ 65536
 
 abbrev pub entry_words : ℕ → Entry → Words
 entry_words place e =
