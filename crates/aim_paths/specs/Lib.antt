@@ -10,3 +10,4 @@ pub mod Priority
 pub mod Answer
 pub mod Legal
 pub mod Charts
+pub mod Building

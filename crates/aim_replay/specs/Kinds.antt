@@ -1,0 +1,109 @@
+-- Why a line that reads may not stand where it stands: the table of the kinds of bad lines, in their order, and the
+-- limits on a script.
+use Rattle.std.specs.Prelude.{ℕ, ◌*◌, ◌==◌, Bool, true, false, ◌&&◌, ◌||◌, not, nat_lt, nat_le, List, [], ◌∷◌, Option, Some, None, option_map, find, is_some, codes, if◌then◌else◌}
+use Rattle.aim_msg.specs.declared.script.Line.{Line}
+use Rattle.aim_msg.specs.declared.script.Line.TheVariants as line
+use Rattle.aim_msg.specs.Lines.{name_word}
+use Rattle.aim_geometry.specs.Bounded.{is_outside}
+use Rattle.aim_paths.specs.Building.{is_bad_grid, is_bad_buffers, is_bad_times, is_bad_move, wide_step, shape_stations, is_full_of_policies, is_bad_phase, is_unfinished}
+use Rattle.aim_replay.specs.Order.{may_follow}
+use Rattle.aim_replay.specs.Said.{grid_of, times_of, times6_of, layout_of, is_named, vehicles_of, last_of}
+
+abbrev pub is_bad_version : List Line → Line → Bool
+is_bad_version before (line.Version n) = is_outside n 3
+is_bad_version before _ = false
+
+abbrev pub is_bad_ground : List Line → Line → Bool
+is_bad_ground before (line.Grid g) = is_bad_grid (grid_of g)
+is_bad_ground before _ = false
+
+abbrev pub has_bad_buffers : List Line → Line → Bool
+has_bad_buffers before (line.Times t) = is_bad_buffers (times_of t)
+has_bad_buffers before (line.Times6 t) = is_bad_buffers (times6_of t)
+has_bad_buffers before _ = false
+
+abbrev pub has_bad_times : List Line → Line → Bool
+has_bad_times before (line.Times t) = is_bad_times (times_of t)
+has_bad_times before (line.Times6 t) = is_bad_times (times6_of t)
+has_bad_times before _ = false
+
+abbrev pub is_bad_lane : List Line → Line → Bool
+is_bad_lane before (line.Lanes n) = is_outside n 16
+is_bad_lane before _ = false
+
+abbrev pub is_no_move : List Line → Line → Bool
+is_no_move before (line.Move lane turn shape) = is_bad_move (layout_of before) lane turn shape
+is_no_move before _ = false
+
+abbrev pub is_wide : List Line → Line → Bool
+is_wide before (line.Move lane turn shape) = let i = layout_of before in is_some (wide_step i.grid.spacing (shape_stations shape))
+is_wide before _ = false
+
+-- a policy has a new name, and a switch one that was given
+abbrev pub is_bad_policy : List Line → Line → Bool
+is_bad_policy before (line.Policy name k) = is_named before (name_word name)
+is_bad_policy before (line.SwitchTo moment name) = not (is_named before (name_word name))
+is_bad_policy before _ = false
+
+abbrev pub is_no_phase : List Line → Line → Bool
+is_no_phase before (line.Policy name k) = is_full_of_policies (layout_of before)
+is_no_phase before (line.Phase red green lanes) = is_bad_phase (layout_of before) (record { red = red; green = green; lanes = lanes })
+is_no_phase before (line.Vehicles n) = is_unfinished (layout_of before)
+is_no_phase before _ = false
+
+abbrev pub is_no_vehicle : List Line → Line → Bool
+is_no_vehicle before (line.Vehicles n) = n == 0
+is_no_vehicle before (line.Event vehicle moment message) = nat_le (vehicles_of before) vehicle
+is_no_vehicle before _ = false
+
+abbrev pub is_bad_moment : List Line → Line → Bool
+is_bad_moment before (line.Event vehicle moment message) = nat_lt 1073741824 moment
+is_bad_moment before (line.SwitchTo moment name) = nat_lt 1073741824 moment
+is_bad_moment before (line.StopAt moment) = nat_lt 1073741824 moment
+is_bad_moment before _ = false
+
+abbrev pub is_out_of_order : List Line → Line → Bool
+is_out_of_order before l = not (may_follow (last_of before) l)
+
+-- a question about a line behind others
+abbrev pub Test : Type 0
+Test = List Line → Line → Bool
+
+-- what a program that isn't whole yet leaves out: forms of lines, and lines for what their fields say
+pub record Missing : Type 0 where
+  pub form : Test
+  pub field : Test
+
+-- nothing is left out
+abbrev pub none_missing : Missing
+none_missing = record { form = λ before l. false; field = λ before l. false }
+
+-- The kinds, in the order in which they are told. Those of a line that doesn't read come before them.
+abbrev pub kinds : Missing → List (List ℕ × Test)
+kinds missing =
+    (codes "unsupported", missing.form)
+    ∷ (codes "order", is_out_of_order)
+    ∷ (codes "unsupported", missing.field)
+    ∷ (codes "version", is_bad_version)
+    ∷ (codes "grid", is_bad_ground)
+    ∷ (codes "buffers", has_bad_buffers)
+    ∷ (codes "times", has_bad_times)
+    ∷ (codes "lane", is_bad_lane)
+    ∷ (codes "move", is_no_move)
+    ∷ (codes "spacing", is_wide)
+    ∷ (codes "policy", is_bad_policy)
+    ∷ (codes "phase", is_no_phase)
+    ∷ (codes "vehicle", is_no_vehicle)
+    ∷ (codes "moment", is_bad_moment)
+    ∷ []
+
+-- the kind of a line behind others, if it is at fault
+abbrev pub kind_of_fault : Missing → List Line → Line → Option (List ℕ)
+kind_of_fault missing before l = option_map (λ row. row.0) (find (λ row. row.1 before l) (kinds missing))
+
+-- the limit that a line without a fault goes past
+abbrev pub limit_of : List Line → Line → Option (List ℕ)
+limit_of before (line.Vehicles n) =
+    let i = layout_of before in
+    if nat_lt 65536 n then Some (codes "vehicles") else if nat_lt 16777216 (n * i.grid.spans) then Some (codes "sheets") else None
+limit_of before _ = None

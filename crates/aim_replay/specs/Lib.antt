@@ -1,0 +1,7 @@
+pub mod Order
+pub mod Said
+pub mod Kinds
+pub mod Verdicts
+pub mod Texts
+pub mod First
+pub mod Today

@@ -1,0 +1,104 @@
+-- What the lines of a script say: questions over the whole list of lines.
+use Rattle.std.specs.Prelude.{ℕ, ◌==◌, Bool, true, List, [], ◌∷◌, ◌++◌, fold, filter_map, Option, Some, None, position, replicate, unwrap_or, bytes_eq, if◌then◌else◌}
+use Rattle.std.specs.List.{list_any}
+use Rattle.aim_msg.specs.declared.entries.Act.TheVariants as act
+use Rattle.aim_msg.specs.declared.entries.Order.TheVariants as order
+use Rattle.aim_msg.specs.declared.entries.TheConstants.{OPERATOR}
+use Rattle.aim_msg.specs.declared.script.Grid6.{Grid6}
+use Rattle.aim_msg.specs.declared.script.Times5.{Times5}
+use Rattle.aim_msg.specs.declared.script.Times6.{Times6}
+use Rattle.aim_msg.specs.declared.script.Line.{Line}
+use Rattle.aim_msg.specs.declared.script.Line.TheVariants as line
+use Rattle.aim_msg.specs.Lines.{name_word}
+use Rattle.aim_geometry.specs.declared.ground.Grid.{Grid}
+use Rattle.aim_geometry.specs.declared.ground.Times.{Times}
+use Rattle.aim_paths.specs.declared.policies.Kind.{Kind}
+use Rattle.aim_paths.specs.declared.policies.Kind.TheVariants as kind
+use Rattle.aim_paths.specs.Intersection.{Intersection}
+use Rattle.aim_paths.specs.Building.{with_move, no_paths, with_phase}
+use Rattle.aim_paths.specs.Legal.{Call}
+use Rattle.aim_geometry.specs.Bounded.{last, find_map}
+
+abbrev pub version_in : Line → Option ℕ
+version_in (line.Version n) = Some n
+version_in _ = None
+
+-- the version of what stands behind these lines: line 1 is read as one of version 1
+abbrev pub version_after : List Line → ℕ
+version_after lines = unwrap_or (find_map version_in lines) 1
+
+abbrev pub grid_of : Grid6 → Grid
+grid_of g = record { side = g.side; n = g.n; spacing = g.spacing; fixed = g.fixed; half = g.half; spans = g.spans }
+
+-- in version 1 the time buffer of inner tiles is the same before and after
+abbrev pub times_of : Times5 → Times
+times_of t = record { horizon = t.horizon; longest = t.longest; clearance = t.clearance; early = t.internal; late = t.internal; edge = t.edge }
+
+abbrev pub times6_of : Times6 → Times
+times6_of t = record { horizon = t.horizon; longest = t.longest; clearance = t.clearance; early = t.early; late = t.late; edge = t.edge }
+
+abbrev pub kind_of : ℕ → Kind
+kind_of k = if k == 0 then kind.Fcfs else if k == 1 then kind.Emerg else if k == 2 then kind.Light else kind.LightEmerg
+
+-- what a line adds to the layout
+abbrev pub with_line : Intersection → Line → Intersection
+with_line i (line.Grid g) = record i { grid = grid_of g }
+with_line i (line.Times t) = record i { times = times_of t }
+with_line i (line.Times6 t) = record i { times = times6_of t }
+with_line i (line.Lanes n) = record i { lanes = replicate n no_paths }
+with_line i (line.Move lane turn shape) = with_move i lane turn shape
+with_line i (line.Policy name k) = record i { policies = i.policies ++ record { kind = kind_of k; phases = [] } ∷ [] }
+with_line i (line.Phase red green lanes) = record i { policies = with_phase i.policies (record { red = red; green = green; lanes = lanes }) }
+with_line i _ = i
+
+-- a layout of which nothing is said yet
+abbrev pub nowhere : Intersection
+nowhere = record {
+  grid = record { side = 0; n = 0; spacing = 0; fixed = 0; half = 0; spans = 0 };
+  times = record { horizon = 0; longest = 0; clearance = 0; early = 0; late = 0; edge = 0 };
+  lanes = [];
+  policies = [];
+}
+
+-- the layout that the lines describe
+abbrev pub layout_of : List Line → Intersection
+layout_of lines = fold with_line nowhere lines
+
+abbrev pub name_in : Line → Option (List ℕ)
+name_in (line.Policy name k) = Some (name_word name)
+name_in _ = None
+
+-- the names of the policies, in the order of their numbers
+abbrev pub names_of : List Line → List (List ℕ)
+names_of lines = filter_map name_in lines
+
+abbrev pub is_named : List Line → List ℕ → Bool
+is_named lines name = list_any (bytes_eq name) (names_of lines)
+
+-- the number of the policy of that name
+abbrev pub number_of : List (List ℕ) → List ℕ → ℕ
+number_of names name = unwrap_or (position (bytes_eq name) names) 0
+
+abbrev pub vehicles_in : Line → Option ℕ
+vehicles_in (line.Vehicles n) = Some n
+vehicles_in _ = None
+
+-- the number of vehicles
+abbrev pub vehicles_of : List Line → ℕ
+vehicles_of lines = unwrap_or (find_map vehicles_in lines) 0
+
+-- the call that an event or an order makes
+abbrev pub call_in : List (List ℕ) → Line → Option Call
+call_in names (line.Event vehicle moment message) = Some (record { caller = vehicle; moment = moment; act = act.Message message })
+call_in names (line.SwitchTo moment name) =
+    Some (record { caller = OPERATOR; moment = moment; act = act.Order (order.Switch (number_of names (name_word name))) })
+call_in names (line.StopAt moment) = Some (record { caller = OPERATOR; moment = moment; act = act.Order order.Stop })
+call_in names _ = None
+
+-- the calls of the events and orders, in their order
+abbrev pub calls_of : List Line → List Call
+calls_of lines = filter_map (call_in (names_of lines)) lines
+
+-- the last line, if there is one
+abbrev pub last_of : List Line → Option Line
+last_of lines = last (λ l. true) lines

@@ -1,0 +1,79 @@
+-- What a script comes to: the first line that decides.
+use Rattle.std.specs.Prelude.{ℕ, ◌+◌, List, [], ◌∷◌, ◌++◌, length, Option, Some, None, Result, Ok, Err, codes, if◌then◌else◌}
+use Rattle.aim_io.specs.declared.lines.LineFault.{LineFault}
+use Rattle.aim_io.specs.declared.lines.LineFault.TheVariants as fault
+use Rattle.aim_io.specs.Lines.{Outcome, Line, Stop, outcomes_of}
+use Rattle.aim_msg.specs.declared.script.Line.{Line as ScriptLine}
+use Rattle.aim_msg.specs.declared.script.LineKind.{LineKind}
+use Rattle.aim_msg.specs.declared.script.LineKind.TheVariants as read
+use Rattle.aim_msg.specs.Reading.{line_at}
+use Rattle.aim_replay.specs.Order.{is_end}
+use Rattle.aim_replay.specs.Said.{version_after, last_of}
+use Rattle.aim_replay.specs.Kinds.{Missing, kind_of_fault, limit_of}
+
+-- a line at fault with its kind, a limit, or a whole script
+pub data Decision : Type 0 where
+  bad : ℕ → List ℕ → Decision
+  limit : List ℕ → Decision
+  whole : Decision
+
+-- the lines before the one that decides, and the decision
+pub record Verdict : Type 0 where
+  pub before : List ScriptLine
+  pub decision : Decision
+
+-- a line decides, or it is one more of the script
+pub data Judgement : Type 0 where
+  decides : Decision → Judgement
+  goes_on : ScriptLine → Judgement
+
+abbrev pub kind_word : LineKind → List ℕ
+kind_word read.Words = codes "words"
+kind_word read.Number = codes "number"
+kind_word read.Range = codes "range"
+kind_word read.Unknown = codes "unknown"
+
+-- the number of the line behind those
+abbrev pub number_after : List ScriptLine → ℕ
+number_after before = length before + 1
+
+-- what a fault of the input decides, in the place of a line; that the input can't be read decides nothing
+abbrev pub of_fault : LineFault → Decision
+of_fault fault.Read = whole
+of_fault (fault.Long number) = bad number (codes "long")
+of_fault fault.Bytes = limit (codes "bytes")
+of_fault fault.Lines = limit (codes "lines")
+
+abbrev pub unless_limited : ScriptLine → Option (List ℕ) → Judgement
+unless_limited l None = goes_on l
+unless_limited l (Some which) = decides (limit which)
+
+abbrev pub unless_bad : List ScriptLine → ScriptLine → Option (List ℕ) → Judgement
+unless_bad before l None = unless_limited l (limit_of before l)
+unless_bad before l (Some kind) = decides (bad (number_after before) kind)
+
+abbrev pub of_read : Missing → List ScriptLine → Result ScriptLine LineKind → Judgement
+of_read missing before (Ok l) = unless_bad before l (kind_of_fault missing before l)
+of_read missing before (Err kind) = decides (bad (number_after before) (kind_word kind))
+
+-- what stands behind those lines decides, or goes on
+abbrev pub judge : Missing → List ScriptLine → Outcome → Judgement
+judge missing before (Stop f) = decides (of_fault f)
+judge missing before (Line bytes) = of_read missing before (line_at (version_after before) bytes)
+
+-- what the end of the input behind those lines decides
+abbrev pub at_end : List ScriptLine → Decision
+at_end before = if is_end (last_of before) then whole else bad (number_after before) (codes "end")
+
+abbrev pub then_on : List ScriptLine → Judgement → (List ScriptLine → Verdict) → Verdict
+then_on before (decides d) next = record { before = before; decision = d }
+then_on before (goes_on l) next = next (before ++ l ∷ [])
+
+-- the first decision of what stands behind those lines
+abbrev pub verdict_from : Missing → List ScriptLine → List Outcome → Verdict
+verdict_from missing before [] = record { before = before; decision = at_end before }
+verdict_from missing before (o ∷ os) = then_on before (judge missing before o) (λ more. verdict_from missing more os)
+
+-- what a replay script comes to
+abbrev pub verdict : Missing → List ℕ → Verdict
+verdict missing bytes = verdict_from missing [] (outcomes_of bytes)
