@@ -7,5 +7,6 @@ pub mod LegalLemmas
 pub mod CellLemmas
 pub mod GrantLemmas
 pub mod AnswerLemmas
+pub mod GoodLemmas
 pub mod SlowerLemmas
 pub mod AheadLemmas

@@ -1,10 +1,11 @@
--- The worked rows: layouts, calls and replies, and what the answers to them are.
+-- Worked examples: small layouts, calls, and what the replies to them are.
 pub mod Plain
 pub mod Fast
 pub mod Lit
 pub mod Versions
 pub mod Drive
 pub mod Large
+pub mod Bounds
 use Rattle.std.proofs.Common.{◌≡◌, ℕ, ◌+◌, Bool, true, false, List, [], ◌∷◌, map, Option, Some, None}
 use Rattle.aim_msg.specs.declared.messages.Params.{Params}
 use Rattle.aim_msg.specs.declared.entries.TheConstants.{OPERATOR}
@@ -44,14 +45,14 @@ crossing times policies = record {
   policies = policies;
 }
 
-abbrev pub s1 : Intersection
-s1 = crossing (record { horizon = 1500; longest = 25; clearance = 20; early = 0; late = 0; edge = 0 }) (plain ∷ lights ∷ siren ∷ [])
+abbrev pub small : Intersection
+small = crossing (record { horizon = 1500; longest = 25; clearance = 20; early = 0; late = 0; edge = 0 }) (plain ∷ lights ∷ siren ∷ [])
 
-abbrev pub s2 : Intersection
-s2 = crossing (record { horizon = 1500; longest = 25; clearance = 20; early = 1; late = 1; edge = 2 }) (plain ∷ lights ∷ siren ∷ [])
+abbrev pub buffered_small : Intersection
+buffered_small = crossing (record { horizon = 1500; longest = 25; clearance = 20; early = 1; late = 1; edge = 2 }) (plain ∷ lights ∷ siren ∷ [])
 
-abbrev pub s3 : Intersection
-s3 = crossing (record { horizon = 1500; longest = 25; clearance = 20; early = 0; late = 0; edge = 0 }) (siren ∷ plain ∷ lights ∷ [])
+abbrev pub siren_small : Intersection
+siren_small = crossing (record { horizon = 1500; longest = 25; clearance = 20; early = 0; late = 0; edge = 0 }) (siren ∷ plain ∷ lights ∷ [])
 
 abbrev pub car : ℕ → ℕ → Params
 car lane arrive = record {

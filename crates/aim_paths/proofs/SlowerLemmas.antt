@@ -17,34 +17,9 @@ use Rattle.aim_paths.specs.Cells.{Cell, is_kept, in_cells}
 use Rattle.aim_paths.specs.Bad.{bad, needs_too_many_spans}
 use Rattle.aim_geometry.proofs.BoundedLemmas.{some_below_at, some_below_found}
 use Rattle.aim_paths.proofs.MotionLemmas.{front_zero, front_more, crossing_steps-least}
+use Rattle.aim_paths.proofs.GoodLemmas.{good_speed}
 use Rattle.aim_paths.proofs.Ranges.{list_any-slice_range_at}
 use Rattle.aim_paths.proofs.TestLemmas.{and_left, and_right, is_less, not_less, is_most, both, le_true}
-
-if_none : {X : Type 0} (b : Bool) (f : X) (o : Option X) → (if b then Some f else o) ≡ None → (b ≡ false) × (o ≡ None)
-if_none true f o h = absurd (cc)
-if_none false f o h = (refl, h)
-
-outside : (n most : ℕ) → is_outside n most ≡ false → (0 < n) × (n ≤ most)
-outside n most h = grind (arith, nat_tests)
-
--- the speed of good params
-pub good_speed : (i : Intersection) (p : Params) → bad i p ≡ None → (0 < p.speed) × (p.speed ≤ p.max_speed)
-good_speed i p h =
-    let r8 = if needs_too_many_spans i p then Some field.Spans else None in
-    let r7 = if nat_lt 2048 (crossing_steps i p false) then Some field.Steps else r8 in
-    let r6 = if is_outside p.width 30000 then Some field.Width else r7 in
-    let r5 = if is_outside p.length 30000 then Some field.Length else r6 in
-    let r4 = if nat_lt 1000 p.accel then Some field.Accel else r5 in
-    let r3 = if is_outside p.speed p.max_speed then Some field.Speed else r4 in
-    let r2 = if is_outside p.max_speed 4000 then Some field.Max else r3 in
-    let r1 = if nat_lt 1073741824 p.arrive then Some field.Arrive else r2 in
-    let r0 = if is_none (path i p.lane p.turn) then Some field.Turn else r1 in
-    let a = if_none (nat_le (length i.lanes) p.lane) field.Lane r0 h in
-    let b = if_none (is_none (path i p.lane p.turn)) field.Turn r1 a.1 in
-    let c = if_none (nat_lt 1073741824 p.arrive) field.Arrive r2 b.1 in
-    let d = if_none (is_outside p.max_speed 4000) field.Max r3 c.1 in
-    let e = if_none (is_outside p.speed p.max_speed) field.Speed r4 d.1 in
-    outside p.speed p.max_speed e.0
 
 -- the fast trial's front is never behind the steady one's
 front_ahead : (p : Params) (k : ℕ) → p.speed ≤ p.max_speed → front p false k ≤ front p true k

@@ -1,5 +1,5 @@
 -- Which field of a request is wrong, if any.
-use Rattle.std.specs.Prelude.{ℕ, Bool, true, false, ◌&&◌, ◌||◌, nat_lt, nat_le, ◌==◌, length, filter, flat_map, map, Option, Some, None, is_none, if◌then◌else◌}
+use Rattle.std.specs.Prelude.{◌≡◌, ◌<◌, ◌≤◌, ℕ, Bool, true, false, ◌&&◌, ◌||◌, nat_lt, nat_le, ◌==◌, length, filter, flat_map, map, Option, Some, None, is_none, if◌then◌else◌}
 use Rattle.std.specs.List.{range_with_len}
 use Rattle.aim_msg.specs.declared.messages.Params.{Params}
 use Rattle.aim_msg.specs.declared.replies.Field.{Field}
@@ -37,3 +37,21 @@ bad i p =
     else if nat_lt 2048 (crossing_steps i p false) then Some field.Steps
     else if needs_too_many_spans i p then Some field.Spans
     else None
+
+-- a trial's spans fit into a sheet
+abbrev pub Fits : Intersection → Params → Bool → Type 0
+Fits i p fast = span_count i p fast ≤ i.grid.spans
+
+-- params of which no field is wrong, said as bounds
+pub record IsGood (i : Intersection) (p : Params) : Type 0 where
+  pub lane : p.lane < length i.lanes
+  pub turn : is_none (path i p.lane p.turn) ≡ false
+  pub arrive : p.arrive ≤ 1073741824
+  pub greatest : (1 ≤ p.max_speed) × (p.max_speed ≤ 4000)
+  pub speed : (1 ≤ p.speed) × (p.speed ≤ p.max_speed)
+  pub accel : p.accel ≤ 1000
+  pub length : (1 ≤ p.length) × (p.length ≤ 30000)
+  pub width : (1 ≤ p.width) × (p.width ≤ 30000)
+  pub steps : crossing_steps i p false ≤ 2048
+  pub steady : Fits i p false
+  pub fast : is_fast_made p ≡ true → Fits i p true

@@ -25,5 +25,5 @@ steps_fast = refl
 pub steps_steady : crossing_steps large truck false ≡ 163
 steps_steady = refl
 
-pub one : in_cells large truck false (record { row = 21; col = 10; step = 130 }) ≡ true
-one = refl
+pub needs_a_cell : in_cells large truck false (record { row = 21; col = 10; step = 130 }) ≡ true
+needs_a_cell = refl
