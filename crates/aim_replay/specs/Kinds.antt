@@ -15,19 +15,19 @@ abbrev pub is_bad_version : List Line → Line → Bool
 is_bad_version before (line.Version n) = is_outside n 3
 is_bad_version before _ = false
 
-abbrev pub is_told_grid : List Line → Line → Bool
-is_told_grid before (line.Grid g) = has_bad_numbers (grid_of g)
-is_told_grid before _ = false
+abbrev pub has_grid_fault : List Line → Line → Bool
+has_grid_fault before (line.Grid g) = has_bad_numbers (grid_of g)
+has_grid_fault before _ = false
 
-abbrev pub is_told_buffers : List Line → Line → Bool
-is_told_buffers before (line.Times t) = has_bad_buffers (times_of t)
-is_told_buffers before (line.Times6 t) = has_bad_buffers (times6_of t)
-is_told_buffers before _ = false
+abbrev pub has_buffers_fault : List Line → Line → Bool
+has_buffers_fault before (line.Times t) = has_bad_buffers (times_of t)
+has_buffers_fault before (line.Times6 t) = has_bad_buffers (times6_of t)
+has_buffers_fault before _ = false
 
-abbrev pub is_told_times : List Line → Line → Bool
-is_told_times before (line.Times t) = has_bad_times (times_of t)
-is_told_times before (line.Times6 t) = has_bad_times (times6_of t)
-is_told_times before _ = false
+abbrev pub has_times_fault : List Line → Line → Bool
+has_times_fault before (line.Times t) = has_bad_times (times_of t)
+has_times_fault before (line.Times6 t) = has_bad_times (times6_of t)
+has_times_fault before _ = false
 
 abbrev pub is_bad_lane : List Line → Line → Bool
 is_bad_lane before (line.Lanes n) = is_outside n 16
@@ -87,9 +87,9 @@ kinds missing =
     ∷ (codes "order", is_out_of_order)
     ∷ (codes "unsupported", missing.field)
     ∷ (codes "version", is_bad_version)
-    ∷ (codes "grid", is_told_grid)
-    ∷ (codes "buffers", is_told_buffers)
-    ∷ (codes "times", is_told_times)
+    ∷ (codes "grid", has_grid_fault)
+    ∷ (codes "buffers", has_buffers_fault)
+    ∷ (codes "times", has_times_fault)
     ∷ (codes "lane", is_bad_lane)
     ∷ (codes "move", is_no_move)
     ∷ (codes "spacing", is_wide)
