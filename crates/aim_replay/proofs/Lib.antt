@@ -1,3 +1,4 @@
 pub mod Examples
 pub mod FirstLemmas
 pub mod LineLemmas
+pub mod CallLemmas
