@@ -1,17 +1,12 @@
 -- Adding a path to a lane.
-use Rattle.std.proofs.Common.{◌≡◌, ◌≢◌, ℕ, ◌+◌, ◌<◌, ◌≤◌, Bool, true, false, ◌&&◌, ◌||◌, List, [], ◌∷◌, length, slice_get, get_or, set, Option, Some, None, arith, refl, sym, ◌∙◌, ap, nat_lt}
-use Rattle.std.specs.List.{list_any}
-use Rattle.std.proofs.lemmas.Option.{get_or_from_slice_get, slice_get-get_or, slice_get_within}
+use Rattle.std.proofs.Common.{◌≡◌, ℕ, ◌<◌, ◌≤◌, false, List, [], ◌∷◌, length, slice_get, Some, arith, refl, sym, ◌∙◌}
+use Rattle.std.proofs.lemmas.Option.{get_or_from_slice_get, slice_get_within}
 use Rattle.aim_msg.specs.declared.messages.Turn.{Turn}
 use Rattle.aim_msg.specs.declared.messages.Turn.TheVariants.{Left, Straight, Right}
-use Rattle.aim_geometry.specs.declared.ground.Grid.{Grid}
 use Rattle.aim_geometry.specs.declared.stations.Station.{Station}
-use Rattle.aim_geometry.specs.Ground.{is_touched}
 use Rattle.aim_paths.specs.declared.shapes.Shape.{Shape}
 use Rattle.aim_paths.specs.Shapes.{stations_of, parts_of, is_bad_shape}
-use Rattle.aim_paths.specs.Intersection.{Intersection, Lane, path_of}
-use Rattle.aim_paths.specs.Lights.{is_on_path, is_on_lane}
-use Rattle.aim_paths.specs.LaneTiles.{is_met}
+use Rattle.aim_paths.specs.Intersection.{Lane, path_of}
 use Rattle.aim_paths.specs.LaneRooms.{offered}
 use Rattle.aim_paths.specs.Building.{with_path}
 use Rattle.aim_paths.proofs.ShapeLemmas.{length-stations_of, get_or-stations_of, place, place_inside}

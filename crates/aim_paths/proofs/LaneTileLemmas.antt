@@ -1,5 +1,5 @@
 -- The tiles of a lane, as paths are added to a layout.
-use Rattle.std.proofs.Common.{◌≡◌, ℕ, ◌<◌, ◌≤◌, inl, inr, Bool, true, false, ◌&&◌, ◌||◌, List, [], ◌∷◌, length, slice_get, get_or, set, replicate, Option, Some, None, arith, refl, sym, ◌∙◌, ap, nat_lt}
+use Rattle.std.proofs.Common.{◌≡◌, ℕ, ◌<◌, inl, inr, Bool, true, false, ◌&&◌, ◌||◌, List, [], length, slice_get, get_or, set, replicate, Option, Some, None, arith, refl, sym, ◌∙◌, ap, nat_lt}
 use Rattle.std.specs.List.{list_any}
 use Rattle.std.proofs.lemmas.Bool.{cases_eq}
 use Rattle.std.proofs.lemmas.List.{length-set, length-replicate, get_or-set_same, get_or-set_other, get_or-replicate}
@@ -7,7 +7,6 @@ use Rattle.std.proofs.lemmas.Option.{slice_get-get_or}
 use Rattle.std.proofs.lemmas.Nat.Bits.{bit_at-zero}
 use Rattle.aim_msg.specs.declared.messages.Turn.{Turn}
 use Rattle.aim_msg.specs.declared.messages.Turn.TheVariants.{Left, Straight, Right}
-use Rattle.aim_geometry.specs.declared.ground.Grid.{Grid}
 use Rattle.aim_geometry.specs.declared.stations.Station.{Station}
 use Rattle.aim_geometry.specs.Ground.{is_touched}
 use Rattle.aim_geometry.specs.Rects.{tile_at}
@@ -103,9 +102,9 @@ moved_lane i lane turn s row col h none =
     let free : path_of l turn ≡ None = sym (path_there i lane turn h) ∙ none in
     let old : in_lane_tiles i lane row col ≡ is_on_lane i (Some l) row col = ap (λ o. is_on_lane i o row col) (lane_there i lane h) in
     let new : in_lane_tiles j lane row col ≡ is_on_lane j (Some (with_path l turn (stations_of s))) row col =
-        ap (λ o. is_on_lane j o row col) (slice_get-set_same i.lanes lane (with_path l turn (stations_of s)) h) in
+    ap (λ o. is_on_lane j o row col) (slice_get-set_same i.lanes lane (with_path l turn (stations_of s)) h) in
     let both : in_lane_tiles j lane row col ≡ (in_lane_tiles i lane row col || is_on_path i (Some (stations_of s)) row col) =
-        new ∙ on_lane_same j i (Some (with_path l turn (stations_of s))) row col refl ∙ on_lane_more i l turn (stations_of s) row col free ∙ ap (λ b. b || is_on_path i (Some (stations_of s)) row col) (sym old) in
+    new ∙ on_lane_same j i (Some (with_path l turn (stations_of s))) row col refl ∙ on_lane_more i l turn (stations_of s) row col free ∙ ap (λ b. b || is_on_path i (Some (stations_of s)) row col) (sym old) in
     ap (λ b. nat_lt row i.grid.n && nat_lt col i.grid.n && b) both
     ∙ and_or (nat_lt row i.grid.n && nat_lt col i.grid.n) (in_lane_tiles i lane row col) (is_on_path i (Some (stations_of s)) row col)
 
@@ -135,14 +134,14 @@ HasTiles-move i lane turn s tiles rows h none t m = record {
 -- no lane of a bare layout has a tile
 pub HasTiles-bare : (s : Site) (lanes : ℕ) → HasTiles (bare s lanes) (replicate lanes (replicate 64 0))
 HasTiles-bare s lanes =
-  let blank : List ℕ = replicate 64 0 in record {
-  count = length-replicate lanes blank ∙ sym (length-replicate lanes no_paths);
-  rows = λ k l row col r c.
-      let m : k < lanes = omega (arith, length-replicate lanes no_paths) in
-      let there : slice_get (replicate lanes no_paths) k ≡ Some no_paths = slice_get-get_or (replicate lanes no_paths) k no_paths l ∙ ap Some (get_or-replicate lanes k no_paths no_paths m) in
-      let none : in_lane_tiles (bare s lanes) k row col ≡ false = ap (λ o. is_on_lane (bare s lanes) o row col) there in
-      rw (get_or-replicate lanes k blank [] m, get_or-replicate {A = ℕ} 64 row 0 0 r, bit_at-zero col, none) (no_and (nat_lt row s.grid.n && nat_lt col s.grid.n));
-}
+    let blank : List ℕ = replicate 64 0 in record {
+      count = length-replicate lanes blank ∙ sym (length-replicate lanes no_paths);
+      rows = λ k l row col r c.
+          let m : k < lanes = omega (arith, length-replicate lanes no_paths) in
+          let there : slice_get (replicate lanes no_paths) k ≡ Some no_paths = slice_get-get_or (replicate lanes no_paths) k no_paths l ∙ ap Some (get_or-replicate lanes k no_paths no_paths m) in
+          let none : in_lane_tiles (bare s lanes) k row col ≡ false = ap (λ o. is_on_lane (bare s lanes) o row col) there in
+          rw (get_or-replicate lanes k blank [] m, get_or-replicate {A = ℕ} 64 row 0 0 r, bit_at-zero col, none) (no_and (nat_lt row s.grid.n && nat_lt col s.grid.n));
+    }
   where
     no_and : (a : Bool) → false ≡ (a && false)
     no_and true = refl

@@ -11,4 +11,4 @@ pub mod LaneLemmas
 pub mod Elements
 pub mod LaneTileLemmas
 pub mod SoundLemmas
-pub mod Bits
+pub mod ShareLemmas

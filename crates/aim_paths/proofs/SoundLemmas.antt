@@ -1,9 +1,10 @@
 -- What was not refused stays valid.
-use Rattle.std.proofs.Common.{◌≡◌, ℕ, ◌+◌, ◌-◌, ◌<◌, ◌≤◌, inl, inr, Bool, true, false, ◌&&◌, ◌||◌, not, List, [], ◌∷◌, ◌++◌, length, slice_get, get_or, set, replicate, Option, Some, None, arith, refl, sym, ◌∙◌, ap, nat_lt, eqb, length-append}
+use Rattle.std.proofs.Common.{◌≡◌, ℕ, ◌+◌, ◌-◌, ◌^◌, ◌<◌, ◌≤◌, inl, inr, Bool, true, false, ◌&&◌, ◌||◌, not, List, [], ◌∷◌, ◌++◌, length, slice_get, get_or, set, replicate, Option, Some, None, arith, refl, sym, ◌∙◌, ap, nat_lt, length-append}
 use Rattle.std.specs.Prelude.{nat_le, option_map, option_and_then, ◌⊎◌, if◌then◌else◌, ◌==◌, is_some}
 use Rattle.std.proofs.Math.Decide.{dec_lt}
 use Rattle.std.proofs.lemmas.Bool.{or_parts, ltb-false, leb-false, eqb-false, cases_eq}
-use Rattle.std.proofs.lemmas.Bool.Decides.{nat_tests}
+use Rattle.std.specs.Int.{bit_at}
+use Rattle.std.proofs.lemmas.Nat.Bits.{bit_at_above}
 use Rattle.std.proofs.lemmas.List.{length-set, length-replicate}
 use Rattle.std.proofs.lemmas.Option.{get_or_from_slice_get, slice_get_within}
 use Rattle.aim_msg.specs.declared.messages.Turn.{Turn}
@@ -13,20 +14,19 @@ use Rattle.aim_geometry.specs.declared.stations.Station.{Station}
 use Rattle.aim_geometry.specs.Bounded.{least_below, some_below, is_outside}
 use Rattle.aim_geometry.specs.Sites.{Site, IsGrid, IsTimes}
 use Rattle.aim_geometry.proofs.BoundedLemmas.{least_below_found, some_below_false}
-use Rattle.aim_paths.specs.declared.builders.LayoutFault.{LayoutFault}
 use Rattle.aim_paths.specs.declared.builders.LayoutFault.TheVariants as fault
 use Rattle.aim_paths.specs.declared.policies.Kind.{Kind}
 use Rattle.aim_paths.specs.declared.policies.Phase.{Phase}
 use Rattle.aim_paths.specs.declared.shapes.Shape.{Shape}
-use Rattle.aim_paths.specs.Shapes.{stations_of, parts_of, is_bad_shape, are_wide, wide_step, origin}
+use Rattle.aim_paths.specs.Shapes.{stations_of, is_bad_shape, are_wide, wide_step, origin}
 use Rattle.aim_paths.specs.Intersection.{Intersection, Lane, Policy, path_of, path}
 use Rattle.aim_paths.specs.Lights.{has_lights, has_lane, in_lane_tiles}
-use Rattle.aim_paths.specs.Building.{no_paths, bare, with_path, is_bad_move, move_fault, with_move, last_policy, lacks_phase, policy_fault, with_policy, share_tile, has_bad_lanes, is_bad_phase_of, phase_count, phase_fault, with_phase, with_phase_of, finish_fault}
+use Rattle.aim_paths.specs.Building.{no_paths, bare, with_path, is_bad_move, move_fault, with_move, last_policy, lacks_phase, with_policy, share_tile, has_bad_lanes, is_bad_phase_of, phase_count, phase_fault, with_phase_of}
 use Rattle.aim_paths.specs.Valid.{IsPath, IsPhase, IsPolicy, IsSound, IsValid}
 use Rattle.aim_paths.proofs.Elements.{slice_get-set_same, slice_get-set_other, set_cases, append_cases, replicate_all}
 use Rattle.aim_paths.proofs.ShapeLemmas.{length-stations_of, parts_most}
 use Rattle.aim_paths.proofs.LaneLemmas.{stations_inside}
-use Rattle.aim_paths.proofs.LaneTileLemmas.{in_lane_same, lane_there, path_there}
+use Rattle.aim_paths.proofs.LaneTileLemmas.{in_lane_same, path_there}
 
 -- what a fault that isn't there says of its two causes
 pub no_fault : {F : Type 0} (b : Bool) (f : F) (o : Option F) → (if b then Some f else o) ≡ None → (b ≡ false) × (o ≡ None)
@@ -140,11 +140,11 @@ IsPhase-same i j f g t l h = record {
   some_green = h.some_green;
   green = h.green;
   some_lanes = h.some_lanes;
-  lanes = λ a b e. let m = h.lanes a b e in omega (arith, ap length l);
-  apart = λ a b row col x y ha hb r c e.
+  lanes = λ a e. let m = h.lanes a e in omega (arith, ap length l);
+  apart = λ a b row col x ha hb r c e.
       let n : i.grid.n ≡ j.grid.n = ap (λ x. x.n) g in
       sym (in_lane_same i j b row col g l)
-      ∙ h.apart a b row col x y ha hb (omega arith) (omega arith) (in_lane_same i j a row col g l ∙ e);
+      ∙ h.apart a b row col x ha hb (omega arith) (omega arith) (in_lane_same i j a row col g l ∙ e);
 }
 
 IsPolicy-same : (i j : Intersection) (p : Policy) → i.grid ≡ j.grid → i.times ≡ j.times → i.lanes ≡ j.lanes → IsPolicy i p → IsPolicy j p
@@ -200,16 +200,24 @@ not_false : (b : Bool) → not b ≡ false → b ≡ true
 not_false true h = refl
 not_false false h = absurd (cc)
 
-lane_tests : (i : Intersection) (lanes a : ℕ) → has_bad_lanes i lanes ≡ false → a < 16 → has_lane lanes a ≡ true →
-    (a < length i.lanes) × ((b row col : ℕ) → b < a → has_lane lanes b ≡ true → row < i.grid.n → col < i.grid.n → in_lane_tiles i a row col ≡ true → in_lane_tiles i b row col ≡ false)
-lane_tests i lanes a h l e =
-    let t = some_below_false 16 (λ a. has_lane lanes a && (nat_le (length i.lanes) a || some_below a (λ b. has_lane lanes b && share_tile i a b))) a h l in
-    let u = or_parts (nat_le (length i.lanes) a) (some_below a (λ b. has_lane lanes b && share_tile i a b)) (and_false (has_lane lanes a) _ t e) in
-    (leb-false (length i.lanes) a u.0, λ b row col m f r c x.
-    let w = and_false (has_lane lanes b) (share_tile i a b) (some_below_false a (λ b. has_lane lanes b && share_tile i a b) b u.1 m) f in
+-- a lane from the bound on isn't there
+lane_above : (lanes a n : ℕ) → lanes < 2 ^ n → has_lane lanes a ≡ true → a < n
+lane_above lanes a n h e = elim (dec_lt a n) [
+  | yes l ↦ l
+  | no l ↦ absurd (let z : bit_at lanes a ≡ 0 = bit_at_above lanes n a h (omega arith) in
+      let f : (bit_at lanes a == 1) ≡ true = e in
+      let g : (0 == 1) ≡ true = rw z at f in cc)
+]
+
+lane_apart : (i : Intersection) (lanes a b row col : ℕ) → some_below (length i.lanes) (λ a. has_lane lanes a && some_below a (λ b. has_lane lanes b && share_tile i a b)) ≡ false →
+    a < length i.lanes → has_lane lanes a ≡ true → b < a → has_lane lanes b ≡ true → row < i.grid.n → col < i.grid.n → in_lane_tiles i a row col ≡ true → in_lane_tiles i b row col ≡ false
+lane_apart i lanes a b row col h l e m f r c x =
+    let t = some_below_false (length i.lanes) (λ a. has_lane lanes a && some_below a (λ b. has_lane lanes b && share_tile i a b)) a h l in
+    let u = and_false (has_lane lanes a) (some_below a (λ b. has_lane lanes b && share_tile i a b)) t e in
+    let w = and_false (has_lane lanes b) (share_tile i a b) (some_below_false a (λ b. has_lane lanes b && share_tile i a b) b u m) f in
     let y = some_below_false i.grid.n (λ r. some_below i.grid.n (λ c. in_lane_tiles i a r c && in_lane_tiles i b r c)) row w r in
     let z = some_below_false i.grid.n (λ c. in_lane_tiles i a row c && in_lane_tiles i b row c) col y c in
-    and_false (in_lane_tiles i a row col) (in_lane_tiles i b row col) z x)
+    and_false (in_lane_tiles i a row col) (in_lane_tiles i b row col) z x
 
 pub IsPhaseOf-tests : (i : Intersection) (f : Phase) (q : Policy) → is_bad_phase_of i f (Some q) ≡ false → IsPhaseOf i f q
 IsPhaseOf-tests i f q h =
@@ -228,6 +236,8 @@ IsPhaseOf-tests i f q h =
     let o = or_parts (f.green == 0) (nat_lt 65536 f.green) d.1 in
     let some_green = eqb-false f.green 0 o.0 in
     let some_lanes = eqb-false f.lanes 0 b.1 in
+    let p = or_parts (nat_le (2 ^ length i.lanes) f.lanes) (some_below (length i.lanes) (λ a. has_lane f.lanes a && some_below a (λ b. has_lane f.lanes b && share_tile i a b))) a.1 in
+    let small = leb-false (2 ^ length i.lanes) f.lanes p.0 in
     record {
       lights = not_false (has_lights q.kind) k.0;
       room = leb-false 16 (length q.phases) k.1;
@@ -237,10 +247,18 @@ IsPhaseOf-tests i f q h =
         some_green = omega arith;
         green = ltb-false 65536 f.green o.1;
         some_lanes = omega arith;
-        lanes = λ x l t. (lane_tests i f.lanes x a.1 l t).0;
-        apart = λ x y row col m l t u r c s. (lane_tests i f.lanes x a.1 l t).1 y row col m u r c s;
+        lanes = λ x t. lane_above f.lanes x (length i.lanes) small t;
+        apart = λ x y row col m t u r c s. lane_apart i f.lanes x y row col p.1 (lane_above f.lanes x (length i.lanes) small t) t m u r c s;
       };
     }
+
+-- a phase that isn't refused has a policy to which it is added
+pub phase_found : (i : Intersection) (f : Phase) → phase_fault i f ≡ None → (q : Policy) × (last_policy i ≡ Some q) × IsPhaseOf i f q
+phase_found i f h = go (last_policy i) refl (no_fault (is_bad_phase_of i f (last_policy i)) (fault.Phase (length i.policies - 1) (phase_count (last_policy i))) None h).0
+  where
+    go : (o : Option Policy) → last_policy i ≡ o → is_bad_phase_of i f (last_policy i) ≡ false → (q : Policy) × (last_policy i ≡ Some q) × IsPhaseOf i f q
+    go None e h = absurd (let t : is_bad_phase_of i f None ≡ false = rw e at h in cc)
+    go (Some q) e h = (q, e, IsPhaseOf-tests i f q (rw e at h))
 
 pub IsSound-phase : (i : Intersection) (f : Phase) (q : Policy) → IsSound i → slice_get i.policies (length i.policies - 1) ≡ Some q → IsPhaseOf i f q → IsSound (with_phase_of i f (Some q))
 IsSound-phase i f q v last t =
@@ -259,13 +277,13 @@ IsSound-phase i f q v last t =
       policies = let a = v.policies in omega arith;
       each = λ n p e. elim (set_cases i.policies k n new p there e) [
         | inl (a, b) ↦ rw b (record {
-            count = let room = t.room in omega (arith, length-append q.phases (f ∷ []));
-            dark = λ d. absurd (let l = t.lights in cc);
-            phases = λ m x e. elim (append_cases q.phases f x m e) [
-              | inl (l, old) ↦ IsPhase-same i j x refl refl refl (was.phases m x old)
-              | inr (l, same) ↦ rw same (IsPhase-same i j f refl refl refl t.phase)
-            ];
-          })
+          count = let room = t.room in omega (arith, length-append q.phases (f ∷ []));
+          dark = λ d. absurd (let l = t.lights in cc);
+          phases = λ m x e. elim (append_cases q.phases f x m e) [
+            | inl (l, old) ↦ IsPhase-same i j x refl refl refl (was.phases m x old)
+            | inr (l, same) ↦ rw same (IsPhase-same i j f refl refl refl t.phase)
+          ];
+        })
         | inr (a, old) ↦ IsPolicy-same i j p refl refl refl (v.each n p old)
       ];
       earlier = λ n p l e. elim (set_cases i.policies k n new p there e) [

@@ -1,11 +1,11 @@
 -- What a valid layout says of its parts.
-use Rattle.std.proofs.Common.{◌≡◌, ℕ, ◌<◌, ◌≤◌, List, [], ◌∷◌, length, get_or, Some, None, arith, refl, sym}
+use Rattle.std.proofs.Common.{◌≡◌, ℕ, ◌<◌, ◌≤◌, List, [], ◌∷◌, length, get_or, None, arith, refl, sym}
 use Rattle.std.proofs.lemmas.Option.{slice_get_past, slice_get_read}
 use Rattle.aim_msg.specs.declared.messages.Turn.{Turn}
 use Rattle.aim_geometry.specs.declared.stations.Station.{Station}
 use Rattle.aim_paths.specs.Intersection.{Intersection, Lane, path, path_of}
 use Rattle.aim_paths.specs.LaneRooms.{offered}
-use Rattle.aim_paths.specs.Valid.{IsPath, IsSound}
+use Rattle.aim_paths.specs.Valid.{IsSound}
 
 -- the path of a lane that was read
 pub path_read : (i : Intersection) (lane : ℕ) (turn : Turn) (l : Lane) → lane < length i.lanes → l ≡ get_or i.lanes lane l → path_of l turn ≡ path i lane turn

@@ -1,10 +1,9 @@
 //! Layouts, line by line.
 
-ghost use Rattle.std.specs.Prelude.{◌≡◌, ℕ, ◌<◌, ◌≤◌, ◌&&◌, ◌||◌, ◌==◌, nat_le, ◌↔◌, ◌⊎◌, false, length, replicate, None, IsTrue, IfErr, IfOk, OnErr, OnOk, is_some};
-ghost use Rattle.std.specs.List.{slice_index_or};
+ghost use Rattle.std.specs.Prelude.{◌≡◌, ℕ, ◌<◌, ◌≤◌, ◌&&◌, ◌||◌, ◌==◌, ◌^◌, nat_le, bit_and, slice_index, ◌↔◌, ◌⊎◌, false, length, replicate, None, IsTrue, IfErr, IfOk, OnErr, OnOk, is_some};
+ghost use Rattle.std.specs.Bool.{OnFalse, OnTrue};
 ghost use Rattle.std.specs.Result.{result_err};
 ghost use Rattle.aim_geometry.specs.Bounded.{is_outside, some_below};
-ghost use Rattle.aim_geometry.specs.Rects.{tile_at};
 ghost use Rattle.aim_paths.specs.Building.{bare, finish_fault, has_bad_lanes as has_bad_lanes_of, is_bad_move, is_bad_phase_of, lacks_phase as lacks_phase_of, last_policy, move_fault, no_paths, phase_count as phase_count_of, phase_fault, policy_fault, share_tile as share_tile_of, with_move, with_phase, with_policy};
 ghost use Rattle.aim_paths.specs.Intersection.{path};
 ghost use Rattle.aim_paths.specs.Lights.{has_lane as has_lane_of};
@@ -26,11 +25,7 @@ pub enum LayoutFault {
     /// The lane isn't there or has that turn already, a policy was added, or the shape is out of its ranges.
     Move { lane: u32, turn: Turn },
     /// The station is the least that is more than the spacing away from the next one, in x or in y.
-    Spacing {
-        lane: u32,
-        turn: Turn,
-        station: u32,
-    },
+    Spacing { lane: u32, turn: Turn, station: u32 },
     /// The policy, or that phase of it, can't be added, or the policy lacks a phase.
     Phase { policy: u8, phase: u8 },
     /// There is no memory for the layout.
@@ -61,8 +56,7 @@ impl Model for Builder {
     ghost invariant = { λ b.
         (IsSound (record { grid = b.ground.grid; times = b.ground.times; lanes = b.lanes.items; policies = b.policies.items }))
         × (HasTiles (record { grid = b.ground.grid; times = b.ground.times; lanes = b.lanes.items; policies = b.policies.items }) b.tiles.items)
-        × (8 ≤ vec_capacity b.policies)
-    };
+        × (8 ≤ vec_capacity b.policies) };
 }
 
 impl Builder {
@@ -92,7 +86,11 @@ impl Builder {
             return Err(LayoutFault::Move { lane, turn });
         }
         if let Some(station) = shape.wide_step(grid.spacing) {
-            return Err(LayoutFault::Spacing { lane, turn, station });
+            return Err(LayoutFault::Spacing {
+                lane,
+                turn,
+                station,
+            });
         }
         self.put(lane, turn, &shape);
         Ok(())
@@ -128,15 +126,13 @@ impl Builder {
         ensures err { OnErr result (self.new ≡ self.old) }
     {
         let phase = Phase { red, green, lanes };
-        let count = self.policies.len();
         if self.refuses_phase(phase) {
             return Err(LayoutFault::Phase {
-                policy: (count as u8).saturating_sub(1),
+                policy: (self.policies.len() as u8).saturating_sub(1),
                 phase: self.phase_count(),
             });
         }
-        let last = &mut self.policies[count - 1];
-        last.add(phase);
+        self.put_phase(phase);
         Ok(())
     }
 
@@ -152,7 +148,13 @@ impl Builder {
                 phase: 0,
             });
         }
-        let Builder { ground, lanes, tiles, policies, alloc } = self;
+        let Builder {
+            ground,
+            lanes,
+            tiles,
+            policies,
+            alloc,
+        } = self;
         Ok(Layout::of_parts(ground, lanes, tiles, policies, alloc))
     }
 
@@ -165,6 +167,16 @@ impl Builder {
         let paths = &mut self.lanes[lane as usize];
         let rows = &mut self.tiles[lane as usize];
         add_path(&self.ground, paths, rows, turn, shape);
+    }
+
+    /// Adds a phase that isn't refused.
+    fn put_phase(&mut self, phase: Phase)
+        requires { phase_fault self.old phase ≡ None }
+        ensures { self.new ≡ with_phase self.old phase }
+    {
+        let count = self.policies.len();
+        let last = &mut self.policies[count - 1];
+        last.add(phase);
     }
 
     /// Whether the lane offers the turn.
@@ -223,22 +235,24 @@ impl Builder {
     fn has_bad_lanes(&self, lanes: u16) -> bool
         ensures { result ≡ has_bad_lanes_of self.now lanes }
     {
-        for lane in 0..16 {
-            if has_lane(lanes, lane) && self.is_bad_lane(lanes, lane) {
+        let count = self.lanes.len() as u8;
+        if has_further(lanes, count) {
+            return true;
+        }
+        for lane in 0..count {
+            if has_lane(lanes, lane) && self.meets_earlier(lanes, lane) {
                 return true;
             }
         }
         false
     }
 
-    /// Whether the lane isn't there, or shares a tile with an earlier one of the lanes.
-    fn is_bad_lane(&self, lanes: u16, lane: u8) -> bool
-        requires { lane < 16 }
-        ensures { result ≡ (nat_le (length self.now.lanes) lane || some_below lane (λ b. has_lane_of lanes b && share_tile_of self.now lane b)) }
+    /// Whether the lane shares a tile with an earlier one of the lanes.
+    fn meets_earlier(&self, lanes: u16, lane: u8) -> bool
+        requires lane { lane < length self.now.lanes }
+        requires most { lane < 16 }
+        ensures { result ≡ some_below lane (λ b. has_lane_of lanes b && share_tile_of self.now lane b) }
     {
-        if lane as usize >= self.lanes.len() {
-            return true;
-        }
         for other in 0..lane {
             if has_lane(lanes, other) && self.share_tile(lane, other) {
                 return true;
@@ -273,9 +287,18 @@ fn has_lane(lanes: u16, lane: u8) -> bool
     (lanes >> lane) & 1 == 1
 }
 
+/// Whether the lanes have one from that number on.
+fn has_further(lanes: u16, count: u8) -> bool
+    requires { count ≤ 16 }
+    ensures { result ≡ nat_le (2 ^ count) lanes }
+{
+    (lanes as u32) >> count != 0
+}
+
 /// Whether a tile has its bit in both.
 fn share_bit(a: &[u64; 64], b: &[u64; 64]) -> bool
-    ensures { result ≡ some_below 64 (λ r. some_below 64 (λ c. tile_at a.now r c && tile_at b.now r c)) }
+    ensures some { OnTrue result ((r : ℕ) × (r < 64) × (0 < bit_and (slice_index a.now r) (slice_index b.now r)) × (slice_index a.now r < 2 ^ 64)) }
+    ensures none { OnFalse result ((r : ℕ) → r < 64 → bit_and (slice_index a.now r) (slice_index b.now r) ≡ 0) }
 {
     for row in 0..64 {
         if a[row] & b[row] != 0 {

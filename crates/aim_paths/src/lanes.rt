@@ -99,7 +99,13 @@ fn with_room(alloc: Global, stations: &Vec<Station>) -> Result<Vec<Station>, NoM
 }
 
 /// Adds the path of a turn that isn't offered yet to the lane and to its rows of tiles.
-pub fn add_path(ground: &Ground, paths: &mut LanePaths, rows: &mut [u64; 64], turn: Turn, shape: &Shape)
+pub fn add_path(
+    ground: &Ground,
+    paths: &mut LanePaths,
+    rows: &mut [u64; 64],
+    turn: Turn,
+    shape: &Shape,
+)
     requires shape { is_bad_shape ground.now.grid.side shape.now ≡ false }
     requires none { path_of paths.old turn ≡ None }
     ensures paths { paths.new ≡ with_path paths.old turn (stations_of shape.now) }

@@ -37,8 +37,7 @@ impl Model for Layout {
 
     ghost invariant = { λ l.
         (IsValid (record { grid = l.ground.grid; times = l.ground.times; lanes = l.lanes.items; policies = l.policies.items }))
-        × (HasTiles (record { grid = l.ground.grid; times = l.ground.times; lanes = l.lanes.items; policies = l.policies.items }) l.tiles.items)
-    };
+        × (HasTiles (record { grid = l.ground.grid; times = l.ground.times; lanes = l.lanes.items; policies = l.policies.items }) l.tiles.items) };
 }
 
 impl Layout {

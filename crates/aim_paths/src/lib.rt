@@ -3,8 +3,8 @@
 
 pub mod builders;
 pub mod lanes;
-pub mod layouts;
 pub mod laws;
+pub mod layouts;
 pub mod paths;
 pub mod policies;
 pub mod shapes;

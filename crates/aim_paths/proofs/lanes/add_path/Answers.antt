@@ -1,6 +1,4 @@
-use Rattle.std.proofs.Common.{◌≡◌, ◌≤◌, Some, false, arith, refl, sym, ◌∙◌}
-use Rattle.aim_geometry.specs.declared.stations.Station.{Station}
-use Rattle.aim_paths.specs.Intersection.{path_of}
+use Rattle.std.proofs.Common.{◌≡◌, ◌≤◌, Some, ◌∙◌}
 use Rattle.aim_paths.specs.LaneRooms.{offered}
 use Rattle.aim_paths.specs.Shapes.{stations_of}
 use Rattle.aim_paths.proofs.ShapeLemmas.{is_bad_shape-largest}
@@ -15,13 +13,13 @@ add-requires-clause-shape c =
 pub mark-requires : goal.mark-requires
 mark-requires c =
     let e : offered c.stations.result.now ≡ Some (stations_of c.args.shape.now) =
-        c.stations.ensures ∙ rw c.add.ensures (path_of-with_path_same c.args.paths.now c.args.turn (stations_of c.args.shape.now)) in
+    c.stations.ensures ∙ rw c.add.ensures (path_of-with_path_same c.args.paths.now c.args.turn (stations_of c.args.shape.now)) in
     let s = offered_some c.stations.result.now (stations_of c.args.shape.now) e in
     rw s (λ j p h. stations_inside c.args.shape.now c.args.ground.now.grid.side j p c.requires.shape h)
 
 pub returns-clause-rows : goal.returns-clause-rows
 returns-clause-rows c =
     let e : offered c.stations.result.now ≡ Some (stations_of c.args.shape.now) =
-        c.stations.ensures ∙ rw c.add.ensures (path_of-with_path_same c.args.paths.now c.args.turn (stations_of c.args.shape.now)) in
+    c.stations.ensures ∙ rw c.add.ensures (path_of-with_path_same c.args.paths.now c.args.turn (stations_of c.args.shape.now)) in
     let s = offered_some c.stations.result.now (stations_of c.args.shape.now) e in
     rw s at c.mark.ensures

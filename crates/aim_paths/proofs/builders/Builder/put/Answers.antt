@@ -1,4 +1,4 @@
-use Rattle.std.proofs.Common.{◌≡◌, ◌<◌, ◌≤◌, length, refl, sym, ◌∙◌, arith, ap, get_or, [], ℕ, List}
+use Rattle.std.proofs.Common.{◌≡◌, ◌<◌, length, arith, get_or, []}
 use Rattle.aim_paths.specs.Intersection.{Intersection}
 use Rattle.aim_paths.specs.Building.{no_paths}
 use Rattle.aim_paths.proofs.Elements.{get_or-read}
@@ -14,5 +14,5 @@ invariant_of-self c =
     let row : c.args.lane < length c.self.inside.tiles.items = let t = c.self.invariant.1.count in let l = m.there in omega arith in
     let rows : get_or c.self.inside.tiles.items c.args.lane [] ≡ c.index_mut-rows.result.now = get_or-read c.self.inside.tiles.items c.args.lane c.index_mut-rows.result.now [] row c.index_mut-rows.ensures.value in
     let sound = IsSound-move i c.args.lane c.args.turn c.args.shape.now c.self.invariant.0 m in
-    let tiles = HasTiles-move i c.args.lane c.args.turn c.args.shape.now c.self.inside.tiles.items c.add_path.new.rows m.there m.free c.self.invariant.1 ? in
+    let tiles = HasTiles-move i c.args.lane c.args.turn c.args.shape.now c.self.inside.tiles.items c.add_path.new.rows m.there m.free c.self.invariant.1 (rw rows c.add_path.ensures.rows) in
     rw (c.add_path.ensures.paths, ← paths) (sound, tiles, c.self.invariant.2)

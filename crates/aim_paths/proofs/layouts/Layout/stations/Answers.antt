@@ -1,7 +1,6 @@
-use Rattle.std.proofs.Common.{◌≡◌, ◌<◌, ◌≤◌, length, arith, ap, sym, ◌∙◌}
+use Rattle.std.proofs.Common.{◌≡◌, ◌≤◌, length, arith, ap, sym, ◌∙◌}
 use Rattle.aim_paths.specs.Intersection.{Intersection, path}
 use Rattle.aim_paths.specs.LaneRooms.{offered}
-use Rattle.aim_paths.specs.Valid.{IsSound}
 use Rattle.aim_paths.proofs.ValidLemmas.{path_past, path_read, stations_most, stations_some}
 use Rattle.aim_paths.proofs.layouts.Layout.stations.Goals as goal
 
