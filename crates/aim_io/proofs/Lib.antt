@@ -1,4 +1,5 @@
 pub mod Fronts
 pub mod InputLemmas
+pub mod LinesLemmas
 pub mod LookLemmas
 pub mod WindowLemmas

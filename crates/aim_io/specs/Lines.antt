@@ -100,3 +100,9 @@ ShowsFault given place bytes Read = ⊥
 ShowsFault given place bytes (Long number) = (number ≡ given + 1) × ShowsLong given place bytes
 ShowsFault given place bytes Bytes = ShowsBytes given place bytes
 ShowsFault given place bytes Lines = ShowsLines given bytes
+
+-- what the first of the bytes to come show where further ones have to tell the next answer
+pub record ShowsNothing (given place : ℕ) (bytes : List ℕ) : Type 0 where
+  pub is_open : IsOpen bytes
+  pub few : 0 < length bytes → given < 262144
+  pub within : place + length bytes ≤ 67108864

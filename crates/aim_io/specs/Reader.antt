@@ -1,11 +1,11 @@
 -- What contracts see of a line reader, and what its calls answer.
-use Rattle.std.specs.Prelude.{◌≡◌, ◌≢◌, ◌≤◌, ◌<◌, ℕ, ◌+◌, List, [], ◌∷◌, ◌++◌, length, take, drop, Bool, true, false, Some, None, Result, Ok, Err, ⊤}
+use Rattle.std.specs.Prelude.{◌≡◌, ◌≢◌, ◌≤◌, ◌<◌, ℕ, ◌+◌, List, [], ◌∷◌, ◌++◌, length, take, drop, Bool, true, false, Some, None, Result, Ok, Err, ⊤, if◌then◌else◌}
 use Rattle.std.specs.Borrow.{Bor}
 use Rattle.std.specs.declared.option.Option.{Option}
 use Rattle.std.specs.Io.KnownBytes.{Consumes, IsAtEnd, Keeps, prepend_known}
 use Rattle.aim_io.specs.declared.lines.LineFault.{LineFault}
 use Rattle.aim_io.specs.declared.lines.LineFault.TheVariants.{Read, Long, Bytes, Lines}
-use Rattle.aim_io.specs.Lines.{Outcome, Line, Stop, outcomes, HasNoEnd, ShowsLines, ShowsLong, ShowsBytes}
+use Rattle.aim_io.specs.Lines.{Outcome, Line, Stop, outcomes, with_end}
 
 -- a reader: the bytes that it has read ahead, the last line that it gave, how many lines it gave, how many bytes it took
 -- for them, the fault that it answers from now on, and whether it has seen the end of the input
@@ -19,6 +19,13 @@ pub record Reader : Type 0 where
 
 abbrev pub fresh : Reader
 fresh = record { held = []; line = []; given = 0; place = 0; fault = None; ended = false }
+
+-- what each reader keeps: it gave no more than the lines allowed, it read no more than one byte past those allowed, and
+-- holds nothing once it has seen the end of the input
+pub record IsSound (reader : Reader) : Type 0 where
+  pub few : reader.given ≤ 262144
+  pub read : reader.place + length reader.held ≤ 67108865
+  pub ended : reader.ended ≡ true → reader.held ≡ []
 
 -- what is still to come: the bytes read ahead, and then those that the source has left
 abbrev pub input : Reader → Option (List ℕ) → Option (List ℕ)
@@ -44,3 +51,17 @@ Answers old new (Some bytes) None result = ⊥
 Answers old new (Some bytes) (Some rest) (Ok true) = coming old bytes ≡ Line new.line ∷ coming new rest
 Answers old new (Some bytes) (Some rest) (Ok false) = (bytes ≡ []) × (rest ≡ [])
 Answers old new (Some bytes) (Some rest) (Err fault) = (rest ≡ bytes) × Stops old bytes fault
+
+-- the bytes that are gone when a line was given, and that a reader took for none
+abbrev pub taken_by : Reader → Bool → List ℕ
+taken_by new more = if more then with_end new.ended new.line else []
+
+-- the reader after a call that gave a line, or none at the end
+abbrev pub after_call : Reader → Reader → Bool → Reader
+after_call old new more = record old {
+  held = new.held;
+  line = new.line;
+  given = old.given + (if more then 1 else 0);
+  place = old.place + length (taken_by new more);
+  ended = new.ended;
+}

@@ -3,7 +3,7 @@ ghost use Rattle.std.specs.Prelude.{◌≡◌, ◌≢◌, ◌⊎◌, ◌+◌, �
 ghost use Rattle.std.specs.Bool.{OnFalse, OnTrue};
 ghost use Rattle.std.specs.Io.KnownBytes.{Consumes, IsAtEnd, Keeps};
 ghost use Rattle.aim_io.specs.Causes.{HasCause, Rose};
-ghost use Rattle.aim_io.specs.Lines.{HasNoEnd, EndsAt, IsOpen, with_end};
+ghost use Rattle.aim_io.specs.Lines.{HasNoEnd, EndsAt, IsOpen, ShowsNothing, ShowsFault};
 ghost use Rattle.aim_io.specs.Look.{SaysOf};
 
 use crate::{Failed, Source};
@@ -145,7 +145,7 @@ impl Model for LineReader {
 }
 
 impl LineReader {
-    ghost use Rattle.aim_io.specs.Reader.{fresh, input, KnowsEnd, Answers};
+    ghost use Rattle.aim_io.specs.Reader.{fresh, input, IsSound, KnowsEnd, Answers, taken_by, after_call};
 
     /// A reader that has read nothing.
     pub fn new() -> LineReader
@@ -173,17 +173,19 @@ impl LineReader {
 
     // What is held says of the next line.
     fn look(&self) -> Look
-        ensures { SaysOf self.now.given self.now.place self.now.held result }
+        ensures says { SaysOf self.now.given self.now.place self.now.held result }
+        ensures sound { IsSound self.now }
     {
         look_at(self.given, self.place, &self.bytes[self.start..self.end])
     }
 
-    // Takes a line of so many bytes and its end, `size` bytes in all.
+    // Takes a line of so many bytes, and its end.
     fn take(&mut self, len: usize)
         requires given { self.old.given < 262144 }
         requires held { len < length self.old.held }
         requires within { self.old.place + len + 1 ≤ 67108864 }
-        ensures { self.new ≡ record self.old {
+        ensures going { self.new.ended ≡ false }
+        ensures new { self.new ≡ record self.old {
             held = drop (len + 1) self.old.held;
             line = take len self.old.held;
             given = self.old.given + 1;
@@ -257,5 +259,55 @@ impl LineReader {
         self.line_len = 0;
         self.fault = Some(fault);
         Err(fault)
+    }
+
+    /// Takes the next line, which `line` then shows, and says whether there was one: `false` comes
+    /// exactly where the input is at its end with no byte left over. It reads a piece only where
+    /// the bytes already read hold neither the end of the next line nor its 401st byte. Takes no
+    /// memory.
+    pub fn advance<S: Source>(&mut self, source: &mut S) -> Result<bool, LineFault>
+        // What is answered, by the bytes to come alone.
+        ensures step { KnowsEnd self.old (S.left source.old) → self.old.fault ≡ None
+            → Answers self.old self.new (input self.old (S.left source.old)) (input self.new (S.left source.new)) result }
+        ensures knows { KnowsEnd self.old (S.left source.old) → KnowsEnd self.new (S.left source.new) }
+
+        // A line, or the end of the input.
+        ensures line { IfOk result (λ more. OnTrue more (IsOpen self.new.line)) }
+        ensures taken { IfOk result (λ more. Consumes (input self.old (S.left source.old)) (input self.new (S.left source.new)) (taken_by self.new more)) }
+        ensures after { IfOk result (λ more. self.new ≡ after_call self.old self.new more) }
+        ensures last { IfOk result (λ more. self.new.ended ≡ true → OnTrue more (0 < length self.new.line) × (self.new.held ≡ [])) }
+        ensures no_fault { OnOk result (self.old.fault ≡ None) }
+        ensures sound { IsSound self.new }
+
+        // A fault takes nothing, and stays.
+        ensures fault { IfErr result (λ f. self.old.fault ≡ None → self.new ≡ record self.old { held = self.new.held; line = []; fault = Some f }) }
+        ensures keeps { OnErr result (Keeps (input self.old (S.left source.old)) (input self.new (S.left source.new))) }
+        ensures shows { IfErr result (λ f. self.old.fault ≡ None → (f ≡ LineFault.Read) ⊎ ShowsFault self.new.given self.new.place self.new.held f) }
+        ensures read { result ≡ Err LineFault.Read → self.old.fault ≡ None
+            → ShowsNothing self.new.given self.new.place self.new.held × (self.new.ended ≡ false) × Rose (S.faults source.old) (S.faults source.new) }
+        ensures again { IfSome self.old.fault (λ f. (result ≡ Err f) × (self.new ≡ self.old) × (source.new ≡ source.old)) }
+
+        // When it reads.
+        ensures later { S.faults source.old ≤ S.faults source.new }
+        ensures lazy { (IsOpen self.old.held → ⊥) → source.new ≡ source.old }
+        ensures ended { self.old.ended ≡ true → source.new ≡ source.old }
+    {
+        if let Some(fault) = self.fault {
+            return Err(fault);
+        }
+        'pieces: loop {
+            match self.look() {
+                Look::Line(len) => {
+                    self.take(len);
+                    return Ok(true);
+                }
+                Look::Stop(fault) => return self.fail(fault),
+                Look::Open => match self.fill(source) {
+                    Err(_) => return self.fail(LineFault::Read),
+                    Ok(false) => return Ok(self.take_rest()),
+                    Ok(true) => {}
+                },
+            }
+        }
     }
 }
