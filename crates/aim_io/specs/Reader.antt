@@ -1,11 +1,12 @@
 -- What contracts see of a line reader, and what its calls answer.
-use Rattle.std.specs.Prelude.{◌≡◌, ◌≢◌, ◌≤◌, ◌<◌, ℕ, ◌+◌, List, [], ◌∷◌, ◌++◌, length, take, drop, Bool, true, false, Some, None, Result, Ok, Err, ⊤, if◌then◌else◌}
+use Rattle.std.specs.Prelude.{◌≡◌, ◌≢◌, ◌≤◌, ◌<◌, ℕ, ◌+◌, List, [], ◌∷◌, ◌++◌, length, take, drop, Bool, true, false, Some, None, Result, Ok, Err, ⊤, ◌⊎◌, IfSome, if◌then◌else◌}
+use Rattle.std.specs.Bool.{OnTrue}
 use Rattle.std.specs.Borrow.{Bor}
 use Rattle.std.specs.declared.option.Option.{Option}
 use Rattle.std.specs.Io.KnownBytes.{Consumes, IsAtEnd, Keeps, prepend_known}
 use Rattle.aim_io.specs.declared.lines.LineFault.{LineFault}
 use Rattle.aim_io.specs.declared.lines.LineFault.TheVariants.{Read, Long, Bytes, Lines}
-use Rattle.aim_io.specs.Lines.{Outcome, Line, Stop, outcomes, with_end}
+use Rattle.aim_io.specs.Lines.{Outcome, Line, Stop, outcomes, with_end, IsOpen, ShowsFault, ShowsNothing}
 
 -- a reader: the bytes that it has read ahead, the last line that it gave, how many lines it gave, how many bytes it took
 -- for them, the fault that it answers from now on, and whether it has seen the end of the input
@@ -65,3 +66,29 @@ after_call old new more = record old {
   place = old.place + length (taken_by new more);
   ended = new.ended;
 }
+
+-- a call gave a line, or none at the end
+pub record Gave (old new : Reader) (left_old left_new : Option (List ℕ)) (more : Bool) : Type 0 where
+  pub no_fault : old.fault ≡ None
+  pub is_open : OnTrue more (IsOpen new.line)
+  pub taken : Consumes (input old left_old) (input new left_new) (taken_by new more)
+  pub after : new ≡ after_call old new more
+  pub last : new.ended ≡ true → OnTrue more (0 < length new.line) × (new.held ≡ [])
+  pub sound : IsSound new
+  pub knows : KnowsEnd old left_old → KnowsEnd new left_new
+  pub step : KnowsEnd old left_old → Answers old new (input old left_old) (input new left_new) (Ok more)
+
+-- a call answered this fault for the first time
+pub record Faulted (old new : Reader) (left_old left_new : Option (List ℕ)) (fault : LineFault) : Type 0 where
+  pub after : new ≡ record old { held = new.held; line = []; fault = Some fault }
+  pub keeps : Keeps (input old left_old) (input new left_new)
+  pub shows : (fault ≡ Read) ⊎ ShowsFault new.given new.place new.held fault
+  pub read : fault ≡ Read → ShowsNothing new.given new.place new.held × (new.ended ≡ false)
+  pub step : KnowsEnd old left_old → Answers old new (input old left_old) (input new left_new) (Err fault)
+
+-- what a call that gives the next line answers, and how it leaves the reader once the line is no longer used
+abbrev pub GivesLine : Reader → Reader → Option (List ℕ) → Option (List ℕ) → Result (Option (Bor (List ℕ))) LineFault → Type 0
+GivesLine old new left_old left_new (Ok (Some line)) = (new.line ≡ line.now) × Gave old new left_old left_new true
+GivesLine old new left_old left_new (Ok None) = Gave old new left_old left_new false
+GivesLine old new left_old left_new (Err fault) =
+    (old.fault ≡ None → Faulted old new left_old left_new fault) × IfSome old.fault (λ first. (fault ≡ first) × (new ≡ old))

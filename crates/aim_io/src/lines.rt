@@ -145,7 +145,10 @@ impl Model for LineReader {
 }
 
 impl LineReader {
-    ghost use Rattle.aim_io.specs.Reader.{fresh, input, IsSound, KnowsEnd, Answers, taken_by, after_call};
+    ghost use Rattle.std.specs.Borrow.{sem};
+    ghost use Rattle.std.specs.Io.BufRead.{Rests};
+    ghost use Rattle.aim_io.specs.contracts.lines.LineReader.{the_row};
+    ghost use Rattle.aim_io.specs.Reader.{fresh, input, IsSound, KnowsEnd, Answers, taken_by, after_call, GivesLine};
 
     /// A reader that has read nothing.
     pub fn new() -> LineReader
@@ -308,6 +311,23 @@ impl LineReader {
                     Ok(true) => {}
                 },
             }
+        }
+    }
+
+    /// The next line, or `None` exactly where the input is at its end with no byte left over. It
+    /// reads as `advance` does, and answers as that.
+    pub fn next<S: Source>(&mut self, source: &mut S) -> Result<Option<&[u8]>, LineFault>
+        ensures* rests { sem 𝓛 (Rests the_row self.entry (λ new. GivesLine self.old new (S.left source.old) (S.left source.new) result)) }
+        ensures read { result ≡ Err LineFault.Read → self.old.fault ≡ None → Rose (S.faults source.old) (S.faults source.new) }
+        ensures again { IfSome self.old.fault (λ _. source.new ≡ source.old) }
+        ensures later { S.faults source.old ≤ S.faults source.new }
+        ensures lazy { (IsOpen self.old.held → ⊥) → source.new ≡ source.old }
+        ensures ended { self.old.ended ≡ true → source.new ≡ source.old }
+    {
+        match self.advance(source) {
+            Ok(true) => Ok(Some(self.line())),
+            Ok(false) => Ok(None),
+            Err(fault) => Err(fault),
         }
     }
 }
