@@ -1,11 +1,12 @@
 -- What contracts see of a line reader, and what its calls answer.
 use Rattle.std.specs.Prelude.{◌≡◌, ◌≢◌, ◌≤◌, ◌<◌, ℕ, ◌+◌, List, [], ◌∷◌, ◌++◌, length, take, drop, Bool, true, false, Some, None, Result, Ok, Err, ⊤, ◌⊎◌, IfSome, if◌then◌else◌}
-use Rattle.std.specs.Bool.{OnTrue}
+use Rattle.std.specs.Bool.{OnTrue, OnFalse}
 use Rattle.std.specs.Borrow.{Bor}
 use Rattle.std.specs.declared.option.Option.{Option}
 use Rattle.std.specs.Io.KnownBytes.{Consumes, IsAtEnd, Keeps, prepend_known}
 use Rattle.aim_io.specs.declared.lines.LineFault.{LineFault}
 use Rattle.aim_io.specs.declared.lines.LineFault.TheVariants.{Read, Long, Bytes, Lines}
+use Rattle.aim_io.specs.Known.{WhereKnown}
 use Rattle.aim_io.specs.Lines.{Outcome, Line, Stop, outcomes, with_end, IsOpen, ShowsFault, ShowsNothing}
 
 -- a reader: the bytes that it has read ahead, the last line that it gave, how many lines it gave, how many bytes it took
@@ -46,12 +47,13 @@ Stops reader bytes Read = ⊤
 Stops reader bytes fault = coming reader bytes ≡ Stop fault ∷ []
 
 -- what a call that asks for the next line answers, by the bytes to come before and after it
+abbrev pub AnswersOf : Reader → Reader → Result Bool LineFault → List ℕ → List ℕ → Type 0
+AnswersOf old new (Ok true) bytes rest = coming old bytes ≡ Line new.line ∷ coming new rest
+AnswersOf old new (Ok false) bytes rest = (bytes ≡ []) × (rest ≡ [])
+AnswersOf old new (Err fault) bytes rest = (rest ≡ bytes) × Stops old bytes fault
+
 abbrev pub Answers : Reader → Reader → Option (List ℕ) → Option (List ℕ) → Result Bool LineFault → Type 0
-Answers old new None after result = ⊤
-Answers old new (Some bytes) None result = ⊥
-Answers old new (Some bytes) (Some rest) (Ok true) = coming old bytes ≡ Line new.line ∷ coming new rest
-Answers old new (Some bytes) (Some rest) (Ok false) = (bytes ≡ []) × (rest ≡ [])
-Answers old new (Some bytes) (Some rest) (Err fault) = (rest ≡ bytes) × Stops old bytes fault
+Answers old new before after result = WhereKnown before after (AnswersOf old new result)
 
 -- the bytes that are gone when a line was given, and that a reader took for none
 abbrev pub taken_by : Reader → Bool → List ℕ
@@ -73,6 +75,8 @@ pub record Gave (old new : Reader) (left_old left_new : Option (List ℕ)) (more
   pub is_open : OnTrue more (IsOpen new.line)
   pub taken : Consumes (input old left_old) (input new left_new) (taken_by new more)
   pub after : new ≡ after_call old new more
+  pub end : OnFalse more (new.ended ≡ true)
+  pub going : OnTrue more (old.ended ≡ false)
   pub last : new.ended ≡ true → OnTrue more (0 < length new.line) × (new.held ≡ [])
   pub sound : IsSound new
   pub knows : KnowsEnd old left_old → KnowsEnd new left_new

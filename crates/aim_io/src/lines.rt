@@ -278,6 +278,8 @@ impl LineReader {
         ensures line { IfOk result (λ more. OnTrue more (IsOpen self.new.line)) }
         ensures taken { IfOk result (λ more. Consumes (input self.old (S.left source.old)) (input self.new (S.left source.new)) (taken_by self.new more)) }
         ensures after { IfOk result (λ more. self.new ≡ after_call self.old self.new more) }
+        ensures end { IfOk result (λ more. OnFalse more (self.new.ended ≡ true)) }
+        ensures going { IfOk result (λ more. OnTrue more (self.old.ended ≡ false)) }
         ensures last { IfOk result (λ more. self.new.ended ≡ true → OnTrue more (0 < length self.new.line) × (self.new.held ≡ [])) }
         ensures no_fault { OnOk result (self.old.fault ≡ None) }
         ensures sound { IsSound self.new }
