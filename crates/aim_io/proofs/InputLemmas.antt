@@ -1,12 +1,12 @@
 -- The bytes that are still to come: those that a reader holds, and then those that its source has left.
-use Rattle.std.proofs.Common.{◌≡◌, ℕ, ◌+◌, ◌<◌, ◌≤◌, Bool, true, false, List, [], ◌∷◌, ◌++◌, length, take, drop, nat_lt, if◌then◌else◌, Some, None, Ok, Err, refl, sym, ap, ◌∙◌, arith}
+use Rattle.std.proofs.Common.{◌≡◌, ℕ, ◌+◌, ◌<◌, Bool, true, List, [], ◌∷◌, ◌++◌, length, take, drop, nat_lt, if◌then◌else◌, Some, None, Ok, Err, refl, sym, ap, ◌∙◌, arith}
 use Rattle.std.proofs.lemmas.Bool.{lt-ltb}
 use Rattle.std.proofs.lemmas.List.{append_assoc, append-nil, length-take}
 use Rattle.std.specs.declared.option.Option.{Option}
 use Rattle.std.specs.Io.KnownBytes.{Consumes, IsAtEnd, Keeps, prepend_known}
 use Rattle.aim_io.specs.declared.lines.LineFault.{LineFault}
 use Rattle.aim_io.specs.declared.lines.LineFault.TheVariants.{Read, Long, Bytes, Lines}
-use Rattle.aim_io.specs.Lines.{Outcome, Line, Stop, outcomes, IsOpen, ShowsNothing, ShowsFault}
+use Rattle.aim_io.specs.Lines.{Line, Stop, outcomes, IsOpen, ShowsNothing, ShowsFault}
 use Rattle.aim_io.specs.Look.{ShowsLine}
 use Rattle.aim_io.specs.Reader.{Reader, input, coming, Answers, Stops}
 use Rattle.aim_io.proofs.LinesLemmas.{outcomes_line, outcomes_last, outcomes_fault}
@@ -87,7 +87,7 @@ answers_rest old now (Some bytes) (Some rest) more same keeps shows end test =
     let place : old.place ≡ now.place = sym (ap (λ (r : Reader). r.place) same) in
     let is : now.held ≡ bytes = sym (ap (λ (l : List ℕ). now.held ++ l) end ∙ append-nil now.held) ∙ keeps in
     rest_of old (behind_all now more) now.held bytes rest more (ap (λ (n : ℕ). n + (if more then 1 else 0)) (sym given)) (ap (λ (n : ℕ). n + length now.held) (sym place))
-        refl is end (rw (given, place) shows) test
+    refl is end (rw (given, place) shows) test
 
 stops_of : (old : Reader) (bytes : List ℕ) (fault : LineFault) → coming old bytes ≡ Stop fault ∷ [] → Stops old bytes fault
 stops_of old bytes Read is = tt

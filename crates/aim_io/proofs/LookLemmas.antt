@@ -1,5 +1,5 @@
 -- The first line of the bytes that are held.
-use Rattle.std.proofs.Common.{◌≡◌, ℕ, ◌+◌, ◌<◌, ◌≤◌, List, [], ◌∷◌, ◌++◌, length, take, drop, min, refl, sym, ap, ◌∙◌, subst, arith}
+use Rattle.std.proofs.Common.{◌≡◌, ℕ, ◌+◌, ◌<◌, ◌≤◌, List, [], ◌∷◌, ◌++◌, length, take, drop, min, sym, ap, ◌∙◌, subst, arith}
 use Rattle.std.proofs.lemmas.List.{length-take, length-append, length-drop, take-append-drop, take-take, take_at, drop_at, append_assoc}
 use Rattle.aim_io.specs.Lines.{HasNoEnd, EndsAt, ShowsBytes}
 

@@ -1,5 +1,5 @@
 -- What the bytes that a reader holds say of the next line.
-use Rattle.std.specs.Prelude.{◌≡◌, ◌≤◌, ◌<◌, ℕ, ◌+◌, List, length}
+use Rattle.std.specs.Prelude.{◌≤◌, ◌<◌, ℕ, ◌+◌, List}
 use Rattle.aim_io.specs.declared.lines.Look.{Look}
 use Rattle.aim_io.specs.declared.lines.Look.TheVariants as look
 use Rattle.aim_io.specs.Lines.{EndsAt, ShowsFault, ShowsNothing}

@@ -189,10 +189,10 @@ impl LineReader {
         requires within { self.old.place + len + 1 ≤ 67108864 }
         ensures going { self.new.ended ≡ false }
         ensures new { self.new ≡ record self.old {
-            held = drop (len + 1) self.old.held;
-            line = take len self.old.held;
-            given = self.old.given + 1;
-            place = self.old.place + len + 1;
+          held = drop (len + 1) self.old.held;
+          line = take len self.old.held;
+          given = self.old.given + 1;
+          place = self.old.place + len + 1;
         } }
     {
         self.line_start = self.start;
@@ -208,11 +208,11 @@ impl LineReader {
         requires within { self.old.place + length self.old.held ≤ 67108864 }
         ensures line { result ≡ nat_lt 0 (length self.old.held) }
         ensures new { self.new ≡ record self.old {
-            held = [];
-            line = self.old.held;
-            given = self.old.given + (if result then 1 else 0);
-            place = self.old.place + length self.old.held;
-            ended = true;
+          held = [];
+          line = self.old.held;
+          given = self.old.given + (if result then 1 else 0);
+          place = self.old.place + length self.old.held;
+          ended = true;
         } }
     {
         let len = self.end - self.start;

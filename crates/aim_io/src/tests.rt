@@ -5,8 +5,8 @@ ghost use Rattle.aim_io.specs.Lines.{outcomes_of};
 ghost use Rattle.aim_io.specs.Counting.{count_from, CountsWhole};
 
 use crate::{
-    CleanSource, Failed, LineFault, LineReader, MemSink, MemSource, Sink, Source, StdSink, StdSource,
-    put_all,
+    CleanSource, Failed, LineFault, LineReader, MemSink, MemSource, Sink, Source, StdSink,
+    StdSource, put_all,
 };
 use std::io::{self, ErrorKind, Read, Write};
 use std::process::Abort;
@@ -166,7 +166,11 @@ fn each_read_fails_in_turn(rt: HostRuntime) {
         assert_eq!(rt; reader.advance(&mut source), read, "again at {call}");
         assert_eq!(rt; source.call, call + 1, "a read after the fault at {call}");
     }
-    assert_eq!(rt; count_lines(&mut dripping(b"ab\ncd", Some(6))), (2, None), "read after the end");
+    assert_eq!(rt;
+        count_lines(&mut dripping(b"ab\ncd", Some(6))),
+        (2, None),
+        "read after the end"
+    );
 }
 
 // The bytes of a row, all bytes, the lines that are given, and the fault.
@@ -187,7 +191,11 @@ const LIMITS: [(usize, usize, u32, Option<LineFault>); 10] = [
 fn the_limits(rt: HostRuntime) {
     for (row, left, lines, fault) in LIMITS {
         let mut source = Rows { row, left, at: 0 };
-        assert_eq!(rt; count_lines(&mut source), (lines, fault), "{left} bytes in rows of {row}");
+        assert_eq!(rt;
+            count_lines(&mut source),
+            (lines, fault),
+            "{left} bytes in rows of {row}"
+        );
     }
 }
 
@@ -235,7 +243,10 @@ fn all_is_put_or_a_front(rt: HostRuntime) -> Result<(), Fail> {
 #[test]
 fn std_that_fails(rt: HostRuntime) {
     let mut reader = LineReader::new();
-    assert_eq!(rt; reader.advance(&mut StdSource::new(Broken)), Err(LineFault::Read));
+    assert_eq!(rt;
+        reader.advance(&mut StdSource::new(Broken)),
+        Err(LineFault::Read)
+    );
     assert_eq!(rt; put_all(&mut StdSink::new(Broken), b"a"), Err(Failed));
     assert_eq!(rt; put_all(&mut StdSink::new(Broken), b""), Ok(()));
 }

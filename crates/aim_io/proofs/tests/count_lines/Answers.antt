@@ -1,9 +1,9 @@
-use Rattle.std.proofs.Common.{arith, ◌≡◌, ◌≢◌, ◌+◌, ℕ, List, ◌++◌, ◌∷◌, [], length, true, false, Some, None, Ok, Err, refl, sym, ap, ◌∙◌, subst}
+use Rattle.std.proofs.Common.{arith, ◌≡◌, ◌≢◌, ◌+◌, ℕ, ◌++◌, ◌∷◌, [], true, Some, Err, refl, sym, ap, ◌∙◌}
 use Rattle.std.proofs.lemmas.List.{length-append}
 use Rattle.aim_io.specs.declared.lines.LineFault.{LineFault}
 use Rattle.aim_io.specs.declared.lines.LineFault.TheVariants.{Read}
 use Rattle.aim_io.specs.Counting.{count_from}
-use Rattle.aim_io.specs.Lines.{Outcome, Line, outcomes_of}
+use Rattle.aim_io.specs.Lines.{outcomes_of}
 use Rattle.aim_io.specs.Reader.{Reader, after_call}
 use Rattle.aim_io.proofs.LoopLemmas.{decides_line, decided_end, decided_fault, took_line, took_kept, took_part}
 use Rattle.aim_io.proofs.tests.count_lines.Goals as goal
@@ -44,7 +44,7 @@ returns-in-Err-clause-whole g c other =
     let i = c.lines.invariant in
     let not_read : c.in-Err.fault ≢ Read = λ read. other (ap (λ (f : LineFault). Some f) read) in
     decided_fault (count_from c.lines.count) (λ bytes. count_from 0 (outcomes_of bytes)) c.lines.reader c.advance.new.self _ _ _ c.in-Err.fault not_read i.decides
-        (c.in-Err.ensures.step i.knows i.no_fault)
+    (c.in-Err.ensures.step i.knows i.no_fault)
 
 pub returns-in-Err-clause-short : goal.returns-in-Err-clause-short
 returns-in-Err-clause-short g c is =

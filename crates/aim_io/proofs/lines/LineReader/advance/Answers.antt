@@ -1,8 +1,7 @@
-use Rattle.std.proofs.Common.{◌≡◌, ◌∙◌, ap, false, List, ℕ, sym}
-use Rattle.std.specs.Io.KnownBytes.{Keeps}
+use Rattle.std.proofs.Common.{◌≡◌, ◌∙◌, ap}
 use Rattle.std.proofs.KnownBytes.{Keeps-trans}
 use Rattle.aim_io.specs.Lines.{ShowsNothing}
-use Rattle.aim_io.specs.Reader.{Reader, input}
+use Rattle.aim_io.specs.Reader.{Reader}
 use Rattle.aim_io.proofs.InputLemmas.{answers_line, answers_rest, answers_fault}
 use Rattle.aim_io.proofs.lines.LineReader.advance.Goals as goal
 

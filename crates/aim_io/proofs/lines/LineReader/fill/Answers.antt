@@ -1,4 +1,4 @@
-use Rattle.std.proofs.Common.{◌≡◌, ◌+◌, ◌-◌, ◌≤◌, ◌++◌, List, ℕ, arith, length, take, drop, ap, ◌∙◌}
+use Rattle.std.proofs.Common.{◌+◌, ◌-◌, ◌≤◌, ◌++◌, List, ℕ, arith, length, take, drop, ap, ◌∙◌}
 use Rattle.aim_io.proofs.InputLemmas.{keeps_more}
 use Rattle.aim_io.proofs.WindowLemmas.{window_grows}
 use Rattle.aim_io.proofs.lines.LineReader.fill.Goals as goal

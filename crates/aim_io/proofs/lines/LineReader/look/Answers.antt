@@ -1,4 +1,4 @@
-use Rattle.std.proofs.Common.{◌≡◌, ◌≤◌, arith, length}
+use Rattle.std.proofs.Common.{arith}
 use Rattle.aim_io.proofs.WindowLemmas.{window, length_window, window_none}
 use Rattle.aim_io.proofs.lines.LineReader.look.Goals as goal
 

@@ -1,4 +1,4 @@
-use Rattle.std.proofs.Common.{◌≡◌, ◌≢◌, ◌⊎◌, Bool, Some, None, Err, Result, IfSome, refl, sym, ap, ◌∙◌}
+use Rattle.std.proofs.Common.{◌≡◌, Bool, Some, None, Err, Result, IfSome, refl, ap}
 use Rattle.std.specs.declared.option.Option.{Option}
 use Rattle.aim_io.specs.declared.lines.LineFault.{LineFault}
 use Rattle.aim_io.specs.declared.lines.LineFault.TheVariants.{Read}
@@ -16,8 +16,7 @@ source_same (Some first) fault P Q again = again.2
 
 pub returns-in-Err : goal.returns-in-Err
 returns-in-Err g c =
-    let e = c.in-Err.ensures in
-    (
+    let e = c.in-Err.ensures in (
       (
         refl,
         λ _. tt,
@@ -29,8 +28,8 @@ returns-in-Err g c =
             read = λ read. let stopped = e.read (ap (λ (f : LineFault). Err f) read) none in (stopped.0, stopped.1);
             step = λ knows. e.step knows none;
           },
-          same_fault _ _ _ _ e.again
-        )
+          same_fault _ _ _ _ e.again,
+        ),
       ),
       record {
         rests = tt;
@@ -39,5 +38,5 @@ returns-in-Err g c =
         later = e.later;
         lazy = e.lazy;
         ended = e.ended;
-      }
+      },
     )

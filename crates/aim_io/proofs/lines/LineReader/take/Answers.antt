@@ -1,4 +1,4 @@
-use Rattle.std.proofs.Common.{◌≡◌, ℕ, ◌+◌, ◌<◌, ◌≤◌, List, arith, length, take, drop, sym}
+use Rattle.std.proofs.Common.{◌≡◌, ◌+◌, arith, take}
 use Rattle.std.proofs.lemmas.List.{drop-drop}
 use Rattle.aim_io.proofs.WindowLemmas.{take_window, length_window}
 use Rattle.aim_io.proofs.lines.LineReader.take.Goals as goal
