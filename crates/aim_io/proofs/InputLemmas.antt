@@ -18,6 +18,11 @@ keeps_more None b old piece new p e = tt
 keeps_more (Some xs) None old piece new p e = absurd p
 keeps_more (Some xs) (Some ys) old piece new p e = ap (λ (l : List ℕ). l ++ ys) e ∙ append_assoc old piece ys ∙ ap (λ (l : List ℕ). old ++ l) (sym p)
 
+-- a reader that has read on twice
+pub same_as_first : (old now new : Reader) → now ≡ record old { held = now.held; line = now.line } → new ≡ record now { held = new.held; line = new.line }
+    → new ≡ record old { held = new.held; line = new.line }
+same_as_first old now new first second = second ∙ ap (λ (r : Reader). record r { held = new.held; line = new.line }) first
+
 -- ---- what is answered of the bytes to come, by what a reader holds of them
 
 -- the reader behind the line of so many bytes that it holds with its end

@@ -58,9 +58,25 @@ fn line_end(bytes: &[u8]) -> Option<usize>
     bytes.iter().position(|&byte| byte == LINE_END)
 }
 
-// What so many lines given, so many bytes gone and these bytes to come say of the next line.
-fn look_at(given: u32, place: usize, held: &[u8]) -> Look
-    requires { place ≤ 67108864 }
+// The same, where the first `seen` bytes were looked at before.
+fn line_end_past(bytes: &[u8], seen: usize) -> Option<usize>
+    requires in_range { seen ≤ length bytes.now }
+    requires no_end { HasNoEnd (take seen bytes.now) }
+    ensures found { IfSome result (EndsAt bytes.now) }
+    ensures none { IfNone result (HasNoEnd bytes.now) }
+{
+    match line_end(&bytes[seen..]) {
+        Some(at) => Some(seen + at),
+        None => None,
+    }
+}
+
+// What so many lines given, so many bytes gone and these bytes to come say of the next line. Of
+// the bytes to come the first `seen` were looked at before.
+fn look_at(given: u32, place: usize, held: &[u8], seen: usize) -> Look
+    requires within { place + seen ≤ 67108864 }
+    requires in_range { seen ≤ length held.now }
+    requires is_open { IsOpen (take seen held.now) }
     ensures { SaysOf given place held.now result }
 {
     if given >= MOST_LINES {
@@ -71,7 +87,7 @@ fn look_at(given: u32, place: usize, held: &[u8]) -> Look
         };
     }
     let room = TOO_LONG.min(MOST_BYTES - place);
-    match line_end(&held[..room.min(held.len())]) {
+    match line_end_past(&held[..room.min(held.len())], seen) {
         Some(len) => Look::Line(len),
         None if held.len() <= room && held.len() < TOO_LONG => Look::Open,
         None if room == TOO_LONG => Look::Stop(LineFault::Long(given + 1)),
@@ -174,12 +190,27 @@ impl LineReader {
         &self.bytes[self.line_start..self.line_start + self.line_len]
     }
 
-    // What is held says of the next line.
-    fn look(&self) -> Look
+    // What is held says of the next line, of which the first `seen` bytes were looked at before.
+    fn look(&self, seen: usize) -> Look
+        requires within { self.now.place + seen ≤ 67108864 }
+        requires in_range { seen ≤ length self.now.held }
+        requires is_open { IsOpen (take seen self.now.held) }
         ensures says { SaysOf self.now.given self.now.place self.now.held result }
         ensures sound { IsSound self.now }
     {
-        look_at(self.given, self.place, &self.bytes[self.start..self.end])
+        look_at(
+            self.given,
+            self.place,
+            &self.bytes[self.start..self.end],
+            seen,
+        )
+    }
+
+    // How many bytes were read ahead.
+    fn held_len(&self) -> usize
+        ensures { result ≡ length self.now.held }
+    {
+        self.end - self.start
     }
 
     // Takes a line of so many bytes, and its end.
@@ -235,6 +266,7 @@ impl LineReader {
         requires within { self.old.place + length self.old.held ≤ 67108864 }
         ensures same { self.new ≡ record self.old { held = self.new.held; line = self.new.line } }
         ensures keeps { Keeps (input self.old (S.left source.old)) (input self.new (S.left source.new)) }
+        ensures front { take (length self.old.held) self.new.held ≡ self.old.held }
         ensures more { IfOk result (λ more. OnTrue more (length self.old.held < length self.new.held)) }
         ensures none { IfOk result (λ more. OnFalse more (self.new.held ≡ self.old.held)) }
         ensures end { KnowsEnd self.old (S.left source.old) → IfOk result (λ more. OnFalse more (IsAtEnd (S.left source.new))) }
@@ -300,18 +332,22 @@ impl LineReader {
         if let Some(fault) = self.fault {
             return Err(fault);
         }
+        let mut seen = 0;
         'pieces: loop {
-            match self.look() {
+            match self.look(seen) {
                 Look::Line(len) => {
                     self.take(len);
                     return Ok(true);
                 }
                 Look::Stop(fault) => return self.fail(fault),
-                Look::Open => match self.fill(source) {
-                    Err(_) => return self.fail(LineFault::Read),
-                    Ok(false) => return Ok(self.take_rest()),
-                    Ok(true) => {}
-                },
+                Look::Open => {
+                    seen = self.held_len();
+                    match self.fill(source) {
+                        Err(_) => return self.fail(LineFault::Read),
+                        Ok(false) => return Ok(self.take_rest()),
+                        Ok(true) => {}
+                    }
+                }
             }
         }
     }

@@ -1,8 +1,8 @@
-use Rattle.std.proofs.Common.{◌≡◌, ◌∙◌, ap}
+use Rattle.std.proofs.Common.{◌≡◌, ap}
 use Rattle.std.proofs.KnownBytes.{Keeps-trans}
 use Rattle.aim_io.specs.Lines.{ShowsNothing}
 use Rattle.aim_io.specs.Reader.{Reader}
-use Rattle.aim_io.proofs.InputLemmas.{answers_line, answers_rest, answers_fault}
+use Rattle.aim_io.proofs.InputLemmas.{same_as_first, answers_line, answers_rest, answers_fault}
 use Rattle.aim_io.proofs.lines.LineReader.advance.Goals as goal
 
 pub returns-in-Line-clause-step : goal.returns-in-Line-clause-step
@@ -22,8 +22,7 @@ returns-in-Ok-false-clause-step g c knows _ =
     let now = c.fill.new.self in
     let none = rw c.in-Ok-false.field-0-test at c.in-Ok-false.ensures.none in
     let end = rw c.in-Ok-false.field-0-test at (c.in-Ok-false.ensures.end (i.knows knows)) in
-    let same : now ≡ record c.args.self.now { held = now.held; line = now.line } =
-    c.fill.ensures.same ∙ ap (λ (r : Reader). record r { held = now.held; line = now.line }) i.same in
+    let same = same_as_first c.args.self.now c.pieces.self now i.same c.fill.ensures.same in
     let given : now.given ≡ c.pieces.self.given = ap (λ (r : Reader). r.given) c.fill.ensures.same in
     let place : now.place ≡ c.pieces.self.place = ap (λ (r : Reader). r.place) c.fill.ensures.same in
     let keeps = Keeps-trans _ _ _ i.keeps c.fill.ensures.keeps in

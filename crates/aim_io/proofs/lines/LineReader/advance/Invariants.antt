@@ -1,4 +1,4 @@
-use Rattle.std.proofs.Common.{◌≡◌, ◌⊎◌, ◌-◌, ◌≤◌, None, true, length}
+use Rattle.std.proofs.Common.{◌≡◌, ◌⊎◌, ◌-◌, ◌≤◌, None, true, length, take, ◌+◌}
 use Rattle.std.specs.Io.KnownBytes.{Keeps}
 use Rattle.aim_io.specs.Lines.{IsOpen}
 use Rattle.aim_io.specs.Reader.{input, KnowsEnd}
@@ -12,6 +12,9 @@ invariant-pieces g l = record {
   knows : KnowsEnd l.fn.self (g.S.Source.left l.fn.source) → KnowsEnd l.self (g.S.Source.left l.source);
   later : g.S.Source.faults l.fn.source ≤ g.S.Source.faults l.source;
   ahead : ((l.source ≡ l.fn.source) × (l.self.held ≡ l.fn.self.held)) ⊎ IsOpen l.fn.self.held;
+  within : l.self.place + l.seen ≤ 67108864;
+  in_range : l.seen ≤ length l.self.held;
+  is_open : IsOpen (take l.seen l.self.held);
   quiet : l.fn.self.ended ≡ true → l.source ≡ l.fn.source;
 }
 

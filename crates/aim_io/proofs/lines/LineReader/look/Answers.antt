@@ -13,3 +13,8 @@ returns-clause-sound c =
       read = omega (arith, c.self.invariant, size);
       ended = λ ended. window_none c.self.inside.bytes c.self.inside.start c.self.inside.end (c.self.invariant.6 ended);
     })
+
+pub look_at-requires-clause-is_open : goal.look_at-requires-clause-is_open
+look_at-requires-clause-is_open c =
+    let is_open = rw (← c.self.view_is) at c.requires.is_open in
+    rw (window c.self.inside.bytes c.self.inside.start c.self.inside.end c.self.invariant.0) at is_open
