@@ -1,2 +1,4 @@
 pub mod ReadingExamples
 pub mod EntryReadingExamples
+pub mod Splits
+pub mod Numbers

@@ -5,3 +5,4 @@ pub mod Faults
 pub mod Forms
 pub mod Reading
 pub mod Entries
+pub mod Steps

@@ -1,3 +1,5 @@
 //! Reads script lines and entries.
 
 mod forms;
+mod numbers;
+mod words;
