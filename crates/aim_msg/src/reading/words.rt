@@ -1,7 +1,9 @@
 // The words of a text, one after the other.
-ghost use Rattle.std.specs.Prelude.{◌≡◌, ◌≢◌, ◌<◌, ◌≤◌, ℕ, [], ◌∷◌, length, slice_index, MatchOption};
+ghost use Rattle.std.specs.Prelude.{◌≡◌, ◌≢◌, ◌<◌, ◌≤◌, ℕ, [], ◌∷◌, length, slice_index, MatchOption, MatchResult};
 ghost use Rattle.aim_msg.specs.Faults.{words_of, first, rest};
+ghost use Rattle.aim_msg.specs.declared.script.LineKind.{LineKind};
 
+use crate::script::LineKind;
 use std::marker::Model;
 
 // The place of the first space, or the length where there is none.
@@ -57,6 +59,13 @@ impl<'a> Words<'a> {
             self.left = None;
             Some(bytes)
         }
+    }
+
+    /// The next word, which is not to be missing.
+    pub fn word(&mut self) -> Result<&'a [u8], LineKind>
+        ensures { MatchResult result (λ word. self.old ≡ word.now ∷ self.new) (λ kind. (self.old ≡ []) × (kind ≡ LineKind.Words)) }
+    {
+        self.next().ok_or(LineKind::Words)
     }
 
     /// The next word, or the empty one where none is left.
