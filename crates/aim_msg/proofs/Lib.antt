@@ -2,3 +2,5 @@ pub mod ReadingExamples
 pub mod EntryReadingExamples
 pub mod Splits
 pub mod Numbers
+pub mod StepLaws
+pub mod ListLaws

@@ -1,8 +1,13 @@
 -- The first word of a text, by the place of its first space.
-use Rattle.std.proofs.Common.{◌≡◌, ◌≢◌, ℕ, zero, suc, ◌+◌, ◌-◌, ◌<◌, List, [], ◌∷◌, length, take, drop, get_or, refl, arith, add-one}
+use Rattle.std.proofs.Common.{◌≡◌, ◌≢◌, ℕ, zero, suc, ◌+◌, ◌-◌, ◌<◌, List, [], ◌∷◌, length, take, drop, get_or, refl, arith, add-one, ◌==◌, count_by}
 use Rattle.std.proofs.lemmas.List.{take_rest}
 use Rattle.std.proofs.lemmas.Bool.{ne_eqb, eq-eqb}
+use Rattle.std.proofs.lemmas.List.Splits.{length-slice_split}
 use Rattle.aim_msg.specs.Faults.{words_of}
+
+-- one word more than spaces
+pub words_counted : (bytes : List ℕ) → length (words_of bytes) ≡ count_by (λ b. b == 32) bytes + 1
+words_counted bytes = length-slice_split (λ b. b == 32) bytes
 
 -- no space: one word
 pub word_alone : (bytes : List ℕ) → ((k : ℕ) → k < length bytes → get_or bytes k 0 ≢ 32) → words_of bytes ≡ bytes ∷ []

@@ -87,6 +87,7 @@ word_fault (either words low high) word =
 
 -- why the first word may not stand in the place, if it may not: a word that is missing may stand nowhere
 abbrev pub fault_at : Place → Words → Option LineKind
+fault_at chosen words = None
 fault_at p [] = Some kind.Words
 fault_at p (w ∷ ws) = word_fault p w
 

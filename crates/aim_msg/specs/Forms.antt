@@ -29,25 +29,43 @@ order_form word = look_up kind.Words ((codes "switch", form.Switch) ∷ (codes "
 abbrev pub shape_form : List ℕ → Result ShapeForm LineKind
 shape_form word = look_up kind.Words ((codes "line", shape.Line) ∷ (codes "curve", shape.Curve) ∷ []) word
 
--- by the first word
-abbrev pub plain_form : ℕ → List ℕ → Result LineForm LineKind
-plain_form version word = look_up kind.Unknown (
-    (codes "aim", form.Version)
-    ∷ (codes "grid", form.Grid)
-    ∷ (codes "times", if version == 1 then form.Times else form.Times6)
-    ∷ (codes "lanes", form.Lanes)
-    ∷ (codes "policy", form.Policy)
-    ∷ (codes "phase", form.Phase)
-    ∷ (codes "vehicles", form.Vehicles)
-    ∷ (codes "begin", form.Begin)
-    ∷ (codes "until", form.Until)
-    ∷ (codes "plan", if version == 3 then form.PlanInWindow else form.Plan)
+-- the form of `times`, and that of `plan`
+abbrev pub times_form : ℕ → LineForm
+times_form version = if version == 1 then form.Times else form.Times6
+
+abbrev pub plan_form : ℕ → LineForm
+plan_form version = if version == 3 then form.PlanInWindow else form.Plan
+
+-- by the first word, in a script's body
+abbrev pub body_forms : ℕ → List (List ℕ × LineForm)
+body_forms version =
+    (codes "until", form.Until)
+    ∷ (codes "plan", plan_form version)
     ∷ (codes "change", form.ChangePlan)
     ∷ (codes "cancel", form.CancelPlan)
     ∷ (codes "up", form.Up)
     ∷ (codes "down", form.Down)
     ∷ (codes "end", form.End)
-    ∷ []) word
+    ∷ []
+
+-- by the first word
+abbrev pub plain_forms : ℕ → List (List ℕ × LineForm)
+plain_forms version =
+    (codes "aim", form.Version)
+    ∷ (codes "grid", form.Grid)
+    ∷ (codes "times", times_form version)
+    ∷ (codes "lanes", form.Lanes)
+    ∷ (codes "policy", form.Policy)
+    ∷ (codes "phase", form.Phase)
+    ∷ (codes "vehicles", form.Vehicles)
+    ∷ (codes "begin", form.Begin)
+    ∷ body_forms version
+
+abbrev pub body_form : ℕ → List ℕ → Result LineForm LineKind
+body_form version word = look_up kind.Unknown (body_forms version) word
+
+abbrev pub plain_form : ℕ → List ℕ → Result LineForm LineKind
+plain_form version word = look_up kind.Unknown (plain_forms version) word
 
 abbrev pub map_ok : {A B : Type 0} → (A → B) → Result A LineKind → Result B LineKind
 map_ok f (Ok a) = Ok (f a)

@@ -178,6 +178,11 @@ switch_in words = do
   policy ← read_in name name_of (rest moment.1)
   Ok (line.SwitchTo moment.0 policy.0)
 
+unfoldable pub stop_in : Words → Result Line LineKind
+stop_in words = do
+  moment ← number_in words
+  Ok (line.StopAt moment.0)
+
 abbrev pub window_in : Bool → Words → Read Bool
 window_in windowed words = if windowed then read_in windows is_early words else Ok (false, words)
 
@@ -213,26 +218,43 @@ fates_in fates (w ∷ ws) = do
   f ← unless (fate_of w) (word_fault fate w)
   fates_in (fates ++ f ∷ []) ws
 
--- the line of a form, of all its words
+unfoldable pub up_in : Words → Result Line LineKind
+up_in words = do
+  vehicle ← number_in words
+  fates ← fates_in [] vehicle.1
+  Ok (line.Up vehicle.0 fates)
+
+unfoldable pub down_in : Words → Result Line LineKind
+down_in words = do
+  vehicle ← number_in words
+  fates ← fates_in [] vehicle.1
+  Ok (line.Down vehicle.0 fates)
+
+-- the words behind the keyword with which each line but an event begins
+abbrev pub behind_keyword : LineForm → Words → Words
+behind_keyword (form.Event m) words = words
+behind_keyword f words = rest words
+
+-- the line of a form, of those words
 unfoldable pub steps_in : ℕ → LineForm → Words → Result Line LineKind
-steps_in version form.Version words = number_in (rest words) >>= λ n. Ok (line.Version n.0)
-steps_in version form.Grid words = grid_in (rest words)
-steps_in version form.Times words = times_in (rest words)
-steps_in version form.Times6 words = times6_in (rest words)
-steps_in version form.Lanes words = number_in (rest words) >>= λ n. Ok (line.Lanes n.0)
-steps_in version (form.Move s) words = move_in s (rest words)
-steps_in version form.Policy words = policy_in version (rest words)
-steps_in version form.Phase words = phase_in (rest words)
-steps_in version form.Vehicles words = number_in (rest words) >>= λ n. Ok (line.Vehicles n.0)
+steps_in version form.Version words = number_in words >>= λ n. Ok (line.Version n.0)
+steps_in version form.Grid words = grid_in words
+steps_in version form.Times words = times_in words
+steps_in version form.Times6 words = times6_in words
+steps_in version form.Lanes words = number_in words >>= λ n. Ok (line.Lanes n.0)
+steps_in version (form.Move s) words = move_in s words
+steps_in version form.Policy words = policy_in version words
+steps_in version form.Phase words = phase_in words
+steps_in version form.Vehicles words = number_in words >>= λ n. Ok (line.Vehicles n.0)
 steps_in version form.Begin words = Ok line.Begin
 steps_in version (form.Event m) words = event_in m words
-steps_in version form.Switch words = switch_in (rest words)
-steps_in version form.Stop words = number_in (rest words) >>= λ n. Ok (line.StopAt n.0)
-steps_in version form.Until words = number_in (rest words) >>= λ n. Ok (line.Until n.0)
-steps_in version form.Plan words = plan_in false (rest words)
-steps_in version form.PlanInWindow words = plan_in true (rest words)
-steps_in version form.ChangePlan words = change_plan_in (rest words)
-steps_in version form.CancelPlan words = cancel_plan_in (rest words)
-steps_in version form.Up words = number_in (rest words) >>= λ vehicle. fates_in [] vehicle.1 >>= λ fates. Ok (line.Up vehicle.0 fates)
-steps_in version form.Down words = number_in (rest words) >>= λ vehicle. fates_in [] vehicle.1 >>= λ fates. Ok (line.Down vehicle.0 fates)
+steps_in version form.Switch words = switch_in words
+steps_in version form.Stop words = stop_in words
+steps_in version form.Until words = number_in words >>= λ n. Ok (line.Until n.0)
+steps_in version form.Plan words = plan_in false words
+steps_in version form.PlanInWindow words = plan_in true words
+steps_in version form.ChangePlan words = change_plan_in words
+steps_in version form.CancelPlan words = cancel_plan_in words
+steps_in version form.Up words = up_in words
+steps_in version form.Down words = down_in words
 steps_in version form.End words = Ok line.End

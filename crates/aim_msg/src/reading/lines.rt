@@ -5,7 +5,7 @@ ghost use Rattle.aim_msg.specs.Lines.{is_name_byte};
 ghost use Rattle.aim_msg.specs.Faults.{value_of, name, is_name};
 ghost use Rattle.aim_msg.specs.Forms.{kinds, windows};
 ghost use Rattle.aim_msg.specs.Reading.{name_of, kind_of, is_early};
-ghost use Rattle.aim_msg.specs.Steps.{Gives, read_in, shape_in, grid_in, times_in, times6_in, move_in, policy_in, event_in, switch_in, window_in, plan_in, change_plan_in, cancel_plan_in};
+ghost use Rattle.aim_msg.specs.Steps.{Gives, read_in, shape_in, grid_in, times_in, times6_in, move_in, policy_in, event_in, switch_in, stop_in, window_in, plan_in, change_plan_in, cancel_plan_in};
 
 use crate::reading::fields::{message, number8, number32, turn, vehicle};
 use crate::reading::forms::{MessageForm, ShapeForm};
@@ -233,5 +233,14 @@ pub fn cancel_plan(words: &mut Words<'_>) -> Result<Line, LineKind>
     Ok(Line::CancelAt {
         vehicle: number32(words)?,
         step: number32(words)?,
+    })
+}
+
+#[tactic(auto, unfolding(crate::specs::Steps::stop_in))]
+pub fn stop(words: &mut Words<'_>) -> Result<Line, LineKind>
+    ensures { result ≡ stop_in words.old }
+{
+    Ok(Line::StopAt {
+        moment: number32(words)?,
     })
 }
