@@ -13,6 +13,7 @@ use Rattle.aim_msg.specs.declared.script.Line.{Line}
 use Rattle.aim_msg.specs.declared.script.LineKind.{LineKind}
 use Rattle.aim_msg.specs.declared.reading.forms.MessageForm.{MessageForm}
 use Rattle.aim_msg.specs.declared.reading.forms.MessageForm.TheVariants as message
+use Rattle.aim_msg.specs.declared.reading.forms.OrderForm.TheVariants as order
 use Rattle.aim_msg.specs.declared.reading.forms.ShapeForm.{ShapeForm}
 use Rattle.aim_msg.specs.declared.reading.forms.ShapeForm.TheVariants as way
 use Rattle.aim_msg.specs.declared.reading.forms.LineForm.{LineForm}
@@ -170,8 +171,8 @@ steps_are version form.Phase ws = bind_read _ _ _ _ _ _ (bind_read _ _ _ _ _ _ (
 steps_are version form.Vehicles ws = bind_read _ _ _ _ _ _ refl
 steps_are version form.Begin ws = refl
 steps_are version (form.Event m) ws = bind_read _ _ _ _ _ _ (bind_read _ _ _ _ _ _ (message_last m (from 3 ws) _ _ refl))
-steps_are version form.Switch ws = bind_read _ _ _ _ _ _ (bind_read _ _ _ _ _ _ refl)
-steps_are version form.Stop ws = bind_read _ _ _ _ _ _ refl
+steps_are version (form.Order order.Switch) ws = bind_read _ _ _ _ _ _ (bind_read _ _ _ _ _ _ refl)
+steps_are version (form.Order order.Stop) ws = bind_read _ _ _ _ _ _ refl
 steps_are version form.Until ws = bind_read _ _ _ _ _ _ refl
 steps_are version form.Plan ws = bind_read _ _ _ _ _ _ (bind_read _ _ _ _ _ _ (bind_read _ _ _ _ _ _ (bind_read _ _ _ _ _ _ (bind_read _ _ _ _ _ _ (bind_read _ _ _ _ _ _ (vehicle_step _ _ _ _ _ _ None refl))))))
 steps_are version form.PlanInWindow ws = bind_read _ _ _ _ _ _ (bind_read _ _ _ _ _ _ (bind_read _ _ _ _ _ _ (bind_read _ _ _ _ _ _ (bind_read _ _ _ _ _ _ (bind_read _ _ _ _ _ _ (vehicle_step _ _ _ _ _ _ _ (bind_read _ _ _ _ _ _ refl)))))))

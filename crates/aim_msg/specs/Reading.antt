@@ -16,6 +16,7 @@ use Rattle.aim_msg.specs.declared.messages.Message.{Message}
 use Rattle.aim_msg.specs.declared.script.MoveShape.{MoveShape}
 use Rattle.aim_msg.specs.declared.reading.forms.MessageForm.{MessageForm}
 use Rattle.aim_msg.specs.declared.reading.forms.MessageForm.TheVariants as message
+use Rattle.aim_msg.specs.declared.reading.forms.OrderForm.TheVariants as order
 use Rattle.aim_msg.specs.declared.reading.forms.ShapeForm.{ShapeForm}
 use Rattle.aim_msg.specs.declared.reading.forms.ShapeForm.TheVariants as way
 use Rattle.aim_msg.specs.declared.reading.forms.LineForm.{LineForm}
@@ -102,8 +103,8 @@ line_of form.Phase words = line.Phase (at words 1) (at words 2) (lanes_of (from 
 line_of form.Vehicles words = line.Vehicles (at words 1)
 line_of form.Begin words = line.Begin
 line_of (form.Event m) words = line.Event (at words 0) (at words 1) (message_of m (from 3 words))
-line_of form.Switch words = line.SwitchTo (at words 1) (name_of (word_at words 3))
-line_of form.Stop words = line.StopAt (at words 1)
+line_of (form.Order order.Switch) words = line.SwitchTo (at words 1) (name_of (word_at words 3))
+line_of (form.Order order.Stop) words = line.StopAt (at words 1)
 line_of form.Until words = line.Until (at words 1)
 line_of form.Plan words = plan_of words false
 line_of form.PlanInWindow words = plan_of words (is_early (word_at words 13))

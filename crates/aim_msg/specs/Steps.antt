@@ -15,6 +15,7 @@ use Rattle.aim_msg.specs.declared.script.LineKind.{LineKind}
 use Rattle.aim_msg.specs.declared.script.LineKind.TheVariants as kind
 use Rattle.aim_msg.specs.declared.reading.forms.MessageForm.{MessageForm}
 use Rattle.aim_msg.specs.declared.reading.forms.MessageForm.TheVariants as message
+use Rattle.aim_msg.specs.declared.reading.forms.OrderForm.TheVariants as order
 use Rattle.aim_msg.specs.declared.reading.forms.ShapeForm.{ShapeForm}
 use Rattle.aim_msg.specs.declared.reading.forms.ShapeForm.TheVariants as way
 use Rattle.aim_msg.specs.declared.reading.forms.LineForm.{LineForm}
@@ -248,8 +249,8 @@ steps_in version form.Phase words = phase_in words
 steps_in version form.Vehicles words = number_in words >>= λ n. Ok (line.Vehicles n.0)
 steps_in version form.Begin words = Ok line.Begin
 steps_in version (form.Event m) words = event_in m words
-steps_in version form.Switch words = switch_in words
-steps_in version form.Stop words = stop_in words
+steps_in version (form.Order order.Switch) words = switch_in words
+steps_in version (form.Order order.Stop) words = stop_in words
 steps_in version form.Until words = number_in words >>= λ n. Ok (line.Until n.0)
 steps_in version form.Plan words = plan_in false words
 steps_in version form.PlanInWindow words = plan_in true words

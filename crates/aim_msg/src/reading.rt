@@ -13,7 +13,7 @@ mod words;
 
 use crate::script::{Line, LineKind};
 use fields::number32;
-use forms::{LineForm, count, has_count, line_form};
+use forms::{LineForm, OrderForm, count, has_count, line_form};
 use words::Words;
 
 // Passes the keyword with which each line but an event begins.
@@ -43,8 +43,8 @@ fn line_in(words: &mut Words<'_>, form: LineForm, version: u8) -> Result<Line, L
         LineForm::Vehicles => Ok(Line::Vehicles(number32(words)?)),
         LineForm::Begin => Ok(Line::Begin),
         LineForm::Event(message) => lines::event(words, message),
-        LineForm::Switch => lines::switch(words),
-        LineForm::Stop => lines::stop(words),
+        LineForm::Order(OrderForm::Switch) => lines::switch(words),
+        LineForm::Order(OrderForm::Stop) => lines::stop(words),
         LineForm::Until => Ok(Line::Until(number32(words)?)),
         LineForm::Plan => lines::plan(words, false),
         LineForm::PlanInWindow => lines::plan(words, true),

@@ -1,7 +1,7 @@
 // The forms that texts have, each of which a word chooses.
 ghost use Rattle.std.specs.Prelude.{◌≡◌, ◌==◌, ◌&&◌, ◌+◌, ◌<◌, ◌^◌, count_by, nat_le, length, bytes_eq, codes};
 ghost use Rattle.aim_msg.specs.Faults.{words_of};
-ghost use Rattle.aim_msg.specs.Forms.{message_form, order_form, shape_form, times_form, plan_form, body_form, plain_form, line_form, has_count};
+ghost use Rattle.aim_msg.specs.Forms.{message_form, order_form, reply_form, reason_form, shape_form, times_form, plan_form, body_form, plain_form, line_form, has_count};
 
 use crate::reading::numbers::begins_with_digit;
 use crate::reading::words::Words;
@@ -14,6 +14,42 @@ pub enum MessageForm {
     Change,
     Cancel,
     Done,
+}
+
+/// The forms of orders.
+#[derive(Clone, Copy)]
+pub enum OrderForm {
+    Switch,
+    Stop,
+}
+
+/// The forms of replies.
+#[derive(Clone, Copy)]
+pub enum ReplyForm {
+    Confirm,
+    Reject,
+    Ack,
+    EmergencyStop,
+    Stale,
+    Switched,
+    Stopped,
+}
+
+/// The forms of reasons.
+#[derive(Clone, Copy)]
+pub enum ReasonForm {
+    Holds,
+    NoReservation,
+    Begun,
+    TooSoon,
+    Bad,
+    Late,
+    Far,
+    Distance,
+    Emergency,
+    Green,
+    Taken,
+    Reused,
 }
 
 /// The forms of a move's way.
@@ -37,8 +73,7 @@ pub enum LineForm {
     Vehicles,
     Begin,
     Event(MessageForm),
-    Switch,
-    Stop,
+    Order(OrderForm),
     Until,
     Plan,
     PlanInWindow,
@@ -66,13 +101,70 @@ pub fn message_form(word: &[u8]) -> Result<MessageForm, LineKind>
     }
 }
 
-fn order_form(word: &[u8]) -> Result<LineForm, LineKind>
+/// The form of an order that begins with that word.
+pub fn order_form(word: &[u8]) -> Result<OrderForm, LineKind>
     ensures { result ≡ order_form word.now }
 {
     if word == b"switch".as_slice() {
-        Ok(LineForm::Switch)
+        Ok(OrderForm::Switch)
     } else if word == b"stop".as_slice() {
-        Ok(LineForm::Stop)
+        Ok(OrderForm::Stop)
+    } else {
+        Err(LineKind::Words)
+    }
+}
+
+/// The form of a reply that begins with that word.
+pub fn reply_form(word: &[u8]) -> Result<ReplyForm, LineKind>
+    ensures { result ≡ reply_form word.now }
+{
+    if word == b"confirm".as_slice() {
+        Ok(ReplyForm::Confirm)
+    } else if word == b"reject".as_slice() {
+        Ok(ReplyForm::Reject)
+    } else if word == b"ack".as_slice() {
+        Ok(ReplyForm::Ack)
+    } else if word == b"emergency-stop".as_slice() {
+        Ok(ReplyForm::EmergencyStop)
+    } else if word == b"stale".as_slice() {
+        Ok(ReplyForm::Stale)
+    } else if word == b"switched".as_slice() {
+        Ok(ReplyForm::Switched)
+    } else if word == b"stopped".as_slice() {
+        Ok(ReplyForm::Stopped)
+    } else {
+        Err(LineKind::Words)
+    }
+}
+
+/// The form of a reason that begins with that word.
+pub fn reason_form(word: &[u8]) -> Result<ReasonForm, LineKind>
+    ensures { result ≡ reason_form word.now }
+{
+    if word == b"holds".as_slice() {
+        Ok(ReasonForm::Holds)
+    } else if word == b"no-reservation".as_slice() {
+        Ok(ReasonForm::NoReservation)
+    } else if word == b"begun".as_slice() {
+        Ok(ReasonForm::Begun)
+    } else if word == b"too-soon".as_slice() {
+        Ok(ReasonForm::TooSoon)
+    } else if word == b"bad".as_slice() {
+        Ok(ReasonForm::Bad)
+    } else if word == b"late".as_slice() {
+        Ok(ReasonForm::Late)
+    } else if word == b"far".as_slice() {
+        Ok(ReasonForm::Far)
+    } else if word == b"distance".as_slice() {
+        Ok(ReasonForm::Distance)
+    } else if word == b"emergency".as_slice() {
+        Ok(ReasonForm::Emergency)
+    } else if word == b"green".as_slice() {
+        Ok(ReasonForm::Green)
+    } else if word == b"taken".as_slice() {
+        Ok(ReasonForm::Taken)
+    } else if word == b"reused".as_slice() {
+        Ok(ReasonForm::Reused)
     } else {
         Err(LineKind::Words)
     }
@@ -171,7 +263,8 @@ pub fn line_form(line: &[u8], version: u8) -> Result<LineForm, LineKind>
         Ok(LineForm::Event(form))
     } else if first == b"operator".as_slice() {
         words.take();
-        order_form(words.take())
+        let form = order_form(words.take())?;
+        Ok(LineForm::Order(form))
     } else if first == b"move".as_slice() {
         words.take();
         words.take();
@@ -203,8 +296,8 @@ pub fn has_count(form: LineForm, count: usize) -> bool
     match form {
         LineForm::Begin | LineForm::End => count == 1,
         LineForm::Version | LineForm::Lanes | LineForm::Vehicles | LineForm::Until => count == 2,
-        LineForm::Policy | LineForm::Stop | LineForm::CancelPlan => count == 3,
-        LineForm::Switch | LineForm::ChangePlan => count == 4,
+        LineForm::Policy | LineForm::Order(OrderForm::Stop) | LineForm::CancelPlan => count == 3,
+        LineForm::Order(OrderForm::Switch) | LineForm::ChangePlan => count == 4,
         LineForm::Event(MessageForm::Cancel | MessageForm::Done) => count == 5,
         LineForm::Times => count == 6,
         LineForm::Grid | LineForm::Times6 => count == 7,
