@@ -4,3 +4,5 @@ pub mod Splits
 pub mod Numbers
 pub mod StepLaws
 pub mod ListLaws
+pub mod Words
+pub mod TextExamples

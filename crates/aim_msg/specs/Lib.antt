@@ -6,3 +6,4 @@ pub mod Forms
 pub mod Reading
 pub mod Entries
 pub mod Steps
+pub mod Writing

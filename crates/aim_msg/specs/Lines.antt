@@ -29,9 +29,17 @@ window_word ahead = if ahead then codes "early" else codes "start"
 abbrev pub window_words : ℕ → Bool → Words
 window_words version ahead = if version == 3 then window_word ahead ∷ [] else []
 
--- the numbers of the bits that are set
+-- whether a set of lanes has a lane: bit i is lane i
+abbrev pub has_lane : ℕ → ℕ → Bool
+has_lane lanes l = lanes / 2 ^ l % 2 == 1
+
+-- the lanes that a phase may name
+unfoldable pub all_lanes : List ℕ
+all_lanes = range_with_len 0 16
+
+-- the numbers of the lanes of a set, rising
 abbrev pub lane_words : ℕ → Words
-lane_words lanes = map decimal (filter (λ l. lanes / 2 ^ l % 2 == 1) (range_with_len 0 16))
+lane_words lanes = map decimal (filter (has_lane lanes) all_lanes)
 
 abbrev pub shape_words : MoveShape → Words
 shape_words (shape.Line x0 y0 x1 y1 m) = codes "line" ∷ decimal x0 ∷ decimal y0 ∷ decimal x1 ∷ decimal y1 ∷ decimal m ∷ []

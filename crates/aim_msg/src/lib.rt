@@ -7,8 +7,12 @@ pub mod messages;
 pub mod reading;
 pub mod replies;
 pub mod script;
+pub mod writing;
 
 pub use entries::{Act, Entry, OPERATOR, Order};
 pub use messages::{Body, Message, Params, Turn};
 pub use replies::{Field, Reason, Reply};
 pub use script::{FateList, Grid6, Line, LineKind, MoveShape, Name, Times5, Times6};
+pub use writing::{
+    NoMemory, entry_text, put_number, write_entry, write_line, write_message, write_reply,
+};
