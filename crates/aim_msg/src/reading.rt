@@ -4,11 +4,13 @@ ghost use Rattle.aim_msg.specs.Forms.{has_count};
 ghost use Rattle.aim_msg.specs.Reading.{line_at};
 ghost use Rattle.aim_msg.specs.Steps.{behind_keyword, steps_in};
 
+mod entries;
 mod fields;
 mod forms;
 mod lines;
 mod lists;
 mod numbers;
+mod replies;
 mod words;
 
 use crate::script::{Line, LineKind};
