@@ -4,12 +4,14 @@
 
 pub mod entries;
 pub mod messages;
+pub mod reading;
 pub mod replies;
 pub mod script;
 pub mod writing;
 
 pub use entries::{Act, Entry, OPERATOR, Order};
 pub use messages::{Body, Message, Params, Turn};
+pub use reading::read_line;
 pub use replies::{Field, Reason, Reply};
 pub use script::{FateList, Grid6, Line, LineKind, MoveShape, Name, Times5, Times6};
 pub use writing::{
