@@ -1,3 +1,10 @@
 pub mod ReadingExamples
 pub mod EntryReadingExamples
 pub mod Words
+pub mod Splits
+pub mod Numbers
+pub mod StepLaws
+pub mod ListLaws
+pub mod Words
+pub mod TextExamples
+pub mod EntryStepLaws

@@ -6,3 +6,6 @@ pub mod Forms
 pub mod Reading
 pub mod Entries
 pub mod Writing
+pub mod Steps
+pub mod Writing
+pub mod EntrySteps

@@ -11,8 +11,9 @@ pub mod writing;
 
 pub use entries::{Act, Entry, OPERATOR, Order};
 pub use messages::{Body, Message, Params, Turn};
+pub use reading::read_line;
 pub use replies::{Field, Reason, Reply};
 pub use script::{FateList, Grid6, Line, LineKind, MoveShape, Name, Times5, Times6};
 pub use writing::{
-    NoMemory, entry_text, put_number, write_entry, write_line, write_message, write_reply,
+    NoMemory, Text, entry_text, put_number, write_entry, write_line, write_message, write_reply,
 };
