@@ -21,10 +21,10 @@ use Rattle.aim_msg.specs.declared.reading.forms.ReplyForm.TheVariants as answer
 use Rattle.aim_msg.specs.declared.reading.forms.ReasonForm.{ReasonForm}
 use Rattle.aim_msg.specs.declared.reading.forms.ReasonForm.TheVariants as why
 use Rattle.aim_msg.specs.Texts.{Words}
-use Rattle.aim_msg.specs.Faults.{Place, just, first, rest, from, word_at, fault_at, first_fault, behind, surplus_fault, text_fault, words_of}
-use Rattle.aim_msg.specs.Forms.{look_up, message_form, order_form, reply_form, reason_form, message_places}
+use Rattle.aim_msg.specs.Faults.{Place, just, first, rest, from, word_at, fault_at, first_fault, behind, surplus_fault, text_fault, words_of, number32}
+use Rattle.aim_msg.specs.Forms.{look_up, message_forms, order_forms, reply_forms, reason_forms, message_form, order_form, reply_form, reason_form, message_places}
 use Rattle.aim_msg.specs.Reading.{at, unless, message_of}
-use Rattle.aim_msg.specs.Entries.{caller_of, reason_places, reason_of, standing_places, reject_of, refusal_places, refusal_of, reply_places, reply_of, answer_places, answer_of, order_places, order_of, order_act_places, order_act_of, message_act_places, message_act_of, act_places, act_of, call_places, call_of, entry_places, entry_of, entry_in}
+use Rattle.aim_msg.specs.Entries.{callers, caller_of, reason_places, reason_of, standing_places, reject_of, refusal_places, refusal_of, reply_places, reply_of, answer_places, answer_of, order_places, order_of, order_act_places, order_act_of, message_act_places, message_act_of, act_places, act_of, call_places, call_of, entry_places, entry_of, entry_in}
 use Rattle.aim_msg.specs.Steps.{◌>>=◌, Read, message_in}
 use Rattle.aim_msg.specs.EntrySteps.{word_in, nothing, end_in, order_in, act_in, green_in, taken_in, reason_in, confirm_in, standing_in, reject_in, reply_in, answer_in, call_in, entry_steps}
 use Rattle.aim_msg.proofs.StepLaws.{bind_read, bind_more, bind_assoc, faults_then, message_step}
@@ -90,9 +90,9 @@ act_step : {B : Type 0} (caller : Option ℕ) (ws : Words) (f : Act × Words →
     → (act_in caller ws >>= f) ≡ unless b (faults_then (act_places caller ws) ws later)
 unfolding act_in word_in
 act_step None [] f b later h = refl
-act_step None (w ∷ ws) f b later h = order_act w ws f b later (order_form w) (look_up_fault kind.Words _ w) h
+act_step None (w ∷ ws) f b later h = order_act w ws f b later (order_form w) (look_up_fault kind.Words order_forms w) h
 act_step (Some vehicle) [] f b later h = refl
-act_step (Some vehicle) (w ∷ ws) f b later h = message_act w ws f b later (message_form w) (look_up_fault kind.Words _ w) h
+act_step (Some vehicle) (w ∷ ws) f b later h = message_act w ws f b later (message_form w) (look_up_fault kind.Words message_forms w) h
 
 act_more : {B C : Type 0} (caller : Option ℕ) (ws : Words) (g : Act × Words → Result B LineKind) (f : B → Result C LineKind) (c : C) (later : Option LineKind)
     → (g (act_of caller ws, behind (act_places caller ws) ws) >>= f) ≡ unless c later
@@ -132,8 +132,11 @@ refusal : {B : Type 0} (w : List ℕ) (ws : Words) (f : Reply × Words → Resul
     → f (refusal_of r (w ∷ ws), behind (refusal_places r) (w ∷ ws)) ≡ unless b later
     → ((r >>= λ form. reason_in form ws >>= λ why. standing_in why.0 why.1) >>= f) ≡ unless b (faults_then (refusal_places r) (w ∷ ws) later)
 refusal w ws f b later (Ok r) words h =
+    let left : behind (reason_places r ++ standing_places) ws ≡ from 4 (behind (reason_places r) ws) = behind_append (reason_places r) standing_places ws in
+    let h' : f (reject_of (reason_of r ws) (behind (reason_places r) ws), from 4 (behind (reason_places r) ws)) ≡ unless b later =
+        ap (λ ws'. f (reject_of (reason_of r ws) (behind (reason_places r) ws), ws')) (sym left) ∙ h in
     reason_more r ws _ f b (faults_then standing_places (behind (reason_places r) ws) later)
-        (standing_step (reason_of r ws) (behind (reason_places r) ws) f b later (rw behind_append (reason_places r) standing_places ws at h))
+        (standing_step (reason_of r ws) (behind (reason_places r) ws) f b later h')
     ∙ ap (unless b) (sym (then_append (reason_places r) standing_places ws later))
 refusal w ws f b later (Err k) words h = ap Err (words k refl)
 
@@ -144,7 +147,7 @@ unfolding reply_in confirm_in reject_in word_in
 reply_step answer.Confirm ws f b later h =
     bind_more _ _ _ _ _ _ _ (bind_more _ _ _ _ _ _ _ (bind_more _ _ _ _ _ _ _ (bind_more _ _ _ _ _ _ _ (bind_more _ _ _ _ _ _ _ (bind_more _ _ _ _ _ _ _ h)))))
 reply_step answer.Reject [] f b later h = refl
-reply_step answer.Reject (w ∷ ws) f b later h = refusal w ws f b later (reason_form w) (look_up_fault kind.Words _ w) h
+reply_step answer.Reject (w ∷ ws) f b later h = refusal w ws f b later (reason_form w) (look_up_fault kind.Words reason_forms w) h
 reply_step answer.Ack ws f b later h = bind_more _ _ _ _ _ _ _ h
 reply_step answer.EmergencyStop ws f b later h = h
 reply_step answer.Stale ws f b later h = bind_more _ _ _ _ _ _ _ h
@@ -163,7 +166,7 @@ answer_step : {B : Type 0} (ws : Words) (f : Reply × Words → Result B LineKin
     → (answer_in ws >>= f) ≡ unless b (faults_then (answer_places (reply_form (first ws)) ws) ws later)
 unfolding answer_in word_in
 answer_step [] f b later h = refl
-answer_step (w ∷ ws) f b later h = answer_form w ws f b later (reply_form w) (look_up_fault kind.Words _ w) h
+answer_step (w ∷ ws) f b later h = answer_form w ws f b later (reply_form w) (look_up_fault kind.Words reply_forms w) h
 
 answer_more : {B C : Type 0} (ws : Words) (g : Reply × Words → Result B LineKind) (f : B → Result C LineKind) (c : C) (later : Option LineKind)
     → (g (answer_of (reply_form (first ws)) ws, behind (answer_places (reply_form (first ws)) ws) ws) >>= f) ≡ unless c later
@@ -175,9 +178,29 @@ unfolding end_in
 end_step [] b = refl
 end_step (w ∷ ws) b = refl
 
+-- the places of a reply
+abbrev answers : Words → List Place
+answers ws = answer_places (reply_form (first ws)) ws
+
 -- the words of the reply, behind the act and the arrow
 abbrev behind_arrow : Option ℕ → Words → Words
 behind_arrow caller ws = rest (behind (act_places caller ws) ws)
+
+-- the faults of an entry's words, part by part
+all_places : (ws : Words) → text_fault (entry_places ws) ws
+    ≡ faults_then (number32 ∷ callers ∷ number32 ∷ []) ws
+        (faults_then (act_places (caller_of (word_at ws 1)) (from 3 ws)) (from 3 ws)
+          (faults_then (just (codes "->") ∷ []) (behind (act_places (caller_of (word_at ws 1)) (from 3 ws)) (from 3 ws))
+            (faults_then (answers (behind_arrow (caller_of (word_at ws 1)) (from 3 ws))) (behind_arrow (caller_of (word_at ws 1)) (from 3 ws))
+              (surplus_fault (behind (answers (behind_arrow (caller_of (word_at ws 1)) (from 3 ws))) (behind_arrow (caller_of (word_at ws 1)) (from 3 ws)))))))
+all_places ws =
+    let caller : Option ℕ = caller_of (word_at ws 1) in
+    let acts : List Place = act_places caller (from 3 ws) in
+    let more : List Place = just (codes "->") ∷ answers (behind_arrow caller (from 3 ws)) in
+    first_then (entry_places ws) ws (surplus_fault (behind (entry_places ws) ws))
+    ∙ ap (faults_then (number32 ∷ callers ∷ number32 ∷ []) ws)
+        (then_append acts more (from 3 ws) (surplus_fault (behind (entry_places ws) ws))
+          ∙ ap (λ ws'. faults_then acts (from 3 ws) (faults_then more (behind acts (from 3 ws)) (surplus_fault ws'))) (behind_append acts more (from 3 ws)))
 
 -- the act, the arrow and the reply
 pub entry_is : (ws : Words) → entry_steps ws ≡ entry_in ws
@@ -189,4 +212,4 @@ entry_is ws =
     let end : Words = behind (answer_places (reply_form (first reply)) reply) reply in
     bind_read _ _ _ _ _ _
         (bind_more _ _ _ _ _ _ _ (bind_more _ _ _ _ _ _ _ (act_more caller act _ _ _ _ (bind_more _ _ _ _ _ _ _ (answer_more reply _ _ _ _ (end_step end (at ws 0, entry_of ws)))))))
-    ∙ ?
+    ∙ ap (unless (at ws 0, entry_of ws)) (sym (all_places ws))
