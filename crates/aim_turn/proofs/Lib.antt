@@ -7,3 +7,4 @@ pub mod Seats
 pub mod Opens
 pub mod Tallies
 pub mod Closes
+pub mod Orders

@@ -1,5 +1,5 @@
 //! The turnstile: a ticket lock with one history.
-ghost use Rattle.std.specs.Prelude.{◌≡◌, ◌≢◌, ℕ, Bool, List, [], ◌∷◌, ◌++◌, ◌+◌, ◌<◌, length, map, sum_by, Contains, All, AllPairs, IfOk, Some};
+ghost use Rattle.std.specs.Prelude.{◌≡◌, ◌≢◌, ℕ, Bool, List, [], ◌∷◌, ◌++◌, ◌+◌, ◌<◌, length, map, sum_by, Contains, IsPermutation, All, AllPairs, IfOk, Some};
 ghost use Rattle.aim_turn.specs.Turned.{meaning, Rests, Entered, Leaves, Left, opening_view, Gathers, Ends};
 ghost use Rattle.aim_turn.specs.History.{entries_of, Begins};
 ghost use Rattle.aim_turn.specs.Models.{IsPassOf, IsSamePass, MakesCall, MeetsFront, PassModel, new_pass};
@@ -14,7 +14,7 @@ use std::alloc::{AllocError, Global};
 use std::marker::Model;
 use std::snapshot::Snapshot;
 use std::sync::Wait;
-use std::thread;
+use std::{hint, thread};
 
 // The word that has the next ticket to draw.
 const TICKET: usize = 0;
@@ -24,6 +24,9 @@ const SERVING: usize = 1;
 
 // The word that has the length of the history.
 const COUNT: usize = 2;
+
+// How often the next in line looks before it gives its processor away.
+const SOON: u32 = 100;
 
 // Takes the kept value out of the slot that the seat has in hand.
 fn take<K: Kept>(desk: &Desk<K>, seat: &mut Chair<K>) -> K
@@ -38,6 +41,16 @@ fn take<K: Kept>(desk: &Desk<K>, seat: &mut Chair<K>) -> K
     kept
 }
 
+// Rests between two looks, where `ahead` callers come first. The next in line looks again soon, for a while, since a
+// turn is short. All others, and those that have looked long, give their processor away.
+fn pause(ahead: u64, looks: u32) {
+    if ahead == 1 && looks < SOON {
+        hint::spin_loop();
+    } else {
+        thread::yield_now();
+    }
+}
+
 // Draws a ticket, waits for its turn, and takes the kept value.
 fn enter<K: Kept, R: Wait>(rt: &R, desk: &Desk<K>, seat: &mut Chair<K>, number: u32) -> K
     requires desk { (seat.old.table_id ≡ desk.now.shared.table_id) × (desk.now.shared.table_id.words ≡ 3) }
@@ -46,11 +59,14 @@ fn enter<K: Kept, R: Wait>(rt: &R, desk: &Desk<K>, seat: &mut Chair<K>, number: 
     ensures entered { Entered (meaning K.setting K.entries K.caller_of K.is_lawful) (K.setting desk.now.shared.key.kept.value) number seat.old.me result seat.new.me }
 {
     let ticket = desk.shared.fetch_add::<Draw>(seat, TICKET, 1);
+    let mut looks = 0u32;
     for _ in rt.forever() {
-        if desk.shared.load::<Look>(seat, SERVING) == ticket {
+        let serving = desk.shared.load::<Look>(seat, SERVING);
+        if serving == ticket {
             return take(desk, seat);
         }
-        thread::yield_now();
+        pause(ticket.wrapping_sub(serving), looks);
+        looks = looks.saturating_add(1);
     }
     unreachable!()
 }
@@ -128,6 +144,7 @@ fn finish<K: Kept>(desk: Desk<K>, main: Chair<K>) -> K
 /// A value under a turn.
 ///
 /// Contracts see its name, the setting of its value, and the numbers that it was opened with.
+#[derive(Drop)]
 pub struct Turnstile<K: Kept> {
     desk: Desk<K>,
 }
@@ -214,6 +231,7 @@ impl<K: Kept> Turnstile<K> {
         ensures setting { K.setting result ≡ self.setting }
         ensures lawful { K.is_lawful self.setting (K.entries result) }
         ensures passes { All (λ p. Begins p.seen (K.entries result) × (entries_of K.caller_of p.number (K.entries result) ≡ p.mine)) passes.items }
+        ensures numbers { IsPermutation (map (λ p. p.number) passes.items) self.numbers }
         ensures others { (n : ℕ) → ¬ Contains self.numbers n → entries_of K.caller_of n (K.entries result) ≡ [] }
         ensures count { length (K.entries result) ≡ sum_by (λ p. length p.mine) passes.items }
     {
@@ -230,6 +248,7 @@ impl<K: Kept> Turnstile<K> {
         ensures setting { K.setting result ≡ self.setting }
         ensures lawful { K.is_lawful self.setting (K.entries result) }
         ensures passes { All (λ p. Begins p.seen (K.entries result) × (entries_of K.caller_of p.number (K.entries result) ≡ p.mine)) (passes.items ++ last ∷ []) }
+        ensures numbers { IsPermutation (map (λ p. p.number) (passes.items ++ last ∷ [])) self.numbers }
         ensures others { (n : ℕ) → ¬ Contains self.numbers n → entries_of K.caller_of n (K.entries result) ≡ [] }
         ensures count { length (K.entries result) ≡ sum_by (λ p. length p.mine) (passes.items ++ last ∷ []) }
     {

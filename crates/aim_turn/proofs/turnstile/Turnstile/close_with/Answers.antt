@@ -2,6 +2,7 @@ use Rattle.std.proofs.Common.{◌≡◌, [], ◌∷◌, ◌++◌, length, ap, sy
 use Rattle.aim_turn.proofs.Seats.{comes_new, gathers}
 use Rattle.aim_turn.proofs.Totals.{All_of, sum_by-total}
 use Rattle.aim_turn.proofs.Closes.{arrived, one_more, length-snoc, stranger}
+use Rattle.aim_turn.proofs.Orders.{numbers_of}
 use Rattle.aim_turn.proofs.turnstile.Turnstile.close_with.Goals as goal
 
 pub load_new_seat-main-requires : goal.load_new_seat-main-requires
@@ -34,4 +35,4 @@ returns g c =
     let a = c.load_new_seat-main.ensures in
     let start = one_more _ _ [] _ c.last.inside.seat.table_id _ _ _ _ (arrived _ _ _ a.1 a.2) c.last.invariant c.join_seat.ensures.2 c.last.view_is in
     let e = c.finish.ensures (c.args.passes.items ++ c.args.last ∷ []) (c.gather.ensures.main (c.args.last ∷ []) start) (length-snoc _ _ _ (c.requires.all ∙ sym (ap (λ z. length z.numbers) c.self.view_is))) in
-    rw (← c.self.view_is) record { setting = e.setting; lawful = e.lawful; passes = All_of _ _ e.passes; others = λ n h. e.others n (stranger _ n h); count = e.count ∙ sym (sum_by-total _ _) }
+    rw (← c.self.view_is) record { setting = e.setting; lawful = e.lawful; passes = All_of _ _ e.passes; numbers = numbers_of _ _ e.places; others = λ n h. e.others n (stranger _ n h); count = e.count ∙ sym (sum_by-total _ _) }
