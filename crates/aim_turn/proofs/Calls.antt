@@ -3,10 +3,10 @@ use Rattle.std.proofs.Common.{◌≡◌, ℕ, Bool, true, false, List, [], ◌�
 use Rattle.atomic_table.specs.Table.{Me}
 use Rattle.atomic_table.specs.Seated.{TableId}
 use Rattle.aim_turn.specs.declared.view.View.{View}
-use Rattle.aim_turn.specs.History.{entries_of}
+use Rattle.aim_turn.specs.History.{entries_of, Begins}
 use Rattle.aim_turn.specs.Models.{PassModel, MakesCall}
 use Rattle.aim_turn.specs.Turned.{seated, Meaning, Sits, Entered, Left}
-use Rattle.aim_turn.proofs.Histories.{entries_of_own}
+use Rattle.aim_turn.proofs.Histories.{begins_more, entries_of_own}
 
 abbrev pass_model : {S E : Type 0} → ℕ → TableId → View S E → PassModel S E
 pass_model n z v = record { table = z; setting = v.setting; number = n; seen = v.seen; mine = v.mine }
@@ -30,6 +30,11 @@ module _ {K S E : Type 0} (M : Meaning K S E) where
       let seen : m1.0.seen ≡ M.entries k = ap (λ (y : Me (Option K) (View S E)). y.0.seen) en.after in
       (m.0.mine, left ∙ (λ i. (seated (Some s) m1.0.numbers (Some n) ((seen ∙ sym entry) i) (was i), [])), ap (entries_of M.caller_of n) entry ∙ en.mine, (entry, refl))
 
+  -- what begins with the list before begins with the list after
+  grown : (n : ℕ) {k k' : K} (old : List E) (b : Bool) → Begins old (M.entries k) → MatchBool b ((e : E) × (M.entries k' ≡ M.entries k ++ e ∷ []) × (M.caller_of e ≡ n)) (M.entries k' ≡ M.entries k) → Begins old (M.entries k')
+  grown n {k = k} old true p entry = subst (Begins old) (sym entry.1) (begins_more old (M.entries k) (entry.0 ∷ []) p)
+  grown n old false p entry = subst (Begins old) (sym entry) p
+
   pub sits_after : {s : S} {n : ℕ} {m m1 m2 : Me (Option K) (View S E)} {k k' : K} {b made : Bool} → Entered M s n m k m1
       → MatchBool b ((e : E) × (M.entries k' ≡ M.entries k ++ e ∷ []) × (M.caller_of e ≡ n)) (M.entries k' ≡ M.entries k) → made ≡ b → Left M s n m1 k' made m2 → Sits M.caller_of n m2
   sits_after {s = s} {n = n} {m1 = m1} {m2 = m2} {k' = k'} {b = b} en entry was lf =
@@ -51,6 +56,7 @@ module _ {K S E : Type 0} (M : Meaning K S E) where
       let mine : m2.0.mine ≡ e.0 = ap (λ (y : Me (Option K) (View S E)). y.0.mine) e.1 in
       let set' : M.setting k' ≡ s = set ∙ en.setting in
       record {
+        grows = subst (Begins m.0.seen) (sym seen) (grown n m.0.seen b en.seen entry);
         before = M.entries k;
         begins = en.seen;
         own = en.mine;

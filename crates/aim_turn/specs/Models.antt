@@ -41,6 +41,7 @@ module _ {S E : Type 0} where
 
 -- What was seen grew to a history `before`, at whose end the call did its work. What is seen then ends with its entry, if it made one.
 pub record MakesCall {S E C A : Type 0} (caller_of : E → ℕ) (is_lawful : S → List E → Type 0) (does : S → ℕ → C → List E → List E → A → Type 0) (s : S) (call : C) (answer : A) (made : Bool) (old new : PassModel S E) : Type 0 where
+  pub grows : Begins old.seen new.seen
   pub before : List E
   pub begins : Begins old.seen before
   pub own : entries_of caller_of old.number before ≡ old.mine

@@ -8,6 +8,8 @@
 mod kept;
 mod pass;
 mod rule;
+#[cfg(test)]
+mod tests;
 mod turnstile;
 mod view;
 
