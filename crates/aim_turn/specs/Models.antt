@@ -50,6 +50,10 @@ pub record MakesCall {S E C A : Type 0} (caller_of : E → ℕ) (is_lawful : S �
   pub lawful : is_lawful s new.seen
   pub mine : entries_of caller_of new.number new.seen ≡ new.mine
 
+-- the history begins with what the pass has seen, and its number has there exactly what the pass has
+abbrev pub HasPass : {S E : Type 0} → (E → ℕ) → List E → PassModel S E → Type 0
+HasPass caller_of log p = Begins p.seen log × (entries_of caller_of p.number log ≡ p.mine)
+
 -- What is seen is then a lawful history that begins with what was seen and with what the front shows, and has the same entries of the number.
 pub record MeetsFront {S E : Type 0} (caller_of : E → ℕ) (is_lawful : S → List E → Type 0) (s : S) (old : PassModel S E) (front : FrontModel S E) (new : PassModel S E) : Type 0 where
   pub begins : Begins old.seen new.seen

@@ -1,5 +1,5 @@
 //! A small register under the turn.
-ghost use Rattle.std.specs.Prelude.{◌≡◌, ℕ, Bool, ◌+◌, ◌<◌, ◌≤◌, List, [], ◌∷◌, ◌++◌, length, IfOk, MatchBool, vec_capacity, is_some, nat_lt, Some, None};
+ghost use Rattle.std.specs.Prelude.{◌≡◌, ◌≤◌, [], ◌∷◌, ◌++◌, length, IfOk, MatchBool, vec_capacity, is_some, nat_lt, Some, None};
 ghost use Rattle.aim_turn.specs.History.{Begins};
 ghost use Rattle.aim_turn.specs.Models.{IsPassOf, IsSamePass};
 

@@ -1,8 +1,8 @@
 //! The turnstile: a ticket lock with one history.
-ghost use Rattle.std.specs.Prelude.{◌≡◌, ◌≢◌, ℕ, Bool, List, [], ◌∷◌, ◌++◌, ◌+◌, ◌<◌, length, map, sum_by, Contains, IsPermutation, All, AllPairs, IfOk, Some};
+ghost use Rattle.std.specs.Prelude.{◌≡◌, ◌≢◌, ℕ, List, [], ◌∷◌, ◌++◌, ◌+◌, ◌<◌, length, map, sum_by, Contains, IsPermutation, All, AllPairs, IfOk, Some};
 ghost use Rattle.aim_turn.specs.Turned.{meaning, Rests, Entered, Leaves, Left, opening_view, Gathers, Ends};
-ghost use Rattle.aim_turn.specs.History.{entries_of, Begins};
-ghost use Rattle.aim_turn.specs.Models.{IsPassOf, IsSamePass, MakesCall, MeetsFront, PassModel, new_pass};
+ghost use Rattle.aim_turn.specs.History.{entries_of};
+ghost use Rattle.aim_turn.specs.Models.{IsPassOf, IsSamePass, MakesCall, HasPass, MeetsFront, PassModel, new_pass};
 
 use crate::kept::Kept;
 use crate::pass::{Front, Pass};
@@ -54,9 +54,11 @@ fn pause(ahead: u64, looks: u32) {
 // Draws a ticket, waits for its turn, and takes the kept value.
 fn enter<K: Kept, R: Wait>(rt: &R, desk: &Desk<K>, seat: &mut Chair<K>, number: u32) -> K
     requires desk { (seat.old.table_id ≡ desk.now.shared.table_id) × (desk.now.shared.table_id.words ≡ 3) }
-    requires rests { Rests (meaning K.setting K.entries K.caller_of K.is_lawful) (K.setting desk.now.shared.key.kept.value) number seat.old.me }
+    requires rests { Rests (meaning K.setting K.entries K.caller_of K.is_lawful)
+        (K.setting desk.now.shared.key.kept.value) number seat.old.me }
     ensures seat { (seat.new.table_id ≡ seat.old.table_id) × (seat.new.id ≡ seat.old.id) }
-    ensures entered { Entered (meaning K.setting K.entries K.caller_of K.is_lawful) (K.setting desk.now.shared.key.kept.value) number seat.old.me result seat.new.me }
+    ensures entered { Entered (meaning K.setting K.entries K.caller_of K.is_lawful)
+        (K.setting desk.now.shared.key.kept.value) number seat.old.me result seat.new.me }
 {
     let ticket = desk.shared.fetch_add::<Draw>(seat, TICKET, 1);
     let mut looks = 0u32;
@@ -74,9 +76,11 @@ fn enter<K: Kept, R: Wait>(rt: &R, desk: &Desk<K>, seat: &mut Chair<K>, number: 
 // Gives the kept value back, counts the entry if one was made, and serves the next ticket.
 fn leave<K: Kept>(desk: &Desk<K>, seat: &mut Chair<K>, number: u32, kept: K, made: bool)
     requires desk { (seat.old.table_id ≡ desk.now.shared.table_id) × (desk.now.shared.table_id.words ≡ 3) }
-    requires leaves { Leaves (meaning K.setting K.entries K.caller_of K.is_lawful) (K.setting desk.now.shared.key.kept.value) number seat.old.me kept made }
+    requires leaves { Leaves (meaning K.setting K.entries K.caller_of K.is_lawful)
+        (K.setting desk.now.shared.key.kept.value) number seat.old.me kept made }
     ensures seat { (seat.new.table_id ≡ seat.old.table_id) × (seat.new.id ≡ seat.old.id) }
-    ensures left { Left (meaning K.setting K.entries K.caller_of K.is_lawful) (K.setting desk.now.shared.key.kept.value) number seat.old.me kept made seat.new.me }
+    ensures left { Left (meaning K.setting K.entries K.caller_of K.is_lawful)
+        (K.setting desk.now.shared.key.kept.value) number seat.old.me kept made seat.new.me }
 {
     let None = desk.shared.exchange(seat, 0, Some(kept)) else {
         unreachable!()
@@ -230,7 +234,7 @@ impl<K: Kept> Turnstile<K> {
         requires all { length passes.items ≡ length self.numbers }
         ensures setting { K.setting result ≡ self.setting }
         ensures lawful { K.is_lawful self.setting (K.entries result) }
-        ensures passes { All (λ p. Begins p.seen (K.entries result) × (entries_of K.caller_of p.number (K.entries result) ≡ p.mine)) passes.items }
+        ensures passes { All (HasPass K.caller_of (K.entries result)) passes.items }
         ensures numbers { IsPermutation (map (λ p. p.number) passes.items) self.numbers }
         ensures others { (n : ℕ) → ¬ Contains self.numbers n → entries_of K.caller_of n (K.entries result) ≡ [] }
         ensures count { length (K.entries result) ≡ sum_by (λ p. length p.mine) passes.items }
@@ -247,7 +251,7 @@ impl<K: Kept> Turnstile<K> {
         requires all { length passes.items + 1 ≡ length self.numbers }
         ensures setting { K.setting result ≡ self.setting }
         ensures lawful { K.is_lawful self.setting (K.entries result) }
-        ensures passes { All (λ p. Begins p.seen (K.entries result) × (entries_of K.caller_of p.number (K.entries result) ≡ p.mine)) (passes.items ++ last ∷ []) }
+        ensures passes { All (HasPass K.caller_of (K.entries result)) (passes.items ++ last ∷ []) }
         ensures numbers { IsPermutation (map (λ p. p.number) (passes.items ++ last ∷ [])) self.numbers }
         ensures others { (n : ℕ) → ¬ Contains self.numbers n → entries_of K.caller_of n (K.entries result) ≡ [] }
         ensures count { length (K.entries result) ≡ sum_by (λ p. length p.mine) (passes.items ++ last ∷ []) }

@@ -6,7 +6,7 @@
 
 mod register;
 
-ghost use Rattle.std.specs.Prelude.{◌≡◌, ℕ, ◌<◌, All, length, slice_index_or, IfOk};
+ghost use Rattle.std.specs.Prelude.{◌≡◌, All, length, IfOk};
 ghost use Rattle.aim_turn.specs.Models.{IsPassOf, IsSamePass};
 
 use aim_turn::{Pass, Turnstile};
@@ -16,7 +16,7 @@ use std::alloc::{AllocError, Global};
 use std::sync::Wait;
 use std::thread::Threads;
 use std::time::{Clock, Instant};
-use std::{env, io, thread};
+use std::{env, thread};
 
 const CALLERS: u32 = 4;
 

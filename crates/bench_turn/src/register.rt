@@ -1,5 +1,5 @@
 //! What stands under the turn while it is timed: a register that callers write marks into.
-ghost use Rattle.std.specs.Prelude.{◌≡◌, ℕ, Bool, ◌+◌, ◌≤◌, List, [], ◌∷◌, ◌++◌, length, vec_capacity, is_some, IfOk};
+ghost use Rattle.std.specs.Prelude.{◌≡◌, ◌≤◌, [], vec_capacity, is_some, IfOk};
 
 use aim_turn::Kept;
 use std::alloc::{AllocError, Global};
