@@ -1,7 +1,7 @@
 //! Times the turn: as many threads as there are callers, each with its calls.
 //!
-//! Four callers. Arguments: the calls of each, and the rounds of work in a call. With none it makes a few calls and
-//! prints no time.
+//! Four callers. Arguments: the calls of each, the rounds of work in a call, and the rounds of work that a caller does
+//! between two calls. With none it makes a few calls and prints no time.
 #![tactic(auto)]
 
 mod register;
@@ -11,7 +11,7 @@ ghost use Rattle.aim_turn.specs.Models.{IsPassOf, IsSamePass};
 
 use aim_turn::{Pass, Turnstile};
 use anyhow::Context;
-use register::Register;
+use register::{Register, Work, mixed};
 use std::alloc::{AllocError, Global};
 use std::sync::Wait;
 use std::thread::Threads;
@@ -20,11 +20,12 @@ use std::{env, thread};
 
 const CALLERS: u32 = 4;
 
-/// What is timed: how many calls each caller makes, and how many rounds of work each call does.
+/// What is timed: how many calls each caller makes, and how many rounds of work it does in each and between two.
 #[derive(Drop)]
 struct Plan {
     calls: u32,
     rounds: u32,
+    between: u32,
 }
 
 // Makes the calls of one caller.
@@ -37,8 +38,12 @@ fn calls<R: Wait>(
     requires own { IsPassOf turnstile.now pass }
     ensures same { IsSamePass pass result }
 {
-    for _ in 0..plan.calls {
-        turnstile.with_turn(rt, &mut pass, plan.rounds);
+    for call in 0..plan.calls {
+        let work = Work {
+            seed: mixed(call, plan.between),
+            rounds: plan.rounds,
+        };
+        turnstile.with_turn(rt, &mut pass, work);
     }
     pass
 }
@@ -97,6 +102,7 @@ fn main(rt: HostRuntime) -> anyhow::Result<()> {
             &Plan {
                 calls: 25,
                 rounds: 10,
+                between: 10,
             },
         )?;
         println!(rt; "{marks} marks by {CALLERS} callers")?;
@@ -105,6 +111,7 @@ fn main(rt: HostRuntime) -> anyhow::Result<()> {
     let plan = Plan {
         calls: argument(&mut args)?,
         rounds: argument(&mut args)?,
+        between: argument(&mut args)?,
     };
     let (marks, nanoseconds) = run(&rt, alloc, &plan)?;
     let each = nanoseconds / (marks.max(1) as u128);

@@ -33,8 +33,15 @@ impl Register {
     }
 }
 
-// Some rounds of arithmetic, each of which needs the one before it.
-fn mixed(seed: u32, rounds: u32) -> u32 {
+/// What a caller asks: some rounds of work on a number.
+#[derive(Clone, Copy)]
+pub struct Work {
+    pub seed: u32,
+    pub rounds: u32,
+}
+
+/// Some rounds of arithmetic, each of which needs the one before it.
+pub fn mixed(seed: u32, rounds: u32) -> u32 {
     let mut value = seed;
     for _ in 0..rounds {
         value = value.wrapping_mul(1_664_525).wrapping_add(1_013_904_223);
@@ -47,7 +54,7 @@ impl Kept for Register {
 
     type Entry = Mark;
 
-    type Call = u32;
+    type Call = Work;
 
     type Answer = Option<u32>;
 
@@ -65,9 +72,9 @@ impl Kept for Register {
 
     ghost is_made = { is_some };
 
-    /// Works for as many rounds as the call says, and marks the result where there is room.
-    fn apply(&mut self, caller: u32, call: u32) -> Option<u32> {
-        let value = mixed(caller, call);
+    /// Does the work, and marks the result where there is room.
+    fn apply(&mut self, caller: u32, call: Work) -> Option<u32> {
+        let value = mixed(call.seed, call.rounds);
         if self.marks.len() < self.room as usize {
             self.marks.push_reserved(Mark { caller, value });
             return Some(value);
