@@ -1,4 +1,4 @@
-use Rattle.std.proofs.Common.{◌≡◌, [], length, ap, sym, ◌∙◌, arith}
+use Rattle.std.proofs.Common.{[], length, ap, sym, ◌∙◌, arith}
 use Rattle.aim_turn.proofs.Seats.{comes_new}
 use Rattle.aim_turn.proofs.Totals.{All_of, sum_by-total}
 use Rattle.aim_turn.proofs.Closes.{arrived, with_none, stranger}
