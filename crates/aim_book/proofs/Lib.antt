@@ -1,0 +1,4 @@
+pub mod Bits
+pub mod Tests
+pub mod Histories
+pub mod Answering

@@ -1,0 +1,4 @@
+//! The one-thread manager.
+#![tactic(auto)]
+
+pub mod rows;
