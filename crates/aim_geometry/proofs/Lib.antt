@@ -1,2 +1,5 @@
 pub mod BoundedLemmas
 pub mod StationLemmas
+pub mod Quotients
+pub mod SiteLemmas
+pub mod Bits

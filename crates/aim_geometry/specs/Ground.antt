@@ -1,11 +1,7 @@
 -- The grid of tiles on the ground.
 use Rattle.std.specs.Prelude.{ℕ, ◌+◌, ◌-◌, ◌*◌, ◌/◌, Bool, ◌&&◌, ◌||◌, nat_le, ◌==◌}
 use Rattle.aim_geometry.specs.declared.ground.Grid.{Grid}
-
--- a place on the ground, in millimetres
-pub record Station : Type 0 where
-  pub x : ℕ
-  pub y : ℕ
+pub use Rattle.aim_geometry.specs.declared.stations.Station.{Station}
 
 -- the side of a tile
 abbrev pub tile_of : Grid → ℕ

@@ -1,3 +1,5 @@
 pub mod Bounded
 pub mod Ground
+pub mod Sites
 pub mod Stations
+pub mod Rects

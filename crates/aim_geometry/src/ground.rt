@@ -1,5 +1,11 @@
 //! The numbers of the ground.
 
+ghost use Rattle.std.specs.Prelude.{◌≡◌, IfOk};
+ghost use Rattle.std.specs.Result.{result_err};
+ghost use Rattle.aim_geometry.specs.Sites.{IsGrid, IsTimes, has_bad_buffers as has_bad_buffers_of, has_bad_numbers, has_bad_times as has_bad_times_of, ground_fault};
+
+use std::marker::Model;
+
 /// The grid of tiles and the buffers in space. Lengths are in millimetres.
 #[derive(Clone, Copy, Debug, PartialEq, Eq)]
 pub struct Grid {
@@ -32,4 +38,105 @@ pub struct Times {
     pub late: u32,
     /// The steps for which a tile at the border is kept before and after, at most 1,024.
     pub edge: u32,
+}
+
+/// Why numbers make no ground.
+#[derive(Clone, Copy, Debug, PartialEq, Eq)]
+pub enum GroundFault {
+    /// A number of the grid is out of its range, or the number of rows doesn't divide the side.
+    Grid,
+    /// The early or the late buffer exceeds the edge buffer.
+    Buffers,
+    /// One of the times is out of its range.
+    Times,
+}
+
+/// A grid and times of which all numbers are in their ranges.
+#[derive(Clone, Copy, Debug, PartialEq, Eq)]
+pub struct Ground {
+    grid: Grid,
+    times: Times,
+}
+
+impl Model for Ground {
+    ghost use Rattle.aim_geometry.specs.Sites.{Site, IsSite};
+
+    ghost Value = { Site };
+
+    ghost view = { λ g. record { grid = g.grid; times = g.times } };
+
+    ghost invariant = { λ g. IsSite (record { grid = g.grid; times = g.times }) };
+
+    ghost inverse = { λ s. record { grid = s.grid; times = s.times } };
+}
+
+impl Ground {
+    /// The ground of these numbers, or the first of the three faults whose cause holds.
+    pub fn build(grid: Grid, times: Times) -> Result<Ground, GroundFault>
+        ensures fault { result_err result ≡ ground_fault grid times }
+        ensures ground { IfOk result (λ g. g ≡ record { grid = grid; times = times }) }
+    {
+        if has_bad_grid(&grid) {
+            return Err(GroundFault::Grid);
+        }
+        if has_bad_buffers(&times) {
+            return Err(GroundFault::Buffers);
+        }
+        if has_bad_times(&times) {
+            return Err(GroundFault::Times);
+        }
+        Ok(Ground { grid, times })
+    }
+
+    /// The grid that the ground was built from.
+    pub fn grid(&self) -> Grid
+        ensures grid { result ≡ self.now.grid }
+        ensures valid { IsGrid result }
+    {
+        self.grid
+    }
+
+    /// The times that the ground was built from.
+    pub fn times(&self) -> Times
+        ensures times { result ≡ self.now.times }
+        ensures valid { IsTimes result }
+    {
+        self.times
+    }
+}
+
+/// Whether a number of the grid is out of its range, or the number of rows doesn't divide the side.
+fn has_bad_grid(grid: &Grid) -> bool
+    ensures { result ≡ has_bad_numbers grid.now }
+{
+    grid.side == 0
+        || grid.side > 1_000_000
+        || grid.n == 0
+        || grid.n > 64
+        || grid.side % grid.n != 0
+        || grid.spacing == 0
+        || grid.spacing > 10_000
+        || grid.fixed > 10_000
+        || grid.half > 100_000
+        || grid.spans == 0
+        || grid.spans > 131_072
+}
+
+/// Whether the early or the late buffer exceeds the edge buffer.
+fn has_bad_buffers(times: &Times) -> bool
+    ensures { result ≡ has_bad_buffers_of times.now }
+{
+    times.early > times.edge || times.late > times.edge
+}
+
+/// Whether one of the times is out of its range.
+fn has_bad_times(times: &Times) -> bool
+    ensures { result ≡ has_bad_times_of times.now }
+{
+    times.horizon == 0
+        || times.horizon > 8_192
+        || times.longest == 0
+        || times.longest > 65_536
+        || times.clearance > 1_024
+        || times.edge > 1_024
 }

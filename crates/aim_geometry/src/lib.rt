@@ -3,5 +3,14 @@
 #![tactic(auto)]
 
 pub mod ground;
+pub mod masks;
+pub mod stations;
+pub mod tiles;
 
-pub use ground::{Grid, Times};
+pub use ground::{Grid, Ground, GroundFault, Times};
+pub use masks::{columns, join};
+pub use stations::{Station, curve_station, line_station};
+pub use tiles::{TileRect, is_edge, tile_rect};
+
+#[cfg(test)]
+mod tests;
