@@ -1,4 +1,4 @@
-pub mod Bits
 pub mod Tests
 pub mod Histories
 pub mod Answering
+pub mod Crossings

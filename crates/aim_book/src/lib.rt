@@ -1,4 +1,3 @@
 //! The one-thread manager.
 #![tactic(auto)]
 
-pub mod rows;
