@@ -1,7 +1,7 @@
 -- The grid of tiles on the ground.
 use Rattle.std.specs.Prelude.{ℕ, ◌+◌, ◌-◌, ◌*◌, ◌/◌, Bool, ◌&&◌, ◌||◌, nat_le, ◌==◌}
 use Rattle.aim_geometry.specs.declared.ground.Grid.{Grid}
-pub use Rattle.aim_geometry.specs.declared.stations.Station.{Station}
+use Rattle.aim_geometry.specs.declared.stations.Station.{Station}
 
 -- the side of a tile
 abbrev pub tile_of : Grid → ℕ

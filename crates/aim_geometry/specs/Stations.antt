@@ -1,7 +1,7 @@
 -- The stations of a path: m + 1 places, from its start to its end.
 use Rattle.std.specs.Prelude.{ℕ, ◌+◌, ◌-◌, ◌*◌, ◌/◌, ◌^◌, List, map}
 use Rattle.std.specs.List.{range_with_len}
-use Rattle.aim_geometry.specs.Ground.{Station}
+use Rattle.aim_geometry.specs.declared.stations.Station.{Station}
 
 -- x0 + floor (j * (x1 - x0) / m)
 abbrev pub on_line : ℕ → ℕ → ℕ → ℕ → ℕ

@@ -3,7 +3,8 @@ use Rattle.std.specs.Prelude.{ℕ, ◌+◌, ◌-◌, ◌*◌, ◌/◌, Bool, nat
 use Rattle.std.specs.List.{list_any, slice_range}
 use Rattle.aim_msg.specs.declared.messages.Params.{Params}
 use Rattle.aim_geometry.specs.Bounded.{ceil_div, least_below}
-use Rattle.aim_geometry.specs.Ground.{Station, is_touched}
+use Rattle.aim_geometry.specs.declared.stations.Station.{Station}
+use Rattle.aim_geometry.specs.Ground.{is_touched}
 use Rattle.aim_paths.specs.Intersection.{Intersection, stations}
 use Rattle.aim_paths.specs.Motion.{front}
 

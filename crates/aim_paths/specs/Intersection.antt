@@ -6,7 +6,7 @@ use Rattle.aim_geometry.specs.declared.ground.Grid.{Grid}
 use Rattle.aim_geometry.specs.declared.ground.Times.{Times}
 use Rattle.aim_paths.specs.declared.policies.Kind.{Kind}
 use Rattle.aim_paths.specs.declared.policies.Phase.{Phase}
-use Rattle.aim_geometry.specs.Ground.{Station}
+use Rattle.aim_geometry.specs.declared.stations.Station.{Station}
 
 -- for each turn, the stations of the path, if the lane offers it
 pub record Lane : Type 0 where

@@ -10,7 +10,8 @@ use Rattle.aim_msg.specs.declared.entries.Entry.{Entry}
 use Rattle.aim_paths.specs.declared.policies.Kind.{Kind}
 use Rattle.aim_paths.specs.declared.policies.Kind.TheVariants as kind
 use Rattle.aim_geometry.specs.Bounded.{last, least_below}
-use Rattle.aim_geometry.specs.Ground.{Station, is_touched}
+use Rattle.aim_geometry.specs.declared.stations.Station.{Station}
+use Rattle.aim_geometry.specs.Ground.{is_touched}
 use Rattle.aim_paths.specs.declared.policies.Phase.{Phase}
 use Rattle.aim_paths.specs.Intersection.{Intersection, Lane, Policy}
 use Rattle.aim_paths.specs.Cells.{Cell}
