@@ -18,7 +18,7 @@ use Rattle.aim_paths.specs.Lights.{policy_at, is_from_at, change_with}
 use Rattle.aim_paths.specs.Answer.{is_stopped}
 use Rattle.aim_paths.proofs.HistoryLemmas.{served, last-append}
 use Rattle.aim_book.specs.Serving.{has_called, AreServed, IsServed, ActsSteady}
-use Rattle.aim_book.proofs.Tests.{or_false, decided}
+use Rattle.aim_book.proofs.Tests.{or_false, or_left, or_right, decided}
 
 -- a caller without an entry has used no sequence number
 pub is_new-first : (h : List Entry) (v seq : ℕ) → has_called v h ≡ false → is_new h v seq ≡ true
@@ -52,13 +52,6 @@ placed-append before (x ∷ xs) ys = rw (placed-append (before ++ x ∷ []) xs y
 pub of_vehicle-none : (v : ℕ) (before es : List Entry) → has_called v es ≡ false → of_vehicle v (placed before es) ≡ []
 of_vehicle-none v before [] none = refl
 of_vehicle-none v before (e ∷ es) none = let n = or_false (e.caller == v) (has_called v es) none in rw (n.0, of_vehicle-none v (before ++ e ∷ []) es n.1) refl
-
-or_left : (a b : Bool) → a ≡ true → (a || b) ≡ true
-or_left a b h = rw h refl
-
-or_right : (a b : Bool) → b ≡ true → (a || b) ≡ true
-or_right true b h = refl
-or_right false b h = h
 
 -- a caller with an entry has no later one
 pub has_called-later : (i : Intersection) (v : ℕ) (before es : List Entry) → AreServed i before es → has_called v before ≡ true → has_called v es ≡ false

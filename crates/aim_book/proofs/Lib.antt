@@ -2,3 +2,4 @@ pub mod Tests
 pub mod Histories
 pub mod Answering
 pub mod Crossings
+pub mod Taking

@@ -13,3 +13,10 @@ or_false false b h = (refl, h)
 pub and_true : (a b : Bool) → (a && b) ≡ true → (a ≡ true) × (b ≡ true)
 and_true true b h = (refl, h)
 and_true false b h = absurd (cc)
+
+pub or_left : (a b : Bool) → a ≡ true → (a || b) ≡ true
+or_left a b h = rw h refl
+
+pub or_right : (a b : Bool) → b ≡ true → (a || b) ≡ true
+or_right true b h = refl
+or_right false b h = h
