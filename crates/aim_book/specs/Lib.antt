@@ -1,3 +1,4 @@
 pub mod State
 pub mod Serving
 pub mod Takings
+pub mod Distances
