@@ -1,7 +1,8 @@
-pub mod Tests
-pub mod Histories
-pub mod Answering
-pub mod Crossings
-pub mod Taking
-pub mod Blocking
-pub mod Distances
+pub mod TestLemmas
+pub mod ServedLemmas
+pub mod AnswerLemmas
+pub mod CrossingLemmas
+pub mod TakingLemmas
+pub mod BlockLemmas
+pub mod DistanceLemmas
+pub mod RowLemmas

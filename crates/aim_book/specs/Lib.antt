@@ -2,3 +2,4 @@ pub mod State
 pub mod Serving
 pub mod Takings
 pub mod Distances
+pub mod Rows

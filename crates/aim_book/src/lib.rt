@@ -1,3 +1,6 @@
-//! The one-thread manager.
+//! The one-thread manager: it answers requests and keeps a journal of them.
 #![tactic(auto)]
 
+mod distances;
+mod rows;
+mod times;

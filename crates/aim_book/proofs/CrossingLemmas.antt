@@ -22,7 +22,7 @@ use Rattle.aim_paths.proofs.MotionLemmas.{front_more}
 use Rattle.aim_paths.proofs.Ranges.{list_any-slice_range_at}
 use Rattle.aim_paths.proofs.CellLemmas.{IsIn, cells_has, cells_needed}
 use Rattle.aim_book.specs.Serving.{IsPlain, IsSteady}
-use Rattle.aim_book.proofs.Tests.{decided, or_right}
+use Rattle.aim_book.proofs.TestLemmas.{decided, or_right}
 
 -- the front moves on by the speed
 pub front-steady : (p : Params) (k : ℕ) → p.speed ≡ p.max_speed → front p false k ≡ p.speed * k

@@ -1,5 +1,5 @@
 -- The distance of a lane, entry by entry.
-use Rattle.std.proofs.Common.{◌≡◌, ℕ, zero, suc, ◌+◌, ◌<◌, Bool, true, false, List, [], ◌∷◌, ◌++◌, length, take, get_or, map, fold, filter, filter_map, max, Option, Some, None, arith, refl, ◌∙◌, ap, append_assoc, ◌⊎◌, inl, inr}
+use Rattle.std.proofs.Common.{◌≡◌, ℕ, zero, suc, ◌+◌, ◌<◌, Bool, true, false, List, [], ◌∷◌, ◌++◌, length, take, get_or, map, fold, filter, filter_map, max, Option, Some, None, arith, refl, sym, ◌∙◌, ap, append_assoc, ◌⊎◌, inl, inr}
 use Rattle.std.specs.Prelude.{◌==◌, option_map}
 use Rattle.std.proofs.lemmas.List.{append-nil, take_more}
 use Rattle.std.proofs.lemmas.List.Elements.{filter-append, filter_map-append}
@@ -13,8 +13,8 @@ use Rattle.aim_paths.proofs.HistoryLemmas.{served, fresh-append, since_last-appe
 use Rattle.aim_book.specs.Serving.{AreServed}
 use Rattle.aim_book.specs.Takings.{params_in}
 use Rattle.aim_book.specs.Distances.{distance_next, AreFresh}
-use Rattle.aim_book.proofs.Tests.{decided}
-use Rattle.aim_book.proofs.Histories.{is_fresh-served}
+use Rattle.aim_book.proofs.TestLemmas.{decided}
+use Rattle.aim_book.proofs.ServedLemmas.{is_fresh-served}
 
 -- served messages are fresh
 pub AreFresh-served : (i : Intersection) (before es : List Entry) → AreServed i before es → AreFresh before es
@@ -83,3 +83,12 @@ fold_more g m (x ∷ h) e = fold_more g (max m (g x)) h e
 
 pub now_of_more : (h : List Entry) (k m : ℕ) (d : Entry) → k < length h → now_of (take (k + 1) h) m ≡ max (now_of (take k h) m) (get_or h k d).moment
 now_of_more h k m d l = rw (take_more h k d l) (fold_more (λ e. e.moment) m (take k h) (get_or h k d))
+
+-- a step of a walk that keeps the time and the lane's distance so far
+pub distance_walk : (h : List Entry) (lane k : ℕ) (d : Entry) (now later : ℕ) (before after : Option ℕ) → AreFresh [] h → k < length h → now ≡ now_of (take k h) 0 → before ≡ distance (fresh (take k h)) lane →
+    later ≡ max now (get_or h k d).moment → after ≡ distance_next before lane later (get_or h k d).reply (params_in (get_or h k d).act) → after ≡ distance (fresh (take (k + 1) h)) lane
+distance_walk h lane k d now later before after f l n b t a =
+    let at : later ≡ max (now_of (take k h) 0) (get_or h k d).moment = t ∙ ap (λ m. max m (get_or h k d).moment) n in
+    a ∙ ap (λ o. distance_next o lane later (get_or h k d).reply (params_in (get_or h k d).act)) b
+    ∙ ap (λ m. distance_next (distance (fresh (take k h)) lane) lane m (get_or h k d).reply (params_in (get_or h k d).act)) at
+    ∙ sym (distance_more h lane k d f l)

@@ -28,7 +28,7 @@ use Rattle.aim_paths.specs.Lights.{policy_at, green_at, green_lanes, green, is_c
 use Rattle.aim_paths.specs.Priority.{standing_next, asked_from, distance}
 use Rattle.aim_paths.specs.Answer.{Asked, answer, answer_message, answer_fresh, answer_request, answer_asking, answer_params, answer_good, answer_free, answer_unless_emergency, is_stopped, is_giving_way, first_blocked, blocked_by, granted_or, refusal, exceeds, gives_way}
 use Rattle.aim_book.specs.Serving.{IsPlain, IsSteady, AreServed, has_called}
-use Rattle.aim_book.proofs.Histories.{is_new-first, fresh-served, of_vehicle-none, is_stopped-served, policy_at-served, placed}
+use Rattle.aim_book.proofs.ServedLemmas.{is_new-first, fresh-served, of_vehicle-none, is_stopped-served, policy_at-served, placed}
 
 -- a message with a new number
 message_new : (a : Asked) (m : Message) (p : Params) → is_new a.history a.vehicle m.seq ≡ true → m.body ≡ body.Request p → answer_message a m ≡ answer_fresh a (body.Request p)

@@ -17,10 +17,10 @@ use Rattle.aim_paths.specs.Answer.{first_blocked, blocked_by}
 use Rattle.aim_paths.proofs.CellLemmas.{Before, IsIn, find_map-cells, find_map-none, cells_needed}
 use Rattle.aim_book.specs.Serving.{IsPlain, AreServed, has_called}
 use Rattle.aim_book.specs.Takings.{takes, cell_at, is_shared, SharesNone, IsFirstShared}
-use Rattle.aim_book.proofs.Tests.{decided, and_true, or_false}
-use Rattle.aim_book.proofs.Crossings.{in_cells-at, in_cells-none}
-use Rattle.aim_book.proofs.Taking.{taken_by-served}
-use Rattle.aim_book.proofs.Answering.{asked, blocked_by-plain}
+use Rattle.aim_book.proofs.TestLemmas.{decided, and_true, or_false}
+use Rattle.aim_book.proofs.CrossingLemmas.{in_cells-at, in_cells-none}
+use Rattle.aim_book.proofs.TakingLemmas.{taken_by-served}
+use Rattle.aim_book.proofs.AnswerLemmas.{asked, blocked_by-plain}
 
 -- what a vehicle asks for is still to come, after served messages of others
 pub record MayAsk (i : Intersection) (h : List Entry) (v moment : ℕ) (p : Params) : Type 0 where

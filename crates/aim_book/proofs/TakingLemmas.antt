@@ -20,9 +20,9 @@ use Rattle.aim_paths.proofs.HistoryLemmas.{served}
 use Rattle.aim_paths.proofs.CellLemmas.{cells_has}
 use Rattle.aim_book.specs.Serving.{IsPlain, AreServed, ActsSteady, AsksSteady, has_called}
 use Rattle.aim_book.specs.Takings.{params_in, crosses, takes}
-use Rattle.aim_book.proofs.Tests.{decided, or_false}
-use Rattle.aim_book.proofs.Histories.{placed, fresh-served, of_vehicle-one}
-use Rattle.aim_book.proofs.Crossings.{in_cells-one, list_any-IsIn}
+use Rattle.aim_book.proofs.TestLemmas.{decided, or_false}
+use Rattle.aim_book.proofs.ServedLemmas.{placed, fresh-served, of_vehicle-one}
+use Rattle.aim_book.proofs.CrossingLemmas.{in_cells-one, list_any-IsIn}
 
 -- what is held, from the vehicle's own fresh messages
 abbrev holds_of : Intersection → List Fresh → ℕ → Option ℕ

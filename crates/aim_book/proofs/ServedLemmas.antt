@@ -18,7 +18,7 @@ use Rattle.aim_paths.specs.Lights.{policy_at, is_from_at, change_with}
 use Rattle.aim_paths.specs.Answer.{is_stopped}
 use Rattle.aim_paths.proofs.HistoryLemmas.{served, last-append}
 use Rattle.aim_book.specs.Serving.{has_called, AreServed, IsServed, ActsSteady}
-use Rattle.aim_book.proofs.Tests.{or_false, or_left, or_right, decided}
+use Rattle.aim_book.proofs.TestLemmas.{or_false, or_left, or_right, decided}
 
 -- a caller without an entry has used no sequence number
 pub is_new-first : (h : List Entry) (v seq : ℕ) → has_called v h ≡ false → is_new h v seq ≡ true
