@@ -6,3 +6,4 @@ pub mod TakingLemmas
 pub mod BlockLemmas
 pub mod DistanceLemmas
 pub mod RowLemmas
+pub mod FootLemmas

@@ -3,3 +3,4 @@ pub mod Serving
 pub mod Takings
 pub mod Distances
 pub mod Rows
+pub mod Feet

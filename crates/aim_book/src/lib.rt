@@ -2,5 +2,6 @@
 #![tactic(auto)]
 
 mod distances;
+mod feet;
 mod rows;
 mod times;
