@@ -1,5 +1,6 @@
 -- Squares round stations.
-use Rattle.std.proofs.Common.{◌≡◌, ℕ, ◌+◌, ◌-◌, ◌<◌, ◌≤◌, Bool, true, false, ◌&&◌, ◌||◌, nat_lt, nat_le, List, length, get_or, Some, arith, refl, sym, ◌∙◌, ap, lt-ltb, le-ltb}
+use Rattle.std.proofs.lemmas.List.{take_all}
+use Rattle.std.proofs.Common.{◌≡◌, ℕ, ◌+◌, ◌-◌, ◌<◌, ◌≤◌, min, drop, length-drop, Bool, true, false, ◌&&◌, ◌||◌, nat_lt, nat_le, List, length, get_or, Some, arith, refl, sym, ◌∙◌, ap, lt-ltb, le-ltb}
 use Rattle.std.specs.Prelude.{slice_get}
 use Rattle.std.proofs.lemmas.Option.{slice_get-get_or}
 use Rattle.std.specs.List.{list_any, slice_range}
@@ -34,3 +35,11 @@ AreInside g ss = (j : ℕ) (s : Station) → slice_get ss j ≡ Some s → (s.x 
 
 pub inside_at : (g : Grid) (ss : List Station) (j : ℕ) (d : Station) → AreInside g ss → j < length ss → ((get_or ss j d).x ≤ g.side) × ((get_or ss j d).y ≤ g.side)
 inside_at g ss j d inside l = inside j (get_or ss j d) (slice_get-get_or ss j d l)
+
+-- a part that ends past the list ends where the list does
+pub slice_range_cut : {X : Type 0} (xs : List X) (low high : ℕ) → slice_range xs low high ≡ slice_range xs low (min high (length xs))
+slice_range_cut xs low high = elim (dec_lt (length xs) high) [
+  | yes b ↦ (let e : min high (length xs) ≡ length xs = omega arith in
+      rw (e, take_all (high - low) (drop low xs) (omega (arith, length-drop low xs)), take_all (length xs - low) (drop low xs) (omega (arith, length-drop low xs))) refl)
+  | no b ↦ (let e : min high (length xs) ≡ high = omega arith in rw e refl)
+]

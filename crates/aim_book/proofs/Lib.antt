@@ -7,3 +7,5 @@ pub mod BlockLemmas
 pub mod DistanceLemmas
 pub mod RowLemmas
 pub mod FootLemmas
+pub mod GoodLemmas
+pub mod ReplyLemmas

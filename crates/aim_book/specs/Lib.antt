@@ -4,3 +4,5 @@ pub mod Takings
 pub mod Distances
 pub mod Rows
 pub mod Feet
+pub mod Moving
+pub mod Replies
