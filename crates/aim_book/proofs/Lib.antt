@@ -9,3 +9,4 @@ pub mod RowLemmas
 pub mod FootLemmas
 pub mod GoodLemmas
 pub mod ReplyLemmas
+pub mod SpanLemmas
