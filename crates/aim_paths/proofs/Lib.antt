@@ -5,3 +5,4 @@ pub mod HistoryLemmas
 pub mod LegalLemmas
 pub mod CellLemmas
 pub mod GrantLemmas
+pub mod ShapeLemmas

@@ -10,3 +10,8 @@ pub mod Priority
 pub mod Answer
 pub mod Legal
 pub mod Charts
+pub mod Shapes
+pub mod LaneTiles
+pub mod LaneRooms
+pub mod Building
+pub mod Valid
