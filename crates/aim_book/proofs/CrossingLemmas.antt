@@ -131,7 +131,7 @@ abbrev pub AreWithin : ℕ → List Station → Type 0
 AreWithin side xs = (j : ℕ) (d : Station) → j < length xs → (slice_index_or xs j d).x ≤ side × (slice_index_or xs j d).y ≤ side
 
 -- before the last crossing step the rear is not past the path's end
-rear_on_path : (i : Intersection) (p : Params) (k : ℕ) → 0 < p.speed → p.speed ≡ p.max_speed → k < crossing_steps i p false → front p false k ≤ path_length i p + p.length
+pub rear_on_path : (i : Intersection) (p : Params) (k : ℕ) → 0 < p.speed → p.speed ≡ p.max_speed → k < crossing_steps i p false → front p false k ≤ path_length i p + p.length
 rear_on_path i p k h e l =
     let n = crossing_steps-steady i p h e in
     rw (front-steady p k e) (not_past (path_length i p + p.length) p.speed k h (omega arith))
