@@ -10,3 +10,4 @@ pub mod FootLemmas
 pub mod GoodLemmas
 pub mod ReplyLemmas
 pub mod SpanLemmas
+pub mod TakenLemmas

@@ -6,3 +6,4 @@ pub mod Rows
 pub mod Feet
 pub mod Moving
 pub mod Replies
+pub mod Conflicts

@@ -6,26 +6,14 @@ ghost use Rattle.aim_paths.specs.Priority.{asked_from as asked_from_of, distance
 ghost use Rattle.aim_book.specs.Takings.{params_in};
 ghost use Rattle.aim_book.specs.Distances.{distance_next, distance_with, AreFresh};
 
-use aim_msg::{Act, Body, Entry, Params, Reason, Reply};
+use crate::journals::params_of;
+use aim_msg::{Entry, Params, Reason, Reply};
 
 /// How far from the stop line a vehicle asks, at its speed.
 pub fn asked_from(now: u32, params: &Params) -> u64
     ensures { result ≡ asked_from_of now params.now }
 {
     u64::from(params.arrive.saturating_sub(now)) * u64::from(params.speed)
-}
-
-/// The params that an act asks with.
-pub fn params_of(act: &Act) -> Option<Params>
-    ensures { result ≡ params_in act.now }
-{
-    match act {
-        Act::Message(message) => match message.body {
-            Body::Request(params) | Body::Change(_, params) => Some(params),
-            Body::Cancel(_) | Body::Done(_) => None,
-        },
-        Act::Order(_) => None,
-    }
 }
 
 /// What an answer to a request in the lane makes of the lane's distance.

@@ -62,7 +62,9 @@ fn part_count(layout: &Layout, params: &Params) -> u32
 /// The number of crossing steps.
 pub fn step_count(layout: &Layout, params: &Params) -> u32
     requires { IsMoving params.now }
-    ensures { result ≡ crossing_steps layout.now params.now false }
+    ensures count { result ≡ crossing_steps layout.now params.now false }
+    ensures some { 0 < result }
+    ensures few { result ≤ 50000000 }
 {
     let grid = layout.ground().grid();
     (part_count(layout, params) * grid.spacing + params.length) / params.speed + 1
