@@ -11,3 +11,4 @@ pub mod GoodLemmas
 pub mod ReplyLemmas
 pub mod SpanLemmas
 pub mod TakenLemmas
+pub mod BookLemmas

@@ -1,6 +1,6 @@
 //! Which field of a request is wrong.
 
-ghost use Rattle.std.specs.Prelude.{◌≡◌, ◌≤◌, ◌<◌, ◌*◌, false, count_by};
+ghost use Rattle.std.specs.Prelude.{◌≡◌, ℕ, ◌≤◌, ◌<◌, ◌^◌, false, count_by, slice_index};
 ghost use Rattle.aim_paths.specs.Bad.{bad, span_count as span_count_of};
 ghost use Rattle.aim_paths.specs.Foot.{crossing_steps};
 ghost use Rattle.aim_book.specs.Feet.{is_filled};
@@ -15,6 +15,7 @@ use aim_paths::{Layout, Path};
 fn filled_rows(rows: &[u64; 64]) -> u32
     ensures count { result ≡ count_by is_filled rows.now }
     ensures few { result ≤ 64 }
+    ensures words { (j : ℕ) → slice_index rows.now j < 2 ^ 64 }
 {
     rows.iter().filter(|row| **row != 0).count() as u32
 }
@@ -26,6 +27,7 @@ fn span_count(layout: &Layout, params: &Params) -> u32
     requires steps { crossing_steps layout.now params.now false ≤ 2048 }
     ensures { result ≡ span_count_of layout.now params.now false }
 {
+    let _ground = layout.ground();
     let mut count = 0;
     for k in 0..step_count(layout, params) {
         let mut rows = [0; 64];
