@@ -6,3 +6,9 @@ pub mod LegalLemmas
 pub mod CellLemmas
 pub mod GrantLemmas
 pub mod ShapeLemmas
+pub mod ValidLemmas
+pub mod LaneLemmas
+pub mod Elements
+pub mod LaneTileLemmas
+pub mod SoundLemmas
+pub mod ShareLemmas
