@@ -1,4 +1,9 @@
 pub mod Texts
 pub mod Lines
 pub mod Same
+pub mod Faults
+pub mod Forms
+pub mod Reading
+pub mod Entries
+pub mod Steps
 pub mod Writing

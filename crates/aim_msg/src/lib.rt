@@ -4,6 +4,7 @@
 
 pub mod entries;
 pub mod messages;
+pub mod reading;
 pub mod replies;
 pub mod script;
 pub mod writing;
