@@ -6,3 +6,4 @@ pub mod StepLaws
 pub mod ListLaws
 pub mod Words
 pub mod TextExamples
+pub mod EntryStepLaws

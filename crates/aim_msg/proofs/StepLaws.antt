@@ -50,7 +50,7 @@ bind_more {A = A} {B = B} {C = C} p value ws g f c later h = by_fault (fault_at 
     by_fault None = h
     by_fault (Some k) = refl
 
-bind_assoc : {A B C : Type 0} (r : Result A LineKind) (g : A → Result B LineKind) (f : B → Result C LineKind) → ((r >>= g) >>= f) ≡ (r >>= λ a. g a >>= f)
+pub bind_assoc : {A B C : Type 0} (r : Result A LineKind) (g : A → Result B LineKind) (f : B → Result C LineKind) → ((r >>= g) >>= f) ≡ (r >>= λ a. g a >>= f)
 bind_assoc (Ok a) g f = refl
 bind_assoc (Err k) g f = refl
 

@@ -54,9 +54,12 @@ reason_places why.Green = number8 ∷ number8 ∷ number32 ∷ number8 ∷ []
 reason_places why.Taken = number8 ∷ number8 ∷ number32 ∷ number32 ∷ []
 reason_places why.Reused = number32 ∷ []
 
+abbrev pub helds : Place
+helds = either (codes "none" ∷ []) 0 4294967295
+
 -- `next NEXT held ID`, with `none` in place of ID where nothing is held
 abbrev pub standing_places : List Place
-standing_places = just (codes "next") ∷ number32 ∷ just (codes "held") ∷ either (codes "none" ∷ []) 0 4294967295 ∷ []
+standing_places = just (codes "next") ∷ number32 ∷ just (codes "held") ∷ helds ∷ []
 
 -- the places of a reason and of what stands behind it
 abbrev pub refusal_places : Result ReasonForm LineKind → List Place

@@ -23,20 +23,26 @@ look_up fault [] word = Err fault
 look_up fault (row ∷ rows) word = if bytes_eq word row.0 then Ok row.1 else look_up fault rows word
 
 -- by the first word of a message
+abbrev pub message_forms : List (List ℕ × MessageForm)
+message_forms =
+    (codes "request", message.Request) ∷ (codes "change", message.Change) ∷ (codes "cancel", message.Cancel) ∷ (codes "done", message.Done) ∷ []
+
 abbrev pub message_form : List ℕ → Result MessageForm LineKind
-message_form word = look_up kind.Words
-    ((codes "request", message.Request) ∷ (codes "change", message.Change) ∷ (codes "cancel", message.Cancel) ∷ (codes "done", message.Done) ∷ []) word
+message_form word = look_up kind.Words message_forms word
 
 -- by the first word of an order
-abbrev pub order_form : List ℕ → Result OrderForm LineKind
-order_form word = look_up kind.Words (
+abbrev pub order_forms : List (List ℕ × OrderForm)
+order_forms =
     (codes "switch", order.Switch)
     ∷ (codes "stop", order.Stop)
-    ∷ []) word
+    ∷ []
+
+abbrev pub order_form : List ℕ → Result OrderForm LineKind
+order_form word = look_up kind.Words order_forms word
 
 -- by the first word of a reply
-abbrev pub reply_form : List ℕ → Result ReplyForm LineKind
-reply_form word = look_up kind.Words (
+abbrev pub reply_forms : List (List ℕ × ReplyForm)
+reply_forms =
     (codes "confirm", reply.Confirm)
     ∷ (codes "reject", reply.Reject)
     ∷ (codes "ack", reply.Ack)
@@ -44,11 +50,14 @@ reply_form word = look_up kind.Words (
     ∷ (codes "stale", reply.Stale)
     ∷ (codes "switched", reply.Switched)
     ∷ (codes "stopped", reply.Stopped)
-    ∷ []) word
+    ∷ []
+
+abbrev pub reply_form : List ℕ → Result ReplyForm LineKind
+reply_form word = look_up kind.Words reply_forms word
 
 -- by the first word of a reason
-abbrev pub reason_form : List ℕ → Result ReasonForm LineKind
-reason_form word = look_up kind.Words (
+abbrev pub reason_forms : List (List ℕ × ReasonForm)
+reason_forms =
     (codes "holds", reason.Holds)
     ∷ (codes "no-reservation", reason.NoReservation)
     ∷ (codes "begun", reason.Begun)
@@ -61,11 +70,18 @@ reason_form word = look_up kind.Words (
     ∷ (codes "green", reason.Green)
     ∷ (codes "taken", reason.Taken)
     ∷ (codes "reused", reason.Reused)
-    ∷ []) word
+    ∷ []
+
+abbrev pub reason_form : List ℕ → Result ReasonForm LineKind
+reason_form word = look_up kind.Words reason_forms word
 
 -- by the fourth word of a move
+abbrev pub shape_forms : List (List ℕ × ShapeForm)
+shape_forms =
+    (codes "line", shape.Line) ∷ (codes "curve", shape.Curve) ∷ []
+
 abbrev pub shape_form : List ℕ → Result ShapeForm LineKind
-shape_form word = look_up kind.Words ((codes "line", shape.Line) ∷ (codes "curve", shape.Curve) ∷ []) word
+shape_form word = look_up kind.Words shape_forms word
 
 -- the form of `times`, and that of `plan`
 abbrev pub times_form : ℕ → LineForm

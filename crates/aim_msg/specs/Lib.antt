@@ -7,3 +7,4 @@ pub mod Reading
 pub mod Entries
 pub mod Steps
 pub mod Writing
+pub mod EntrySteps

@@ -2,15 +2,19 @@
 ghost use Rattle.std.specs.Prelude.{◌≡◌, ◌≤◌, true, length};
 ghost use Rattle.aim_msg.specs.Forms.{has_count};
 ghost use Rattle.aim_msg.specs.Reading.{line_at};
+ghost use Rattle.aim_msg.specs.Entries.{entry_at};
 ghost use Rattle.aim_msg.specs.Steps.{behind_keyword, steps_in};
 
+mod entries;
 mod fields;
 mod forms;
 mod lines;
 mod lists;
 mod numbers;
+mod replies;
 mod words;
 
+use crate::entries::Entry;
 use crate::script::{Line, LineKind};
 use fields::number32;
 use forms::{LineForm, OrderForm, count, has_count, line_form};
@@ -76,4 +80,18 @@ pub fn read_line(line: &[u8], version: u8) -> Result<Line, LineKind>
     let mut words = Words::new(line);
     skip_keyword(&mut words, form);
     line_in(&mut words, form, version)
+}
+
+/// Reads an entry and its position: both for the text of an entry whose caller is `OPERATOR` where its act is an
+/// order, and a vehicle below 65,536 where its act is a message. Else the first wrong word from the left decides.
+///
+/// - `Words`: a word is missing, or stands where none or another may stand. Such are a word in the caller's place
+///   and one behind `held` that are neither the one word allowed there nor begin with a digit.
+/// - `Number`: a word in a number's place isn't spelled as a number.
+/// - `Range`: the number is too great for its field, or the caller isn't below 65,536.
+#[tactic(auto, using(crate::proofs::EntryStepLaws::entry_is))]
+pub fn read_entry(line: &[u8]) -> Result<(u32, Entry), LineKind>
+    ensures { result ≡ entry_at line.now }
+{
+    entries::entry(line)
 }

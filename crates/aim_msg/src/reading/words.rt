@@ -1,6 +1,8 @@
 // The words of a text, one after the other.
 ghost use Rattle.std.specs.Prelude.{◌≡◌, ◌≢◌, ◌<◌, ◌≤◌, ℕ, [], ◌∷◌, length, slice_index, MatchOption, MatchResult};
-ghost use Rattle.aim_msg.specs.Faults.{words_of, first, rest};
+ghost use Rattle.aim_msg.specs.Faults.{words_of, first, rest, just};
+ghost use Rattle.aim_msg.specs.Steps.{Gives, read_in};
+ghost use Rattle.aim_msg.specs.EntrySteps.{nothing, end_in, word_in};
 ghost use Rattle.aim_msg.specs.declared.script.LineKind.{LineKind};
 
 use crate::script::LineKind;
@@ -66,6 +68,29 @@ impl<'a> Words<'a> {
         ensures { MatchResult result (λ word. self.old ≡ word.now ∷ self.new) (λ kind. (self.old ≡ []) × (kind ≡ LineKind.Words)) }
     {
         self.next().ok_or(LineKind::Words)
+    }
+
+    /// Passes a word that is to be this one.
+    #[tactic(auto, unfolding(crate::specs::Steps::read_in))]
+    pub fn keyword(&mut self, keyword: &[u8]) -> Result<(), LineKind>
+        ensures { Gives result self.new (read_in (just keyword.now) nothing self.old) }
+    {
+        if self.word()? == keyword {
+            Ok(())
+        } else {
+            Err(LineKind::Words)
+        }
+    }
+
+    /// Whether no word is left, as it is to be.
+    #[tactic(auto, unfolding(crate::specs::EntrySteps::end_in))]
+    pub fn end(&mut self) -> Result<(), LineKind>
+        ensures { result ≡ end_in self.old }
+    {
+        match self.next() {
+            None => Ok(()),
+            Some(_) => Err(LineKind::Words),
+        }
     }
 
     /// The next word, or the empty one where none is left.
