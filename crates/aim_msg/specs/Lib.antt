@@ -8,3 +8,4 @@ pub mod Entries
 pub mod Steps
 pub mod Writing
 pub mod EntrySteps
+pub mod Ranges
