@@ -1,14 +1,16 @@
-//! Times the writing of entries' texts. With no argument it writes a few and prints how many bytes they have; with a
-//! number it writes that many and prints the time that they take.
+//! Times the writing of entries' texts and the reading of request lines. With no argument it writes and reads a few
+//! and prints how many bytes they have; with a number it writes and reads that many and prints the times that they take.
 #![tactic(auto)]
 
+mod reading;
 mod writing;
 
+use reading::read;
 use std::time::Instant;
 use std::{env, io};
 use writing::written;
 
-// So many texts are written with no argument.
+// So many texts are written and read with no argument.
 const FEW: u32 = 1_000;
 
 fn main(rt: HostRuntime) -> io::Result<()> {
@@ -18,11 +20,17 @@ fn main(rt: HostRuntime) -> io::Result<()> {
         .next()
         .and_then(|word| word.as_str().parse::<u32>().ok());
     let start = Instant::now(&rt)?;
-    let bytes = written(rounds.unwrap_or(FEW));
-    let time = start.elapsed(&rt)?;
-    println!(rt; "entry_text: {bytes} bytes")?;
+    let bytes_written = written(rounds.unwrap_or(FEW));
+    let after_writing = start.elapsed(&rt)?;
+    let bytes_read = read(rounds.unwrap_or(FEW));
+    let after_reading = start.elapsed(&rt)?;
+    println!(rt; "entry_text: {bytes_written} bytes")?;
+    println!(rt; "read_line: {bytes_read} bytes")?;
     if rounds.is_some() {
-        println!(rt; "entry_text: {} ms", time.as_millis())?;
+        let writing = after_writing.as_millis();
+        let reading = after_reading.as_millis().saturating_sub(writing);
+        println!(rt; "entry_text: {writing} ms")?;
+        println!(rt; "read_line: {reading} ms")?;
     }
     Ok(())
 }

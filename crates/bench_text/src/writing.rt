@@ -16,32 +16,39 @@ fn entry(round: u32) -> Entry {
         emergency: false,
     };
     let body = Body::Request(params);
-    let reply = if round % 4 == 0 {
-        Reply::Reject {
-            reason: Reason::Taken {
-                row: 1,
-                col: 2,
-                step: round,
-                by: 4095,
-            },
-            next: round,
-            held: None,
-        }
-    } else {
-        Reply::Confirm {
-            id: round,
-            start: round,
-            early: 2,
-            late: 2,
-            accelerate: false,
-            last: round,
-        }
-    };
     Entry {
         caller: round % 65_536,
         moment: round,
         act: Act::Message(Message { seq: 1, body }),
-        reply,
+        reply: if round % 4 == 0 {
+            refusal(round)
+        } else {
+            confirmation(round)
+        },
+    }
+}
+
+fn refusal(round: u32) -> Reply {
+    Reply::Reject {
+        reason: Reason::Taken {
+            row: 1,
+            col: 2,
+            step: round,
+            by: 4095,
+        },
+        next: round,
+        held: None,
+    }
+}
+
+fn confirmation(round: u32) -> Reply {
+    Reply::Confirm {
+        id: round,
+        start: round,
+        early: 2,
+        late: 2,
+        accelerate: false,
+        last: round,
     }
 }
 
