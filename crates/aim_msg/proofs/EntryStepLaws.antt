@@ -42,7 +42,7 @@ then_append : (ps qs : List Place) (ws : Words) (later : Option LineKind) → fa
 then_append [] qs ws later = refl
 then_append (p ∷ ps) qs ws later = ap (option_or (fault_at p ws)) (then_append ps qs (rest ws) later)
 
-behind_append : (ps qs : List Place) (ws : Words) → behind (ps ++ qs) ws ≡ behind qs (behind ps ws)
+pub behind_append : (ps qs : List Place) (ws : Words) → behind (ps ++ qs) ws ≡ behind qs (behind ps ws)
 behind_append [] qs ws = refl
 behind_append (p ∷ ps) qs ws = behind_append ps qs (rest ws)
 

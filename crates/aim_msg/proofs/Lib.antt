@@ -8,3 +8,14 @@ pub mod ListLaws
 pub mod Words
 pub mod TextExamples
 pub mod EntryStepLaws
+pub mod WordLaws
+pub mod Again
+pub mod NoFaults
+pub mod LaneLaws
+pub mod ListsAgain
+pub mod LineWords
+pub mod LineAgain
+pub mod Spelled
+pub mod LineSpelled
+pub mod EntryAgain
+pub mod EntrySpelled

@@ -9,3 +9,4 @@ pub mod Writing
 pub mod Steps
 pub mod Writing
 pub mod EntrySteps
+pub mod Ranges

@@ -3,6 +3,7 @@
 #![tactic(auto)]
 
 pub mod entries;
+pub mod laws;
 pub mod messages;
 pub mod reading;
 pub mod replies;
