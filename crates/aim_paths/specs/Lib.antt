@@ -15,3 +15,4 @@ pub mod LaneTiles
 pub mod LaneRooms
 pub mod Building
 pub mod Valid
+pub mod Added
