@@ -17,3 +17,4 @@ pub mod Elements
 pub mod LaneTileLemmas
 pub mod SoundLemmas
 pub mod ShareLemmas
+pub mod AddedLemmas

@@ -15,3 +15,4 @@ pub mod Shapes
 pub mod LaneTiles
 pub mod LaneRooms
 pub mod Valid
+pub mod Added

@@ -9,8 +9,12 @@ pub mod paths;
 pub mod policies;
 pub mod shapes;
 
+pub use builders::{Builder, LayoutFault};
 pub use layouts::{Layout, lane_rows};
 pub use paths::Path;
 pub use policies::{Kind, Phase};
 pub use shapes::Shape;
 pub use std::alloc::AllocError as NoMemory;
+
+#[cfg(test)]
+mod tests;
