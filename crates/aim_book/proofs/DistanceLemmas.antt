@@ -1,13 +1,13 @@
 -- The distance of a lane, entry by entry.
-use Rattle.std.proofs.Common.{◌≡◌, ℕ, zero, suc, ◌+◌, ◌<◌, Bool, true, false, List, [], ◌∷◌, ◌++◌, length, take, get_or, map, fold, filter, filter_map, max, Option, Some, None, arith, refl, sym, ◌∙◌, ap, append_assoc, ◌⊎◌, inl, inr}
-use Rattle.std.specs.Prelude.{◌==◌, option_map}
+use Rattle.std.proofs.Common.{◌≡◌, ℕ, zero, suc, ◌+◌, ◌<◌, true, false, List, [], ◌∷◌, ◌++◌, length, take, get_or, map, fold, filter, filter_map, max, Option, Some, None, arith, refl, sym, ◌∙◌, ap, append_assoc, ◌⊎◌, inl, inr}
+use Rattle.std.specs.Prelude.{◌==◌}
 use Rattle.std.proofs.lemmas.List.{append-nil, take_more}
-use Rattle.std.proofs.lemmas.List.Elements.{filter-append, filter_map-append}
+use Rattle.std.proofs.lemmas.List.Elements.{filter-append}
 use Rattle.aim_msg.specs.declared.messages.Params.{Params}
 use Rattle.aim_msg.specs.declared.entries.Entry.{Entry}
-use Rattle.aim_geometry.specs.Bounded.{least, min_with, since_last}
+use Rattle.aim_geometry.specs.Bounded.{least, since_last}
 use Rattle.aim_paths.specs.Intersection.{Intersection}
-use Rattle.aim_paths.specs.History.{Fresh, fresh, fresh_one, is_fresh, is_confirm, params_at, now_of}
+use Rattle.aim_paths.specs.History.{fresh, fresh_one, is_fresh, is_confirm, params_at, now_of}
 use Rattle.aim_paths.specs.Priority.{distance, in_lane, asked_at, asked_from, is_blocked_reply, is_lane}
 use Rattle.aim_paths.proofs.HistoryLemmas.{served, fresh-append, since_last-append, in_lane-append, distance-confirm, distance-blocked}
 use Rattle.aim_book.specs.Serving.{AreServed}

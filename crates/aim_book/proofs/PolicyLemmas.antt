@@ -1,5 +1,5 @@
 -- A layout's only policy.
-use Rattle.std.proofs.Common.{◌≡◌, List, [], ◌∷◌, length, map, Option, Some, arith, refl}
+use Rattle.std.proofs.Common.{◌≡◌, List, [], ◌∷◌, length, map, Some, arith, refl}
 use Rattle.std.specs.Prelude.{option_map, slice_get}
 use Rattle.aim_paths.specs.declared.policies.Kind.{Kind}
 use Rattle.aim_paths.specs.Intersection.{Policy}

@@ -1,6 +1,6 @@
 -- The first tile of two sets of rows.
-use Rattle.std.proofs.Common.{◌≡◌, ℕ, ◌+◌, ◌<◌, ◌≤◌, ◌^◌, Bool, true, false, ◌&&◌, List, get_or, arith, refl, sym, ◌∙◌, ◌⊎◌, inl, inr, w64}
-use Rattle.std.specs.Prelude.{bit_and, ◌==◌}
+use Rattle.std.proofs.Common.{◌≡◌, ℕ, ◌+◌, ◌<◌, ◌^◌, false, ◌&&◌, List, get_or, arith, refl, sym, ◌∙◌, ◌⊎◌, inl, inr, w64}
+use Rattle.std.specs.Prelude.{bit_and}
 use Rattle.std.specs.Int.{trailing_zeros}
 use Rattle.std.proofs.lemmas.Nat.{and_le_l}
 use Rattle.std.proofs.lemmas.Nat.Bits.{bit_at-trailing_zeros, bit_at-zero}

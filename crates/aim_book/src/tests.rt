@@ -51,7 +51,14 @@ fn crossing(alloc: Global) -> Result<Layout, Fail> {
 }
 
 /// A vehicle's request for a crossing of 11 steps.
-fn ask(rt: &impl Abort, book: &mut Book, vehicle: u32, moment: u32, lane: u8, arrive: u32) -> Result<Reply, Full>
+fn ask(
+    rt: &impl Abort,
+    book: &mut Book,
+    vehicle: u32,
+    moment: u32,
+    lane: u8,
+    arrive: u32,
+) -> Result<Reply, Full>
     requires vehicle { vehicle < book.old.vehicles }
     requires moment { moment ≤ 1073741824 }
     ensures { book.new.vehicles ≡ book.old.vehicles }
@@ -131,10 +138,16 @@ fn behind_another(rt: HostRuntime) -> Result<(), Fail> {
 #[test]
 fn late_and_far(rt: HostRuntime) -> Result<(), Fail> {
     let mut book = Book::open(rt.alloc(), crossing(rt.alloc())?, 8, 8)?;
-    assert_eq!(rt; ask(&rt, &mut book, 0, 10, 0, 10)?, refused(Reason::Late(10), 11));
+    assert_eq!(rt;
+        ask(&rt, &mut book, 0, 10, 0, 10)?,
+        refused(Reason::Late(10), 11)
+    );
     assert_eq!(rt; ask(&rt, &mut book, 1, 10, 0, 11)?, confirmed(1, 11));
     let mut book = Book::open(rt.alloc(), crossing(rt.alloc())?, 8, 8)?;
-    assert_eq!(rt; ask(&rt, &mut book, 0, 0, 0, 1490)?, refused(Reason::Far(1500), 25));
+    assert_eq!(rt;
+        ask(&rt, &mut book, 0, 0, 0, 1490)?,
+        refused(Reason::Far(1500), 25)
+    );
     assert_eq!(rt; ask(&rt, &mut book, 1, 0, 0, 1489)?, confirmed(1, 1489));
     Ok(())
 }
@@ -144,7 +157,10 @@ fn distance(rt: HostRuntime) -> Result<(), Fail> {
     let mut book = Book::open(rt.alloc(), crossing(rt.alloc())?, 8, 8)?;
     assert_eq!(rt; ask(&rt, &mut book, 0, 0, 0, 10)?, confirmed(0, 10));
     assert_eq!(rt; ask(&rt, &mut book, 1, 0, 1, 10)?, refused(taken(13), 5));
-    assert_eq!(rt; ask(&rt, &mut book, 2, 0, 1, 12)?, refused(Reason::Distance(5000), 6));
+    assert_eq!(rt;
+        ask(&rt, &mut book, 2, 0, 1, 12)?,
+        refused(Reason::Distance(5000), 6)
+    );
     assert_eq!(rt; ask(&rt, &mut book, 3, 8, 1, 18)?, confirmed(3, 18));
     assert_eq!(rt; ask(&rt, &mut book, 4, 12, 1, 24)?, confirmed(4, 24));
     Ok(())
