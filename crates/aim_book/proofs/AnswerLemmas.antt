@@ -20,7 +20,7 @@ use Rattle.aim_paths.specs.Cells.{Cell, cells}
 use Rattle.aim_paths.specs.History.{fresh, now_of, is_new}
 use Rattle.aim_paths.specs.Reservations.{holds, held, taken_by}
 use Rattle.aim_paths.specs.Lights.{green_at, green_lanes, green, is_claimed, in_lane_tiles, has_lane}
-use Rattle.aim_paths.specs.Priority.{standing_next, asked_from, distance}
+use Rattle.aim_paths.specs.Priority.{standing_next, asked_from, distance, approached}
 use Rattle.aim_paths.specs.Answer.{Asked, answer, answer_message, answer_fresh, answer_request, answer_asking, answer_params, answer_good, answer_free, answer_unless_emergency, is_stopped, is_giving_way, first_blocked, blocked_by, granted_or, refusal, exceeds}
 use Rattle.aim_book.specs.Serving.{IsPlain, IsSteady, AreServed, has_called}
 use Rattle.aim_book.proofs.ServedLemmas.{is_new-first, fresh-served, of_vehicle-none, is_stopped-served, policy_at-served}
@@ -59,7 +59,7 @@ calm a p None way = refl
 calm a p (Some lane) way = rw way refl
 
 good_steady : (a : Asked) (p : Params) → is_giving_way a p.arrive ≡ false → p.accel ≡ 0 → answer_good a p ≡ answer_steady a p
-good_steady a p way zero = rw (calm a p (Rattle.aim_paths.specs.Priority.approached a.layout a.served a.vehicle p a.now) way, free_steady a p zero) refl
+good_steady a p way zero = rw (calm a p (approached a.layout a.served a.vehicle p a.now) way, free_steady a p zero) refl
 
 -- the first of the policies is FCFS
 first_policy : (policies : List Policy) → map (λ p. p.kind) policies ≡ kind.Fcfs ∷ [] → option_map (λ p. p.kind) (slice_get policies 0) ≡ Some kind.Fcfs

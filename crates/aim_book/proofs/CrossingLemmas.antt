@@ -77,9 +77,6 @@ pub in_cells-at : (i : Intersection) (p : Params) (k row col : ℕ) → IsPlain 
     in_cells i p false (record { row = row; col = col; step = p.arrive + k }) ≡ in_foot i p false i.grid.fixed k row col
 in_cells-at i p k row col plain l = go (decided (in_foot i p false i.grid.fixed k row col))
   where
-    test : ℕ → Bool
-    test j = is_kept i row col (p.arrive + j) (p.arrive + k) && in_foot i p false i.grid.fixed j row col
-
     go : (in_foot i p false i.grid.fixed k row col ≡ true) ⊎ (in_foot i p false i.grid.fixed k row col ≡ false) →
         some_below (crossing_steps i p false) (λ j. is_kept i row col (p.arrive + j) (p.arrive + k) && in_foot i p false i.grid.fixed j row col) ≡ in_foot i p false i.grid.fixed k row col
     go (inl t) =

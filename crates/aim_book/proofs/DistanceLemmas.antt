@@ -12,7 +12,7 @@ use Rattle.aim_paths.specs.Priority.{distance, in_lane, asked_at, asked_from, is
 use Rattle.aim_paths.proofs.HistoryLemmas.{served, fresh-append, since_last-append, in_lane-append, distance-confirm, distance-blocked}
 use Rattle.aim_book.specs.Serving.{AreServed}
 use Rattle.aim_book.specs.Takings.{params_in}
-use Rattle.aim_book.specs.Distances.{distance_next, AreFresh}
+use Rattle.aim_book.specs.Distances.{distance_next, AreFresh, distance_with}
 use Rattle.aim_book.proofs.TestLemmas.{decided}
 use Rattle.aim_book.proofs.ServedLemmas.{is_fresh-served}
 
@@ -66,7 +66,7 @@ distance-append h e lane f = go (params_in e.act) refl
     ]
       where
         in_it : is_lane (params_at (served h e)) lane ≡ true → (is_confirm e.reply ≡ true) ⊎ (is_confirm e.reply ≡ false) → (is_blocked_reply e.reply ≡ true) ⊎ (is_blocked_reply e.reply ≡ false) →
-            distance (fresh (h ++ e ∷ [])) lane ≡ Rattle.aim_book.specs.Distances.distance_with (distance (fresh h) lane) (now_of h e.moment) e.reply p
+            distance (fresh (h ++ e ∷ [])) lane ≡ distance_with (distance (fresh h) lane) (now_of h e.moment) e.reply p
         in_it l (inl c) b = rw c (distance-confirm h e lane f l c)
         in_it l (inr c) (inl b) = rw (c, b) (distance-blocked h e lane (asked_from (now_of h e.moment) p) f l c b (rw is refl))
         in_it l (inr c) (inr b) = rw (c, b) (not_blocked h e lane f l c b)

@@ -32,13 +32,6 @@ under_more g half ss low j r c d t old a b e =
     one_more t old (nat_lt r g.n) (nat_lt c g.n) (list_any (λ s. is_touched g half s r c) (slice_range ss low j)) (is_touched g half (get_or ss j d) r c) e
     ∙ ap (λ x. old || (nat_lt r g.n && nat_lt c g.n && x)) (sym (list_any-slice_range_more (λ s. is_touched g half s r c) ss low j d a b))
 
--- the stations lie on the ground
-abbrev pub AreInside : Grid → List Station → Type 0
-AreInside g ss = (j : ℕ) (s : Station) → slice_get ss j ≡ Some s → (s.x ≤ g.side) × (s.y ≤ g.side)
-
-pub inside_at : (g : Grid) (ss : List Station) (j : ℕ) (d : Station) → AreInside g ss → j < length ss → ((get_or ss j d).x ≤ g.side) × ((get_or ss j d).y ≤ g.side)
-inside_at g ss j d inside l = inside j (get_or ss j d) (slice_get-get_or ss j d l)
-
 -- a part that ends past the list ends where the list does
 pub slice_range_cut : {X : Type 0} (xs : List X) (low high : ℕ) → slice_range xs low high ≡ slice_range xs low (min high (length xs))
 slice_range_cut xs low high = elim (dec_lt (length xs) high) [

@@ -94,9 +94,6 @@ is_stopped-served i before (e ∷ es) s = rw (go e.act s.0.request, is_stopped-s
     go (act.Message m) r = refl
     go (act.Order o) r = absurd r
 
-option_or_none : {X : Type 0} (a b : Option X) → a ≡ None → b ≡ None → Rattle.std.specs.Option.option_or a b ≡ None
-option_or_none a b p q = rw (p, q) refl
-
 -- no switch does
 pub last-switch : (i : Intersection) (before es : List Entry) (at : ℕ) → AreServed i before es → last (λ e. is_from_at (change_with e.act e.reply) at) es ≡ None
 last-switch i before [] at s = refl

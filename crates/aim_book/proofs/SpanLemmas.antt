@@ -24,25 +24,11 @@ use Rattle.aim_book.specs.Feet.{is_footed, is_filled}
 use Rattle.aim_book.proofs.TestLemmas.{decided}
 use Rattle.aim_book.proofs.CrossingLemmas.{in_cells-at}
 
--- whether the crossing has a cell in the row of a step
-abbrev has_span : Intersection → Params → Cell → Bool
-has_span i p c = some_below i.grid.n (λ col. in_cells i p false (record c { col = col }))
-
-row_at : Params → ℕ → ℕ → Cell
-row_at p s r = record { row = r; col = 0; step = s }
-
 -- the spans of some steps from the arrival on
 abbrev pub spans_in : Intersection → Params → ℕ → ℕ
 spans_in i p k =
     length (filter (λ c. some_below i.grid.n (λ col. in_cells i p false (record c { col = col })))
     (flat_map (λ s. map (λ r. record { row = r; col = 0; step = s }) (range_with_len 0 i.grid.n)) (range_with_len p.arrive k)))
-
-pub span_count-plain : (i : Intersection) (p : Params) → IsPlain i → span_count i p false ≡ spans_in i p (crossing_steps i p false)
-span_count-plain i p plain =
-    ap (λ xs. length (filter (λ c. some_below i.grid.n (λ col. in_cells i p false (record c { col = col }))) (flat_map (λ s. map (λ r. record { row = r; col = 0; step = s }) (range_with_len 0 i.grid.n)) xs))) same
-  where
-    same : steps_of i p false ≡ range_with_len p.arrive (crossing_steps i p false)
-    same = let a : p.arrive - i.times.edge ≡ p.arrive = (let e = plain.edge in omega arith) in let b : crossing_steps i p false + 2 * i.times.edge ≡ crossing_steps i p false = (let e = plain.edge in omega arith) in rw (a, b) refl
 
 range_more : (a k : ℕ) → range_with_len a (k + 1) ≡ range_with_len a k ++ (a + k) ∷ []
 range_more a zero = let e : a + 0 ≡ a = omega arith in rw e refl

@@ -66,9 +66,6 @@ takes-granted i e at r c = go (is_confirm e.reply)
 pub taken_some : (i : Intersection) (e : Entry) (p : Params) (at r c : ℕ) → granted_to e ≡ Some p → is_crossed i p at r c ≡ is_taken i e at r c
 taken_some i e p at r c h = rw (takes-granted i e at r c, h) refl
 
-pub taken_none : (i : Intersection) (e : Entry) (at r c : ℕ) (b : Bool) → granted_to e ≡ None → b ≡ (b || is_taken i e at r c)
-taken_none i e at r c b h = rw (takes-granted i e at r c, h, and-false (nat_lt r i.grid.n && nat_lt c i.grid.n)) (sym (or-false b))
-
 -- each entry asks for a steady crossing
 pub steady_at : (i : Intersection) (h : List Entry) (k : ℕ) (d : Entry) → AreServed i [] h → k < length h → ActsSteady i (get_or h k d).act
 steady_at i h k d s l = (IsServed-at i [] h k d s l).request
