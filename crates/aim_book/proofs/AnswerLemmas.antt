@@ -1,34 +1,29 @@
 -- The answer to a steady request over a plain layout, after a history of such requests.
-use Rattle.std.proofs.Common.{◌≡◌, ℕ, ◌+◌, ◌-◌, ◌*◌, ◌/◌, ◌%◌, ◌^◌, Bool, true, false, ◌&&◌, not, nat_lt, nat_le, List, [], ◌∷◌, map, Option, Some, None, arith, refl, ◌∙◌, ap, unwrap_or, if◌then◌else◌, length}
-use Rattle.std.specs.Prelude.{◌==◌, option_map, slice_get, find, option_and_then}
+use Rattle.std.proofs.Common.{◌≡◌, ℕ, ◌+◌, ◌-◌, ◌^◌, Bool, true, false, ◌&&◌, not, nat_lt, nat_le, List, [], ◌∷◌, map, Option, Some, None, arith, refl, ◌∙◌, ap, unwrap_or, if◌then◌else◌, length}
+use Rattle.std.specs.Prelude.{◌==◌, option_map, slice_get}
 use Rattle.std.specs.List.{list_any, range_with_len}
-use Rattle.std.specs.Option.{option_or}
 use Rattle.std.proofs.Math.Bool.{and-false}
 use Rattle.std.proofs.Math.Nat.{zero-div}
 use Rattle.std.proofs.lemmas.Bool.{le-ltb}
 use Rattle.aim_msg.specs.declared.messages.Params.{Params}
 use Rattle.aim_msg.specs.declared.messages.Message.{Message}
-use Rattle.aim_msg.specs.declared.messages.Body.{Body}
 use Rattle.aim_msg.specs.declared.messages.Body.TheVariants as body
 use Rattle.aim_msg.specs.declared.entries.Act.TheVariants as act
 use Rattle.aim_msg.specs.declared.entries.Entry.{Entry}
-use Rattle.aim_msg.specs.declared.replies.Reason.{Reason}
 use Rattle.aim_msg.specs.declared.replies.Reason.TheVariants as reason
 use Rattle.aim_msg.specs.declared.replies.Reply.{Reply}
-use Rattle.aim_paths.specs.declared.policies.Kind.{Kind}
 use Rattle.aim_paths.specs.declared.policies.Kind.TheVariants as kind
 use Rattle.aim_geometry.proofs.BoundedLemmas.{least_below_none}
-use Rattle.aim_geometry.specs.Bounded.{last}
 use Rattle.aim_paths.specs.Intersection.{Intersection, Policy}
 use Rattle.aim_paths.specs.Bad.{bad}
 use Rattle.aim_paths.specs.Cells.{Cell, cells}
-use Rattle.aim_paths.specs.History.{fresh, now_of, is_new, is_confirm}
+use Rattle.aim_paths.specs.History.{fresh, now_of, is_new}
 use Rattle.aim_paths.specs.Reservations.{holds, held, taken_by}
-use Rattle.aim_paths.specs.Lights.{policy_at, green_at, green_lanes, green, is_claimed, in_lane_tiles, has_lane, has_lights, lit, round}
-use Rattle.aim_paths.specs.Priority.{standing_next, asked_from, distance}
-use Rattle.aim_paths.specs.Answer.{Asked, answer, answer_message, answer_fresh, answer_request, answer_asking, answer_params, answer_good, answer_free, answer_unless_emergency, is_stopped, is_giving_way, first_blocked, blocked_by, granted_or, refusal, exceeds, gives_way}
+use Rattle.aim_paths.specs.Lights.{green_at, green_lanes, green, is_claimed, in_lane_tiles, has_lane}
+use Rattle.aim_paths.specs.Priority.{standing_next, asked_from, distance, approached}
+use Rattle.aim_paths.specs.Answer.{Asked, answer, answer_message, answer_fresh, answer_request, answer_asking, answer_params, answer_good, answer_free, answer_unless_emergency, is_stopped, is_giving_way, first_blocked, blocked_by, granted_or, refusal, exceeds}
 use Rattle.aim_book.specs.Serving.{IsPlain, IsSteady, AreServed, has_called}
-use Rattle.aim_book.proofs.ServedLemmas.{is_new-first, fresh-served, of_vehicle-none, is_stopped-served, policy_at-served, placed}
+use Rattle.aim_book.proofs.ServedLemmas.{is_new-first, fresh-served, of_vehicle-none, is_stopped-served, policy_at-served}
 
 -- a message with a new number
 message_new : (a : Asked) (m : Message) (p : Params) → is_new a.history a.vehicle m.seq ≡ true → m.body ≡ body.Request p → answer_message a m ≡ answer_fresh a (body.Request p)
@@ -64,7 +59,7 @@ calm a p None way = refl
 calm a p (Some lane) way = rw way refl
 
 good_steady : (a : Asked) (p : Params) → is_giving_way a p.arrive ≡ false → p.accel ≡ 0 → answer_good a p ≡ answer_steady a p
-good_steady a p way zero = rw (calm a p (Rattle.aim_paths.specs.Priority.approached a.layout a.served a.vehicle p a.now) way, free_steady a p zero) refl
+good_steady a p way zero = rw (calm a p (approached a.layout a.served a.vehicle p a.now) way, free_steady a p zero) refl
 
 -- the first of the policies is FCFS
 first_policy : (policies : List Policy) → map (λ p. p.kind) policies ≡ kind.Fcfs ∷ [] → option_map (λ p. p.kind) (slice_get policies 0) ≡ Some kind.Fcfs

@@ -1,23 +1,21 @@
 -- The first cell of a crossing that can't be had.
-use Rattle.std.proofs.Common.{◌≡◌, ℕ, ◌+◌, ◌-◌, ◌<◌, ◌≤◌, Bool, true, false, ◌&&◌, ◌||◌, List, [], ◌∷◌, Option, Some, None, arith, refl, sym, ◌∙◌, ap, ◌⊎◌, inl, inr, cond}
+use Rattle.std.proofs.Common.{◌≡◌, ℕ, ◌+◌, ◌-◌, ◌<◌, ◌≤◌, Bool, true, false, ◌&&◌, ◌||◌, List, [], ◌∷◌, Some, None, arith, refl, sym, ◌∙◌, ap, inl, inr, cond}
 use Rattle.std.specs.Prelude.{find, option_map}
 use Rattle.std.specs.List.{list_any}
 use Rattle.std.proofs.Math.Decide.{dec_lt}
 use Rattle.aim_msg.specs.declared.messages.Params.{Params}
 use Rattle.aim_msg.specs.declared.entries.Entry.{Entry}
-use Rattle.aim_msg.specs.declared.replies.Reason.{Reason}
 use Rattle.aim_msg.specs.declared.replies.Reason.TheVariants as reason
-use Rattle.aim_geometry.specs.Bounded.{find_map}
 use Rattle.aim_paths.specs.Intersection.{Intersection}
 use Rattle.aim_paths.specs.Foot.{crossing_steps, in_foot}
 use Rattle.aim_paths.specs.Cells.{Cell, in_cells, cells}
 use Rattle.aim_paths.specs.History.{fresh, now_of}
-use Rattle.aim_paths.specs.Reservations.{held, taken_by}
+use Rattle.aim_paths.specs.Reservations.{held}
 use Rattle.aim_paths.specs.Answer.{first_blocked, blocked_by}
-use Rattle.aim_paths.proofs.CellLemmas.{Before, IsIn, find_map-cells, find_map-none, cells_needed}
+use Rattle.aim_paths.proofs.CellLemmas.{Before, find_map-cells, find_map-none, cells_needed}
 use Rattle.aim_book.specs.Serving.{IsPlain, AreServed, has_called}
 use Rattle.aim_book.specs.Takings.{takes, cell_at, is_shared, SharesNone, IsFirstShared}
-use Rattle.aim_book.proofs.TestLemmas.{decided, and_true, or_false}
+use Rattle.aim_book.proofs.TestLemmas.{and_true, or_false}
 use Rattle.aim_book.proofs.CrossingLemmas.{in_cells-at, in_cells-none}
 use Rattle.aim_book.proofs.TakingLemmas.{taken_by-served}
 use Rattle.aim_book.proofs.AnswerLemmas.{asked, blocked_by-plain}

@@ -1,27 +1,26 @@
 -- Crossings at constant speed, over a plain layout.
-use Rattle.std.proofs.Common.{◌≡◌, ℕ, zero, suc, ◌+◌, ◌-◌, ◌*◌, ◌/◌, ◌<◌, ◌≤◌, Bool, true, false, ◌&&◌, nat_lt, nat_le, min, List, [], ◌∷◌, length, get_or, Some, None, arith, refl, sym, ◌∙◌, ap, unwrap_or, le-ltb, lt-ltb, ◌⊎◌, inl, inr, if◌then◌else◌, eq-eqb}
+use Rattle.std.proofs.Common.{◌≡◌, ℕ, ◌+◌, ◌-◌, ◌*◌, ◌/◌, ◌<◌, ◌≤◌, Bool, true, false, ◌&&◌, nat_lt, nat_le, min, List, [], ◌∷◌, length, get_or, arith, refl, sym, ◌∙◌, ap, unwrap_or, le-ltb, lt-ltb, ◌⊎◌, inl, inr, if◌then◌else◌, eq-eqb}
 use Rattle.std.specs.Prelude.{◌==◌, slice_index_or}
 use Rattle.std.specs.List.{list_any}
 use Rattle.std.proofs.Math.Decide.{dec_lt}
 use Rattle.std.proofs.Math.Nat.{mul-le-mul_left, mul-le-mul_right, div-mul-le_self, le_of_mul-le-mul_right}
 use Rattle.std.proofs.lemmas.Nat.{le-div}
-use Rattle.std.proofs.lemmas.Bool.{le-leb, lt-leb, ne_eqb, eqb-true, leb-true}
+use Rattle.std.proofs.lemmas.Bool.{le-leb, lt-leb, ne_eqb, eqb-true}
 use Rattle.std.proofs.lemmas.Bool.Decides.{nat_tests}
 use Rattle.aim_msg.specs.declared.messages.Params.{Params}
 use Rattle.aim_geometry.specs.declared.ground.Grid.{Grid}
-use Rattle.aim_geometry.specs.Bounded.{some_below, least_below, ceil_div}
+use Rattle.aim_geometry.specs.Bounded.{some_below, ceil_div}
 use Rattle.aim_geometry.specs.declared.stations.Station.{Station}
 use Rattle.aim_geometry.specs.Ground.{tile_of, meets, is_touched, is_edge}
 use Rattle.aim_geometry.specs.Sites.{IsGrid}
 use Rattle.aim_geometry.proofs.BoundedLemmas.{some_below_at, some_below_none, least_below_at}
 use Rattle.aim_paths.specs.Intersection.{Intersection, stations}
-use Rattle.aim_paths.specs.Motion.{front, gain}
-use Rattle.aim_paths.specs.Foot.{crossing_steps, path_length, covered, in_foot}
+use Rattle.aim_paths.specs.Motion.{front}
+use Rattle.aim_paths.specs.Foot.{crossing_steps, path_length, in_foot}
 use Rattle.aim_paths.specs.Cells.{Cell, is_kept, in_cells, cells}
-use Rattle.aim_paths.proofs.MotionLemmas.{front_more}
 use Rattle.aim_paths.proofs.Ranges.{list_any-slice_range_at}
 use Rattle.aim_paths.proofs.CellLemmas.{IsIn, cells_has, cells_needed}
-use Rattle.aim_book.specs.Serving.{IsPlain, IsSteady}
+use Rattle.aim_book.specs.Serving.{IsPlain}
 use Rattle.aim_book.proofs.TestLemmas.{decided, or_right}
 
 -- the front moves on by the speed
@@ -78,9 +77,6 @@ pub in_cells-at : (i : Intersection) (p : Params) (k row col : ℕ) → IsPlain 
     in_cells i p false (record { row = row; col = col; step = p.arrive + k }) ≡ in_foot i p false i.grid.fixed k row col
 in_cells-at i p k row col plain l = go (decided (in_foot i p false i.grid.fixed k row col))
   where
-    test : ℕ → Bool
-    test j = is_kept i row col (p.arrive + j) (p.arrive + k) && in_foot i p false i.grid.fixed j row col
-
     go : (in_foot i p false i.grid.fixed k row col ≡ true) ⊎ (in_foot i p false i.grid.fixed k row col ≡ false) →
         some_below (crossing_steps i p false) (λ j. is_kept i row col (p.arrive + j) (p.arrive + k) && in_foot i p false i.grid.fixed j row col) ≡ in_foot i p false i.grid.fixed k row col
     go (inl t) =

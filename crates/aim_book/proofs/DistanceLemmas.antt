@@ -1,18 +1,18 @@
 -- The distance of a lane, entry by entry.
-use Rattle.std.proofs.Common.{◌≡◌, ℕ, zero, suc, ◌+◌, ◌<◌, Bool, true, false, List, [], ◌∷◌, ◌++◌, length, take, get_or, map, fold, filter, filter_map, max, Option, Some, None, arith, refl, sym, ◌∙◌, ap, append_assoc, ◌⊎◌, inl, inr}
-use Rattle.std.specs.Prelude.{◌==◌, option_map}
+use Rattle.std.proofs.Common.{◌≡◌, ℕ, zero, suc, ◌+◌, ◌<◌, true, false, List, [], ◌∷◌, ◌++◌, length, take, get_or, map, fold, filter, filter_map, max, Option, Some, None, arith, refl, sym, ◌∙◌, ap, append_assoc, ◌⊎◌, inl, inr}
+use Rattle.std.specs.Prelude.{◌==◌}
 use Rattle.std.proofs.lemmas.List.{append-nil, take_more}
-use Rattle.std.proofs.lemmas.List.Elements.{filter-append, filter_map-append}
+use Rattle.std.proofs.lemmas.List.Elements.{filter-append}
 use Rattle.aim_msg.specs.declared.messages.Params.{Params}
 use Rattle.aim_msg.specs.declared.entries.Entry.{Entry}
-use Rattle.aim_geometry.specs.Bounded.{least, min_with, since_last}
+use Rattle.aim_geometry.specs.Bounded.{least, since_last}
 use Rattle.aim_paths.specs.Intersection.{Intersection}
-use Rattle.aim_paths.specs.History.{Fresh, fresh, fresh_one, is_fresh, is_confirm, params_at, now_of}
+use Rattle.aim_paths.specs.History.{fresh, fresh_one, is_fresh, is_confirm, params_at, now_of}
 use Rattle.aim_paths.specs.Priority.{distance, in_lane, asked_at, asked_from, is_blocked_reply, is_lane}
 use Rattle.aim_paths.proofs.HistoryLemmas.{served, fresh-append, since_last-append, in_lane-append, distance-confirm, distance-blocked}
 use Rattle.aim_book.specs.Serving.{AreServed}
 use Rattle.aim_book.specs.Takings.{params_in}
-use Rattle.aim_book.specs.Distances.{distance_next, AreFresh}
+use Rattle.aim_book.specs.Distances.{distance_next, AreFresh, distance_with}
 use Rattle.aim_book.proofs.TestLemmas.{decided}
 use Rattle.aim_book.proofs.ServedLemmas.{is_fresh-served}
 
@@ -66,7 +66,7 @@ distance-append h e lane f = go (params_in e.act) refl
     ]
       where
         in_it : is_lane (params_at (served h e)) lane ≡ true → (is_confirm e.reply ≡ true) ⊎ (is_confirm e.reply ≡ false) → (is_blocked_reply e.reply ≡ true) ⊎ (is_blocked_reply e.reply ≡ false) →
-            distance (fresh (h ++ e ∷ [])) lane ≡ Rattle.aim_book.specs.Distances.distance_with (distance (fresh h) lane) (now_of h e.moment) e.reply p
+            distance (fresh (h ++ e ∷ [])) lane ≡ distance_with (distance (fresh h) lane) (now_of h e.moment) e.reply p
         in_it l (inl c) b = rw c (distance-confirm h e lane f l c)
         in_it l (inr c) (inl b) = rw (c, b) (distance-blocked h e lane (asked_from (now_of h e.moment) p) f l c b (rw is refl))
         in_it l (inr c) (inr b) = rw (c, b) (not_blocked h e lane f l c b)

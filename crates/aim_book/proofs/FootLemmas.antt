@@ -1,23 +1,19 @@
 -- Squares round stations, and feet.
 use Rattle.std.proofs.lemmas.List.{take_all}
-use Rattle.std.proofs.Common.{◌≡◌, ℕ, ◌+◌, ◌-◌, ◌<◌, ◌≤◌, min, drop, length-drop, Bool, true, false, ◌&&◌, ◌||◌, ◌*◌, ◌/◌, nat_lt, nat_le, List, [], None, length, get_or, Some, arith, refl, sym, ◌∙◌, ap, lt-ltb, le-ltb}
+use Rattle.std.proofs.Common.{◌≡◌, ℕ, ◌+◌, ◌-◌, ◌<◌, ◌≤◌, min, drop, length-drop, Bool, true, false, ◌&&◌, ◌||◌, ◌*◌, ◌/◌, nat_lt, List, length, get_or, Some, arith, refl, sym, ◌∙◌, ap}
 use Rattle.std.specs.Prelude.{slice_get}
 use Rattle.std.proofs.lemmas.Option.{slice_get-get_or, get_or_from_slice_get}
 use Rattle.std.specs.List.{list_any, slice_range}
 use Rattle.std.proofs.Math.Decide.{dec_lt}
-use Rattle.std.proofs.Math.Bool.{and-false}
-use Rattle.std.proofs.lemmas.Bool.{lt-leb}
 use Rattle.aim_geometry.specs.declared.ground.Grid.{Grid}
 use Rattle.aim_geometry.specs.declared.stations.Station.{Station}
-use Rattle.aim_geometry.specs.declared.tiles.TileRect.{TileRect}
 use Rattle.aim_geometry.specs.Ground.{is_touched}
-use Rattle.aim_geometry.specs.Rects.{in_rect, IsRect, in_rows, in_columns}
 use Rattle.aim_paths.proofs.Ranges.{list_any-slice_range_more}
 use Rattle.aim_msg.specs.declared.messages.Params.{Params}
 use Rattle.aim_geometry.specs.Bounded.{ceil_div}
 use Rattle.aim_paths.specs.Intersection.{Intersection, path}
 use Rattle.aim_paths.specs.Motion.{front}
-use Rattle.aim_paths.specs.Foot.{crossing_steps, path_length, in_foot}
+use Rattle.aim_paths.specs.Foot.{crossing_steps, path_length}
 use Rattle.aim_book.specs.Feet.{is_under, is_under_some, is_footed}
 use Rattle.aim_book.specs.Moving.{IsMoving}
 use Rattle.aim_book.proofs.CrossingLemmas.{front-steady, rear_on_path}
@@ -35,13 +31,6 @@ pub under_more : (g : Grid) (half : ℕ) (ss : List Station) (low j r c : ℕ) (
 under_more g half ss low j r c d t old a b e =
     one_more t old (nat_lt r g.n) (nat_lt c g.n) (list_any (λ s. is_touched g half s r c) (slice_range ss low j)) (is_touched g half (get_or ss j d) r c) e
     ∙ ap (λ x. old || (nat_lt r g.n && nat_lt c g.n && x)) (sym (list_any-slice_range_more (λ s. is_touched g half s r c) ss low j d a b))
-
--- the stations lie on the ground
-abbrev pub AreInside : Grid → List Station → Type 0
-AreInside g ss = (j : ℕ) (s : Station) → slice_get ss j ≡ Some s → (s.x ≤ g.side) × (s.y ≤ g.side)
-
-pub inside_at : (g : Grid) (ss : List Station) (j : ℕ) (d : Station) → AreInside g ss → j < length ss → ((get_or ss j d).x ≤ g.side) × ((get_or ss j d).y ≤ g.side)
-inside_at g ss j d inside l = inside j (get_or ss j d) (slice_get-get_or ss j d l)
 
 -- a part that ends past the list ends where the list does
 pub slice_range_cut : {X : Type 0} (xs : List X) (low high : ℕ) → slice_range xs low high ≡ slice_range xs low (min high (length xs))

@@ -1,14 +1,13 @@
 -- What is known of params that are good.
-use Rattle.std.proofs.Common.{◌≡◌, ℕ, ◌<◌, ◌≤◌, Bool, true, false, ◌||◌, nat_lt, nat_le, cond, Option, Some, None, is_none, arith, refl, length, if◌then◌else◌}
+use Rattle.std.proofs.Common.{◌≡◌, ℕ, ◌<◌, ◌≤◌, Bool, true, false, nat_lt, nat_le, Option, Some, None, is_none, arith, refl, length, if◌then◌else◌}
 use Rattle.std.specs.Prelude.{◌==◌, is_some}
 use Rattle.std.proofs.lemmas.Bool.{eqb-false, leb-false, ltb-false}
 use Rattle.aim_msg.specs.declared.messages.Params.{Params}
-use Rattle.aim_msg.specs.declared.replies.Field.{Field}
 use Rattle.aim_msg.specs.declared.replies.Field.TheVariants as field
 use Rattle.aim_geometry.specs.Bounded.{is_outside}
 use Rattle.aim_paths.specs.Intersection.{Intersection, path}
 use Rattle.aim_paths.specs.Foot.{crossing_steps}
-use Rattle.aim_paths.specs.Bad.{bad, needs_too_many_spans}
+use Rattle.aim_paths.specs.Bad.{bad}
 use Rattle.aim_book.specs.Moving.{IsMoving}
 use Rattle.aim_book.specs.Serving.{IsSteady}
 use Rattle.aim_book.proofs.TestLemmas.{or_false}

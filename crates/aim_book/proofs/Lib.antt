@@ -12,3 +12,4 @@ pub mod ReplyLemmas
 pub mod SpanLemmas
 pub mod TakenLemmas
 pub mod BookLemmas
+pub mod PolicyLemmas

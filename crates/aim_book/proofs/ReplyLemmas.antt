@@ -1,17 +1,14 @@
 -- The answer to a steady request, in two parts.
-use Rattle.std.proofs.Common.{◌≡◌, ℕ, ◌+◌, ◌-◌, ◌<◌, ◌≤◌, Bool, true, false, nat_le, List, [], length, Option, Some, None, arith, refl, sym, ◌∙◌, ap, unwrap_or, if◌then◌else◌, ◌⊎◌, inl, inr}
+use Rattle.std.proofs.Common.{◌≡◌, ℕ, ◌+◌, ◌-◌, ◌<◌, Bool, true, false, nat_le, List, [], length, Option, Some, None, arith, refl, sym, ◌∙◌, ap, unwrap_or, if◌then◌else◌}
 use Rattle.std.specs.Prelude.{is_some}
 use Rattle.std.specs.List.{slice_index_or}
 use Rattle.std.proofs.lemmas.Option.{slice_get-get_or}
 use Rattle.std.proofs.lemmas.Bool.{leb-false}
-use Rattle.std.specs.List.{list_any}
 use Rattle.std.specs.Option.{option_or}
 use Rattle.aim_msg.specs.declared.messages.Params.{Params}
 use Rattle.aim_msg.specs.declared.entries.Entry.{Entry}
 use Rattle.aim_msg.specs.declared.replies.Reason.{Reason}
 use Rattle.aim_msg.specs.declared.replies.Reason.TheVariants as reason
-use Rattle.aim_msg.specs.declared.replies.Reply.{Reply}
-use Rattle.aim_geometry.specs.Sites.{IsGrid}
 use Rattle.aim_geometry.specs.declared.stations.Station.{Station}
 use Rattle.aim_paths.specs.Intersection.{Intersection, path, stations}
 use Rattle.aim_paths.specs.Valid.{IsValid}
@@ -24,14 +21,13 @@ use Rattle.aim_book.specs.Takings.{SharesNone}
 use Rattle.aim_book.proofs.BlockLemmas.{MayAsk, first_blocked-none, first_blocked-some}
 use Rattle.aim_book.proofs.GoodLemmas.{good_facts}
 use Rattle.aim_paths.specs.Foot.{crossing_steps}
-use Rattle.aim_paths.specs.Cells.{cells}
 use Rattle.aim_paths.specs.History.{fresh, now_of}
 use Rattle.aim_paths.specs.Reservations.{holds}
 use Rattle.aim_paths.specs.Priority.{asked_from, distance}
 use Rattle.aim_paths.specs.Answer.{Asked, answer, exceeds, first_blocked, granted_or, refusal}
 use Rattle.aim_book.specs.Serving.{IsPlain, IsSteady, AreServed, has_called}
 use Rattle.aim_book.specs.Replies.{early_reason, settled, refused, confirmed}
-use Rattle.aim_book.proofs.AnswerLemmas.{asked, answer-served, answer_steady, holds-none}
+use Rattle.aim_book.proofs.AnswerLemmas.{asked, answer-served, holds-none}
 use Rattle.aim_book.proofs.CrossingLemmas.{AreWithin, cells-from}
 
 -- the answer by what is asked of the request, in order

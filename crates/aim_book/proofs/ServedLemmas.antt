@@ -1,13 +1,11 @@
 -- Histories of served messages: each is fresh, and each vehicle has one.
-use Rattle.std.proofs.Common.{◌≡◌, ℕ, zero, suc, ◌<◌, Bool, true, false, ◌||◌, ◌&&◌, cond, List, [], ◌∷◌, ◌++◌, length, take, get_or, filter, Option, Some, None, arith, refl, ◌∙◌, ap, append_assoc, eq-eqb, ◌⊎◌, inl, inr}
-use Rattle.std.specs.Prelude.{◌==◌, find, ◌≤◌}
+use Rattle.std.proofs.Common.{◌≡◌, ℕ, zero, suc, ◌<◌, true, false, ◌||◌, List, [], ◌∷◌, ◌++◌, length, take, get_or, Option, None, arith, refl, ◌∙◌, ap, append_assoc, eq-eqb, ◌⊎◌, inl, inr}
+use Rattle.std.specs.Prelude.{◌==◌}
 use Rattle.std.specs.List.{list_any}
 use Rattle.std.proofs.lemmas.Bool.{eqb-true}
 use Rattle.std.proofs.lemmas.List.{append-nil}
 use Rattle.std.proofs.lemmas.List.Folds.{list_any-append}
 use Rattle.std.proofs.lemmas.List.Elements.{filter-append}
-use Rattle.aim_msg.specs.declared.messages.Body.{Body}
-use Rattle.aim_msg.specs.declared.messages.Body.TheVariants as body
 use Rattle.aim_msg.specs.declared.entries.Act.{Act}
 use Rattle.aim_msg.specs.declared.entries.Act.TheVariants as act
 use Rattle.aim_msg.specs.declared.entries.Entry.{Entry}
@@ -69,7 +67,7 @@ pub of_vehicle-one : (i : Intersection) (before es : List Entry) (e : Entry) →
 of_vehicle-one i before es e s =
     let here : (e.caller == e.caller) ≡ true = eq-eqb e.caller e.caller refl in
     let had : has_called e.caller (before ++ e ∷ []) ≡ true =
-      rw (list_any-append (λ x. x.caller == e.caller) before (e ∷ []), here) (or_right (has_called e.caller before) true refl) in
+    rw (list_any-append (λ x. x.caller == e.caller) before (e ∷ []), here) (or_right (has_called e.caller before) true refl) in
     ap (of_vehicle e.caller) (placed-append [] before (e ∷ es))
     ∙ filter-append (λ x. x.entry.caller == e.caller) (placed [] before) (placed before (e ∷ es))
     ∙ rw (of_vehicle-none e.caller [] before s.0.first, here, of_vehicle-none e.caller (before ++ e ∷ []) es (has_called-later i e.caller (before ++ e ∷ []) es s.1 had)) refl
@@ -95,9 +93,6 @@ is_stopped-served i before (e ∷ es) s = rw (go e.act s.0.request, is_stopped-s
     go : (a : Act) → ActsSteady i a → is_stop a ≡ false
     go (act.Message m) r = refl
     go (act.Order o) r = absurd r
-
-option_or_none : {X : Type 0} (a b : Option X) → a ≡ None → b ≡ None → Rattle.std.specs.Option.option_or a b ≡ None
-option_or_none a b p q = rw (p, q) refl
 
 -- no switch does
 pub last-switch : (i : Intersection) (before es : List Entry) (at : ℕ) → AreServed i before es → last (λ e. is_from_at (change_with e.act e.reply) at) es ≡ None

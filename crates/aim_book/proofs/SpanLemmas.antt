@@ -1,10 +1,10 @@
 -- The spans of a steady crossing, step by step.
-use Rattle.std.proofs.Common.{◌≡◌, ℕ, zero, suc, ◌+◌, ◌-◌, ◌*◌, ◌^◌, ◌<◌, ◌≤◌, Bool, true, false, ◌&&◌, not, cond, nat_lt, List, [], ◌∷◌, ◌++◌, length, length-append, get_or, map, filter, arith, refl, sym, ◌∙◌, ap, eq-eqb, lt-ltb, le-ltb, ◌⊎◌, inl, inr}
+use Rattle.std.proofs.Common.{◌≡◌, ℕ, zero, suc, ◌+◌, ◌-◌, ◌*◌, ◌^◌, ◌<◌, ◌≤◌, Bool, true, false, cond, List, [], ◌∷◌, ◌++◌, length, length-append, get_or, map, filter, arith, refl, sym, ◌∙◌, ap, lt-ltb, le-ltb, ◌⊎◌, inl, inr}
 use Rattle.std.specs.Prelude.{◌==◌, flat_map, count_by}
 use Rattle.std.specs.List.{range_with_len}
 use Rattle.std.specs.Int.{bit_at}
 use Rattle.std.proofs.Math.Decide.{dec_lt}
-use Rattle.std.proofs.lemmas.Bool.{ne_eqb, eqb-true}
+use Rattle.std.proofs.lemmas.Bool.{ne_eqb}
 use Rattle.std.proofs.lemmas.Grind.{flat_map-append}
 use Rattle.std.proofs.lemmas.List.Elements.{filter-append}
 use Rattle.std.proofs.lemmas.List.{append-nil}
@@ -15,34 +15,20 @@ use Rattle.aim_geometry.specs.Bounded.{some_below}
 use Rattle.aim_geometry.specs.Rects.{has_bit, tile_at}
 use Rattle.aim_geometry.proofs.BoundedLemmas.{some_below_found, some_below_false}
 use Rattle.aim_paths.specs.Intersection.{Intersection}
-use Rattle.aim_paths.specs.Foot.{crossing_steps, in_foot}
+use Rattle.aim_paths.specs.Foot.{crossing_steps}
 use Rattle.aim_paths.specs.Cells.{Cell, in_cells, steps_of}
 use Rattle.aim_paths.specs.Bad.{span_count}
 use Rattle.aim_book.specs.Serving.{IsPlain}
 use Rattle.aim_book.specs.Takings.{cell_at}
 use Rattle.aim_book.specs.Feet.{is_footed, is_filled}
-use Rattle.aim_book.proofs.TestLemmas.{decided, and_true}
+use Rattle.aim_book.proofs.TestLemmas.{decided}
 use Rattle.aim_book.proofs.CrossingLemmas.{in_cells-at}
-
--- whether the crossing has a cell in the row of a step
-abbrev has_span : Intersection → Params → Cell → Bool
-has_span i p c = some_below i.grid.n (λ col. in_cells i p false (record c { col = col }))
-
-row_at : Params → ℕ → ℕ → Cell
-row_at p s r = record { row = r; col = 0; step = s }
 
 -- the spans of some steps from the arrival on
 abbrev pub spans_in : Intersection → Params → ℕ → ℕ
 spans_in i p k =
     length (filter (λ c. some_below i.grid.n (λ col. in_cells i p false (record c { col = col })))
     (flat_map (λ s. map (λ r. record { row = r; col = 0; step = s }) (range_with_len 0 i.grid.n)) (range_with_len p.arrive k)))
-
-pub span_count-plain : (i : Intersection) (p : Params) → IsPlain i → span_count i p false ≡ spans_in i p (crossing_steps i p false)
-span_count-plain i p plain =
-    ap (λ xs. length (filter (λ c. some_below i.grid.n (λ col. in_cells i p false (record c { col = col }))) (flat_map (λ s. map (λ r. record { row = r; col = 0; step = s }) (range_with_len 0 i.grid.n)) xs))) same
-  where
-    same : steps_of i p false ≡ range_with_len p.arrive (crossing_steps i p false)
-    same = let a : p.arrive - i.times.edge ≡ p.arrive = (let e = plain.edge in omega arith) in let b : crossing_steps i p false + 2 * i.times.edge ≡ crossing_steps i p false = (let e = plain.edge in omega arith) in rw (a, b) refl
 
 range_more : (a k : ℕ) → range_with_len a (k + 1) ≡ range_with_len a k ++ (a + k) ∷ []
 range_more a zero = let e : a + 0 ≡ a = omega arith in rw e refl

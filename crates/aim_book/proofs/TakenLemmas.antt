@@ -1,8 +1,7 @@
 -- The tiles that entries have in a step.
-use Rattle.std.proofs.Common.{◌≡◌, ℕ, suc, zero, ◌+◌, ◌-◌, ◌/◌, ◌%◌, ◌^◌, ◌<◌, ◌≤◌, Bool, true, false, ◌&&◌, ◌||◌, not, cond, nat_lt, List, [], ◌∷◌, length, take, get_or, Option, Some, None, arith, refl, sym, ◌∙◌, ap, lt-ltb, ◌⊎◌, inl, inr}
+use Rattle.std.proofs.Common.{◌≡◌, ℕ, suc, zero, ◌+◌, ◌/◌, ◌^◌, ◌<◌, ◌≤◌, Bool, true, false, ◌&&◌, ◌||◌, cond, nat_lt, List, [], ◌∷◌, length, take, get_or, Some, None, arith, refl, sym, ◌∙◌, ap, lt-ltb}
 use Rattle.std.specs.Prelude.{◌==◌, find, bit_and}
 use Rattle.std.specs.List.{list_any}
-use Rattle.std.specs.Int.{bit_at}
 use Rattle.std.proofs.Math.Bool.{and-false, or-false}
 use Rattle.std.proofs.lemmas.List.Folds.{list_any_more}
 use Rattle.std.proofs.lemmas.Nat.Bits.{bit_at-zero, shr_and_one}
@@ -15,10 +14,9 @@ use Rattle.aim_msg.specs.declared.messages.Body.TheVariants as body
 use Rattle.aim_msg.specs.declared.entries.Act.{Act}
 use Rattle.aim_msg.specs.declared.entries.Act.TheVariants as act
 use Rattle.aim_msg.specs.declared.entries.Entry.{Entry}
-use Rattle.aim_geometry.specs.Rects.{has_bit, tile_at}
+use Rattle.aim_geometry.specs.Rects.{tile_at}
 use Rattle.aim_paths.specs.Intersection.{Intersection}
 use Rattle.aim_paths.specs.Foot.{crossing_steps, in_foot}
-use Rattle.aim_paths.specs.Cells.{in_cells}
 use Rattle.aim_paths.specs.History.{is_confirm, params_of}
 use Rattle.aim_book.specs.Feet.{is_footed}
 use Rattle.aim_book.specs.Moving.{IsMoving}
@@ -67,9 +65,6 @@ takes-granted i e at r c = go (is_confirm e.reply)
 -- an entry has what it reserves
 pub taken_some : (i : Intersection) (e : Entry) (p : Params) (at r c : ℕ) → granted_to e ≡ Some p → is_crossed i p at r c ≡ is_taken i e at r c
 taken_some i e p at r c h = rw (takes-granted i e at r c, h) refl
-
-pub taken_none : (i : Intersection) (e : Entry) (at r c : ℕ) (b : Bool) → granted_to e ≡ None → b ≡ (b || is_taken i e at r c)
-taken_none i e at r c b h = rw (takes-granted i e at r c, h, and-false (nat_lt r i.grid.n && nat_lt c i.grid.n)) (sym (or-false b))
 
 -- each entry asks for a steady crossing
 pub steady_at : (i : Intersection) (h : List Entry) (k : ℕ) (d : Entry) → AreServed i [] h → k < length h → ActsSteady i (get_or h k d).act
@@ -147,6 +142,6 @@ first_shared_at i h p k row col own taken few show at =
       column_in = ltb-true col i.grid.n both.1;
       shared = grid.1;
       first = λ r c a b e.
-        sym (common_is i h p k r c own taken (omega arith) (show.own r c (omega arith) (omega arith)) (show.taken r c (omega arith) (omega arith)) ∙ in_grid (nat_lt r i.grid.n) (nat_lt c i.grid.n) (is_shared i h p k r c) (lt-ltb r i.grid.n a) (lt-ltb c i.grid.n b))
-        ∙ at.first r c (omega arith) (omega arith) e;
+          sym (common_is i h p k r c own taken (omega arith) (show.own r c (omega arith) (omega arith)) (show.taken r c (omega arith) (omega arith)) ∙ in_grid (nat_lt r i.grid.n) (nat_lt c i.grid.n) (is_shared i h p k r c) (lt-ltb r i.grid.n a) (lt-ltb c i.grid.n b))
+          ∙ at.first r c (omega arith) (omega arith) e;
     }

@@ -1,5 +1,5 @@
 -- Who holds a cell, in a history of served messages.
-use Rattle.std.proofs.Common.{◌≡◌, ℕ, ◌+◌, ◌<◌, ◌≤◌, Bool, true, false, ◌&&◌, not, cond, nat_le, List, [], ◌∷◌, ◌++◌, filter, Option, Some, None, arith, refl, sym, ◌∙◌, ap, append_assoc, eq-eqb, ◌⊎◌, inl, inr, if◌then◌else◌}
+use Rattle.std.proofs.Common.{◌≡◌, ℕ, ◌<◌, ◌≤◌, Bool, true, false, ◌&&◌, not, cond, nat_le, List, [], ◌∷◌, ◌++◌, filter, Option, Some, None, arith, refl, sym, ◌∙◌, ap, append_assoc, eq-eqb, ◌⊎◌, inl, inr, if◌then◌else◌}
 use Rattle.std.specs.Prelude.{◌==◌, find, option_map, option_and_then}
 use Rattle.std.specs.List.{list_any}
 use Rattle.std.proofs.Math.Bool.{and-false}
@@ -14,7 +14,7 @@ use Rattle.aim_msg.specs.declared.replies.Reply.{Reply}
 use Rattle.aim_geometry.specs.Bounded.{last, since_last}
 use Rattle.aim_paths.specs.Intersection.{Intersection}
 use Rattle.aim_paths.specs.Cells.{Cell, in_cells, cells}
-use Rattle.aim_paths.specs.History.{Fresh, fresh, of_vehicle, is_confirm, given_up_at, params_of, params_at}
+use Rattle.aim_paths.specs.History.{Fresh, fresh, is_confirm, given_up_at, params_of}
 use Rattle.aim_paths.specs.Reservations.{holds, held, taken_by, granted, granted_with, is_granted, is_granted_with, is_fast, is_number}
 use Rattle.aim_paths.proofs.HistoryLemmas.{served}
 use Rattle.aim_paths.proofs.CellLemmas.{cells_has}

@@ -1,12 +1,11 @@
 -- The distance of a lane, entry by entry.
-use Rattle.std.specs.Prelude.{◌≡◌, ℕ, Bool, true, List, [], ◌∷◌, ◌++◌, Option, Some, None, if◌then◌else◌}
+use Rattle.std.specs.Prelude.{◌≡◌, ℕ, true, List, [], ◌∷◌, ◌++◌, Option, Some, None, if◌then◌else◌}
 use Rattle.aim_msg.specs.declared.messages.Params.{Params}
 use Rattle.aim_msg.specs.declared.entries.Entry.{Entry}
 use Rattle.aim_msg.specs.declared.replies.Reply.{Reply}
 use Rattle.aim_geometry.specs.Bounded.{min_with}
 use Rattle.aim_paths.specs.History.{is_fresh, is_confirm}
 use Rattle.aim_paths.specs.Priority.{is_lane, is_blocked_reply, asked_from}
-use Rattle.aim_book.specs.Takings.{params_in}
 
 -- a Confirm in the lane frees it, and a refusal for a cell brings its distance down
 abbrev pub distance_with : Option ℕ → ℕ → Reply → Params → Option ℕ

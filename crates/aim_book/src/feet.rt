@@ -27,14 +27,7 @@ fn add_square(rows: &mut [u64; 64], ground: &Ground, half: u32, x: u32, y: u32)
 }
 
 /// The same round each of the path's stations from one up to, not including, another.
-fn add_squares(
-    rows: &mut [u64; 64],
-    ground: &Ground,
-    half: u32,
-    path: &Path,
-    low: u32,
-    next: u32,
-)
+fn add_squares(rows: &mut [u64; 64], ground: &Ground, half: u32, path: &Path, low: u32, next: u32)
     requires inside { (j : ℕ) (s : Station) → slice_get path.now j ≡ Some s → (s.x ≤ ground.now.grid.side) × (s.y ≤ ground.now.grid.side) }
     requires order { low ≤ next }
     requires next { next ≤ length path.now }

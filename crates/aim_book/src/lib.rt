@@ -8,6 +8,7 @@ mod distances;
 mod feet;
 mod fields;
 mod journals;
+mod plains;
 mod rows;
 mod takings;
 mod times;
@@ -15,3 +16,7 @@ mod times;
 pub use book::{Book, Full, OpenFault};
 pub use fields::bad_field;
 pub use journals::has_called;
+pub use plains::is_plain;
+
+#[cfg(test)]
+mod tests;

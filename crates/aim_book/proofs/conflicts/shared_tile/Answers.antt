@@ -1,4 +1,3 @@
-use Rattle.std.proofs.Common.{ℕ}
 use Rattle.aim_book.specs.Rows.{IsFirstCommon}
 use Rattle.aim_book.specs.Takings.{IsFirstShared, SharesNone}
 use Rattle.aim_book.proofs.TakenLemmas.{ShowStep, first_shared_at, shares_none}

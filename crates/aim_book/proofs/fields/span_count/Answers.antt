@@ -1,4 +1,4 @@
-use Rattle.std.proofs.Common.{◌≡◌, ℕ, ◌<◌, ◌≤◌, ◌+◌, ◌||◌, arith, refl, sym, ◌∙◌}
+use Rattle.std.proofs.Common.{◌≡◌, ℕ, ◌<◌, ◌≤◌, ◌||◌, arith, refl, sym, ◌∙◌}
 use Rattle.std.specs.Prelude.{replicate}
 use Rattle.aim_geometry.specs.Rects.{tile_at}
 use Rattle.aim_book.specs.Feet.{is_footed}

@@ -1,6 +1,6 @@
 use Rattle.std.proofs.Common.{◌∙◌, ap, ◌||◌, sym}
 use Rattle.aim_geometry.specs.Rects.{tile_at}
-use Rattle.aim_book.proofs.TakenLemmas.{granted_moves, taken_some, taken_none}
+use Rattle.aim_book.proofs.TakenLemmas.{granted_moves, taken_some}
 use Rattle.aim_book.proofs.takings.add_taken.Goals as goal
 
 pub add_crossing-requires-clause-moving : goal.add_crossing-requires-clause-moving

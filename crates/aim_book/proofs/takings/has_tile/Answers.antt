@@ -9,5 +9,5 @@ pub returns : goal.returns
 returns c =
     let few = c.ground-ground.ensures.valid.sound.grid.rows in
     let set : tile_at c.add_taken.new.rows c.args.row c.args.col ≡ (tile_at (replicate 64 0) c.args.row c.args.col || is_taken c.args.layout.now c.args.entry.now c.args.step c.args.row c.args.col) =
-      c.add_taken.ensures c.args.row c.args.col (omega arith) (omega arith) in
+    c.add_taken.ensures c.args.row c.args.col (omega arith) (omega arith) in
     tile_is c.args.layout.now c.args.entry.now c.args.step c.args.row c.args.col c.add_taken.new.rows (omega arith) c.requires.row c.requires.col set

@@ -1,9 +1,7 @@
-use Rattle.std.proofs.Common.{◌≡◌, ◌<◌, ◌≤◌, ◌++◌, ◌∷◌, [], ◌∙◌, arith, length, length-append, is_ok, true}
+use Rattle.std.proofs.Common.{◌≡◌, ◌<◌, ◌∷◌, [], arith, length-append}
 use Rattle.std.specs.Vec.{vec_len, vec_capacity}
 use Rattle.aim_msg.specs.declared.entries.Act.TheVariants as act
-use Rattle.aim_msg.specs.declared.entries.Entry.{Entry}
 use Rattle.aim_paths.specs.Answer.{answer}
-use Rattle.aim_paths.specs.Legal.{IsLegal}
 use Rattle.aim_book.proofs.BookLemmas.{entry_with, legal_now, legal_more, served_more}
 use Rattle.aim_book.proofs.book.Book.serve.Goals as goal
 
@@ -14,7 +12,7 @@ pub invariant_of-self : goal.invariant_of-self
 invariant_of-self c =
     let may = rw (← c.self.view_is) at c.requires in
     let answered : c.answer_request-reply.result ≡ answer c.self.inside.layout c.self.inside.journal.items c.args.vehicle c.args.moment (act.Message c.args.message) =
-      rw c.deref.ensures.value at (c.answer_request-reply.ensures c.args.vehicle c.args.message (rw c.deref.ensures.value may.first) c.in-Request.is) in
+    rw c.deref.ensures.value at (c.answer_request-reply.ensures c.args.vehicle c.args.message (rw c.deref.ensures.value may.first) c.in-Request.is) in
     let room : vec_len c.self.inside.journal < vec_capacity c.self.inside.journal = omega (arith, c.self.invariant.2, c.self.invariant.3, c.len.ensures) in
     let ok = c.push.ensures.succeeds room in
     let items = rw ok at c.push.ensures.items in
