@@ -17,9 +17,9 @@ use Rattle.aim_geometry.proofs.BoundedLemmas.{some_below_at, some_below_none, le
 use Rattle.aim_paths.specs.Intersection.{Intersection, stations}
 use Rattle.aim_paths.specs.Motion.{front}
 use Rattle.aim_paths.specs.Foot.{crossing_steps, path_length, in_foot}
-use Rattle.aim_paths.specs.Cells.{Cell, is_kept, in_cells, cells}
+use Rattle.aim_paths.specs.Cells.{Cell, IsIn, is_kept, in_cells, cells}
 use Rattle.aim_paths.proofs.Ranges.{list_any-slice_range_at}
-use Rattle.aim_paths.proofs.CellLemmas.{IsIn, cells_has, cells_needed}
+use Rattle.aim_paths.proofs.CellLemmas.{cells_has, cells_needed}
 use Rattle.aim_book.specs.Serving.{IsPlain}
 use Rattle.aim_book.proofs.TestLemmas.{decided, or_right}
 
