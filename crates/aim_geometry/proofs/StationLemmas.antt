@@ -1,0 +1,48 @@
+-- Bounds on stations.
+use Rattle.std.proofs.Common.{◌≡◌, ℕ, ◌+◌, ◌-◌, ◌*◌, ◌/◌, ◌<◌, ◌≤◌, arith, ◌∙◌}
+use Rattle.std.proofs.Math.Nat.{mul-le-mul, mul-le-mul_left, add-mul-div_left}
+use Rattle.std.proofs.Math.Decide.{dec_lt}
+use Rattle.aim_geometry.specs.Bounded.{ceil_div}
+use Rattle.aim_geometry.specs.Stations.{on_line}
+
+-- a mean is at most the greatest
+pub mean_le : (a b c x y z top : ℕ) → x ≤ top → y ≤ top → z ≤ top → a * x + b * y + c * z ≤ (a + b + c) * top
+mean_le a b c x y z top p q r = grind arith
+
+pub parts_le : (d j x y z top : ℕ) → x ≤ top → y ≤ top → z ≤ top → d * d * x + 2 * j * d * y + j * j * z ≤ (d + j) * (d + j) * top
+parts_le d j x y z top p q r = omega (arith, mean_le (d * d) (2 * j * d) (j * j) x y z top p q r)
+
+pub curve_le : (m j x y z top : ℕ) → j ≤ m → x ≤ top → y ≤ top → z ≤ top → (m - j) * (m - j) * x + 2 * j * (m - j) * y + j * j * z ≤ m * m * top
+curve_le m j x y z top h p q r =
+    let e : (m - j) + j ≡ m = omega arith in
+    rw e at (parts_le (m - j) j x y z top p q r)
+
+pub square_le : (m : ℕ) → m ≤ 4096 → m * m * 1000000 ≤ 16777216000000
+square_le m h = let s : m * m ≤ 4096 * 4096 = mul-le-mul h h in omega arith
+
+-- On the way up a station is the start and the whole part of its share of the way.
+pub on_line-up : (x0 x1 m j : ℕ) → 0 < m → j ≤ m → x0 ≤ x1 → on_line x0 x1 m j ≡ x0 + j * (x1 - x0) / m
+on_line-up x0 x1 m j h l u =
+    let e : (m - j) * x0 + j * x1 ≡ j * (x1 - x0) + m * x0 = on_way (m - j) j x0 (x1 - x0) m x1 (omega arith) (omega arith) in
+    rw e (add-mul-div_left (j * (x1 - x0)) x0 h ∙ omega arith)
+  where
+    on_way : (k j x d m y : ℕ) → k + j ≡ m → x + d ≡ y → k * x + j * y ≡ j * d + m * x
+    on_way k j x d m y p q = rw (← p, ← q) (omega arith)
+
+-- On the way down it is the start less that share, rounded up: the whole part is towards minus infinity.
+pub on_line-down : (x0 x1 m j : ℕ) → 0 < m → j ≤ m → x1 ≤ x0 → on_line x0 x1 m j + ceil_div (j * (x0 - x1)) m ≡ x0
+on_line-down x0 x1 m j h l u =
+    let e : (m - j) * x0 + j * x1 + j * (x0 - x1) ≡ m * x0 = on_way (m - j) j x1 (x0 - x1) m x0 (omega arith) (omega arith) in
+    share ((m - j) * x0 + j * x1) (j * (x0 - x1)) m x0 h e
+  where
+    on_way : (k j x d m y : ℕ) → k + j ≡ m → x + d ≡ y → k * y + j * x + j * d ≡ m * y
+    on_way k j x d m y p q = rw (← p, ← q) (omega arith)
+
+    share : (a b m x : ℕ) → 0 < m → a + b ≡ m * x → a / m + ceil_div b m ≡ x
+    share a b m x h e = elim (dec_lt (a / m + ceil_div b m) x) [
+      | yes l ↦ absurd (let k : m * (a / m + ceil_div b m + 1) ≤ m * x = mul-le-mul_left m (omega arith) in omega arith)
+      | no l ↦ elim (dec_lt x (a / m + ceil_div b m)) [
+        | yes g ↦ absurd (let k : m * (x + 1) ≤ m * (a / m + ceil_div b m) = mul-le-mul_left m (omega arith) in omega arith)
+        | no g ↦ omega arith
+      ]
+    ]

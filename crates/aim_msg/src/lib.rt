@@ -1,0 +1,13 @@
+//! Messages between vehicles and the intersection manager, its replies, the entries of its journal, the lines of
+//! scripts, and the text of each of them.
+#![tactic(auto)]
+
+pub mod entries;
+pub mod messages;
+pub mod replies;
+pub mod script;
+
+pub use entries::{Act, Entry, OPERATOR, Order};
+pub use messages::{Body, Message, Params, Turn};
+pub use replies::{Field, Reason, Reply};
+pub use script::{FateList, Grid6, Line, LineKind, MoveShape, Name, Times5, Times6};

@@ -1,0 +1,171 @@
+//! The lines of scripts, for versions 1 to 3.
+
+use crate::messages::{Message, Params, Turn};
+
+/// `grid`: the ground and the room of a sheet. Lengths are in millimetres.
+#[derive(Clone, Copy, Debug, PartialEq, Eq)]
+pub struct Grid6 {
+    pub side: u32,
+    pub n: u32,
+    pub spacing: u32,
+    /// The static buffer round a vehicle.
+    pub fixed: u32,
+    pub half: u32,
+    pub spans: u32,
+}
+
+/// `times` of version 1, in steps. The time buffer of inner tiles is the same before and after.
+#[derive(Clone, Copy, Debug, PartialEq, Eq)]
+pub struct Times5 {
+    pub horizon: u32,
+    pub longest: u32,
+    pub clearance: u32,
+    pub internal: u32,
+    pub edge: u32,
+}
+
+/// `times` of versions 2 and 3, in steps.
+#[derive(Clone, Copy, Debug, PartialEq, Eq)]
+pub struct Times6 {
+    pub horizon: u32,
+    pub longest: u32,
+    pub clearance: u32,
+    pub early: u32,
+    pub late: u32,
+    pub edge: u32,
+}
+
+/// The way of a move, in `m` parts. Coordinates are in millimetres.
+#[derive(Clone, Copy, Debug, PartialEq, Eq)]
+pub enum MoveShape {
+    Line {
+        x0: u32,
+        y0: u32,
+        x1: u32,
+        y1: u32,
+        m: u32,
+    },
+    Curve {
+        x0: u32,
+        y0: u32,
+        x1: u32,
+        y1: u32,
+        x2: u32,
+        y2: u32,
+        m: u32,
+    },
+}
+
+/// A policy's name: `len` bytes, 1 to 16, each a lower-case letter, a digit or `-`. The rest of the array is 0.
+#[derive(Clone, Copy, Debug, PartialEq, Eq)]
+pub struct Name {
+    pub bytes: [u8; 16],
+    pub len: u8,
+}
+
+/// The fates of a link's first messages: `len` numbers, 1 to 64. Here 0 delivers, 256 loses, 257 repeats, and 1 to
+/// 255 delays by so many steps. The rest of the array is 0.
+#[derive(Clone, Copy, Debug, PartialEq, Eq)]
+pub struct FateList {
+    pub fates: [u16; 64],
+    pub len: u8,
+}
+
+/// A line of a script.
+#[derive(Clone, Copy, Debug, PartialEq, Eq)]
+pub enum Line {
+    /// `aim N`
+    Version(u32),
+    /// `grid SIDE N SPACING STATIC HALF SPANS`
+    Grid(Grid6),
+    /// `times HORIZON LONGEST CLEARANCE INTERNAL EDGE`, version 1
+    Times(Times5),
+    /// `times HORIZON LONGEST CLEARANCE EARLY LATE EDGE`, versions 2 and 3
+    Times6(Times6),
+    /// `lanes N`
+    Lanes(u32),
+    /// `move LANE TURN line X0 Y0 X1 Y1 M` and `move LANE TURN curve X0 Y0 X1 Y1 X2 Y2 M`
+    Move {
+        lane: u8,
+        turn: Turn,
+        shape: MoveShape,
+    },
+    /// `policy NAME KIND`. The kind is 0 for `fcfs`, 1 for `emerg`, 2 for `light`, 3 for `light-emerg` (version 3).
+    Policy {
+        name: Name,
+        kind: u8,
+    },
+    /// `phase RED GREEN LANE ..`. Bit i of `lanes` is lane i.
+    Phase {
+        red: u32,
+        green: u32,
+        lanes: u16,
+    },
+    /// `vehicles N`
+    Vehicles(u32),
+    /// `begin`
+    Begin,
+    /// `VEHICLE MOMENT MESSAGE`
+    Event {
+        vehicle: u32,
+        moment: u32,
+        message: Message,
+    },
+    /// `operator MOMENT switch NAME`
+    SwitchTo {
+        moment: u32,
+        name: Name,
+    },
+    /// `operator MOMENT stop`
+    StopAt {
+        moment: u32,
+    },
+    /// `until STEP`
+    Until(u32),
+    /// `plan V FIRST LEAD RESEND LANE TURN SPEED MAX ACCEL LENGTH WIDTH CLASS`, in version 3 with a last word `early`
+    /// or `start`. The params' `arrive` is 0. `ahead` is true for `early`.
+    PlanFor {
+        vehicle: u32,
+        first: u32,
+        lead: u32,
+        resend: u32,
+        params: Params,
+        ahead: bool,
+    },
+    /// `change V STEP LEAD`
+    ChangeAt {
+        vehicle: u32,
+        step: u32,
+        lead: u32,
+    },
+    /// `cancel V STEP`
+    CancelAt {
+        vehicle: u32,
+        step: u32,
+    },
+    /// `up V FATE ..`
+    Up {
+        vehicle: u32,
+        fates: FateList,
+    },
+    /// `down V FATE ..`
+    Down {
+        vehicle: u32,
+        fates: FateList,
+    },
+    /// `end`
+    End,
+}
+
+/// Why a text isn't a line.
+#[derive(Clone, Copy, Debug, PartialEq, Eq)]
+pub enum LineKind {
+    /// The number of words, or a word in a keyword's place, isn't one that its form allows.
+    Words,
+    /// A word in a number's place isn't a number.
+    Number,
+    /// A number is out of its field's range.
+    Range,
+    /// The first word begins no form.
+    Unknown,
+}

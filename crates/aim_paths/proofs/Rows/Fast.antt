@@ -1,0 +1,38 @@
+-- A vehicle that accelerates, and time buffers.
+use Rattle.std.proofs.Common.{◌≡◌, ℕ, [], ◌∷◌, None, refl, true, false}
+use Rattle.aim_msg.specs.declared.messages.Body.TheVariants.{Request}
+use Rattle.aim_msg.specs.declared.replies.Reason.TheVariants.{Taken, Distance}
+use Rattle.aim_msg.specs.declared.replies.Reply.{Reply}
+use Rattle.aim_msg.specs.declared.replies.Reply.TheVariants.{Confirm}
+use Rattle.aim_paths.specs.Legal.{Call}
+use Rattle.aim_paths.proofs.Rows.{s1, s2, send, ask, steady, reject, replies, car}
+
+abbrev sprint : ℕ → Call
+sprint arrive = send 1 0 1 (Request (let p = car 0 arrive in record p { max_speed = 1000; accel = 250 }))
+
+pub two_trials_steady : replies s1 (ask 0 0 1 1 10 ∷ sprint 14 ∷ []) ≡ steady 0 10 20 ∷ steady 1 14 24 ∷ []
+two_trials_steady = refl
+
+pub two_trials_taken : replies s1 (ask 0 0 1 1 10 ∷ sprint 13 ∷ []) ≡ steady 0 10 20 ∷ reject (Taken 1 2 16 0) 6 None ∷ []
+two_trials_taken = refl
+
+pub two_trials_fast : replies s1 (ask 0 0 1 1 10 ∷ sprint 18 ∷ []) ≡ steady 0 10 20 ∷ Confirm 1 18 0 0 true 23 ∷ []
+two_trials_fast = refl
+
+abbrev buffered : ℕ → ℕ → ℕ → Reply
+buffered id start end = Confirm id start 1 1 false end
+
+pub buffers_edge : replies s2 (ask 0 0 1 0 10 ∷ ask 1 0 1 0 19 ∷ []) ≡ buffered 0 10 20 ∷ reject (Taken 1 3 22 0) 9 None ∷ []
+buffers_edge = refl
+
+pub buffers_taken : replies s2 (ask 0 0 1 0 10 ∷ ask 1 0 1 1 19 ∷ []) ≡ buffered 0 10 20 ∷ reject (Taken 1 2 19 0) 9 None ∷ []
+buffers_taken = refl
+
+pub buffers_inner : replies s2 (ask 0 0 1 0 10 ∷ ask 1 0 1 1 20 ∷ []) ≡ buffered 0 10 20 ∷ buffered 1 20 30 ∷ []
+buffers_inner = refl
+
+pub distance : replies s1 (ask 0 0 1 0 10 ∷ ask 1 0 1 1 10 ∷ ask 2 0 1 1 12 ∷ ask 3 8 1 1 18 ∷ ask 2 12 2 1 24 ∷ []) ≡ steady 0 10 20 ∷ reject (Taken 1 2 13 0) 5 None ∷ reject (Distance 5000) 6 None ∷ steady 3 18 28 ∷ steady 4 24 34 ∷ []
+distance = refl
+
+-- Fast
+-- again

@@ -1,0 +1,38 @@
+-- What contracts see of a layout.
+use Rattle.std.specs.Prelude.{ℕ, List, [], Option, slice_get, option_and_then, unwrap_or}
+use Rattle.aim_msg.specs.declared.messages.Turn.{Turn}
+use Rattle.aim_msg.specs.declared.messages.Turn.TheVariants.{Left, Straight, Right}
+use Rattle.aim_geometry.specs.declared.ground.Grid.{Grid}
+use Rattle.aim_geometry.specs.declared.ground.Times.{Times}
+use Rattle.aim_paths.specs.declared.policies.Kind.{Kind}
+use Rattle.aim_paths.specs.declared.policies.Phase.{Phase}
+use Rattle.aim_geometry.specs.Ground.{Station}
+
+-- for each turn, the stations of the path, if the lane offers it
+pub record Lane : Type 0 where
+  pub left : Option (List Station)
+  pub straight : Option (List Station)
+  pub right : Option (List Station)
+
+pub record Policy : Type 0 where
+  pub kind : Kind
+  pub phases : List Phase
+
+pub record Intersection : Type 0 where
+  pub grid : Grid
+  pub times : Times
+  pub lanes : List Lane
+  pub policies : List Policy
+
+abbrev pub path_of : Lane → Turn → Option (List Station)
+path_of l Left = l.left
+path_of l Straight = l.straight
+path_of l Right = l.right
+
+-- the stations of the lane's path with that turn
+abbrev pub path : Intersection → ℕ → Turn → Option (List Station)
+path i lane turn = option_and_then (λ l. path_of l turn) (slice_get i.lanes lane)
+
+-- the same, with no station where there is no such path
+abbrev pub stations : Intersection → ℕ → Turn → List Station
+stations i lane turn = unwrap_or (path i lane turn) []

@@ -1,0 +1,12 @@
+pub mod Intersection
+pub mod Motion
+pub mod Foot
+pub mod Cells
+pub mod Bad
+pub mod History
+pub mod Lights
+pub mod Reservations
+pub mod Priority
+pub mod Answer
+pub mod Legal
+pub mod Charts
