@@ -9,16 +9,12 @@ use Rattle.aim_msg.specs.declared.messages.Params.{Params}
 use Rattle.aim_geometry.specs.Ground.{is_edge}
 use Rattle.aim_paths.specs.Intersection.{Intersection}
 use Rattle.aim_paths.specs.Foot.{crossing_steps, in_foot}
-use Rattle.aim_paths.specs.Cells.{Cell, block, is_kept, in_cells, cells, steps_of}
+use Rattle.aim_paths.specs.Cells.{Cell, IsIn, block, is_kept, in_cells, cells, steps_of}
 use Rattle.aim_geometry.proofs.BoundedLemmas.{some_below_found}
 
 -- c comes before d by step, row and column
 abbrev pub Before : Cell → Cell → Type 0
 Before c d = (c.step < d.step) ⊎ ((c.step ≡ d.step) × ((c.row < d.row) ⊎ ((c.row ≡ d.row) × (c.col < d.col))))
-
-abbrev pub IsIn : {X : Type 0} → X → List X → Type 0
-IsIn c [] = ⊥
-IsIn c (x ∷ xs) = (c ≡ x) ⊎ IsIn c xs
 
 abbrev pub Ascending : List Cell → Type 0
 Ascending [] = Unit {0}

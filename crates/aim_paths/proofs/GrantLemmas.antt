@@ -9,11 +9,10 @@ use Rattle.std.specs.Prelude.{find, option_map, ◌==◌}
 use Rattle.std.proofs.Common.{inl, inr}
 use Rattle.std.specs.Option.{option_or}
 use Rattle.aim_geometry.specs.Bounded.{find_map}
-use Rattle.aim_paths.specs.Cells.{Cell}
+use Rattle.aim_paths.specs.Cells.{Cell, IsIn}
 use Rattle.aim_paths.specs.Lights.{green}
 use Rattle.aim_paths.specs.Reservations.{held, taken_by, is_granted}
 use Rattle.aim_paths.specs.Answer.{blocked_by}
-use Rattle.aim_paths.proofs.CellLemmas.{IsIn}
 use Rattle.aim_paths.specs.Bad.{is_fast_made}
 use Rattle.aim_paths.specs.Cells.{cells}
 use Rattle.aim_paths.specs.Reservations.{is_fast}
@@ -60,12 +59,12 @@ unless_emergency a p None h = (h, refl)
 unless_emergency a p (Some lane) h = let r = refused_or a p.arrive (reason.Emergency lane) (is_giving_way a p.arrive && not (is_approached a.layout a.served a.vehicle p a.now p.lane)) (answer_free a p) h in (r.1, r.2)
 
 -- the parts of a good request's answer, from the last on
-abbrev by_distance : Asked → Params → Reply
+abbrev pub by_distance : Asked → Params → Reply
 by_distance a p =
     if exceeds (asked_from a.now p) (distance a.served p.lane) then refusal a p.arrive (reason.Distance (unwrap_or (distance a.served p.lane) 0))
     else answer_unless_emergency a p (approached a.layout a.served a.vehicle p a.now)
 
-abbrev by_reach : Asked → Params → Reply
+abbrev pub by_reach : Asked → Params → Reply
 by_reach a p =
     if list_any (λ c. nat_le (a.now + a.layout.times.horizon) c.step) (cells a.layout p false) then refusal a p.arrive (reason.Far (a.now + a.layout.times.horizon))
     else by_distance a p

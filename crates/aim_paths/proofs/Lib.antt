@@ -1,4 +1,5 @@
 pub mod Rows
+pub mod TestLemmas
 pub mod MotionLemmas
 pub mod Ranges
 pub mod HistoryLemmas
@@ -13,3 +14,6 @@ pub mod LaneTileLemmas
 pub mod SoundLemmas
 pub mod ShareLemmas
 pub mod AddedLemmas
+pub mod AnswerLemmas
+pub mod SlowerLemmas
+pub mod AheadLemmas

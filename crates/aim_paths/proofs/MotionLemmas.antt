@@ -1,12 +1,12 @@
 -- The way of a vehicle is the sum of its speeds.
-use Rattle.std.proofs.Common.{◌≡◌, ℕ, zero, suc, ◌+◌, ◌-◌, ◌*◌, ◌/◌, ◌<◌, ◌≤◌, Bool, true, false, min, Some, arith, refl, ◌∙◌, leb, eqb, eq-eqb}
+use Rattle.std.proofs.Common.{◌≡◌, ℕ, zero, suc, ◌+◌, ◌-◌, ◌*◌, ◌/◌, ◌<◌, ◌≤◌, Bool, true, false, min, Option, Some, None, arith, refl, ◌∙◌, leb, eqb, eq-eqb}
 use Rattle.std.proofs.Math.Nat.{add-mul-div_left, mul-le-mul_left}
 use Rattle.std.proofs.Math.Decide.{dec_lt}
 use Rattle.std.proofs.lemmas.Bool.{le-leb, lt-leb, ne_eqb}
 use Rattle.aim_msg.specs.declared.messages.Params.{Params}
 use Rattle.aim_geometry.specs.Bounded.{ceil_div}
 use Rattle.aim_paths.specs.Intersection.{Intersection}
-use Rattle.aim_paths.specs.Motion.{ramp, way, top_step, front, gain}
+use Rattle.aim_paths.specs.Motion.{ramp, way, top_step, front, gain, sum_below, speed_in}
 use Rattle.aim_paths.specs.Foot.{crossing_steps, path_length}
 use Rattle.std.proofs.Common.{add-one, unwrap_or, nat_lt, lt-ltb}
 use Rattle.aim_geometry.specs.Bounded.{least_below}
@@ -101,3 +101,14 @@ front-ge p fast (suc k) h = let e = front_more p fast k h in let r = front-ge p 
 -- The number of crossing steps is the least k at which the rear is past the path's end.
 pub crossing_steps-least : (i : Intersection) (p : Params) (fast : Bool) → 0 < p.speed → p.speed ≤ p.max_speed → IsLeast (λ k. nat_lt (path_length i p + p.length) (front p fast k)) (crossing_steps i p fast)
 crossing_steps-least i p fast h l = least_steps (front p fast) (path_length i p + p.length) p.speed h (λ k. front-ge p fast k l)
+
+way_zero : (s a g : ℕ) (o : Option ℕ) → way s a g o 0 ≡ 0
+way_zero s a g None = omega arith
+way_zero s a g (Some q) = let m : min 0 q ≡ 0 = omega arith in let d : 0 - q ≡ 0 = omega arith in rw (m, d) (omega arith)
+
+pub front_zero : (p : Params) (fast : Bool) → front p fast 0 ≡ 0
+front_zero p fast = way_zero p.speed (gain p fast) p.max_speed (top_step p.speed (gain p fast) p.max_speed)
+
+pub front_sum : (p : Params) (fast : Bool) (k : ℕ) → p.speed ≤ p.max_speed → front p fast k ≡ sum_below k (speed_in p fast)
+front_sum p fast zero h = front_zero p fast
+front_sum p fast (suc k) h = rw (← add-one k, front_more p fast k h, front_sum p fast k h) refl

@@ -1,5 +1,5 @@
 -- The pairs of a tile and a step that a crossing needs.
-use Rattle.std.specs.Prelude.{ℕ, ◌+◌, ◌-◌, ◌*◌, Bool, ◌&&◌, nat_le, List, map, filter, flat_map, if◌then◌else◌}
+use Rattle.std.specs.Prelude.{◌≡◌, ◌⊎◌, ℕ, [], ◌∷◌, ◌+◌, ◌-◌, ◌*◌, Bool, ◌&&◌, nat_le, List, map, filter, flat_map, if◌then◌else◌}
 use Rattle.std.specs.List.{range_with_len}
 use Rattle.aim_msg.specs.declared.messages.Params.{Params}
 use Rattle.aim_geometry.specs.Bounded.{some_below}
@@ -31,6 +31,11 @@ block n steps =
 -- the steps in which the crossing can need a cell
 abbrev pub steps_of : Intersection → Params → Bool → List ℕ
 steps_of i p fast = range_with_len (p.arrive - i.times.edge) (crossing_steps i p fast + 2 * i.times.edge)
+
+-- whether a list has an element
+abbrev pub IsIn : {X : Type 0} → X → List X → Type 0
+IsIn c [] = ⊥
+IsIn c (x ∷ xs) = (c ≡ x) ⊎ IsIn c xs
 
 -- the cells that the crossing needs, in that order
 abbrev pub cells : Intersection → Params → Bool → List Cell

@@ -34,6 +34,10 @@ pub record Call : Type 0 where
   pub moment : ℕ
   pub act : Act
 
+-- the call that made the entry
+abbrev pub call_of : Entry → Call
+call_of e = record { caller = e.caller; moment = e.moment; act = e.act }
+
 -- the entry that the call makes after a history
 abbrev pub entry_of : Intersection → List Entry → Call → Entry
 entry_of i h c =

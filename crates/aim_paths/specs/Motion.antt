@@ -1,5 +1,5 @@
 -- How a vehicle moves in its crossing, step by step.
-use Rattle.std.specs.Prelude.{ℕ, ◌+◌, ◌-◌, ◌*◌, ◌/◌, Bool, nat_le, ◌==◌, Option, Some, None, min, if◌then◌else◌}
+use Rattle.std.specs.Prelude.{ℕ, zero, suc, ◌+◌, ◌-◌, ◌*◌, ◌/◌, Bool, nat_le, ◌==◌, Option, Some, None, min, if◌then◌else◌}
 use Rattle.aim_msg.specs.declared.messages.Params.{Params}
 use Rattle.aim_geometry.specs.Bounded.{ceil_div}
 
@@ -24,3 +24,12 @@ way speed a greatest (Some q) k = ramp speed a (min k q) + greatest * (k - q)
 -- where the front is at the beginning of crossing step k
 abbrev pub front : Params → Bool → ℕ → ℕ
 front p fast k = way p.speed (gain p fast) p.max_speed (top_step p.speed (gain p fast) p.max_speed) k
+
+-- the sum of a function's values at the numbers below n
+abbrev pub sum_below : ℕ → (ℕ → ℕ) → ℕ
+sum_below zero f = 0
+sum_below (suc n) f = sum_below n f + f n
+
+-- the speed in crossing step k
+abbrev pub speed_in : Params → Bool → ℕ → ℕ
+speed_in p fast k = min (p.speed + gain p fast * k) p.max_speed
