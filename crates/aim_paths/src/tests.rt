@@ -363,7 +363,7 @@ fn twelve() -> [Realistic; 12] {
 }
 
 /// The layout of these lanes on a ground of 48 by 48 tiles.
-fn realistic(alloc: Global, lanes: &[Realistic]) -> Result<Layout, Fail> {
+fn realistic(alloc: Global, lanes: &[Realistic; 12]) -> Result<Layout, Fail> {
     let grid = Grid {
         side: 24000,
         n: 48,
@@ -382,7 +382,7 @@ fn realistic(alloc: Global, lanes: &[Realistic]) -> Result<Layout, Fail> {
     };
     let mut builder = Builder::new(alloc, Ground::build(grid, times)?, 12)?;
     for (lane, wanted) in lanes.iter().enumerate() {
-        builder.add_move((lane as u32 % 16), wanted.turn, wanted.shape)?;
+        builder.add_move(lane as u32, wanted.turn, wanted.shape)?;
     }
     builder.add_policy(Kind::Fcfs)?;
     Ok(builder.finish()?)
