@@ -50,7 +50,7 @@ operator_again ws = refl
 vehicle_again : (n : ℕ) (ws : Words) → n < 65536 → read_in callers caller_of (decimal n ∷ ws) ≡ Ok (Some n, ws)
 vehicle_again n ws small =
     word_again callers caller_of (decimal n) ws (Some n) (either_good 111 _ 65535 n ws (omega arith) (omega arith) (omega arith))
-      (rw (not_letter (decimal n) 111 (codes "perator") (digit_begins n (omega arith)) (omega arith), value_decimal n (omega arith)) refl)
+    (rw (not_letter (decimal n) 111 (codes "perator") (digit_begins n (omega arith)) (omega arith), value_decimal n (omega arith)) refl)
 
 held_again : (held : Option ℕ) (ws : Words) → IfSome held Is32 → read_in helds held_of (held_word held ∷ ws) ≡ Ok (held, ws)
 unfolding read_in
@@ -170,7 +170,7 @@ call_again caller moment (act.Message m) r c t a s =
     rw (vehicle_again caller _ c, n32 moment _ t, message_act_again caller m.seq m.body _ a.seq a.body, arrow_again _, answer_again r s) refl
 call_again caller moment (act.Order o) r c t a s =
     rw (operator_again _, n32 moment _ t, order_act_again o _ a, arrow_again _, answer_again r s)
-      (ap (λ v. Ok (record { caller = v; moment = moment; act = act.Order o; reply = r }, [])) (sym c))
+    (ap (λ v. Ok (record { caller = v; moment = moment; act = act.Order o; reply = r }, [])) (sym c))
 
 held_is_word : (held : Option ℕ) → IfSome held Is32 → IsWord (held_word held)
 held_is_word None h = refl
@@ -232,7 +232,7 @@ entry_again place e p r c =
     let tail : Words = act_words e.act ++ codes "->" ∷ reply_words e.reply in
     let more = words_append (act_words e.act) _ (act_are_words e.act r.act) (refl, reply_are_words e.reply r.reply) in
     let split : words_of (entry_text place e) ≡ entry_words place e =
-        words_spaced (decimal place) (caller_word e.caller e.act ∷ decimal e.moment ∷ tail) (w32 place p, (caller_is_word e.caller e.act c, (w32 e.moment r.moment, more))) in
+    words_spaced (decimal place) (caller_word e.caller e.act ∷ decimal e.moment ∷ tail) (w32 place p, (caller_is_word e.caller e.act c, (w32 e.moment r.moment, more))) in
     ap entry_in split ∙ sym (entry_is (entry_words place e))
     ∙ rw (n32 place _ p, call_again e.caller e.moment e.act e.reply c r.moment r.act r.reply) refl
 

@@ -134,9 +134,9 @@ refusal : {B : Type 0} (w : List ℕ) (ws : Words) (f : Reply × Words → Resul
 refusal w ws f b later (Ok r) words h =
     let left : behind (reason_places r ++ standing_places) ws ≡ from 4 (behind (reason_places r) ws) = behind_append (reason_places r) standing_places ws in
     let h' : f (reject_of (reason_of r ws) (behind (reason_places r) ws), from 4 (behind (reason_places r) ws)) ≡ unless b later =
-        ap (λ ws'. f (reject_of (reason_of r ws) (behind (reason_places r) ws), ws')) (sym left) ∙ h in
+    ap (λ ws'. f (reject_of (reason_of r ws) (behind (reason_places r) ws), ws')) (sym left) ∙ h in
     reason_more r ws _ f b (faults_then standing_places (behind (reason_places r) ws) later)
-        (standing_step (reason_of r ws) (behind (reason_places r) ws) f b later h')
+    (standing_step (reason_of r ws) (behind (reason_places r) ws) f b later h')
     ∙ ap (unless b) (sym (then_append (reason_places r) standing_places ws later))
 refusal w ws f b later (Err k) words h = ap Err (words k refl)
 
@@ -189,18 +189,18 @@ behind_arrow caller ws = rest (behind (act_places caller ws) ws)
 -- the faults of an entry's words, part by part
 all_places : (ws : Words) → text_fault (entry_places ws) ws
     ≡ faults_then (number32 ∷ callers ∷ number32 ∷ []) ws
-        (faults_then (act_places (caller_of (word_at ws 1)) (from 3 ws)) (from 3 ws)
-          (faults_then (just (codes "->") ∷ []) (behind (act_places (caller_of (word_at ws 1)) (from 3 ws)) (from 3 ws))
-            (faults_then (answers (behind_arrow (caller_of (word_at ws 1)) (from 3 ws))) (behind_arrow (caller_of (word_at ws 1)) (from 3 ws))
-              (surplus_fault (behind (answers (behind_arrow (caller_of (word_at ws 1)) (from 3 ws))) (behind_arrow (caller_of (word_at ws 1)) (from 3 ws)))))))
+    (faults_then (act_places (caller_of (word_at ws 1)) (from 3 ws)) (from 3 ws)
+    (faults_then (just (codes "->") ∷ []) (behind (act_places (caller_of (word_at ws 1)) (from 3 ws)) (from 3 ws))
+    (faults_then (answers (behind_arrow (caller_of (word_at ws 1)) (from 3 ws))) (behind_arrow (caller_of (word_at ws 1)) (from 3 ws))
+    (surplus_fault (behind (answers (behind_arrow (caller_of (word_at ws 1)) (from 3 ws))) (behind_arrow (caller_of (word_at ws 1)) (from 3 ws)))))))
 all_places ws =
     let caller : Option ℕ = caller_of (word_at ws 1) in
     let acts : List Place = act_places caller (from 3 ws) in
     let more : List Place = just (codes "->") ∷ answers (behind_arrow caller (from 3 ws)) in
     first_then (entry_places ws) ws (surplus_fault (behind (entry_places ws) ws))
     ∙ ap (faults_then (number32 ∷ callers ∷ number32 ∷ []) ws)
-        (then_append acts more (from 3 ws) (surplus_fault (behind (entry_places ws) ws))
-          ∙ ap (λ ws'. faults_then acts (from 3 ws) (faults_then more (behind acts (from 3 ws)) (surplus_fault ws'))) (behind_append acts more (from 3 ws)))
+    (then_append acts more (from 3 ws) (surplus_fault (behind (entry_places ws) ws))
+    ∙ ap (λ ws'. faults_then acts (from 3 ws) (faults_then more (behind acts (from 3 ws)) (surplus_fault ws'))) (behind_append acts more (from 3 ws)))
 
 -- the act, the arrow and the reply
 pub entry_is : (ws : Words) → entry_steps ws ≡ entry_in ws
@@ -211,5 +211,5 @@ entry_is ws =
     let reply : Words = behind_arrow caller act in
     let end : Words = behind (answer_places (reply_form (first reply)) reply) reply in
     bind_read _ _ _ _ _ _
-        (bind_more _ _ _ _ _ _ _ (bind_more _ _ _ _ _ _ _ (act_more caller act _ _ _ _ (bind_more _ _ _ _ _ _ _ (answer_more reply _ _ _ _ (end_step end (at ws 0, entry_of ws)))))))
+    (bind_more _ _ _ _ _ _ _ (bind_more _ _ _ _ _ _ _ (act_more caller act _ _ _ _ (bind_more _ _ _ _ _ _ _ (answer_more reply _ _ _ _ (end_step end (at ws 0, entry_of ws)))))))
     ∙ ap (unless (at ws 0, entry_of ws)) (sym (all_places ws))

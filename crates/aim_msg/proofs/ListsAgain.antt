@@ -55,12 +55,12 @@ fate_again : (f : ℕ) → f ≤ 257 → unless (fate_of (fate_word f)) (word_fa
 fate_again f most = elim (cases_Bool (f == 0)) [
   | inl d ↦ rw d (ap Ok (sym (eqb-true f 0 d)))
   | inr not_d ↦ elim (cases_Bool (f == 256)) [
-      | inl l ↦ rw (not_d, l) (ap Ok (sym (eqb-true f 256 l)))
-      | inr not_l ↦ elim (cases_Bool (f == 257)) [
-          | inl r ↦ rw (not_d, not_l, r) (ap Ok (sym (eqb-true f 257 r)))
-          | inr not_r ↦ rw (not_d, not_l, not_r) (delay_again f (positive f not_d) (delay f most not_l not_r))
-        ]
+    | inl l ↦ rw (not_d, l) (ap Ok (sym (eqb-true f 256 l)))
+    | inr not_l ↦ elim (cases_Bool (f == 257)) [
+      | inl r ↦ rw (not_d, not_l, r) (ap Ok (sym (eqb-true f 257 r)))
+      | inr not_r ↦ rw (not_d, not_l, not_r) (delay_again f (positive f not_d) (delay f most not_l not_r))
     ]
+  ]
 ]
   where
     positive : (f : ℕ) → (f == 0) ≡ false → 1 ≤ f

@@ -119,9 +119,9 @@ pub two_back : (this that w : List ℕ) → is_one_of (that ∷ this ∷ []) w �
 two_back this that w h = elim (cases_Bool (bytes_eq w this)) [
   | inl is ↦ rw is (sym (same_word w this is))
   | inr not ↦ rw not (elim (cases_Bool (bytes_eq w that)) [
-      | inl is ↦ sym (same_word w that is)
-      | inr neither ↦ absurd (cc (rw (neither, not) at h))
-    ])
+    | inl is ↦ sym (same_word w that is)
+    | inr neither ↦ absurd (cc (rw (neither, not) at h))
+  ])
 ]
 
 pub class_back : (ws : Words) → fault_at classes ws ≡ None → class_word (is_emergency (first ws)) ≡ first ws
@@ -157,24 +157,24 @@ kind_most version ws h = elim (cases_Bool (version == 3)) [
     at_most_3 w = elim (cases_Bool (bytes_eq w (codes "fcfs"))) [
       | inl is ↦ rw is (omega arith)
       | inr not_0 ↦ rw not_0 (elim (cases_Bool (bytes_eq w (codes "emerg"))) [
+        | inl is ↦ rw is (omega arith)
+        | inr not_1 ↦ rw not_1 (elim (cases_Bool (bytes_eq w (codes "light"))) [
           | inl is ↦ rw is (omega arith)
-          | inr not_1 ↦ rw not_1 (elim (cases_Bool (bytes_eq w (codes "light"))) [
-              | inl is ↦ rw is (omega arith)
-              | inr not_2 ↦ rw not_2 (omega arith)
-            ])
+          | inr not_2 ↦ rw not_2 (omega arith)
         ])
+      ])
     ]
 
     at_most_2 : (w : List ℕ) → is_one_of (codes "fcfs" ∷ codes "emerg" ∷ codes "light" ∷ []) w ≡ true → kind_of w ≤ 2
     at_most_2 w h = elim (cases_Bool (bytes_eq w (codes "fcfs"))) [
       | inl is ↦ rw is (omega arith)
       | inr not_0 ↦ rw not_0 (elim (cases_Bool (bytes_eq w (codes "emerg"))) [
+        | inl is ↦ rw is (omega arith)
+        | inr not_1 ↦ rw not_1 (elim (cases_Bool (bytes_eq w (codes "light"))) [
           | inl is ↦ rw is (omega arith)
-          | inr not_1 ↦ rw not_1 (elim (cases_Bool (bytes_eq w (codes "light"))) [
-              | inl is ↦ rw is (omega arith)
-              | inr not_2 ↦ absurd (cc (rw (not_0, not_1, not_2) at h))
-            ])
+          | inr not_2 ↦ absurd (cc (rw (not_0, not_1, not_2) at h))
         ])
+      ])
     ]
 
 -- a name, and one of 1 to 16 bytes
@@ -192,12 +192,13 @@ name_is (w ∷ ws) h = parts (is_name_parts (is_name w) refl h)
         let lens = and_parts (nat_lt 0 (length w)) (nat_le (length w) 16) both.0 in
         let some : 0 < length w = ltb-true 0 (length w) lens.0 in
         let most : length w ≤ 16 = leb-true (length w) 16 lens.1 in
-        let front : take (length w) (w ++ replicate (16 - length w) 0) ≡ w = take-append_seam w (replicate (16 - length w) 0) in
-        ( record {
+        let front : take (length w) (w ++ replicate (16 - length w) 0) ≡ w = take-append_seam w (replicate (16 - length w) 0) in (
+          record {
             some = some;
             most = most;
             bytes = rw front both.1;
             rest = drop-append_seam w (replicate (16 - length w) 0);
-          }
-        , omega (arith, length-append w (replicate (16 - length w) 0), length-replicate {A = ℕ} (16 - length w) 0)
-        , front )
+          },
+          omega (arith, length-append w (replicate (16 - length w) 0), length-replicate {A = ℕ} (16 - length w) 0),
+          front,
+        )

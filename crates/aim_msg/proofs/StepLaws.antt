@@ -61,8 +61,15 @@ faults_then (p ∷ ps) words later = option_or (fault_at p words) (faults_then p
 
 abbrev vehicle_at : ℕ → Turn → ℕ → Words → Params
 vehicle_at lane turn arrive words = record {
-  lane = lane; turn = turn; arrive = arrive; speed = at words 0; max_speed = at words 1; accel = at words 2;
-  length = at words 3; width = at words 4; emergency = is_emergency (word_at words 5);
+  lane = lane;
+  turn = turn;
+  arrive = arrive;
+  speed = at words 0;
+  max_speed = at words 1;
+  accel = at words 2;
+  length = at words 3;
+  width = at words 4;
+  emergency = is_emergency (word_at words 5);
 }
 
 vehicle_step : {B : Type 0} (lane : ℕ) (turn : Turn) (arrive : ℕ) (ws : Words) (f : Params × Words → Result B LineKind) (b : B) (later : Option LineKind)
