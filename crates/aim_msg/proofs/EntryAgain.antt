@@ -1,9 +1,7 @@
 -- An entry that is spelled is read again.
-use Rattle.std.proofs.Common.{◌≡◌, ℕ, zero, suc, ◌+◌, ◌-◌, ◌^◌, ◌<◌, ◌≤◌, ◌&&◌, Bool, true, false, List, [], ◌∷◌, ◌++◌, length, Option, Some, None, unwrap_or, IfSome, Result, Ok, Err, decimal, codes, refl, sym, ap, ◌∙◌, arith}
-use Rattle.std.specs.Prelude.{bytes_eq, if◌then◌else◌}
+use Rattle.std.proofs.Common.{◌≡◌, ℕ, ◌^◌, ◌<◌, ◌≤◌, Bool, true, false, List, [], ◌∷◌, ◌++◌, length, Option, Some, None, IfSome, Result, Ok, Err, decimal, codes, refl, sym, ap, ◌∙◌, arith}
 use Rattle.aim_msg.specs.declared.messages.Body.{Body}
 use Rattle.aim_msg.specs.declared.messages.Body.TheVariants as body
-use Rattle.aim_msg.specs.declared.messages.Message.{Message}
 use Rattle.aim_msg.specs.declared.entries.Act.{Act}
 use Rattle.aim_msg.specs.declared.entries.Act.TheVariants as act
 use Rattle.aim_msg.specs.declared.entries.Order.{Order}
@@ -16,15 +14,13 @@ use Rattle.aim_msg.specs.declared.replies.Reason.TheVariants as reason
 use Rattle.aim_msg.specs.declared.replies.Reply.{Reply}
 use Rattle.aim_msg.specs.declared.replies.Reply.TheVariants as reply
 use Rattle.aim_msg.specs.declared.script.LineKind.{LineKind}
-use Rattle.aim_msg.specs.declared.reading.forms.ReplyForm.{ReplyForm}
 use Rattle.aim_msg.specs.declared.reading.forms.ReasonForm.{ReasonForm}
 use Rattle.aim_msg.specs.declared.reading.forms.ReasonForm.TheVariants as why
-use Rattle.aim_msg.specs.Texts.{Words, spaced, body_words, message_words, act_words, field_word, reason_words, held_word, pace_word, reply_words, reply_text, caller_word, entry_words, entry_text, IsCallerOf}
-use Rattle.aim_msg.specs.Faults.{Place, either, just, first, rest, words_of, value_of, begins_with_digit, fault_at}
-use Rattle.aim_msg.specs.Forms.{reason_form, reply_form}
-use Rattle.aim_msg.specs.Entries.{callers, caller_of, paces, is_fast, fields, field_of, number64, helds, held_of, entry_in, entry_at}
-use Rattle.aim_msg.specs.Ranges.{Is32, Is8, IsBody, IsMessage, IsAct, IsReason, IsReply, IsEntry}
-use Rattle.aim_msg.specs.Steps.{◌>>=◌, Read, read_in, number_in, message_in}
+use Rattle.aim_msg.specs.Texts.{Words, spaced, body_words, act_words, field_word, reason_words, held_word, pace_word, reply_words, reply_text, caller_word, entry_words, entry_text, IsCallerOf}
+use Rattle.aim_msg.specs.Faults.{either, just, rest, words_of, begins_with_digit, fault_at}
+use Rattle.aim_msg.specs.Entries.{callers, caller_of, paces, is_fast, fields, field_of, helds, held_of, entry_in, entry_at}
+use Rattle.aim_msg.specs.Ranges.{Is32, IsBody, IsAct, IsReason, IsReply, IsEntry}
+use Rattle.aim_msg.specs.Steps.{Read, read_in}
 use Rattle.aim_msg.specs.EntrySteps.{word_in, nothing, end_in, order_in, act_in, green_in, taken_in, reason_in, confirm_in, standing_in, reject_in, reply_in, answer_in, call_in, entry_steps}
 use Rattle.aim_msg.proofs.Numbers.{number_good, value_decimal, decimal_number, number_begins}
 use Rattle.aim_msg.proofs.WordLaws.{IsWord, AreWords, words_spaced, words_append}

@@ -1,18 +1,13 @@
 -- What is read as an entry is spelled so.
-use Rattle.std.proofs.Common.{◌≡◌, ℕ, zero, suc, ◌+◌, ◌-◌, ◌^◌, ◌<◌, ◌≤◌, ◌&&◌, ◌||◌, nat_lt, Bool, true, false, not, List, [], ◌∷◌, ◌++◌, length, Option, Some, None, unwrap_or, IfSome, Result, Ok, Err, decimal, codes, refl, sym, ap, subst, ◌∙◌, arith, inl, inr, append_assoc, append-nil}
+use Rattle.std.proofs.Common.{◌≡◌, ℕ, ◌^◌, ◌<◌, ◌&&◌, ◌||◌, nat_lt, Bool, true, false, not, List, [], ◌∷◌, ◌++◌, Option, Some, None, unwrap_or, IfSome, Result, Ok, Err, decimal, codes, refl, sym, ap, subst, ◌∙◌, arith, inl, inr, append_assoc, append-nil}
 use Rattle.std.specs.Prelude.{bytes_eq, if◌then◌else◌}
-use Rattle.std.specs.Option.{option_or}
 use Rattle.std.proofs.lemmas.Bool.{cases_Bool, and_parts, ltb-true}
 use Rattle.std.proofs.lemmas.List.Splits.{join_with_byte-slice_split}
-use Rattle.aim_msg.specs.declared.messages.Message.{Message}
 use Rattle.aim_msg.specs.declared.entries.Act.{Act}
 use Rattle.aim_msg.specs.declared.entries.Act.TheVariants as act
-use Rattle.aim_msg.specs.declared.entries.Order.{Order}
 use Rattle.aim_msg.specs.declared.entries.Entry.{Entry}
-use Rattle.aim_msg.specs.declared.replies.Field.{Field}
 use Rattle.aim_msg.specs.declared.replies.Field.TheVariants as field
 use Rattle.aim_msg.specs.declared.replies.Reason.{Reason}
-use Rattle.aim_msg.specs.declared.replies.Reply.{Reply}
 use Rattle.aim_msg.specs.declared.script.LineKind.{LineKind}
 use Rattle.aim_msg.specs.declared.script.LineKind.TheVariants as kind
 use Rattle.aim_msg.specs.declared.reading.forms.MessageForm.{MessageForm}
@@ -24,15 +19,15 @@ use Rattle.aim_msg.specs.declared.reading.forms.ReplyForm.TheVariants as answer
 use Rattle.aim_msg.specs.declared.reading.forms.ReasonForm.{ReasonForm}
 use Rattle.aim_msg.specs.declared.reading.forms.ReasonForm.TheVariants as why
 use Rattle.aim_msg.specs.Texts.{Words, spaced, message_words, act_words, field_word, reason_words, held_word, pace_word, reply_words, caller_word, entry_words, entry_text, IsCallerOf}
-use Rattle.aim_msg.specs.Faults.{Place, chosen, keyword, name, number, either, just, first, rest, from, word_at, words_of, is_one_of, is_number, begins_with_digit, number_fault, value_of, fault_at, first_fault, behind, surplus_fault, text_fault, number32, number8}
+use Rattle.aim_msg.specs.Faults.{Place, chosen, keyword, name, number, either, just, first, rest, from, word_at, words_of, begins_with_digit, number_fault, value_of, fault_at, first_fault, behind, surplus_fault, text_fault, number32}
 use Rattle.aim_msg.specs.Forms.{message_form, order_form, reply_form, reason_form, reply_forms, reason_forms, message_places}
 use Rattle.aim_msg.specs.Reading.{at, unless, message_of}
-use Rattle.aim_msg.specs.Entries.{callers, caller_of, paces, is_fast, fields, field_of, number64, helds, held_of, standing_places, reason_places, reason_of, reject_of, refusal_places, refusal_of, reply_places, reply_of, answer_places, answer_of, order_places, order_of, order_act_places, order_act_of, message_act_places, message_act_of, act_places, act_of, call_places, call_of, entry_places, entry_of, entry_in, entry_at}
-use Rattle.aim_msg.specs.Ranges.{Is32, Is8, AreParams, IsMessage, IsAct, IsReason, IsReply, IsEntry}
+use Rattle.aim_msg.specs.Entries.{callers, caller_of, paces, is_fast, fields, field_of, number64, helds, held_of, standing_places, reason_places, reason_of, reject_of, refusal_places, refusal_of, reply_places, reply_of, answer_places, answer_of, order_places, order_of, order_act_places, order_act_of, message_act_places, message_act_of, act_places, act_of, entry_places, entry_of, entry_at}
+use Rattle.aim_msg.specs.Ranges.{Is32, IsMessage, IsAct, IsReason, IsReply, IsEntry}
 use Rattle.aim_msg.proofs.Numbers.{IsNumberIn, number_in_from, decimal_value}
 use Rattle.aim_msg.proofs.NoFaults.{NoFaults, no_faults, or_none}
 use Rattle.aim_msg.proofs.Spelled.{respelled, number_at_place, same_word, turn_back, class_back, keyword_allowed, meaning_last, two_back}
-use Rattle.aim_msg.proofs.LineSpelled.{in32, in8, d32, look_up_has, message_key, message_chosen, order_key, order_chosen}
+use Rattle.aim_msg.proofs.LineSpelled.{in32, in8, look_up_has, message_key, message_chosen, order_key, order_chosen}
 use Rattle.aim_msg.proofs.EntryStepLaws.{behind_append}
 
 -- places that want a word, and numbers of at most 64 bits

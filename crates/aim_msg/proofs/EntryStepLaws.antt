@@ -1,5 +1,5 @@
 -- Reading an entry word by word gives what the tables of places say.
-use Rattle.std.proofs.Common.{◌≡◌, ℕ, Bool, true, false, List, [], ◌∷◌, ◌++◌, Option, Some, None, Result, Ok, Err, unwrap_or, codes, refl, sym, ap, ◌∙◌, cond}
+use Rattle.std.proofs.Common.{◌≡◌, ℕ, List, [], ◌∷◌, ◌++◌, Option, Some, None, Result, Ok, Err, codes, refl, sym, ap, ◌∙◌}
 use Rattle.std.specs.Option.{option_or}
 use Rattle.std.specs.Prelude.{bytes_eq}
 use Rattle.std.proofs.lemmas.Bool.{cases_Bool}
@@ -8,7 +8,6 @@ use Rattle.aim_msg.specs.declared.messages.Message.{Message}
 use Rattle.aim_msg.specs.declared.entries.Act.{Act}
 use Rattle.aim_msg.specs.declared.entries.Act.TheVariants as act
 use Rattle.aim_msg.specs.declared.entries.Order.{Order}
-use Rattle.aim_msg.specs.declared.entries.Entry.{Entry}
 use Rattle.aim_msg.specs.declared.replies.Reason.{Reason}
 use Rattle.aim_msg.specs.declared.replies.Reply.{Reply}
 use Rattle.aim_msg.specs.declared.script.LineKind.{LineKind}
@@ -21,12 +20,12 @@ use Rattle.aim_msg.specs.declared.reading.forms.ReplyForm.TheVariants as answer
 use Rattle.aim_msg.specs.declared.reading.forms.ReasonForm.{ReasonForm}
 use Rattle.aim_msg.specs.declared.reading.forms.ReasonForm.TheVariants as why
 use Rattle.aim_msg.specs.Texts.{Words}
-use Rattle.aim_msg.specs.Faults.{Place, just, first, rest, from, word_at, fault_at, first_fault, behind, surplus_fault, text_fault, words_of, number32}
+use Rattle.aim_msg.specs.Faults.{Place, just, first, rest, from, word_at, fault_at, first_fault, behind, surplus_fault, text_fault, number32}
 use Rattle.aim_msg.specs.Forms.{look_up, message_forms, order_forms, reply_forms, reason_forms, message_form, order_form, reply_form, reason_form, message_places}
 use Rattle.aim_msg.specs.Reading.{at, unless, message_of}
-use Rattle.aim_msg.specs.Entries.{callers, caller_of, reason_places, reason_of, standing_places, reject_of, refusal_places, refusal_of, reply_places, reply_of, answer_places, answer_of, order_places, order_of, order_act_places, order_act_of, message_act_places, message_act_of, act_places, act_of, call_places, call_of, entry_places, entry_of, entry_in}
-use Rattle.aim_msg.specs.Steps.{◌>>=◌, Read, message_in}
-use Rattle.aim_msg.specs.EntrySteps.{word_in, nothing, end_in, order_in, act_in, green_in, taken_in, reason_in, confirm_in, standing_in, reject_in, reply_in, answer_in, call_in, entry_steps}
+use Rattle.aim_msg.specs.Entries.{callers, caller_of, reason_places, reason_of, standing_places, reject_of, refusal_places, refusal_of, reply_places, reply_of, answer_places, answer_of, order_places, order_of, order_act_places, order_act_of, message_act_places, message_act_of, act_places, act_of, entry_places, entry_of, entry_in}
+use Rattle.aim_msg.specs.Steps.{◌>>=◌, message_in}
+use Rattle.aim_msg.specs.EntrySteps.{word_in, end_in, order_in, act_in, green_in, taken_in, reason_in, confirm_in, standing_in, reject_in, reply_in, answer_in, call_in, entry_steps}
 use Rattle.aim_msg.proofs.StepLaws.{bind_read, bind_more, bind_assoc, faults_then, message_step}
 
 -- the fault of a word in no row

@@ -1,7 +1,6 @@
 -- Sets of lanes as bits, and their numbers in rising order.
-use Rattle.std.proofs.Common.{◌≡◌, ℕ, zero, suc, ◌+◌, ◌-◌, ◌*◌, ◌/◌, ◌%◌, ◌^◌, ◌<◌, ◌≤◌, ◌==◌, Bool, true, false, List, [], ◌∷◌, map, filter, Option, Some, None, Result, Ok, Err, decimal, refl, sym, ap, ◌∙◌, arith, inl, inr, cond, ◌⊎◌}
+use Rattle.std.proofs.Common.{◌≡◌, ℕ, zero, suc, ◌+◌, ◌-◌, ◌*◌, ◌/◌, ◌%◌, ◌^◌, ◌<◌, ◌≤◌, ◌==◌, true, false, List, [], ◌∷◌, map, filter, None, Ok, decimal, refl, sym, ap, ◌∙◌, arith, inl, inr, ◌⊎◌}
 use Rattle.std.specs.List.{range_with_len}
-use Rattle.std.specs.Prelude.{sum_by}
 use Rattle.std.proofs.lemmas.Nat.{div-mul-add, pow_pos, div-add-mod'}
 use Rattle.std.proofs.lemmas.List.Sums.{sum_by-cons}
 use Rattle.std.proofs.Math.Pow.{pow_mono}
@@ -10,7 +9,7 @@ use Rattle.std.proofs.Common.{length, subst, pow-add}
 use Rattle.std.proofs.lemmas.Bool.{cases_Bool, eqb-true, eq-eqb, le-ltb}
 use Rattle.aim_msg.specs.Texts.{Words}
 use Rattle.aim_msg.specs.Lines.{has_lane, all_lanes, lane_words}
-use Rattle.aim_msg.specs.Faults.{value_of, number_fault, word_fault}
+use Rattle.aim_msg.specs.Faults.{value_of, number_fault}
 use Rattle.aim_msg.specs.Forms.{lane_places}
 use Rattle.aim_msg.specs.Reading.{unless, lanes_of}
 use Rattle.aim_msg.specs.Steps.{lanes_in}

@@ -1,16 +1,12 @@
 -- What is read is spelled so.
-use Rattle.std.proofs.Common.{◌≡◌, ◌≢◌, ℕ, zero, suc, ◌+◌, ◌-◌, ◌^◌, ◌<◌, ◌≤◌, ◌==◌, ◌&&◌, ◌||◌, nat_le, nat_lt, Bool, true, false, not, List, [], ◌∷◌, ◌++◌, length, map, take, drop, replicate, Option, Some, None, Result, Ok, Err, decimal, codes, refl, sym, ap, subst, ◌∙◌, arith, inl, inr}
+use Rattle.std.proofs.Common.{◌≡◌, ◌≢◌, ℕ, zero, suc, ◌-◌, ◌^◌, ◌<◌, ◌≤◌, ◌==◌, ◌&&◌, nat_le, Bool, true, false, not, List, [], ◌∷◌, ◌++◌, length, map, take, drop, replicate, Option, Some, None, Result, Ok, Err, decimal, codes, refl, sym, ap, subst, ◌∙◌, arith, inl, inr}
 use Rattle.std.specs.Prelude.{bytes_eq, if◌then◌else◌}
 use Rattle.std.specs.List.{list_all}
-use Rattle.std.proofs.lemmas.Bool.{cases_Bool, and_parts, and_from, eqb-true, eq-eqb, ne_eqb, leb-true, le-leb, ltb-true}
+use Rattle.std.proofs.lemmas.Bool.{cases_Bool, and_parts, eqb-true, eq-eqb, ne_eqb, leb-true, le-leb}
 use Rattle.std.proofs.lemmas.List.{length-append, length-replicate, length-map}
 use Rattle.std.proofs.lemmas.List.Splits.{join_with_byte-slice_split}
 use Rattle.std.proofs.Math.Seq.{take-append_seam, drop-append_seam}
-use Rattle.aim_msg.specs.declared.messages.Turn.{Turn}
-use Rattle.aim_msg.specs.declared.messages.Params.{Params}
-use Rattle.aim_msg.specs.declared.script.FateList.{FateList}
 use Rattle.aim_msg.specs.declared.script.Line.{Line}
-use Rattle.aim_msg.specs.declared.script.Line.TheVariants as line
 use Rattle.aim_msg.specs.declared.script.LineKind.{LineKind}
 use Rattle.aim_msg.specs.declared.script.LineKind.TheVariants as kind
 use Rattle.aim_msg.specs.declared.reading.forms.MessageForm.{MessageForm}
@@ -22,16 +18,15 @@ use Rattle.aim_msg.specs.declared.reading.forms.ShapeForm.TheVariants as way
 use Rattle.aim_msg.specs.declared.reading.forms.LineForm.{LineForm}
 use Rattle.aim_msg.specs.declared.reading.forms.LineForm.TheVariants as form
 use Rattle.aim_msg.specs.Texts.{Words, spaced}
-use Rattle.aim_msg.specs.Lines.{fate_word, fate_words, lane_words, line_words, line_text, IsName, IsFateList, KeepsRanges}
-use Rattle.aim_msg.specs.Faults.{Place, number, first, rest, from, word_at, words_of, is_one_of, begins_with_digit, value_of, number_fault, word_fault, fault_at, first_fault, number32, number8}
-use Rattle.aim_msg.specs.Forms.{look_up, message_forms, order_forms, shape_forms, body_forms, plain_forms, message_form, order_form, shape_form, plain_form, times_form, plan_form, line_form, map_ok, fate, lane_places, fate_places, message_places, shape_places, line_places, has_count}
-use Rattle.aim_msg.specs.Reading.{at, unless, kind_of, fate_of, fates_of, message_of, line_of, form_fault, line_in, line_at}
-use Rattle.aim_msg.specs.Ranges.{Is32, Is8, AreParams, IsMessage, IsLine}
+use Rattle.aim_msg.specs.Lines.{fate_word, fate_words, line_words, line_text, IsFateList, KeepsRanges}
+use Rattle.aim_msg.specs.Faults.{Place, first, rest, from, word_at, words_of, begins_with_digit, value_of, number_fault, word_fault, fault_at, first_fault, number32, number8}
+use Rattle.aim_msg.specs.Forms.{look_up, message_forms, order_forms, shape_forms, plain_forms, message_form, order_form, shape_form, plain_form, times_form, plan_form, line_form, map_ok, fate, fate_places, line_places, has_count}
+use Rattle.aim_msg.specs.Reading.{unless, kind_of, fate_of, fates_of, line_of, form_fault, line_in, line_at}
+use Rattle.aim_msg.specs.Ranges.{Is32, Is8, IsLine}
 use Rattle.aim_msg.proofs.Numbers.{IsNumberIn, number_in_from, decimal_value}
 use Rattle.aim_msg.proofs.NoFaults.{NoFaults, no_faults}
-use Rattle.aim_msg.proofs.Spelled.{respelled, respelled_is, are_small, number_at_place, same_word, turn_back, class_back, window_back, kind_back, kind_most, name_is}
-use Rattle.aim_msg.proofs.LaneLaws.{AreLanes, lanes_are_spelled}
-use Rattle.aim_msg.proofs.ListsAgain.{not_letter}
+use Rattle.aim_msg.proofs.Spelled.{respelled_is, number_at_place, same_word, turn_back, class_back, window_back, kind_back, kind_most, name_is}
+use Rattle.aim_msg.proofs.LaneLaws.{lanes_are_spelled}
 
 pub in32 : (ws : Words) → fault_at number32 ws ≡ None → Is32 (value_of (first ws))
 in32 ws h = let is = number_at_place 0 4294967295 ws h in let most = is.most in omega arith

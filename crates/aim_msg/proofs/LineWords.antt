@@ -1,6 +1,5 @@
 -- The words of lines and entries have no space.
-use Rattle.std.proofs.Common.{◌≡◌, ℕ, zero, suc, ◌+◌, ◌^◌, ◌<◌, ◌≤◌, ◌==◌, ◌&&◌, ◌||◌, nat_le, Bool, true, false, not, List, [], ◌∷◌, ◌++◌, length, map, filter, take, Option, Some, None, decimal, codes, refl, ap, sym, ◌∙◌, arith, inl, inr}
-use Rattle.std.specs.Prelude.{if◌then◌else◌}
+use Rattle.std.proofs.Common.{◌≡◌, ℕ, zero, suc, ◌+◌, ◌≤◌, ◌==◌, nat_le, Bool, true, false, not, List, [], ◌∷◌, map, filter, take, decimal, refl, ap, sym, arith, inl, inr}
 use Rattle.std.specs.List.{list_all, range_with_len}
 use Rattle.std.proofs.lemmas.Bool.{cases_Bool, and_parts, eqb-true, leb-true}
 use Rattle.aim_msg.specs.declared.messages.Turn.{Turn}
@@ -14,7 +13,7 @@ use Rattle.aim_msg.specs.declared.script.MoveShape.TheVariants as shape
 use Rattle.aim_msg.specs.declared.script.Name.{Name}
 use Rattle.aim_msg.specs.declared.script.Line.{Line}
 use Rattle.aim_msg.specs.declared.script.Line.TheVariants as line
-use Rattle.aim_msg.specs.Texts.{Words, turn_word, class_word, vehicle_words, params_words, body_words, message_words}
+use Rattle.aim_msg.specs.Texts.{turn_word, class_word, vehicle_words, params_words, body_words, message_words}
 use Rattle.aim_msg.specs.Lines.{name_word, kind_word, fate_word, window_word, window_words, has_lane, all_lanes, lane_words, shape_words, line_words, IsName, is_name_byte, KeepsRanges}
 use Rattle.aim_msg.specs.Ranges.{Is32, Is8, AreParams, IsBody, IsMessage, IsShape, IsLine}
 use Rattle.aim_msg.proofs.Numbers.{is_no_space, decimal_no_space}

@@ -1,14 +1,13 @@
 -- Reading gives back kinds of policies and lists of fates.
-use Rattle.std.proofs.Common.{◌≡◌, ℕ, zero, suc, ◌+◌, ◌-◌, ◌^◌, ◌<◌, ◌≤◌, ◌==◌, ◌&&◌, ◌||◌, nat_le, Bool, true, false, not, List, [], ◌∷◌, ◌++◌, length, map, take, drop, replicate, Option, Some, None, Result, Ok, Err, decimal, codes, refl, sym, ap, ◌∙◌, arith, inl, inr, append_assoc, append-nil, IsTrue, length-take-le}
+use Rattle.std.proofs.Common.{◌≡◌, ℕ, zero, suc, ◌-◌, ◌^◌, ◌<◌, ◌≤◌, ◌==◌, nat_le, true, false, not, List, [], ◌∷◌, ◌++◌, length, map, take, replicate, Ok, decimal, codes, refl, sym, ap, ◌∙◌, arith, inl, inr, append_assoc, append-nil, length-take-le}
 use Rattle.std.specs.Prelude.{bytes_eq, if◌then◌else◌}
 use Rattle.std.specs.List.{list_all}
-use Rattle.std.proofs.lemmas.Bool.{cases_Bool, and_parts, eqb-true, eq-eqb, ne_eqb, leb-true, le-leb}
+use Rattle.std.proofs.lemmas.Bool.{cases_Bool, and_parts, eqb-true, eq-eqb, ne_eqb, leb-true}
 use Rattle.std.proofs.lemmas.List.{take-append-drop}
 use Rattle.aim_msg.specs.declared.script.FateList.{FateList}
-use Rattle.aim_msg.specs.declared.script.LineKind.{LineKind}
 use Rattle.aim_msg.specs.Texts.{Words}
 use Rattle.aim_msg.specs.Lines.{fate_word, fate_words, kind_word, IsFateList}
-use Rattle.aim_msg.specs.Faults.{Place, keyword, is_digit, begins_with_digit, is_number, is_one_of, value_of, word_fault, number_fault}
+use Rattle.aim_msg.specs.Faults.{keyword, begins_with_digit, word_fault}
 use Rattle.aim_msg.specs.Forms.{fate, kinds}
 use Rattle.aim_msg.specs.Reading.{unless, kind_of, fate_of}
 use Rattle.aim_msg.specs.Steps.{read_in, fates_in}

@@ -1,18 +1,15 @@
 -- Words without a fault are spelled as their values.
-use Rattle.std.proofs.Common.{◌≡◌, ℕ, zero, suc, ◌+◌, ◌-◌, ◌^◌, ◌<◌, ◌≤◌, ◌==◌, ◌&&◌, ◌||◌, nat_lt, nat_le, Bool, true, false, not, List, [], ◌∷◌, ◌++◌, length, map, take, drop, replicate, Option, Some, None, decimal, codes, refl, sym, ap, ◌∙◌, arith, inl, inr, cond}
+use Rattle.std.proofs.Common.{◌≡◌, ℕ, ◌-◌, ◌<◌, ◌≤◌, ◌==◌, ◌&&◌, ◌||◌, nat_lt, nat_le, Bool, true, false, not, List, [], ◌∷◌, ◌++◌, length, take, replicate, None, decimal, codes, refl, sym, ap, ◌∙◌, arith, inl, inr}
 use Rattle.std.specs.Prelude.{bytes_eq, if◌then◌else◌}
-use Rattle.std.specs.List.{list_all, list_any}
+use Rattle.std.specs.List.{list_all}
 use Rattle.std.proofs.lemmas.Bool.{cases_Bool, and_parts, ltb-true, leb-true}
 use Rattle.std.proofs.lemmas.Slice.Eq.{bytes_eq-Decides}
 use Rattle.std.proofs.Math.Seq.{take-append_seam, drop-append_seam}
 use Rattle.std.proofs.lemmas.List.{length-append, length-replicate}
 use Rattle.aim_msg.specs.declared.messages.Turn.TheVariants.{Left, Straight, Right}
-use Rattle.aim_msg.specs.declared.script.Name.{Name}
-use Rattle.aim_msg.specs.declared.script.LineKind.{LineKind}
-use Rattle.aim_msg.specs.declared.script.LineKind.TheVariants as kind
 use Rattle.aim_msg.specs.Texts.{Words, turn_word, class_word}
 use Rattle.aim_msg.specs.Lines.{kind_word, window_word, is_name_byte, name_word, IsName}
-use Rattle.aim_msg.specs.Faults.{Place, chosen, keyword, name, number, either, first, rest, is_number, is_name, begins_with_digit, is_one_of, keyword_fault, number_fault, word_fault, fault_at, value_of, turns, classes}
+use Rattle.aim_msg.specs.Faults.{Place, chosen, keyword, name, number, either, first, rest, is_name, is_one_of, keyword_fault, fault_at, value_of, turns, classes}
 use Rattle.aim_msg.specs.Forms.{kinds, windows}
 use Rattle.aim_msg.specs.Reading.{turn_of, is_emergency, is_early, kind_of, name_of}
 use Rattle.aim_msg.proofs.Numbers.{IsNumberIn, number_in_from, decimal_value}
