@@ -18,6 +18,3 @@ pub mod LaneTileLemmas
 pub mod SoundLemmas
 pub mod ShareLemmas
 pub mod AddedLemmas
-pub mod AnswerLemmas
-pub mod SlowerLemmas
-pub mod AheadLemmas
