@@ -1,5 +1,5 @@
 -- The lines that are taken make the layout that they say.
-use Rattle.std.proofs.Common.{◌≡◌, ℕ, ◌+◌, ◌-◌, ◌<◌, ◌≤◌, inl, inr, Bool, true, false, ◌&&◌, List, [], ◌∷◌, ◌++◌, map, length, slice_get, get_or, set, replicate, Option, Some, None, arith, refl, sym, ◌∙◌, ap, suc, eqb, eq-eqb, append_assoc}
+use Rattle.std.proofs.Common.{◌≡◌, ℕ, ◌-◌, ◌<◌, inl, inr, Bool, true, false, ◌&&◌, List, [], ◌∷◌, ◌++◌, map, length, slice_get, get_or, set, replicate, Option, Some, None, arith, refl, sym, ◌∙◌, ap, suc, eq-eqb, append_assoc}
 use Rattle.std.specs.Prelude.{◌==◌, option_map, if◌then◌else◌}
 use Rattle.std.specs.List.{range_with_len, fold}
 use Rattle.std.specs.Option.{option_or}
@@ -8,14 +8,13 @@ use Rattle.std.proofs.lemmas.List.{append-nil, same_lists, length-set, length-re
 use Rattle.std.proofs.lemmas.List.FromFn.{length-map-range_with_len, get_or-map-range_with_len}
 use Rattle.aim_msg.specs.declared.messages.Turn.{Turn}
 use Rattle.aim_msg.specs.declared.messages.Turn.TheVariants.{Left, Straight, Right}
-use Rattle.aim_geometry.specs.declared.stations.Station.{Station}
 use Rattle.aim_geometry.specs.Sites.{Site}
 use Rattle.aim_paths.specs.declared.policies.Kind.{Kind}
 use Rattle.aim_paths.specs.declared.policies.Phase.{Phase}
 use Rattle.aim_paths.specs.declared.shapes.Shape.{Shape}
 use Rattle.aim_paths.specs.Shapes.{stations_of}
-use Rattle.aim_paths.specs.Intersection.{Intersection, Lane, Policy, path, path_of}
-use Rattle.aim_paths.specs.Building.{no_paths, bare, with_path, with_move, with_policy, with_phase_of, last_policy, phase_fault, move_fault}
+use Rattle.aim_paths.specs.Intersection.{Intersection, Lane, Policy, path_of}
+use Rattle.aim_paths.specs.Building.{no_paths, bare, with_path}
 use Rattle.aim_paths.specs.Added.{Added, AddMove, AddPolicy, AddPhase, added, added_fault, AreTaken, is_turn, shape_of, lane_of, phases_of, policies_of, layout_of}
 use Rattle.aim_paths.proofs.LaneTileLemmas.{path_there}
 use Rattle.aim_paths.proofs.SoundLemmas.{IsMove, IsMove-tests, phase_found}

@@ -5,21 +5,21 @@ use Rattle.aim_msg.specs.declared.messages.Params.{Params}
 use Rattle.aim_msg.specs.declared.messages.Message.{Message}
 use Rattle.aim_msg.specs.declared.entries.Entry.{Entry}
 use Rattle.aim_msg.specs.declared.entries.Act.TheVariants as act
-use Rattle.std.proofs.Common.{inl, inr, ap, ◌∙◌, sym}
+use Rattle.std.proofs.Common.{inl, inr, ◌∙◌, sym}
 use Rattle.aim_paths.specs.Intersection.{Intersection}
 use Rattle.aim_paths.specs.Foot.{crossing_steps, in_foot}
 use Rattle.aim_paths.specs.Cells.{Cell, IsIn, is_kept, in_cells, cells}
 use Rattle.aim_paths.specs.Bad.{bad}
 use Rattle.aim_paths.specs.History.{is_new, is_confirm, now_of, params_of, fresh}
 use Rattle.aim_paths.specs.Reservations.{is_fast, held, is_granted}
-use Rattle.aim_paths.specs.Answer.{Asked, answer, answer_fresh}
+use Rattle.aim_paths.specs.Answer.{answer, answer_fresh}
 use Rattle.aim_geometry.proofs.BoundedLemmas.{some_below_found}
 use Rattle.aim_paths.proofs.TestLemmas.{and_left, more_than}
 use Rattle.aim_paths.proofs.CellLemmas.{cells_has, kept_within}
 use Rattle.aim_paths.proofs.GrantLemmas.{IsGranted, free-disjoint}
-use Rattle.aim_paths.proofs.AnswerLemmas.{Grants, fresh_grants}
+use Rattle.aim_paths.proofs.AnswerLemmas.{fresh_grants}
 use Rattle.aim_paths.proofs.SlowerLemmas.{slower}
-use Rattle.std.specs.Prelude.{◌==◌, Option}
+use Rattle.std.specs.Prelude.{◌==◌}
 use Rattle.aim_paths.specs.History.{Fresh}
 
 -- a needed cell comes after a time that the arrival is later than by more than the edge buffer

@@ -1,5 +1,5 @@
 -- What a Confirm rests on, whichever message it answers.
-use Rattle.std.proofs.Common.{◌≡◌, ℕ, ◌+◌, Bool, true, false, ◌&&◌, not, nat_lt, nat_le, List, Option, Some, None, is_none, refl, sym, subst, ◌∙◌, if◌then◌else◌, unwrap_or}
+use Rattle.std.proofs.Common.{◌≡◌, ℕ, ◌+◌, Bool, true, false, ◌&&◌, not, nat_lt, nat_le, Option, Some, None, is_none, refl, sym, subst, ◌∙◌, if◌then◌else◌, unwrap_or}
 use Rattle.std.specs.Prelude.{option_map}
 use Rattle.std.specs.List.{list_any}
 use Rattle.aim_msg.specs.declared.messages.Params.{Params}

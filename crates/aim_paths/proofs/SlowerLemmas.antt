@@ -11,7 +11,7 @@ use Rattle.aim_geometry.specs.Bounded.{ceil_div, is_outside}
 use Rattle.aim_geometry.specs.declared.stations.Station.{Station}
 use Rattle.aim_geometry.specs.Ground.{is_touched, is_edge}
 use Rattle.aim_paths.specs.Intersection.{Intersection, stations, path}
-use Rattle.aim_paths.specs.Motion.{front, gain, way, top_step}
+use Rattle.aim_paths.specs.Motion.{front}
 use Rattle.aim_paths.specs.Foot.{path_length, crossing_steps, in_foot}
 use Rattle.aim_paths.specs.Cells.{Cell, is_kept, in_cells}
 use Rattle.aim_paths.specs.Bad.{bad, needs_too_many_spans}

@@ -363,7 +363,7 @@ fn twelve() -> [Realistic; 12] {
 }
 
 /// The layout of these lanes on a ground of 48 by 48 tiles.
-fn realistic(alloc: Global, lanes: &[Realistic; 12]) -> Result<Layout, Fail> {
+fn twelve_lane_layout(alloc: Global, lanes: &[Realistic; 12]) -> Result<Layout, Fail> {
     let grid = Grid {
         side: 24000,
         n: 48,
@@ -391,7 +391,7 @@ fn realistic(alloc: Global, lanes: &[Realistic; 12]) -> Result<Layout, Fail> {
 #[test]
 fn twelve_lanes(rt: HostRuntime) -> Result<(), Fail> {
     let lanes = twelve();
-    let layout = realistic(rt.alloc(), &lanes)?;
+    let layout = twelve_lane_layout(rt.alloc(), &lanes)?;
     for (lane, wanted) in lanes.iter().enumerate() {
         assert_lane(&rt, &layout, lane as u8, wanted)?;
     }
