@@ -1,15 +1,14 @@
 -- The columns of one step and row.
-use Rattle.std.proofs.Common.{◌≡◌, ◌≢◌, ◌⊎◌, ℕ, ◌<◌, Bool, true, false, ◌&&◌, ◌||◌, List, [], ◌∷◌, length, slice_index_or, get_or, refl, sym, ap, subst, ◌∙◌, inl, inr, arith}
+use Rattle.std.proofs.Common.{◌≡◌, ◌⊎◌, ℕ, ◌<◌, true, false, ◌&&◌, List, [], ◌∷◌, length, get_or, refl, sym, ap, subst, ◌∙◌, inl, inr}
 use Rattle.std.specs.Prelude.{◌==◌}
-use Rattle.std.specs.List.{list_any}
 use Rattle.std.specs.Cmp.{both_ways as same_tests}
 use Rattle.std.proofs.lemmas.Bool.{and_parts, and_from, and_left, or_parts, or_from, both_ways, cases_order}
 use Rattle.std.proofs.lemmas.Nat.Bits.{bit_at-zero}
 use Rattle.std.proofs.lemmas.List.{get_or_default}
-use Rattle.std.proofs.lemmas.List.Folds.{list_any_at, Any-from_list_any, list_any_none}
+use Rattle.std.proofs.lemmas.List.Folds.{list_any_at, Any-from_list_any}
 use Rattle.aim_pool.specs.declared.spans.Span.{Span}
-use Rattle.aim_pool.specs.Spans.{has_bit, is_at, precedes, in_span, in_spans, has_place, AreRising}
-use Rattle.aim_pool.proofs.Order.{not_before_at, precedes_at, is_at_parts}
+use Rattle.aim_pool.specs.Spans.{has_bit, is_at, in_span, in_spans, has_place, AreRising}
+use Rattle.aim_pool.proofs.Order.{not_before_at, precedes_at}
 
 -- where there is no span of a step and row, no cell is
 pub in_spans-no_place : (spans : List Span) (step row column : ℕ) → has_place spans step row ≡ false → in_spans spans (step, row, column) ≡ false

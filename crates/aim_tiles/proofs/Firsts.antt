@@ -1,14 +1,13 @@
 -- From the first hit of a run to the first taken cell.
-use Rattle.std.proofs.Common.{◌≡◌, ◌≢◌, ◌⊎◌, ℕ, ◌+◌, ◌-◌, ◌*◌, ◌<◌, ◌≤◌, Bool, true, false, not, ◌&&◌, ◌||◌, List, length, get_or, take, drop, Option, Some, None, refl, sym, ap, subst, ◌∙◌, inl, inr, arith}
-use Rattle.std.specs.Prelude.{◌==◌, nat_lt, slice_index, IfSome, IfNone, is_some}
-use Rattle.std.specs.List.{list_any}
+use Rattle.std.proofs.Common.{◌≡◌, ℕ, ◌+◌, ◌-◌, ◌<◌, ◌≤◌, Bool, true, false, not, ◌&&◌, List, length, get_or, take, drop, Option, Some, None, refl, sym, ap, subst, ◌∙◌, inl, inr, arith}
+use Rattle.std.specs.Prelude.{IfSome, IfNone, is_some}
 use Rattle.std.specs.declared.cmp.Ordering.TheVariants.{Less, Equal}
-use Rattle.std.specs.Ordering.{is_le, nat_cmp, ordering_then, is_lt}
-use Rattle.std.proofs.lemmas.Bool.{and_parts, and_from, and_cases, both_ways, false_from_ne_true, cases_lt, cases_order, cases_eq, eqb-true, eq-eqb, lt-ltb, le-ltb}
+use Rattle.std.specs.Ordering.{is_le, nat_cmp}
+use Rattle.std.proofs.lemmas.Bool.{and_parts, and_from, both_ways, false_from_ne_true, cases_lt, cases_order, cases_eq, eq-eqb, lt-ltb, le-ltb}
 use Rattle.std.proofs.lemmas.List.{get_or_default, get_or-drop, get_or-take, length-take, length-drop}
-use Rattle.std.proofs.lemmas.List.Folds.{list_any_at, Any-from_list_any, list_any_none}
+use Rattle.std.proofs.lemmas.List.Folds.{list_any_at, Any-from_list_any}
 use Rattle.aim_pool.specs.declared.spans.Span.{Span}
-use Rattle.aim_pool.specs.Spans.{Cell, has_bit, is_at, precedes, in_span, in_spans, AreRising, AreMarked}
+use Rattle.aim_pool.specs.Spans.{Cell, has_bit, is_at, in_span, in_spans, AreRising, AreMarked}
 use Rattle.aim_pool.proofs.Order.{Precedes, precedes_parts, is_at_parts}
 use Rattle.aim_tiles.specs.Cells.{TakenCells, cell_cmp, has_cell}
 use Rattle.aim_tiles.specs.Pages.{is_marked}
@@ -53,11 +52,11 @@ module _ (spans : List Span) (at : ℕ) (le : at ≤ length spans) where
     pub run_is : (masks : List ℕ) → 0 < count → IsRun rest masks count → IsRun (take count rest) (take count masks) (length (take count rest))
     run_is masks some is = record {
       step = λ k d lt. (let l : k < count = omega (arith, length-run) in
-        ap (λ (s : Span). s.step) (get_or-take count rest k d l) ∙ is.step k d l ∙ ap (λ (s : Span). s.step) (sym (get_or-take count rest 0 d some)));
+          ap (λ (s : Span). s.step) (get_or-take count rest k d l) ∙ is.step k d l ∙ ap (λ (s : Span). s.step) (sym (get_or-take count rest 0 d some)));
       row = λ k d lt. (let l : k < count = omega (arith, length-run) in
-        ap (λ (s : Span). s.row) (get_or-take count rest k d l) ∙ is.row k d l ∙ ap (λ (s : Span). s.row + k) (sym (get_or-take count rest 0 d some)));
+          ap (λ (s : Span). s.row) (get_or-take count rest k d l) ∙ is.row k d l ∙ ap (λ (s : Span). s.row + k) (sym (get_or-take count rest 0 d some)));
       mask = λ k d lt. (let l : k < count = omega (arith, length-run) in
-        get_or-take count masks k 0 l ∙ is.mask k d l ∙ ap (λ (s : Span). s.mask) (sym (get_or-take count rest k d l)));
+          get_or-take count masks k 0 l ∙ is.mask k d l ∙ ap (λ (s : Span). s.mask) (sym (get_or-take count rest k d l)));
     }
 
     -- a cell of the run is one of the spans
@@ -154,20 +153,20 @@ module _ (words : List ℕ) (size horizon now : ℕ) (spans own : List Span) (ta
         let there = place_of_hit (get_or spans hit.at e) other (hit.hit e) in
         elim (cases_order first.place hit.at) [
           | inl same ↦ (
-            let s : cell.0 ≡ other.0 = sym here.0 ∙ ap (λ k. (get_or spans k e).step) same ∙ there.0 in
-            let r : cell.1 ≡ other.1 = sym here.1 ∙ ap (λ k. (get_or spans k e).row) same ∙ there.1 in
-            elim (cases_lt other.2 cell.2) [
-              | inl lower ↦ absurd (both_ways (hits (get_or spans first.place e) (cell.0, cell.1, other.2)) (first.lowest e other.2 lower)
-                  (subst (λ k. hits (get_or spans k e) (cell.0, cell.1, other.2) ≡ true) (sym same) ((λ i. hits (get_or spans hit.at e) (s i, r i, other.2)) ∙ hit.hit e)))
-              | inr le ↦ no_higher_column cell other s r le
-            ])
+              let s : cell.0 ≡ other.0 = sym here.0 ∙ ap (λ k. (get_or spans k e).step) same ∙ there.0 in
+              let r : cell.1 ≡ other.1 = sym here.1 ∙ ap (λ k. (get_or spans k e).row) same ∙ there.1 in
+              elim (cases_lt other.2 cell.2) [
+                | inl lower ↦ absurd (both_ways (hits (get_or spans first.place e) (cell.0, cell.1, other.2)) (first.lowest e other.2 lower)
+                    (subst (λ k. hits (get_or spans k e) (cell.0, cell.1, other.2) ≡ true) (sym same) ((λ i. hits (get_or spans hit.at e) (s i, r i, other.2)) ∙ hit.hit e)))
+                | inr le ↦ no_higher_column cell other s r le
+              ])
           | inr (inl before) ↦ (
-            let p : Precedes (get_or spans first.place e) (get_or spans hit.at e).step (get_or spans hit.at e).row
+              let p : Precedes (get_or spans first.place e) (get_or spans hit.at e).step (get_or spans hit.at e).row
               = precedes_parts (get_or spans first.place e) (get_or spans hit.at e).step (get_or spans hit.at e).row (rising first.place hit.at e before hit.within) in
-            elim (cases_eq cell.0 other.0) [
-              | inl s ↦ lower_row cell other s (let l : (get_or spans first.place e).row < (get_or spans hit.at e).row = p.lower (here.0 ∙ s ∙ sym there.0) in omega (arith, l, here.1, there.1))
-              | inr n ↦ earlier_step cell other (omega (arith, p.no_later, here.0, there.0, n))
-            ])
+              elim (cases_eq cell.0 other.0) [
+                | inl s ↦ lower_row cell other s (let l : (get_or spans first.place e).row < (get_or spans hit.at e).row = p.lower (here.0 ∙ s ∙ sym there.0) in omega (arith, l, here.1, there.1))
+                | inr n ↦ earlier_step cell other (omega (arith, p.no_later, here.0, there.0, n))
+              ])
           | inr (inr after) ↦ absurd (both_ways (hits (get_or spans hit.at e) other) (first.before hit.at e after other) (hit.hit e))
         ]
 
@@ -183,12 +182,12 @@ module _ (words : List ℕ) (size horizon now : ℕ) (spans own : List Span) (ta
 
 -- the same for what a search gives
 pub taken_found : (words : List ℕ) (size horizon now : ℕ) (spans read own : List Span) (table : TakenCells) (found : Option Cell) → view_of words size horizon now ≡ table → read ≡ spans → AreRising read
-  → IfSome found (IsFirstHit (is_hit words size horizon now own) read) → IfSome found (IsFirst (is_taken table spans own))
+    → IfSome found (IsFirstHit (is_hit words size horizon now own) read) → IfSome found (IsFirst (is_taken table spans own))
 taken_found words size horizon now spans read own table found is same rising first =
     some_then found (IsFirstHit (is_hit words size horizon now own) read) (IsFirst (is_taken table spans own))
-      (λ cell hit. subst (λ (ss : List Span). IsFirst (is_taken table ss own) cell) same (first_taken_is words size horizon now read own table is rising cell hit)) first
+    (λ cell hit. subst (λ (ss : List Span). IsFirst (is_taken table ss own) cell) same (first_taken_is words size horizon now read own table is rising cell hit)) first
 
 pub taken_none : (words : List ℕ) (size horizon now : ℕ) (spans read own : List Span) (table : TakenCells) (found : Option Cell) → view_of words size horizon now ≡ table → read ≡ spans
-  → IfNone found ((k : ℕ) (d : Span) → k < length read → IsClear (is_hit words size horizon now own) (get_or read k d)) → IfNone found ((cell : Cell) → is_taken table spans own cell ≡ false)
+    → IfNone found ((k : ℕ) (d : Span) → k < length read → IsClear (is_hit words size horizon now own) (get_or read k d)) → IfNone found ((cell : Cell) → is_taken table spans own cell ≡ false)
 taken_none words size horizon now spans read own table None is same clear = λ cell. subst (λ (ss : List Span). is_taken table ss own cell ≡ false) same (none_taken words size horizon now read own table is clear cell)
 taken_none words size horizon now spans read own table (Some cell) is same clear = tt

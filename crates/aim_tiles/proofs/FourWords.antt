@@ -1,5 +1,5 @@
 -- Four words at once.
-use Rattle.std.proofs.Common.{◌≡◌, ℕ, zero, suc, ◌+◌, ◌-◌, ◌<◌, ◌≤◌, Bool, true, false, not, List, [], ◌∷◌, length, get_or, take, drop, refl, sym, ap, subst, ◌∙◌, arith}
+use Rattle.std.proofs.Common.{◌≡◌, ℕ, zero, suc, ◌+◌, ◌-◌, ◌<◌, ◌≤◌, false, not, List, [], ◌∷◌, length, get_or, take, drop, refl, sym, subst, ◌∙◌, arith}
 use Rattle.std.specs.Prelude.{bit_and, bit_or, ◌==◌}
 use Rattle.std.specs.Simd.Lanes.{zip2, fold_l}
 use Rattle.std.proofs.lemmas.Bool.{not-false, eqb-true}
@@ -18,14 +18,14 @@ fold_none (x ∷ xs) a e =
     each x xs e rest (suc k) = rest k
 
 pub four_apart : (left right : List ℕ) (at : ℕ) → at + 4 ≤ length left → at + 4 ≤ length right → not (fold_l bit_or 0 (zip2 bit_and (take 4 (drop at left)) (take 4 (drop at right))) == 0) ≡ false
-  → (k : ℕ) → at ≤ k → k < at + 4 → bit_and (get_or left k 0) (get_or right k 0) ≡ 0
+    → (k : ℕ) → at ≤ k → k < at + 4 → bit_and (get_or left k 0) (get_or right k 0) ≡ 0
 four_apart left right at fits_left fits_right none k from below =
     let i : ℕ = k - at in
     let n : length (take 4 (drop at left)) ≡ 4 = length-chunk at 4 left fits_left in
     let m : length (take 4 (drop at right)) ≡ 4 = length-chunk at 4 right fits_right in
     let each = (fold_none (zip2 bit_and (take 4 (drop at left)) (take 4 (drop at right))) 0 (eqb-true _ 0 (not-false _ none))).1 in
     let here : bit_and (get_or (take 4 (drop at left)) (k - at) 0) (get_or (take 4 (drop at right)) (k - at) 0) ≡ 0 =
-      sym (get_or-zip2 bit_and (take 4 (drop at left)) (take 4 (drop at right)) (k - at) 0 0 0 (omega arith) (omega arith)) ∙ each (k - at) in
+    sym (get_or-zip2 bit_and (take 4 (drop at left)) (take 4 (drop at right)) (k - at) 0 0 0 (omega arith) (omega arith)) ∙ each (k - at) in
     let a : get_or (take 4 (drop at left)) (k - at) 0 ≡ get_or left (at + (k - at)) 0 = get_or-chunk at 4 left (k - at) 0 (omega arith) in
     let b : get_or (take 4 (drop at right)) (k - at) 0 ≡ get_or right (at + (k - at)) 0 = get_or-chunk at 4 right (k - at) 0 (omega arith) in
     let e : at + (k - at) ≡ k = omega arith in

@@ -5,3 +5,4 @@ pub mod Clears
 pub mod Views
 pub mod Hits
 pub mod Firsts
+pub mod Bounds

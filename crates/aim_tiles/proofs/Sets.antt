@@ -1,16 +1,15 @@
 -- The set of a table's marked cells.
-use Rattle.std.proofs.Common.{◌≡◌, ◌≢◌, ◌⊎◌, ℕ, zero, suc, ◌+◌, ◌<◌, ◌≤◌, Bool, true, false, ◌&&◌, ◌||◌, List, [], ◌∷◌, ◌++◌, refl, sym, ap, subst, ◌∙◌, inl, inr, arith}
+use Rattle.std.proofs.Common.{◌≡◌, ℕ, zero, suc, ◌+◌, ◌<◌, ◌≤◌, Bool, true, ◌&&◌, ◌||◌, List, refl, sym, ap, subst, ◌∙◌, inl, inr, arith}
 use Rattle.std.specs.Prelude.{◌==◌, nat_le, nat_lt}
-use Rattle.std.specs.declared.cmp.Ordering.TheVariants.{Equal}
 use Rattle.std.specs.List.{list_any}
-use Rattle.std.specs.Ordering.{nat_cmp, ordering_then, eq_by_cmp, is_eq, on}
+use Rattle.std.specs.Ordering.{nat_cmp, ordering_then, eq_by_cmp}
 use Rattle.std.specs.Cmp.{IsTotalOrder, then_total, on_total, nat_cmp_total, tied_then, unsigned_tied, Equal-is, both_ways as same_tests}
 use Rattle.std.specs.FinSet as set
-use Rattle.std.proofs.lemmas.Bool.{and_parts, and_from, or_cases, or_left, or_right, eqb-true, eq-eqb, lt-ltb, ltb-true, le-leb, leb-true, cases_lt, cases_order}
+use Rattle.std.proofs.lemmas.Bool.{and_parts, and_from, or_cases, or_left, or_right, eqb-true, eq-eqb, lt-ltb, ltb-true, le-leb, leb-true, cases_order}
 use Rattle.std.proofs.lemmas.List.Folds.{list_any-append}
-use Rattle.aim_pool.specs.Spans.{Cell, has_bit}
-use Rattle.aim_tiles.specs.Cells.{Cells, cell_cmp, in_box, in_range}
-use Rattle.aim_tiles.specs.Pages.{place_of, has_mark, is_marked, column_cells, row_cells, step_cells, marked_cells}
+use Rattle.aim_pool.specs.Spans.{Cell}
+use Rattle.aim_tiles.specs.Cells.{cell_cmp, in_box, in_range}
+use Rattle.aim_tiles.specs.Pages.{has_mark, is_marked, column_cells, row_cells, step_cells, marked_cells}
 
 pub cell_cmp_total : IsTotalOrder cell_cmp
 cell_cmp_total = then_total (on_total (λ (c : Cell). c.0) nat_cmp_total) (then_total (on_total (λ (c : Cell). c.1) nat_cmp_total) (on_total (λ (c : Cell). c.2) nat_cmp_total))
@@ -18,7 +17,7 @@ cell_cmp_total = then_total (on_total (λ (c : Cell). c.0) nat_cmp_total) (then_
 -- only equal cells tie
 tie_is : (a b : Cell) → eq_by_cmp cell_cmp a b ≡ (a.0 == b.0 && (a.1 == b.1 && a.2 == b.2))
 tie_is a b =
-    sym (tied_then (nat_cmp a.0 b.0) (ordering_then (nat_cmp a.1 b.1) (nat_cmp a.2 b.2)) )
+    sym (tied_then (nat_cmp a.0 b.0) (ordering_then (nat_cmp a.1 b.1) (nat_cmp a.2 b.2)))
     ∙ rw (sym (tied_then (nat_cmp a.1 b.1) (nat_cmp a.2 b.2)), unsigned_tied a.0 b.0, unsigned_tied a.1 b.1, unsigned_tied a.2 b.2) refl
 
 pub cells_tie : (a b : Cell) → eq_by_cmp cell_cmp a b ≡ true → a ≡ b
@@ -139,8 +138,8 @@ box_parts size horizon now q is =
 pub box_from : (size horizon now : ℕ) (q : Cell) → InBox size horizon now q → in_box size horizon now q ≡ true
 box_from size horizon now q is =
     and_from (in_range now horizon q.0) (nat_lt q.1 size && nat_lt q.2 size)
-      (and_from (nat_le now q.0) (nat_lt q.0 (now + horizon)) (le-leb now q.0 is.from) (lt-ltb q.0 (now + horizon) is.below))
-      (and_from (nat_lt q.1 size) (nat_lt q.2 size) (lt-ltb q.1 size is.row) (lt-ltb q.2 size is.column))
+    (and_from (nat_le now q.0) (nat_lt q.0 (now + horizon)) (le-leb now q.0 is.from) (lt-ltb q.0 (now + horizon) is.below))
+    (and_from (nat_lt q.1 size) (nat_lt q.2 size) (lt-ltb q.1 size is.row) (lt-ltb q.2 size is.column))
 
 among_steps : (size horizon now : ℕ) (q : Cell) → among (step_cells size now horizon) q ≡ in_box size horizon now q
 among_steps size horizon now q = same_tests (among (step_cells size now horizon) q) (in_box size horizon now q)
@@ -152,5 +151,5 @@ pub contains-marked_cells : (words : List ℕ) (size horizon now : ℕ) (q : Cel
 unfolding marked_cells
 contains-marked_cells words size horizon now q =
     set.contains-retain (set.from_list (step_cells size now horizon)) (has_mark words size horizon) q
-      (λ x tie. ap (has_mark words size horizon) (sym (cells_tie q x ((Equal-is (cell_cmp q x)).1 tie))))
+    (λ x tie. ap (has_mark words size horizon) (sym (cells_tie q x ((Equal-is (cell_cmp q x)).1 tie))))
     ∙ ap (λ b. b && has_mark words size horizon q) (set.contains-from_list cell_cmp_total (step_cells size now horizon) q ∙ among_steps size horizon now q)

@@ -1,10 +1,10 @@
 -- The marks of cells in a ring of pages, after a write.
-use Rattle.std.proofs.Common.{◌≡◌, ◌≢◌, ◌⊎◌, ℕ, zero, suc, ◌+◌, ◌-◌, ◌*◌, ◌/◌, ◌%◌, ◌^◌, ◌<◌, ◌≤◌, Bool, true, false, not, ◌&&◌, ◌||◌, List, length, get_or, set, take, refl, sym, ap, subst, ◌∙◌, inl, inr, arith, w64}
+use Rattle.std.proofs.Common.{◌≡◌, ◌≢◌, ℕ, zero, suc, ◌+◌, ◌-◌, ◌*◌, ◌/◌, ◌%◌, ◌^◌, ◌<◌, ◌≤◌, Bool, true, false, not, ◌&&◌, ◌||◌, List, length, get_or, set, take, refl, sym, ap, ◌∙◌, inl, inr, arith, w64}
 use Rattle.std.specs.Prelude.{◌==◌, bit_or, bit_and, nat_le, nat_lt}
 use Rattle.std.specs.Int.{bit_at, bit_not}
 use Rattle.std.proofs.Math.Nat.{pow-suc, mul-le-mul_right}
-use Rattle.std.proofs.lemmas.Bool.{and_parts, and_from, and_left, cases_eq, cases_order, leb-true, ltb-true, eqb-true, eq-eqb, false_from_ne_true}
-use Rattle.std.proofs.lemmas.Nat.{leading_top, le-div, div_below, pow_pos, same_from_place, div-mul-add, div-add-mod', mod_below}
+use Rattle.std.proofs.lemmas.Bool.{and_parts, and_from, cases_eq, cases_order, leb-true, ltb-true, eqb-true, eq-eqb, false_from_ne_true}
+use Rattle.std.proofs.lemmas.Nat.{leading_top, le-div, div_below, pow_pos, same_from_place, div-add-mod'}
 use Rattle.std.proofs.lemmas.Nat.Bits.{bit_at_not, bit_at-lt}
 use Rattle.std.proofs.lemmas.List.{get_or-set_same, get_or-set_other}
 use Rattle.aim_pool.specs.declared.spans.Span.{Span}
@@ -16,11 +16,11 @@ use Rattle.aim_tiles.specs.Sheets.{AreTiles, AreAhead}
 use Rattle.std.proofs.lemmas.List.Folds.{list_any_at, list_any_more}
 use Rattle.aim_tiles.proofs.Sets.{InBox, box_parts}
 
-below_power : (n : ℕ) → n < 2 ^ n
+pub below_power : (n : ℕ) → n < 2 ^ n
 below_power zero = omega arith
 below_power (suc n) = omega (arith, below_power n, pow-suc 2 n)
 
-one_bit : (a j : ℕ) → 2 ^ j ≤ a → a < 2 ^ suc j → has_bit a j ≡ true
+pub one_bit : (a j : ℕ) → 2 ^ j ≤ a → a < 2 ^ suc j → has_bit a j ≡ true
 one_bit a j low high =
     let one : 1 ≤ a / 2 ^ j = le-div 1 a (2 ^ j) (pow_pos j) (omega (arith, low)) in
     let two : a / 2 ^ j < 2 = div_below a (2 ^ j) 2 (pow_pos j) (omega (arith, high, pow-suc 2 j)) in
@@ -65,16 +65,16 @@ module _ (words : List ℕ) (size horizon now : ℕ) (ahead : 0 < horizon) (span
   other_place : (cell : Cell) → place_of size horizon cell.0 cell.1 ≢ place_of size horizon span.step span.row → is_at span cell.0 cell.1 ≡ false
   other_place cell other = false_from_ne_true (is_at span cell.0 cell.1) (λ is.
       (let p = and_parts (span.step == cell.0) (span.row == cell.1) is in
-       let s : span.step ≡ cell.0 = eqb-true span.step cell.0 p.0 in
-       let r : span.row ≡ cell.1 = eqb-true span.row cell.1 p.1 in
-       other (λ i. place_of size horizon (sym s i) (sym r i))))
+      let s : span.step ≡ cell.0 = eqb-true span.step cell.0 p.0 in
+      let r : span.row ≡ cell.1 = eqb-true span.row cell.1 p.1 in
+      other (λ i. place_of size horizon (sym s i) (sym r i))))
 
   module _ (at : ℕ) (place : at ≡ place_of size horizon span.step span.row) (within : at < length words) where
     -- after a word is written, the cells of the span have its bits, and the others have what they had
     written : (word : ℕ) (cell : Cell) (there : Bool) → in_box size horizon now cell ≡ true
-      → (is_at span cell.0 cell.1 ≡ true → has_bit word cell.2 ≡ there)
-      → (is_at span cell.0 cell.1 ≡ false → has_mark words size horizon cell ≡ there)
-      → has_mark (set words at word) size horizon cell ≡ there
+        → (is_at span cell.0 cell.1 ≡ true → has_bit word cell.2 ≡ there)
+        → (is_at span cell.0 cell.1 ≡ false → has_mark words size horizon cell ≡ there)
+        → has_mark (set words at word) size horizon cell ≡ there
     written word cell there box here elsewhere = elim (cases_eq (place_of size horizon cell.0 cell.1) at) [
       | inl e ↦ ap (λ k. has_bit (get_or (set words at word) k 0) cell.2) e ∙ ap (λ w. has_bit w cell.2) (get_or-set_same words at word 0 within) ∙ here (same_place cell box (e ∙ place))
       | inr n ↦ ap (λ w. has_bit w cell.2) (get_or-set_other words at (place_of size horizon cell.0 cell.1) word 0 n) ∙ elsewhere (other_place cell (λ e. n (e ∙ sym place)))
@@ -109,10 +109,12 @@ module _ (words : List ℕ) (size horizon now : ℕ) (ahead : 0 < horizon) (span
 module _ (spans : List Span) (k : ℕ) (d : Span) (lt : k < length spans) (marked : AreMarked spans) where
   some_cell : (c : ℕ) × (in_spans spans ((get_or spans k d).step, (get_or spans k d).row, c) ≡ true)
   some_cell =
-      let column = some_column (get_or spans k d).mask (marked k d lt) in
-      (column.0, list_any_at (λ s. in_span s ((get_or spans k d).step, (get_or spans k d).row, column.0)) spans k d lt
-        (and_from (is_at (get_or spans k d) (get_or spans k d).step (get_or spans k d).row) (has_bit (get_or spans k d).mask column.0)
-          (and_from ((get_or spans k d).step == (get_or spans k d).step) ((get_or spans k d).row == (get_or spans k d).row) (eq-eqb (get_or spans k d).step (get_or spans k d).step refl) (eq-eqb (get_or spans k d).row (get_or spans k d).row refl)) column.1))
+      let column = some_column (get_or spans k d).mask (marked k d lt) in (
+        column.0,
+        list_any_at (λ s. in_span s ((get_or spans k d).step, (get_or spans k d).row, column.0)) spans k d lt
+            (and_from (is_at (get_or spans k d) (get_or spans k d).step (get_or spans k d).row) (has_bit (get_or spans k d).mask column.0)
+            (and_from ((get_or spans k d).step == (get_or spans k d).step) ((get_or spans k d).row == (get_or spans k d).row) (eq-eqb (get_or spans k d).step (get_or spans k d).step refl) (eq-eqb (get_or spans k d).row (get_or spans k d).row refl)) column.1),
+      )
 
   pub row_of_span : (size : ℕ) → AreTiles size spans → (get_or spans k d).row < size
   row_of_span size tiles = (tiles ((get_or spans k d).step, (get_or spans k d).row, some_cell.0) some_cell.1).0
@@ -132,9 +134,9 @@ and_not true false c = refl
 module _ (size horizon now : ℕ) (old : List ℕ) (spans : List Span) (k : ℕ) (d : Span) (lt : k < length spans) (tiles : AreTiles size spans) (marked : AreMarked spans) where
   -- one span more is marked
   pub marked_more : 0 < horizon → AreAhead now horizon spans → (words new : List ℕ) (at : ℕ) → at ≡ place_of size horizon (get_or spans k d).step (get_or spans k d).row → at < length words
-    → new ≡ set words at (bit_or (get_or words at 0) (get_or spans k d).mask)
-    → ((cell : Cell) → in_box size horizon now cell ≡ true → has_mark words size horizon cell ≡ (has_mark old size horizon cell || in_spans (take k spans) cell))
-    → (cell : Cell) → in_box size horizon now cell ≡ true → has_mark new size horizon cell ≡ (has_mark old size horizon cell || in_spans (take (k + 1) spans) cell)
+      → new ≡ set words at (bit_or (get_or words at 0) (get_or spans k d).mask)
+      → ((cell : Cell) → in_box size horizon now cell ≡ true → has_mark words size horizon cell ≡ (has_mark old size horizon cell || in_spans (take k spans) cell))
+      → (cell : Cell) → in_box size horizon now cell ≡ true → has_mark new size horizon cell ≡ (has_mark old size horizon cell || in_spans (take (k + 1) spans) cell)
   marked_more some ahead words new at place within is before cell box =
       ap (λ ws. has_mark ws size horizon cell) is
       ∙ has_mark-mark words size horizon now some (get_or spans k d) (row_of_span spans k d lt marked size tiles) (step_of_span spans k d lt marked now horizon ahead) at place within cell box
@@ -144,9 +146,9 @@ module _ (size horizon now : ℕ) (old : List ℕ) (spans : List Span) (k : ℕ)
 
   -- one span more is unmarked
   pub unmarked_more : (words new : List ℕ)
-    → ((cell : Cell) → in_box size horizon now cell ≡ true → has_mark new size horizon cell ≡ (has_mark words size horizon cell && not (in_span (get_or spans k d) cell)))
-    → ((cell : Cell) → in_box size horizon now cell ≡ true → has_mark words size horizon cell ≡ (has_mark old size horizon cell && not (in_spans (take k spans) cell)))
-    → (cell : Cell) → in_box size horizon now cell ≡ true → has_mark new size horizon cell ≡ (has_mark old size horizon cell && not (in_spans (take (k + 1) spans) cell))
+      → ((cell : Cell) → in_box size horizon now cell ≡ true → has_mark new size horizon cell ≡ (has_mark words size horizon cell && not (in_span (get_or spans k d) cell)))
+      → ((cell : Cell) → in_box size horizon now cell ≡ true → has_mark words size horizon cell ≡ (has_mark old size horizon cell && not (in_spans (take k spans) cell)))
+      → (cell : Cell) → in_box size horizon now cell ≡ true → has_mark new size horizon cell ≡ (has_mark old size horizon cell && not (in_spans (take (k + 1) spans) cell))
   unmarked_more words new now_is before cell box =
       now_is cell box
       ∙ ap (λ b. b && not (in_span (get_or spans k d) cell)) (before cell box)

@@ -1,5 +1,5 @@
 -- The first of some cells.
-use Rattle.std.specs.Prelude.{◌≡◌, ℕ, ◌+◌, ◌<◌, ◌≤◌, Bool, true, false, not, ◌&&◌, List, [], length, slice_index, slice_index_or, Option, None, Some}
+use Rattle.std.specs.Prelude.{◌≡◌, ℕ, ◌+◌, ◌<◌, Bool, true, false, not, ◌&&◌, List, [], length, slice_index, slice_index_or, Option, None, Some}
 use Rattle.std.specs.Ordering.{is_le}
 use Rattle.aim_pool.specs.declared.spans.Span.{Span}
 use Rattle.aim_pool.specs.Sheets.{Spans}

@@ -5,14 +5,19 @@
 //! each column.
 #![tactic(auto)]
 
+mod checks;
 mod counters;
 mod lanes;
 mod marks;
 mod pages;
+#[cfg(test)]
+mod plain;
 mod searches;
 mod tables;
+#[cfg(test)]
+mod tests;
 
 pub use counters::Steps;
 pub use lanes::first_meeting;
-pub use tables::Table;
 pub use std::alloc::AllocError as NoMemory;
+pub use tables::Table;

@@ -47,7 +47,12 @@ fn unmark_span<L: Ledger>(pages: &mut Pages, now: u32, span: Span, steps: &mut S
 }
 
 /// Takes the marks from the cells of the spans.
-pub(crate) fn unmark_spans<L: Ledger>(pages: &mut Pages, now: u32, spans: &[Span], steps: &mut Steps<L>)
+pub(crate) fn unmark_spans<L: Ledger>(
+    pages: &mut Pages,
+    now: u32,
+    spans: &[Span],
+    steps: &mut Steps<L>,
+)
     requires marked { AreMarked spans.now }
     requires tiles { AreTiles pages.old.size spans.now }
     requires last { now ≤ 1073741824 }
@@ -63,7 +68,12 @@ pub(crate) fn unmark_spans<L: Ledger>(pages: &mut Pages, now: u32, spans: &[Span
 }
 
 /// Takes the marks from all cells of so many steps from now on.
-pub(crate) fn clear_pages<L: Ledger>(pages: &mut Pages, now: u32, leaving: u32, steps: &mut Steps<L>)
+pub(crate) fn clear_pages<L: Ledger>(
+    pages: &mut Pages,
+    now: u32,
+    leaving: u32,
+    steps: &mut Steps<L>,
+)
     requires few { leaving ≤ pages.old.horizon }
     requires last { now ≤ 1073741824 }
     ensures marks { (cell : Cell) → in_box pages.old.size pages.old.horizon now cell ≡ true → has_mark pages.new.words.items pages.old.size pages.old.horizon cell ≡ (has_mark pages.old.words.items pages.old.size pages.old.horizon cell && nat_le (now + leaving) cell.0) }

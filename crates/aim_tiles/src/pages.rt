@@ -38,9 +38,18 @@ impl Pages {
         })
     }
 
+    /// How many words a page has.
+    pub(crate) fn size(&self) -> usize
+        ensures size { result ≡ self.now.size }
+        ensures few { result ≤ 64 }
+    {
+        self.size
+    }
+
     /// How many steps have a page.
     pub(crate) fn horizon(&self) -> u32
-        ensures { result ≡ self.now.horizon }
+        ensures horizon { result ≡ self.now.horizon }
+        ensures near { result ≤ 8192 }
     {
         self.horizon
     }
@@ -61,7 +70,11 @@ impl Pages {
         ensures place { result ≡ step % self.now.horizon * self.now.size }
         ensures within { result + self.now.size ≤ length self.now.words.items }
     {
-        if step == before { page } else { self.page(step) }
+        if step == before {
+            page
+        } else {
+            self.page(step)
+        }
     }
 
     /// The words of so many rows from a place on.

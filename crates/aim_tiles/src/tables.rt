@@ -1,14 +1,15 @@
 //! A table of the tiles that are taken.
 
-ghost use Rattle.std.specs.Prelude.{◌≡◌, ℕ, ◌+◌, ◌-◌, ◌*◌, ◌<◌, ◌≤◌, ◌&&◌, ◌||◌, not, nat_le, min, false, length, IfOk, IfNone, IfSome};
+ghost use Rattle.std.specs.Prelude.{◌≡◌, ℕ, ◌+◌, ◌-◌, ◌*◌, ◌<◌, ◌≤◌, ◌&&◌, ◌||◌, not, nat_le, min, true, false, ◌↔◌, IsTrue, length, IfOk, IfNone, IfSome};
 ghost use Rattle.std.specs.FinSet as set;
 ghost use Rattle.aim_pool.specs.Spans.{Cell, in_spans};
-ghost use Rattle.aim_tiles.specs.Cells.{has_cell};
+ghost use Rattle.aim_tiles.specs.Cells.{has_cell, in_box};
 ghost use Rattle.aim_tiles.specs.Searches.{is_taken, IsFirst, spans_of};
 ghost use Rattle.aim_tiles.specs.Sheets.{AreTiles, AreAhead};
 ghost use Rattle.std.specs.Option.{option_copied};
 
 use crate::NoMemory;
+use crate::checks::{are_ahead, are_tiles};
 use crate::counters::Steps;
 use crate::marks::{clear_pages, mark_spans, unmark_spans};
 use crate::pages::Pages;
@@ -55,6 +56,45 @@ impl Table {
         })
     }
 
+    /// The number of rows, and of columns.
+    pub fn size(&self) -> u32
+        ensures size { result ≡ self.now.size }
+        ensures few { result ≤ 64 }
+    {
+        self.pages.size() as u32
+    }
+
+    /// How many steps from now on the table has.
+    pub fn horizon(&self) -> u32
+        ensures horizon { result ≡ self.now.horizon }
+        ensures near { result ≤ 8192 }
+    {
+        self.pages.horizon()
+    }
+
+    /// The current step, from which on the table has cells.
+    pub fn now(&self) -> u32
+        ensures now { result ≡ self.now.current }
+        ensures last { result ≤ 1073741824 }
+        ensures cells { (cell : Cell) → has_cell self.now cell ≡ true → in_box self.now.size self.now.horizon self.now.current cell ≡ true }
+    {
+        self.current
+    }
+
+    /// Whether the rows and columns of the sheet's cells are below the table's size.
+    pub fn has_tiles(&self, sheet: &Sheet) -> bool
+        ensures { IsTrue result ↔ AreTiles self.now.size sheet.now.spans }
+    {
+        are_tiles(sheet.spans(), self.pages.size())
+    }
+
+    /// Whether the steps of the sheet's cells are among those that the table has.
+    pub fn has_steps(&self, sheet: &Sheet) -> bool
+        ensures { IsTrue result ↔ AreAhead self.now.current self.now.horizon sheet.now.spans }
+    {
+        are_ahead(sheet.spans(), self.current, self.pages.horizon())
+    }
+
     /// Goes on to a later step: the cells of the steps before it leave.
     pub fn advance<L: Ledger>(&mut self, now: u32, steps: &mut Steps<L>)
         requires later { self.old.current ≤ now }
@@ -71,7 +111,12 @@ impl Table {
 
     /// The least cell of the sheet, by step, then row, then column, that is taken and is none of the own
     /// sheet's.
-    pub fn first_taken<L: Ledger>(&self, sheet: &Sheet, own: Option<&Sheet>, steps: &mut Steps<L>) -> Option<(u32, u8, u8)>
+    pub fn first_taken<L: Ledger>(
+        &self,
+        sheet: &Sheet,
+        own: Option<&Sheet>,
+        steps: &mut Steps<L>,
+    ) -> Option<(u32, u8, u8)>
         requires { AreTiles self.now.size sheet.now.spans }
         ensures found { IfSome result (IsFirst (is_taken self.now sheet.now.spans (spans_of (option_copied own.entry)))) }
         ensures none { IfNone result ((cell : Cell) → is_taken self.now sheet.now.spans (spans_of (option_copied own.entry)) cell ≡ false) }

@@ -1,7 +1,6 @@
-use Rattle.std.proofs.Common.{◌≡◌, ◌+◌, ◌<◌, ◌≤◌, length, arith, rules, sym, ◌∙◌}
+use Rattle.std.proofs.Common.{arith, rules, sym}
 use Rattle.std.specs.Option.{option_copied}
-use Rattle.aim_pool.specs.declared.spans.Span.{Span}
-use Rattle.aim_tiles.specs.Searches.{is_hit, IsClear, IsFirstHit, spans_of}
+use Rattle.aim_tiles.specs.Searches.{is_hit, IsFirstHit, spans_of}
 use Rattle.aim_tiles.proofs.Firsts.{some_then, none_then, rest_rows, run_is, run_tiles, length-run, length-rest, hit_of_run, clear_of_run}
 use Rattle.aim_tiles.proofs.searches.first_in_spans.Goals as goal
 
@@ -17,17 +16,17 @@ first_in_run-found-requires-clause-tiles g c = run_tiles c.args.spans.now c.loop
 pub returns-then-is_some-clause-found : goal.returns-then-is_some-clause-found
 returns-then-is_some-clause-found g c =
     some_then c.first_in_run-found.result _ (IsFirstHit (is_hit c.args.pages.now.words.items c.args.pages.now.size c.args.pages.now.horizon c.args.now (spans_of (option_copied c.args.own))) c.args.spans.now)
-      (hit_of_run c.args.spans.now c.loop-at.at c.loop-at.invariant.within c.gather-count.result c.gather-count.ensures.within
-        (is_hit c.args.pages.now.words.items c.args.pages.now.size c.args.pages.now.horizon c.args.now (spans_of (option_copied c.args.own))) c.loop-at.invariant.clear)
-      c.first_in_run-found.ensures.found
+    (hit_of_run c.args.spans.now c.loop-at.at c.loop-at.invariant.within c.gather-count.result c.gather-count.ensures.within
+    (is_hit c.args.pages.now.words.items c.args.pages.now.size c.args.pages.now.horizon c.args.now (spans_of (option_copied c.args.own))) c.loop-at.invariant.clear)
+    c.first_in_run-found.ensures.found
 
 pub loop-at-preserved : goal.loop-at-preserved
 loop-at-preserved g c = record {
   within = omega (arith, c.gather-count.ensures.within, length-rest c.args.spans.now c.loop-at.at c.loop-at.invariant.within, c.loop-at.invariant.within);
   len = search rules;
   clear = clear_of_run c.args.spans.now c.loop-at.at c.loop-at.invariant.within c.gather-count.result c.gather-count.ensures.within
-    (is_hit c.args.pages.now.words.items c.args.pages.now.size c.args.pages.now.horizon c.args.now (spans_of (option_copied c.args.own))) c.loop-at.invariant.clear
-    (none_then c.first_in_run-found.result _ (sym c.if-is_some.ensures) c.first_in_run-found.ensures.none);
+      (is_hit c.args.pages.now.words.items c.args.pages.now.size c.args.pages.now.horizon c.args.now (spans_of (option_copied c.args.own))) c.loop-at.invariant.clear
+      (none_then c.first_in_run-found.result _ (sym c.if-is_some.ensures) c.first_in_run-found.ensures.none);
   cost = omega (arith, c.first_in_run-found.ensures.cost, c.loop-at.invariant.cost, length-run c.args.spans.now c.loop-at.at c.loop-at.invariant.within c.gather-count.result c.gather-count.ensures.within);
   counted = omega (arith, c.first_in_run-found.ensures.counted, c.loop-at.invariant.counted);
 }

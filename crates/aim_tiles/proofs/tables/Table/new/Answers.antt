@@ -1,4 +1,4 @@
-use Rattle.std.proofs.Common.{◌≡◌, ◌*◌}
+use Rattle.std.proofs.Common.{◌*◌}
 use Rattle.aim_tiles.proofs.Views.{fresh}
 use Rattle.aim_tiles.proofs.tables.Table.new.Goals as goal
 

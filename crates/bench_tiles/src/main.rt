@@ -1,0 +1,132 @@
+//! How long a table takes to look for taken cells and to claim sheets of a thousand spans.
+//!
+//! `bench_tiles ROUNDS` prints the time of one `first_taken` that finds nothing and one `claim`.
+#![tactic(auto)]
+
+ghost use Rattle.std.specs.Prelude.{◌≡◌, ◌^◌, ◌<◌, length};
+ghost use Rattle.std.specs.Bool.{OnTrue};
+ghost use Rattle.bench_tiles.specs.Ready.{AreReady};
+
+use aim_pool::{Pool, Sheet, Span};
+use aim_tiles::{Steps, Table};
+use anyhow::{Result, bail};
+use std::alloc::Global;
+use std::env;
+use std::marker::Brand;
+use std::rt::Runtime;
+use std::sync::ledger::{Blank, Ledger};
+use std::time::Instant;
+
+/// How many sheets lie side by side, each in eight columns of 48.
+const SHEETS: u32 = 6;
+
+/// Fills a sheet with a thousand spans: seven rows in each step, which move up slowly.
+fn fill(sheet: &mut Sheet, lane: u32)
+    requires { lane < 8 }
+{
+    sheet.clear();
+    for k in 0..1000u32 {
+        let span = Span {
+            step: k / 7,
+            row: (k / 35 + k % 7) as u8,
+            mask: 0xff << (8 * lane),
+        };
+        if span.mask != 0 {
+            let _ = sheet.push(span);
+        }
+    }
+}
+
+fn make_sheets(alloc: Global) -> Result<Vec<Sheet>> {
+    let mut pool = Pool::new(alloc, SHEETS, 1000)?;
+    let mut sheets = Vec::new(alloc);
+    for lane in 0..SHEETS {
+        let Ok(mut sheet) = pool.take() else {
+            bail!("too few sheets");
+        };
+        fill(&mut sheet, lane);
+        sheets.push(sheet)?;
+    }
+    Ok(sheets)
+}
+
+/// Whether the table has all cells of the sheets.
+fn are_ready(table: &Table, sheets: &[Sheet]) -> bool
+    ensures { OnTrue result (AreReady table.now sheets.now) }
+{
+    for sheet in sheets {
+        if !table.has_tiles(sheet) || !table.has_steps(sheet) {
+            return false;
+        }
+    }
+    true
+}
+
+/// Claims all sheets, and says how many were free.
+fn claim_all<L: Ledger>(table: &mut Table, sheets: &[Sheet], steps: &mut Steps<L>) -> u32
+    requires ready { AreReady table.old sheets.now }
+    requires few { length sheets.now < 2 ^ 32 }
+    ensures rest { table.new ≡ record table.old { cells = table.new.cells } }
+{
+    let mut free = 0;
+    for sheet in sheets {
+        if table.first_taken(sheet, None, steps).is_none() {
+            free += 1;
+        }
+        table.claim(sheet, steps);
+    }
+    free
+}
+
+/// Lets go of all sheets.
+fn release_all<L: Ledger>(table: &mut Table, sheets: &[Sheet], steps: &mut Steps<L>)
+    requires ready { AreReady table.old sheets.now }
+    ensures rest { table.new ≡ record table.old { cells = table.new.cells } }
+{
+    for sheet in sheets {
+        table.release(sheet, steps);
+    }
+}
+
+/// Claims the sheets so many times, and gives how many were free, and the nanoseconds.
+fn measure<L: Ledger>(
+    rt: &impl Runtime,
+    alloc: Global,
+    blank: Blank,
+    rounds: u64,
+) -> Result<(u64, u64)>
+    requires name { blank.name ≡ L.name }
+    requires parts { blank.parts ≡ L.parts }
+    requires some { 0 < blank.parts }
+{
+    let mut steps = Steps::<L>::new(blank);
+    let sheets = make_sheets(alloc)?;
+    let mut table = Table::new(alloc, 48, 256)?;
+    if sheets.len() > 8 || !are_ready(&table, &sheets) {
+        bail!("the sheets don't fit the table");
+    }
+    let mut free = 0u64;
+    let mut nanos = 0u64;
+    for _ in 0..rounds {
+        let start = Instant::now(rt)?;
+        let claimed = claim_all(&mut table, &sheets, &mut steps);
+        let time = start.elapsed(rt)?.as_nanos();
+        free = free.saturating_add(claimed as u64);
+        nanos = nanos.saturating_add(u64::try_from(time).unwrap_or(u64::MAX));
+        release_all(&mut table, &sheets, &mut steps);
+    }
+    Ok((free, nanos))
+}
+
+fn main(rt: HostRuntime) -> Result<()> {
+    let rounds = match env::args(&rt)?.nth(1) {
+        Some(word) => word.parse::<u64>()?,
+        None => 0,
+    };
+    let (free, nanos) = measure::<Brand>(&rt, rt.alloc(), Blank::new(1), rounds.max(1))?;
+    println!(&rt; "free sheets: {free}")?;
+    if rounds > 0 {
+        println!(&rt; "nanoseconds a sheet: {}", nanos / free.max(1))?;
+    }
+    Ok(())
+}
