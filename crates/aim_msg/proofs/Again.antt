@@ -1,9 +1,7 @@
 -- Reading gives back what was spelled, field by field.
-use Rattle.std.proofs.Common.{◌≡◌, ℕ, zero, suc, ◌+◌, ◌-◌, ◌*◌, ◌^◌, ◌<◌, ◌≤◌, Bool, true, false, ◌&&◌, ◌==◌, List, [], ◌∷◌, ◌++◌, length, take, drop, replicate, Option, Some, None, Result, Ok, Err, decimal, codes, refl, sym, ap, ◌∙◌, arith}
-use Rattle.std.specs.Prelude.{bytes_eq, if◌then◌else◌}
-use Rattle.std.specs.List.{list_all}
+use Rattle.std.proofs.Common.{◌≡◌, ℕ, ◌^◌, ◌<◌, ◌≤◌, Bool, true, false, List, [], ◌∷◌, ◌++◌, length, None, Ok, decimal, refl, sym, arith}
 use Rattle.std.proofs.lemmas.List.{take-append-drop}
-use Rattle.std.proofs.Common.{length-take-le, IsTrue}
+use Rattle.std.proofs.Common.{length-take-le}
 use Rattle.std.proofs.lemmas.Bool.{lt-ltb, le-leb}
 use Rattle.aim_msg.specs.declared.messages.Turn.{Turn}
 use Rattle.aim_msg.specs.declared.messages.Turn.TheVariants.{Left, Straight, Right}
@@ -14,18 +12,17 @@ use Rattle.aim_msg.specs.declared.messages.Message.{Message}
 use Rattle.aim_msg.specs.declared.script.MoveShape.{MoveShape}
 use Rattle.aim_msg.specs.declared.script.MoveShape.TheVariants as shape
 use Rattle.aim_msg.specs.declared.script.Name.{Name}
-use Rattle.aim_msg.specs.declared.script.LineKind.{LineKind}
 use Rattle.aim_msg.specs.declared.reading.forms.MessageForm.{MessageForm}
 use Rattle.aim_msg.specs.declared.reading.forms.MessageForm.TheVariants as message
 use Rattle.aim_msg.specs.declared.reading.forms.ShapeForm.{ShapeForm}
 use Rattle.aim_msg.specs.declared.reading.forms.ShapeForm.TheVariants as way
 use Rattle.aim_msg.specs.Texts.{Words, turn_word, class_word, vehicle_words, params_words, body_words, message_words}
-use Rattle.aim_msg.specs.Lines.{name_word, kind_word, window_word, shape_words, IsName, is_name_byte}
-use Rattle.aim_msg.specs.Faults.{Place, number, name, first, rest, number32, number8, turns, classes, fault_at, word_fault, value_of}
-use Rattle.aim_msg.specs.Forms.{kinds, windows}
-use Rattle.aim_msg.specs.Reading.{turn_of, is_emergency, is_early, name_of, kind_of}
+use Rattle.aim_msg.specs.Lines.{name_word, window_word, shape_words, IsName}
+use Rattle.aim_msg.specs.Faults.{Place, number, name, rest, number8, turns, classes, fault_at, value_of}
+use Rattle.aim_msg.specs.Forms.{windows}
+use Rattle.aim_msg.specs.Reading.{turn_of, is_emergency, is_early, name_of}
 use Rattle.aim_msg.specs.Ranges.{Is32, Is8, AreParams, IsBody, IsMessage, IsShape}
-use Rattle.aim_msg.specs.Steps.{◌>>=◌, Read, read_in, number_in, vehicle_in, params_in, body_in, message_in, shape_in}
+use Rattle.aim_msg.specs.Steps.{read_in, number_in, vehicle_in, params_in, body_in, message_in, shape_in}
 use Rattle.aim_msg.proofs.Numbers.{number_good, value_decimal}
 
 -- a word without fault is read

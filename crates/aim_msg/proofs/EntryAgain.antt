@@ -1,9 +1,7 @@
 -- An entry that is spelled is read again.
-use Rattle.std.proofs.Common.{◌≡◌, ℕ, zero, suc, ◌+◌, ◌-◌, ◌^◌, ◌<◌, ◌≤◌, ◌&&◌, Bool, true, false, List, [], ◌∷◌, ◌++◌, length, Option, Some, None, unwrap_or, IfSome, Result, Ok, Err, decimal, codes, refl, sym, ap, ◌∙◌, arith}
-use Rattle.std.specs.Prelude.{bytes_eq, if◌then◌else◌}
+use Rattle.std.proofs.Common.{◌≡◌, ℕ, ◌^◌, ◌<◌, ◌≤◌, Bool, true, false, List, [], ◌∷◌, ◌++◌, length, Option, Some, None, IfSome, Result, Ok, Err, decimal, codes, refl, sym, ap, ◌∙◌, arith}
 use Rattle.aim_msg.specs.declared.messages.Body.{Body}
 use Rattle.aim_msg.specs.declared.messages.Body.TheVariants as body
-use Rattle.aim_msg.specs.declared.messages.Message.{Message}
 use Rattle.aim_msg.specs.declared.entries.Act.{Act}
 use Rattle.aim_msg.specs.declared.entries.Act.TheVariants as act
 use Rattle.aim_msg.specs.declared.entries.Order.{Order}
@@ -16,15 +14,13 @@ use Rattle.aim_msg.specs.declared.replies.Reason.TheVariants as reason
 use Rattle.aim_msg.specs.declared.replies.Reply.{Reply}
 use Rattle.aim_msg.specs.declared.replies.Reply.TheVariants as reply
 use Rattle.aim_msg.specs.declared.script.LineKind.{LineKind}
-use Rattle.aim_msg.specs.declared.reading.forms.ReplyForm.{ReplyForm}
 use Rattle.aim_msg.specs.declared.reading.forms.ReasonForm.{ReasonForm}
 use Rattle.aim_msg.specs.declared.reading.forms.ReasonForm.TheVariants as why
-use Rattle.aim_msg.specs.Texts.{Words, spaced, body_words, message_words, act_words, field_word, reason_words, held_word, pace_word, reply_words, reply_text, caller_word, entry_words, entry_text, IsCallerOf}
-use Rattle.aim_msg.specs.Faults.{Place, either, just, first, rest, words_of, value_of, begins_with_digit, fault_at}
-use Rattle.aim_msg.specs.Forms.{reason_form, reply_form}
-use Rattle.aim_msg.specs.Entries.{callers, caller_of, paces, is_fast, fields, field_of, number64, helds, held_of, entry_in, entry_at}
-use Rattle.aim_msg.specs.Ranges.{Is32, Is8, IsBody, IsMessage, IsAct, IsReason, IsReply, IsEntry}
-use Rattle.aim_msg.specs.Steps.{◌>>=◌, Read, read_in, number_in, message_in}
+use Rattle.aim_msg.specs.Texts.{Words, spaced, body_words, act_words, field_word, reason_words, held_word, pace_word, reply_words, reply_text, caller_word, entry_words, entry_text, IsCallerOf}
+use Rattle.aim_msg.specs.Faults.{either, just, rest, words_of, begins_with_digit, fault_at}
+use Rattle.aim_msg.specs.Entries.{callers, caller_of, paces, is_fast, fields, field_of, helds, held_of, entry_in, entry_at}
+use Rattle.aim_msg.specs.Ranges.{Is32, IsBody, IsAct, IsReason, IsReply, IsEntry}
+use Rattle.aim_msg.specs.Steps.{Read, read_in}
 use Rattle.aim_msg.specs.EntrySteps.{word_in, nothing, end_in, order_in, act_in, green_in, taken_in, reason_in, confirm_in, standing_in, reject_in, reply_in, answer_in, call_in, entry_steps}
 use Rattle.aim_msg.proofs.Numbers.{number_good, value_decimal, decimal_number, number_begins}
 use Rattle.aim_msg.proofs.WordLaws.{IsWord, AreWords, words_spaced, words_append}
@@ -50,7 +46,7 @@ operator_again ws = refl
 vehicle_again : (n : ℕ) (ws : Words) → n < 65536 → read_in callers caller_of (decimal n ∷ ws) ≡ Ok (Some n, ws)
 vehicle_again n ws small =
     word_again callers caller_of (decimal n) ws (Some n) (either_good 111 _ 65535 n ws (omega arith) (omega arith) (omega arith))
-      (rw (not_letter (decimal n) 111 (codes "perator") (digit_begins n (omega arith)) (omega arith), value_decimal n (omega arith)) refl)
+    (rw (not_letter (decimal n) 111 (codes "perator") (digit_begins n (omega arith)) (omega arith), value_decimal n (omega arith)) refl)
 
 held_again : (held : Option ℕ) (ws : Words) → IfSome held Is32 → read_in helds held_of (held_word held ∷ ws) ≡ Ok (held, ws)
 unfolding read_in
@@ -170,7 +166,7 @@ call_again caller moment (act.Message m) r c t a s =
     rw (vehicle_again caller _ c, n32 moment _ t, message_act_again caller m.seq m.body _ a.seq a.body, arrow_again _, answer_again r s) refl
 call_again caller moment (act.Order o) r c t a s =
     rw (operator_again _, n32 moment _ t, order_act_again o _ a, arrow_again _, answer_again r s)
-      (ap (λ v. Ok (record { caller = v; moment = moment; act = act.Order o; reply = r }, [])) (sym c))
+    (ap (λ v. Ok (record { caller = v; moment = moment; act = act.Order o; reply = r }, [])) (sym c))
 
 held_is_word : (held : Option ℕ) → IfSome held Is32 → IsWord (held_word held)
 held_is_word None h = refl
@@ -232,7 +228,7 @@ entry_again place e p r c =
     let tail : Words = act_words e.act ++ codes "->" ∷ reply_words e.reply in
     let more = words_append (act_words e.act) _ (act_are_words e.act r.act) (refl, reply_are_words e.reply r.reply) in
     let split : words_of (entry_text place e) ≡ entry_words place e =
-        words_spaced (decimal place) (caller_word e.caller e.act ∷ decimal e.moment ∷ tail) (w32 place p, (caller_is_word e.caller e.act c, (w32 e.moment r.moment, more))) in
+    words_spaced (decimal place) (caller_word e.caller e.act ∷ decimal e.moment ∷ tail) (w32 place p, (caller_is_word e.caller e.act c, (w32 e.moment r.moment, more))) in
     ap entry_in split ∙ sym (entry_is (entry_words place e))
     ∙ rw (n32 place _ p, call_again e.caller e.moment e.act e.reply c r.moment r.act r.reply) refl
 

@@ -1,10 +1,9 @@
 -- Worked entries: what they spell, or why they spell nothing.
-use Rattle.std.specs.Prelude.{◌≡◌, ℕ, List, ◌++◌, Option, Some, None, Result, Ok, Err, codes, refl, true, false}
-use Rattle.aim_msg.specs.declared.messages.Turn.TheVariants.{Left, Straight, Right}
+use Rattle.std.specs.Prelude.{◌≡◌, ℕ, List, ◌++◌, Some, None, Result, Ok, Err, codes, refl, true, false}
+use Rattle.aim_msg.specs.declared.messages.Turn.TheVariants.{Straight}
 use Rattle.aim_msg.specs.declared.messages.Params.{Params}
 use Rattle.aim_msg.specs.declared.messages.Body.{Body}
 use Rattle.aim_msg.specs.declared.messages.Body.TheVariants as body
-use Rattle.aim_msg.specs.declared.entries.Act.{Act}
 use Rattle.aim_msg.specs.declared.entries.Act.TheVariants as act
 use Rattle.aim_msg.specs.declared.entries.Order.TheVariants as order
 use Rattle.aim_msg.specs.declared.entries.Entry.{Entry}

@@ -1,18 +1,13 @@
 -- What is read as an entry is spelled so.
-use Rattle.std.proofs.Common.{◌≡◌, ℕ, zero, suc, ◌+◌, ◌-◌, ◌^◌, ◌<◌, ◌≤◌, ◌&&◌, ◌||◌, nat_lt, Bool, true, false, not, List, [], ◌∷◌, ◌++◌, length, Option, Some, None, unwrap_or, IfSome, Result, Ok, Err, decimal, codes, refl, sym, ap, subst, ◌∙◌, arith, inl, inr, append_assoc, append-nil}
+use Rattle.std.proofs.Common.{◌≡◌, ℕ, ◌^◌, ◌<◌, ◌&&◌, ◌||◌, nat_lt, Bool, true, false, not, List, [], ◌∷◌, ◌++◌, Option, Some, None, unwrap_or, IfSome, Result, Ok, Err, decimal, codes, refl, sym, ap, subst, ◌∙◌, arith, inl, inr, append_assoc, append-nil}
 use Rattle.std.specs.Prelude.{bytes_eq, if◌then◌else◌}
-use Rattle.std.specs.Option.{option_or}
 use Rattle.std.proofs.lemmas.Bool.{cases_Bool, and_parts, ltb-true}
 use Rattle.std.proofs.lemmas.List.Splits.{join_with_byte-slice_split}
-use Rattle.aim_msg.specs.declared.messages.Message.{Message}
 use Rattle.aim_msg.specs.declared.entries.Act.{Act}
 use Rattle.aim_msg.specs.declared.entries.Act.TheVariants as act
-use Rattle.aim_msg.specs.declared.entries.Order.{Order}
 use Rattle.aim_msg.specs.declared.entries.Entry.{Entry}
-use Rattle.aim_msg.specs.declared.replies.Field.{Field}
 use Rattle.aim_msg.specs.declared.replies.Field.TheVariants as field
 use Rattle.aim_msg.specs.declared.replies.Reason.{Reason}
-use Rattle.aim_msg.specs.declared.replies.Reply.{Reply}
 use Rattle.aim_msg.specs.declared.script.LineKind.{LineKind}
 use Rattle.aim_msg.specs.declared.script.LineKind.TheVariants as kind
 use Rattle.aim_msg.specs.declared.reading.forms.MessageForm.{MessageForm}
@@ -24,15 +19,15 @@ use Rattle.aim_msg.specs.declared.reading.forms.ReplyForm.TheVariants as answer
 use Rattle.aim_msg.specs.declared.reading.forms.ReasonForm.{ReasonForm}
 use Rattle.aim_msg.specs.declared.reading.forms.ReasonForm.TheVariants as why
 use Rattle.aim_msg.specs.Texts.{Words, spaced, message_words, act_words, field_word, reason_words, held_word, pace_word, reply_words, caller_word, entry_words, entry_text, IsCallerOf}
-use Rattle.aim_msg.specs.Faults.{Place, chosen, keyword, name, number, either, just, first, rest, from, word_at, words_of, is_one_of, is_number, begins_with_digit, number_fault, value_of, fault_at, first_fault, behind, surplus_fault, text_fault, number32, number8}
+use Rattle.aim_msg.specs.Faults.{Place, chosen, keyword, name, number, either, just, first, rest, from, word_at, words_of, begins_with_digit, number_fault, value_of, fault_at, first_fault, behind, surplus_fault, text_fault, number32}
 use Rattle.aim_msg.specs.Forms.{message_form, order_form, reply_form, reason_form, reply_forms, reason_forms, message_places}
 use Rattle.aim_msg.specs.Reading.{at, unless, message_of}
-use Rattle.aim_msg.specs.Entries.{callers, caller_of, paces, is_fast, fields, field_of, number64, helds, held_of, standing_places, reason_places, reason_of, reject_of, refusal_places, refusal_of, reply_places, reply_of, answer_places, answer_of, order_places, order_of, order_act_places, order_act_of, message_act_places, message_act_of, act_places, act_of, call_places, call_of, entry_places, entry_of, entry_in, entry_at}
-use Rattle.aim_msg.specs.Ranges.{Is32, Is8, AreParams, IsMessage, IsAct, IsReason, IsReply, IsEntry}
+use Rattle.aim_msg.specs.Entries.{callers, caller_of, paces, is_fast, fields, field_of, number64, helds, held_of, standing_places, reason_places, reason_of, reject_of, refusal_places, refusal_of, reply_places, reply_of, answer_places, answer_of, order_places, order_of, order_act_places, order_act_of, message_act_places, message_act_of, act_places, act_of, entry_places, entry_of, entry_at}
+use Rattle.aim_msg.specs.Ranges.{Is32, IsMessage, IsAct, IsReason, IsReply, IsEntry}
 use Rattle.aim_msg.proofs.Numbers.{IsNumberIn, number_in_from, decimal_value}
 use Rattle.aim_msg.proofs.NoFaults.{NoFaults, no_faults, or_none}
 use Rattle.aim_msg.proofs.Spelled.{respelled, number_at_place, same_word, turn_back, class_back, keyword_allowed, meaning_last, two_back}
-use Rattle.aim_msg.proofs.LineSpelled.{in32, in8, d32, look_up_has, message_key, message_chosen, order_key, order_chosen}
+use Rattle.aim_msg.proofs.LineSpelled.{in32, in8, look_up_has, message_key, message_chosen, order_key, order_chosen}
 use Rattle.aim_msg.proofs.EntryStepLaws.{behind_append}
 
 -- places that want a word, and numbers of at most 64 bits
@@ -78,30 +73,30 @@ message_part : (m : MessageForm) (w : List ℕ) (ws : Words) → w ≡ message_k
     → IsPart (message_words (message_of m ws)) (behind (message_places m) ws) (w ∷ ws) (IsMessage (message_of m ws))
 unfolding message_key
 message_part message.Request w ws c n = record {
-    spelled = rw (sym c, turn_back (from 2 ws) n.1.1.0, class_back (from 9 ws) n.1.1.1.1.1.1.1.1.1.0) (ap (λ (vs : Words). w ∷ vs) (front_is (message_places message.Request) ws n refl));
-    ranges = record { seq = in32 ws n.0; body = record { lane = in8 (from 1 ws) n.1.0; arrive = in32 (from 3 ws) n.1.1.1.0; speed = in32 (from 4 ws) n.1.1.1.1.0; max_speed = in32 (from 5 ws) n.1.1.1.1.1.0; accel = in32 (from 6 ws) n.1.1.1.1.1.1.0; len = in32 (from 7 ws) n.1.1.1.1.1.1.1.0; width = in32 (from 8 ws) n.1.1.1.1.1.1.1.1.0 } };
-  }
+  spelled = rw (sym c, turn_back (from 2 ws) n.1.1.0, class_back (from 9 ws) n.1.1.1.1.1.1.1.1.1.0) (ap (λ (vs : Words). w ∷ vs) (front_is (message_places message.Request) ws n refl));
+  ranges = record { seq = in32 ws n.0; body = record { lane = in8 (from 1 ws) n.1.0; arrive = in32 (from 3 ws) n.1.1.1.0; speed = in32 (from 4 ws) n.1.1.1.1.0; max_speed = in32 (from 5 ws) n.1.1.1.1.1.0; accel = in32 (from 6 ws) n.1.1.1.1.1.1.0; len = in32 (from 7 ws) n.1.1.1.1.1.1.1.0; width = in32 (from 8 ws) n.1.1.1.1.1.1.1.1.0 } };
+}
 message_part message.Change w ws c n = record {
-    spelled = rw (sym c, turn_back (from 3 ws) n.1.1.1.0, class_back (from 10 ws) n.1.1.1.1.1.1.1.1.1.1.0) (ap (λ (vs : Words). w ∷ vs) (front_is (message_places message.Change) ws n refl));
-    ranges = record { seq = in32 ws n.0; body = (in32 (from 1 ws) n.1.0, record { lane = in8 (from 2 ws) n.1.1.0; arrive = in32 (from 4 ws) n.1.1.1.1.0; speed = in32 (from 5 ws) n.1.1.1.1.1.0; max_speed = in32 (from 6 ws) n.1.1.1.1.1.1.0; accel = in32 (from 7 ws) n.1.1.1.1.1.1.1.0; len = in32 (from 8 ws) n.1.1.1.1.1.1.1.1.0; width = in32 (from 9 ws) n.1.1.1.1.1.1.1.1.1.0 }) };
-  }
+  spelled = rw (sym c, turn_back (from 3 ws) n.1.1.1.0, class_back (from 10 ws) n.1.1.1.1.1.1.1.1.1.1.0) (ap (λ (vs : Words). w ∷ vs) (front_is (message_places message.Change) ws n refl));
+  ranges = record { seq = in32 ws n.0; body = (in32 (from 1 ws) n.1.0, record { lane = in8 (from 2 ws) n.1.1.0; arrive = in32 (from 4 ws) n.1.1.1.1.0; speed = in32 (from 5 ws) n.1.1.1.1.1.0; max_speed = in32 (from 6 ws) n.1.1.1.1.1.1.0; accel = in32 (from 7 ws) n.1.1.1.1.1.1.1.0; len = in32 (from 8 ws) n.1.1.1.1.1.1.1.1.0; width = in32 (from 9 ws) n.1.1.1.1.1.1.1.1.1.0 }) };
+}
 message_part message.Cancel w ws c n = record {
-    spelled = rw (sym c) (ap (λ (vs : Words). w ∷ vs) (front_is (message_places message.Cancel) ws n refl));
-    ranges = record { seq = in32 ws n.0; body = in32 (from 1 ws) n.1.0 };
-  }
+  spelled = rw (sym c) (ap (λ (vs : Words). w ∷ vs) (front_is (message_places message.Cancel) ws n refl));
+  ranges = record { seq = in32 ws n.0; body = in32 (from 1 ws) n.1.0 };
+}
 message_part message.Done w ws c n = record {
-    spelled = rw (sym c) (ap (λ (vs : Words). w ∷ vs) (front_is (message_places message.Done) ws n refl));
-    ranges = record { seq = in32 ws n.0; body = in32 (from 1 ws) n.1.0 };
-  }
+  spelled = rw (sym c) (ap (λ (vs : Words). w ∷ vs) (front_is (message_places message.Done) ws n refl));
+  ranges = record { seq = in32 ws n.0; body = in32 (from 1 ws) n.1.0 };
+}
 
 order_part : (o : OrderForm) (w : List ℕ) (ws : Words) → w ≡ order_key o → NoFaults (order_places o) ws
     → IsPart (act_words (act.Order (order_of o ws))) (behind (order_places o) ws) (w ∷ ws) (IsAct (act.Order (order_of o ws)))
 unfolding order_key
 order_part command.Switch w ws c n = record {
-    spelled = rw (sym c) (ap (λ (vs : Words). w ∷ vs) (front_is (order_places command.Switch) ws n refl));
-    ranges = in8 ws n.0;
-  }
-order_part command.Stop w ws c n = record { spelled = rw (sym c) refl; ranges = tt; }
+  spelled = rw (sym c) (ap (λ (vs : Words). w ∷ vs) (front_is (order_places command.Switch) ws n refl));
+  ranges = in8 ws n.0;
+}
+order_part command.Stop w ws c n = record { spelled = rw (sym c) refl; ranges = tt }
 
 -- who did it: the operator orders, and a vehicle sends messages
 abbrev IsBy : Option ℕ → Act → Type 0
@@ -147,10 +142,10 @@ pace_back ws h = two_back (codes "fast") (codes "steady") (first ws) (swap (byte
 field_back : (ws : Words) → fault_at fields ws ≡ None → field_word (field_of (first ws)) ≡ first ws
 field_back ws h =
     meaning_last field_word
-      ((codes "lane", field.Lane) ∷ (codes "turn", field.Turn) ∷ (codes "arrive", field.Arrive) ∷ (codes "max", field.Max) ∷ (codes "speed", field.Speed)
-        ∷ (codes "accel", field.Accel) ∷ (codes "length", field.Length) ∷ (codes "width", field.Width) ∷ (codes "steps", field.Steps) ∷ [])
-      field.Spans (first ws) (refl, (refl, (refl, (refl, (refl, (refl, (refl, (refl, (refl, tt)))))))))
-      (keyword_allowed (codes "lane" ∷ codes "turn" ∷ codes "arrive" ∷ codes "max" ∷ codes "speed" ∷ codes "accel" ∷ codes "length" ∷ codes "width" ∷ codes "steps" ∷ codes "spans" ∷ []) ws h)
+    ((codes "lane", field.Lane) ∷ (codes "turn", field.Turn) ∷ (codes "arrive", field.Arrive) ∷ (codes "max", field.Max) ∷ (codes "speed", field.Speed)
+    ∷ (codes "accel", field.Accel) ∷ (codes "length", field.Length) ∷ (codes "width", field.Width) ∷ (codes "steps", field.Steps) ∷ [])
+    field.Spans (first ws) (refl, (refl, (refl, (refl, (refl, (refl, (refl, (refl, (refl, tt)))))))))
+    (keyword_allowed (codes "lane" ∷ codes "turn" ∷ codes "arrive" ∷ codes "max" ∷ codes "speed" ∷ codes "accel" ∷ codes "length" ∷ codes "width" ∷ codes "steps" ∷ codes "spans" ∷ []) ws h)
 
 -- a word or a number: where it isn't the word it is the number
 number_or : (word : List ℕ) (high : ℕ) (ws : Words) → fault_at (either (word ∷ []) 0 high) ws ≡ None → bytes_eq (first ws) word ≡ false → IsNumberIn 0 high (first ws)
@@ -195,50 +190,50 @@ reason_part : (r : ReasonForm) (w : List ℕ) (ws : Words) → w ≡ reason_key 
     → IsPart (reason_words (reason_of r ws)) (behind (reason_places r) ws) (w ∷ ws) (IsReason (reason_of r ws))
 unfolding reason_key
 reason_part why.Holds w ws c n = record {
-    spelled = rw (sym c) (ap (λ (vs : Words). w ∷ vs) (front_is (reason_places why.Holds) ws n refl));
-    ranges = in32 ws n.0;
-  }
-reason_part why.NoReservation w ws c n = record { spelled = rw (sym c) refl; ranges = tt; }
+  spelled = rw (sym c) (ap (λ (vs : Words). w ∷ vs) (front_is (reason_places why.Holds) ws n refl));
+  ranges = in32 ws n.0;
+}
+reason_part why.NoReservation w ws c n = record { spelled = rw (sym c) refl; ranges = tt }
 reason_part why.Begun w ws c n = record {
-    spelled = rw (sym c) (ap (λ (vs : Words). w ∷ vs) (front_is (reason_places why.Begun) ws n refl));
-    ranges = in32 ws n.0;
-  }
+  spelled = rw (sym c) (ap (λ (vs : Words). w ∷ vs) (front_is (reason_places why.Begun) ws n refl));
+  ranges = in32 ws n.0;
+}
 reason_part why.TooSoon w ws c n = record {
-    spelled = rw (sym c) (ap (λ (vs : Words). w ∷ vs) (front_is (reason_places why.TooSoon) ws n refl));
-    ranges = in32 ws n.0;
-  }
+  spelled = rw (sym c) (ap (λ (vs : Words). w ∷ vs) (front_is (reason_places why.TooSoon) ws n refl));
+  ranges = in32 ws n.0;
+}
 reason_part why.Bad w ws c n = record {
-    spelled = rw (sym c, field_back ws n.0) (ap (λ (vs : Words). w ∷ vs) (front_is (reason_places why.Bad) ws n refl));
-    ranges = tt;
-  }
+  spelled = rw (sym c, field_back ws n.0) (ap (λ (vs : Words). w ∷ vs) (front_is (reason_places why.Bad) ws n refl));
+  ranges = tt;
+}
 reason_part why.Late w ws c n = record {
-    spelled = rw (sym c) (ap (λ (vs : Words). w ∷ vs) (front_is (reason_places why.Late) ws n refl));
-    ranges = in32 ws n.0;
-  }
+  spelled = rw (sym c) (ap (λ (vs : Words). w ∷ vs) (front_is (reason_places why.Late) ws n refl));
+  ranges = in32 ws n.0;
+}
 reason_part why.Far w ws c n = record {
-    spelled = rw (sym c) (ap (λ (vs : Words). w ∷ vs) (front_is (reason_places why.Far) ws n refl));
-    ranges = in32 ws n.0;
-  }
+  spelled = rw (sym c) (ap (λ (vs : Words). w ∷ vs) (front_is (reason_places why.Far) ws n refl));
+  ranges = in32 ws n.0;
+}
 reason_part why.Distance w ws c n = record {
-    spelled = rw (sym c) (ap (λ (vs : Words). w ∷ vs) (front_is (reason_places why.Distance) ws n refl));
-    ranges = d64 ws n.0;
-  }
+  spelled = rw (sym c) (ap (λ (vs : Words). w ∷ vs) (front_is (reason_places why.Distance) ws n refl));
+  ranges = d64 ws n.0;
+}
 reason_part why.Emergency w ws c n = record {
-    spelled = rw (sym c) (ap (λ (vs : Words). w ∷ vs) (front_is (reason_places why.Emergency) ws n refl));
-    ranges = in8 ws n.0;
-  }
+  spelled = rw (sym c) (ap (λ (vs : Words). w ∷ vs) (front_is (reason_places why.Emergency) ws n refl));
+  ranges = in8 ws n.0;
+}
 reason_part why.Green w ws c n = record {
-    spelled = rw (sym c) (ap (λ (vs : Words). w ∷ vs) (front_is (reason_places why.Green) ws n refl));
-    ranges = (in8 ws n.0, in8 (from 1 ws) n.1.0, in32 (from 2 ws) n.1.1.0, in8 (from 3 ws) n.1.1.1.0);
-  }
+  spelled = rw (sym c) (ap (λ (vs : Words). w ∷ vs) (front_is (reason_places why.Green) ws n refl));
+  ranges = (in8 ws n.0, in8 (from 1 ws) n.1.0, in32 (from 2 ws) n.1.1.0, in8 (from 3 ws) n.1.1.1.0);
+}
 reason_part why.Taken w ws c n = record {
-    spelled = rw (sym c) (ap (λ (vs : Words). w ∷ vs) (front_is (reason_places why.Taken) ws n refl));
-    ranges = (in8 ws n.0, in8 (from 1 ws) n.1.0, in32 (from 2 ws) n.1.1.0, in32 (from 3 ws) n.1.1.1.0);
-  }
+  spelled = rw (sym c) (ap (λ (vs : Words). w ∷ vs) (front_is (reason_places why.Taken) ws n refl));
+  ranges = (in8 ws n.0, in8 (from 1 ws) n.1.0, in32 (from 2 ws) n.1.1.0, in32 (from 3 ws) n.1.1.1.0);
+}
 reason_part why.Reused w ws c n = record {
-    spelled = rw (sym c) (ap (λ (vs : Words). w ∷ vs) (front_is (reason_places why.Reused) ws n refl));
-    ranges = in32 ws n.0;
-  }
+  spelled = rw (sym c) (ap (λ (vs : Words). w ∷ vs) (front_is (reason_places why.Reused) ws n refl));
+  ranges = in32 ws n.0;
+}
 
 -- `next NEXT held ID`
 standing_part : (because : Reason) (ws : Words) → IsReason because → NoFaults standing_places ws
@@ -286,25 +281,25 @@ reply_part : (a : ReplyForm) (w : List ℕ) (ws : Words) → w ≡ reply_key a �
     → IsPart (reply_words (reply_of a ws)) (behind (reply_places a ws) ws) (w ∷ ws) (IsReply (reply_of a ws))
 unfolding reply_key
 reply_part answer.Confirm w ws c n = record {
-    spelled = rw (sym c, pace_back (from 4 ws) n.1.1.1.1.0) (ap (λ (vs : Words). w ∷ vs) (front_is (reply_places answer.Confirm ws) ws n refl));
-    ranges = (in32 ws n.0, in32 (from 1 ws) n.1.0, in32 (from 2 ws) n.1.1.0, in32 (from 3 ws) n.1.1.1.0, in32 (from 5 ws) n.1.1.1.1.1.0);
-  }
+  spelled = rw (sym c, pace_back (from 4 ws) n.1.1.1.1.0) (ap (λ (vs : Words). w ∷ vs) (front_is (reply_places answer.Confirm ws) ws n refl));
+  ranges = (in32 ws n.0, in32 (from 1 ws) n.1.0, in32 (from 2 ws) n.1.1.0, in32 (from 3 ws) n.1.1.1.0, in32 (from 5 ws) n.1.1.1.1.1.0);
+}
 reply_part answer.Reject w [] c n = absurd cc
 reply_part answer.Reject w (v ∷ ws) c n = refusal_part w v ws (reason_form v) c refl n
 reply_part answer.Ack w ws c n = record {
-    spelled = rw (sym c) (ap (λ (vs : Words). w ∷ vs) (front_is (reply_places answer.Ack ws) ws n refl));
-    ranges = in32 ws n.0;
-  }
+  spelled = rw (sym c) (ap (λ (vs : Words). w ∷ vs) (front_is (reply_places answer.Ack ws) ws n refl));
+  ranges = in32 ws n.0;
+}
 reply_part answer.Stale w ws c n = record {
-    spelled = rw (sym c) (ap (λ (vs : Words). w ∷ vs) (front_is (reply_places answer.Stale ws) ws n refl));
-    ranges = in32 ws n.0;
-  }
+  spelled = rw (sym c) (ap (λ (vs : Words). w ∷ vs) (front_is (reply_places answer.Stale ws) ws n refl));
+  ranges = in32 ws n.0;
+}
 reply_part answer.Switched w ws c n = record {
-    spelled = rw (sym c) (ap (λ (vs : Words). w ∷ vs) (front_is (reply_places answer.Switched ws) ws n refl));
-    ranges = in32 ws n.0;
-  }
-reply_part answer.EmergencyStop w ws c n = record { spelled = rw (sym c) refl; ranges = tt; }
-reply_part answer.Stopped w ws c n = record { spelled = rw (sym c) refl; ranges = tt; }
+  spelled = rw (sym c) (ap (λ (vs : Words). w ∷ vs) (front_is (reply_places answer.Switched ws) ws n refl));
+  ranges = in32 ws n.0;
+}
+reply_part answer.EmergencyStop w ws c n = record { spelled = rw (sym c) refl; ranges = tt }
+reply_part answer.Stopped w ws c n = record { spelled = rw (sym c) refl; ranges = tt }
 
 answer_part : (w : List ℕ) (ws : Words) (r : Result ReplyForm LineKind) → reply_form w ≡ r → NoFaults (answer_places r (w ∷ ws)) (w ∷ ws)
     → IsPart (reply_words (answer_of r (w ∷ ws))) (behind (answer_places r (w ∷ ws)) (w ∷ ws)) (w ∷ ws) (IsReply (answer_of r (w ∷ ws)))
@@ -358,12 +353,12 @@ entry_parts ws none =
     let act = act_part caller (from 3 ws) parts.0 in
     let reply = reply_is reply_words' parts.1.1 in
     let end : behind (answer_places (reply_form (first reply_words')) reply_words') reply_words' ≡ [] =
-        sym (behind_append acts more (from 3 ws)) ∙ no_surplus (behind (entry_places ws) ws) both.1 in
+    sym (behind_append acts more (from 3 ws)) ∙ no_surplus (behind (entry_places ws) ws) both.1 in
     let whole : reply_words (answer_of (reply_form (first reply_words')) reply_words') ≡ reply_words' =
-        sym (append-nil _) ∙ ap (λ (us : Words). reply_words (answer_of (reply_form (first reply_words')) reply_words') ++ us) (sym end) ∙ reply.spelled in
+    sym (append-nil _) ∙ ap (λ (us : Words). reply_words (answer_of (reply_form (first reply_words')) reply_words') ++ us) (sym end) ∙ reply.spelled in
     let arrow : behind acts (from 3 ws) ≡ codes "->" ∷ reply_words' = arrow_is (behind acts (from 3 ws)) parts.1.0 in
     let tail : act_words (act_of caller (from 3 ws)) ++ codes "->" ∷ reply_words (answer_of (reply_form (first reply_words')) reply_words') ≡ from 3 ws =
-        ap (λ (us : Words). act_words (act_of caller (from 3 ws)) ++ codes "->" ∷ us) whole ∙ ap (λ (us : Words). act_words (act_of caller (from 3 ws)) ++ us) (sym arrow) ∙ act.spelled in
+    ap (λ (us : Words). act_words (act_of caller (from 3 ws)) ++ codes "->" ∷ us) whole ∙ ap (λ (us : Words). act_words (act_of caller (from 3 ws)) ++ us) (sym arrow) ∙ act.spelled in
     let who = caller_is (rest ws) (act_of caller (from 3 ws)) n.1.0 act.by in
     record {
       spelled = rw (who.spelled, tail) (front_is (number32 ∷ callers ∷ number32 ∷ []) ws (n.0, (n.1.0, (n.1.1.0, tt))) refl);

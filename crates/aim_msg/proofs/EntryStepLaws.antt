@@ -1,5 +1,5 @@
 -- Reading an entry word by word gives what the tables of places say.
-use Rattle.std.proofs.Common.{◌≡◌, ℕ, Bool, true, false, List, [], ◌∷◌, ◌++◌, Option, Some, None, Result, Ok, Err, unwrap_or, codes, refl, sym, ap, ◌∙◌, cond}
+use Rattle.std.proofs.Common.{◌≡◌, ℕ, List, [], ◌∷◌, ◌++◌, Option, Some, None, Result, Ok, Err, codes, refl, sym, ap, ◌∙◌}
 use Rattle.std.specs.Option.{option_or}
 use Rattle.std.specs.Prelude.{bytes_eq}
 use Rattle.std.proofs.lemmas.Bool.{cases_Bool}
@@ -8,7 +8,6 @@ use Rattle.aim_msg.specs.declared.messages.Message.{Message}
 use Rattle.aim_msg.specs.declared.entries.Act.{Act}
 use Rattle.aim_msg.specs.declared.entries.Act.TheVariants as act
 use Rattle.aim_msg.specs.declared.entries.Order.{Order}
-use Rattle.aim_msg.specs.declared.entries.Entry.{Entry}
 use Rattle.aim_msg.specs.declared.replies.Reason.{Reason}
 use Rattle.aim_msg.specs.declared.replies.Reply.{Reply}
 use Rattle.aim_msg.specs.declared.script.LineKind.{LineKind}
@@ -21,12 +20,12 @@ use Rattle.aim_msg.specs.declared.reading.forms.ReplyForm.TheVariants as answer
 use Rattle.aim_msg.specs.declared.reading.forms.ReasonForm.{ReasonForm}
 use Rattle.aim_msg.specs.declared.reading.forms.ReasonForm.TheVariants as why
 use Rattle.aim_msg.specs.Texts.{Words}
-use Rattle.aim_msg.specs.Faults.{Place, just, first, rest, from, word_at, fault_at, first_fault, behind, surplus_fault, text_fault, words_of, number32}
+use Rattle.aim_msg.specs.Faults.{Place, just, first, rest, from, word_at, fault_at, first_fault, behind, surplus_fault, text_fault, number32}
 use Rattle.aim_msg.specs.Forms.{look_up, message_forms, order_forms, reply_forms, reason_forms, message_form, order_form, reply_form, reason_form, message_places}
 use Rattle.aim_msg.specs.Reading.{at, unless, message_of}
-use Rattle.aim_msg.specs.Entries.{callers, caller_of, reason_places, reason_of, standing_places, reject_of, refusal_places, refusal_of, reply_places, reply_of, answer_places, answer_of, order_places, order_of, order_act_places, order_act_of, message_act_places, message_act_of, act_places, act_of, call_places, call_of, entry_places, entry_of, entry_in}
-use Rattle.aim_msg.specs.Steps.{◌>>=◌, Read, message_in}
-use Rattle.aim_msg.specs.EntrySteps.{word_in, nothing, end_in, order_in, act_in, green_in, taken_in, reason_in, confirm_in, standing_in, reject_in, reply_in, answer_in, call_in, entry_steps}
+use Rattle.aim_msg.specs.Entries.{callers, caller_of, reason_places, reason_of, standing_places, reject_of, refusal_places, refusal_of, reply_places, reply_of, answer_places, answer_of, order_places, order_of, order_act_places, order_act_of, message_act_places, message_act_of, act_places, act_of, entry_places, entry_of, entry_in}
+use Rattle.aim_msg.specs.Steps.{◌>>=◌, message_in}
+use Rattle.aim_msg.specs.EntrySteps.{word_in, end_in, order_in, act_in, green_in, taken_in, reason_in, confirm_in, standing_in, reject_in, reply_in, answer_in, call_in, entry_steps}
 use Rattle.aim_msg.proofs.StepLaws.{bind_read, bind_more, bind_assoc, faults_then, message_step}
 
 -- the fault of a word in no row
@@ -134,9 +133,9 @@ refusal : {B : Type 0} (w : List ℕ) (ws : Words) (f : Reply × Words → Resul
 refusal w ws f b later (Ok r) words h =
     let left : behind (reason_places r ++ standing_places) ws ≡ from 4 (behind (reason_places r) ws) = behind_append (reason_places r) standing_places ws in
     let h' : f (reject_of (reason_of r ws) (behind (reason_places r) ws), from 4 (behind (reason_places r) ws)) ≡ unless b later =
-        ap (λ ws'. f (reject_of (reason_of r ws) (behind (reason_places r) ws), ws')) (sym left) ∙ h in
+    ap (λ ws'. f (reject_of (reason_of r ws) (behind (reason_places r) ws), ws')) (sym left) ∙ h in
     reason_more r ws _ f b (faults_then standing_places (behind (reason_places r) ws) later)
-        (standing_step (reason_of r ws) (behind (reason_places r) ws) f b later h')
+    (standing_step (reason_of r ws) (behind (reason_places r) ws) f b later h')
     ∙ ap (unless b) (sym (then_append (reason_places r) standing_places ws later))
 refusal w ws f b later (Err k) words h = ap Err (words k refl)
 
@@ -189,18 +188,18 @@ behind_arrow caller ws = rest (behind (act_places caller ws) ws)
 -- the faults of an entry's words, part by part
 all_places : (ws : Words) → text_fault (entry_places ws) ws
     ≡ faults_then (number32 ∷ callers ∷ number32 ∷ []) ws
-        (faults_then (act_places (caller_of (word_at ws 1)) (from 3 ws)) (from 3 ws)
-          (faults_then (just (codes "->") ∷ []) (behind (act_places (caller_of (word_at ws 1)) (from 3 ws)) (from 3 ws))
-            (faults_then (answers (behind_arrow (caller_of (word_at ws 1)) (from 3 ws))) (behind_arrow (caller_of (word_at ws 1)) (from 3 ws))
-              (surplus_fault (behind (answers (behind_arrow (caller_of (word_at ws 1)) (from 3 ws))) (behind_arrow (caller_of (word_at ws 1)) (from 3 ws)))))))
+    (faults_then (act_places (caller_of (word_at ws 1)) (from 3 ws)) (from 3 ws)
+    (faults_then (just (codes "->") ∷ []) (behind (act_places (caller_of (word_at ws 1)) (from 3 ws)) (from 3 ws))
+    (faults_then (answers (behind_arrow (caller_of (word_at ws 1)) (from 3 ws))) (behind_arrow (caller_of (word_at ws 1)) (from 3 ws))
+    (surplus_fault (behind (answers (behind_arrow (caller_of (word_at ws 1)) (from 3 ws))) (behind_arrow (caller_of (word_at ws 1)) (from 3 ws)))))))
 all_places ws =
     let caller : Option ℕ = caller_of (word_at ws 1) in
     let acts : List Place = act_places caller (from 3 ws) in
     let more : List Place = just (codes "->") ∷ answers (behind_arrow caller (from 3 ws)) in
     first_then (entry_places ws) ws (surplus_fault (behind (entry_places ws) ws))
     ∙ ap (faults_then (number32 ∷ callers ∷ number32 ∷ []) ws)
-        (then_append acts more (from 3 ws) (surplus_fault (behind (entry_places ws) ws))
-          ∙ ap (λ ws'. faults_then acts (from 3 ws) (faults_then more (behind acts (from 3 ws)) (surplus_fault ws'))) (behind_append acts more (from 3 ws)))
+    (then_append acts more (from 3 ws) (surplus_fault (behind (entry_places ws) ws))
+    ∙ ap (λ ws'. faults_then acts (from 3 ws) (faults_then more (behind acts (from 3 ws)) (surplus_fault ws'))) (behind_append acts more (from 3 ws)))
 
 -- the act, the arrow and the reply
 pub entry_is : (ws : Words) → entry_steps ws ≡ entry_in ws
@@ -211,5 +210,5 @@ entry_is ws =
     let reply : Words = behind_arrow caller act in
     let end : Words = behind (answer_places (reply_form (first reply)) reply) reply in
     bind_read _ _ _ _ _ _
-        (bind_more _ _ _ _ _ _ _ (bind_more _ _ _ _ _ _ _ (act_more caller act _ _ _ _ (bind_more _ _ _ _ _ _ _ (answer_more reply _ _ _ _ (end_step end (at ws 0, entry_of ws)))))))
+    (bind_more _ _ _ _ _ _ _ (bind_more _ _ _ _ _ _ _ (act_more caller act _ _ _ _ (bind_more _ _ _ _ _ _ _ (answer_more reply _ _ _ _ (end_step end (at ws 0, entry_of ws)))))))
     ∙ ap (unless (at ws 0, entry_of ws)) (sym (all_places ws))

@@ -1,7 +1,6 @@
 -- Sets of lanes as bits, and their numbers in rising order.
-use Rattle.std.proofs.Common.{◌≡◌, ℕ, zero, suc, ◌+◌, ◌-◌, ◌*◌, ◌/◌, ◌%◌, ◌^◌, ◌<◌, ◌≤◌, ◌==◌, Bool, true, false, List, [], ◌∷◌, map, filter, Option, Some, None, Result, Ok, Err, decimal, refl, sym, ap, ◌∙◌, arith, inl, inr, cond, ◌⊎◌}
+use Rattle.std.proofs.Common.{◌≡◌, ℕ, zero, suc, ◌+◌, ◌-◌, ◌*◌, ◌/◌, ◌%◌, ◌^◌, ◌<◌, ◌≤◌, ◌==◌, true, false, List, [], ◌∷◌, map, filter, None, Ok, decimal, refl, sym, ap, ◌∙◌, arith, inl, inr, ◌⊎◌}
 use Rattle.std.specs.List.{range_with_len}
-use Rattle.std.specs.Prelude.{sum_by}
 use Rattle.std.proofs.lemmas.Nat.{div-mul-add, pow_pos, div-add-mod'}
 use Rattle.std.proofs.lemmas.List.Sums.{sum_by-cons}
 use Rattle.std.proofs.Math.Pow.{pow_mono}
@@ -10,7 +9,7 @@ use Rattle.std.proofs.Common.{length, subst, pow-add}
 use Rattle.std.proofs.lemmas.Bool.{cases_Bool, eqb-true, eq-eqb, le-ltb}
 use Rattle.aim_msg.specs.Texts.{Words}
 use Rattle.aim_msg.specs.Lines.{has_lane, all_lanes, lane_words}
-use Rattle.aim_msg.specs.Faults.{value_of, number_fault, word_fault}
+use Rattle.aim_msg.specs.Faults.{value_of, number_fault}
 use Rattle.aim_msg.specs.Forms.{lane_places}
 use Rattle.aim_msg.specs.Reading.{unless, lanes_of}
 use Rattle.aim_msg.specs.Steps.{lanes_in}
@@ -65,11 +64,11 @@ lanes_from (suc n) i low m q lanes end least is below small =
     let bit : lanes / 2 ^ i % 2 ≡ q % 2 = ap (λ k. k % 2) (quotient lanes i m q is below) in
     elim (cases_two (q % 2) (mod-lt q (omega arith))) [
       | inl even ↦
-        let off : has_lane lanes i ≡ false = rw (bit, even) refl in
-        rw off (lanes_from n (i + 1) low m (q / 2) lanes (omega arith) (omega arith) (without_lane lanes i m q is (is_even q even)) (rw (twice i) (omega arith)) small)
+          let off : has_lane lanes i ≡ false = rw (bit, even) refl in
+          rw off (lanes_from n (i + 1) low m (q / 2) lanes (omega arith) (omega arith) (without_lane lanes i m q is (is_even q even)) (rw (twice i) (omega arith)) small)
       | inr odd ↦
-        let on : has_lane lanes i ≡ true = rw (bit, odd) refl in
-        rw on (lanes_next m low (decimal i) (map decimal (filter (has_lane lanes) (range_with_len (i + 1) n))) i (lane_is_read low i least (omega arith))
+          let on : has_lane lanes i ≡ true = rw (bit, odd) refl in
+          rw on (lanes_next m low (decimal i) (map decimal (filter (has_lane lanes) (range_with_len (i + 1) n))) i (lane_is_read low i least (omega arith))
           ∙ lanes_from n (i + 1) (i + 1) (m + 2 ^ i) (q / 2) lanes (omega arith) (omega arith) (with_lane lanes i m q is (is_odd q odd)) (rw (twice i) (omega arith)) small)
     ]
 
@@ -102,9 +101,10 @@ multiple low (w ∷ ws) n =
     let least = is.least in
     let more = multiple (value_of w + 1) ws n.1 in
     let gap : value_of w ≡ low + (value_of w - low) = omega arith in
-    let power : 2 ^ value_of w ≡ 2 ^ (value_of w - low) * 2 ^ low = ap (λ k. 2 ^ k) gap ∙ power_add low (value_of w - low) in
-    ( 2 ^ (value_of w - low) * (1 + more.0 * 2)
-    , rw (more.1, twice (value_of w), power) (grind arith) )
+    let power : 2 ^ value_of w ≡ 2 ^ (value_of w - low) * 2 ^ low = ap (λ k. 2 ^ k) gap ∙ power_add low (value_of w - low) in (
+      2 ^ (value_of w - low) * (1 + more.0 * 2),
+      rw (more.1, twice (value_of w), power) (grind arith),
+    )
 
 -- and below the bit past the greatest
 bits_below : (low : ℕ) (ws : Words) → low ≤ 16 → NoFaults (lane_places low ws) ws → bits ws + 2 ^ low ≤ 2 ^ 16
@@ -163,22 +163,22 @@ lanes_to (suc n) i (w ∷ ws) m lanes end is below none =
     let least = in_range.least in
     elim (cases_Bool (value_of w == i)) [
       | inl here ↦
-        let at : value_of w ≡ i = eqb-true (value_of w) i here in
-        let more = multiple (value_of w + 1) ws none.1 in
-        let whole : lanes ≡ (more.0 * 2 + 1) * 2 ^ i + m = with_first lanes (value_of w) i (bits ws) more.0 m is more.1 at in
-        let on : has_lane lanes i ≡ true = rw (quotient lanes i m (more.0 * 2 + 1) whole below, odd more.0) refl in
-        let spelled : decimal i ≡ w = ap decimal (sym at) ∙ decimal_value w in_range.number (omega arith) in
-        let there : NoFaults (lane_places (i + 1) ws) ws = subst (λ k. NoFaults (lane_places (k + 1) ws) ws) at none.1 in
-        let power : 2 ^ value_of w ≡ 2 ^ i = ap (λ j. 2 ^ j) at in
-        let sum : lanes ≡ bits ws + (m + 2 ^ i) = omega arith in
-        rw (on, spelled, lanes_to n (i + 1) ws (m + 2 ^ i) lanes (omega arith) sum (rw (twice i) (omega arith)) there) refl
+          let at : value_of w ≡ i = eqb-true (value_of w) i here in
+          let more = multiple (value_of w + 1) ws none.1 in
+          let whole : lanes ≡ (more.0 * 2 + 1) * 2 ^ i + m = with_first lanes (value_of w) i (bits ws) more.0 m is more.1 at in
+          let on : has_lane lanes i ≡ true = rw (quotient lanes i m (more.0 * 2 + 1) whole below, odd more.0) refl in
+          let spelled : decimal i ≡ w = ap decimal (sym at) ∙ decimal_value w in_range.number (omega arith) in
+          let there : NoFaults (lane_places (i + 1) ws) ws = subst (λ k. NoFaults (lane_places (k + 1) ws) ws) at none.1 in
+          let power : 2 ^ value_of w ≡ 2 ^ i = ap (λ j. 2 ^ j) at in
+          let sum : lanes ≡ bits ws + (m + 2 ^ i) = omega arith in
+          rw (on, spelled, lanes_to n (i + 1) ws (m + 2 ^ i) lanes (omega arith) sum (rw (twice i) (omega arith)) there) refl
       | inr past ↦
-        let above : i + 1 ≤ value_of w = later (value_of w) i least past in
-        let there : NoFaults (lane_places (i + 1) (w ∷ ws)) (w ∷ ws) = (number_none (i + 1) w in_range above, none.1) in
-        let more = multiple (i + 1) (w ∷ ws) there in
-        let whole : lanes ≡ more.0 * 2 * 2 ^ i + m = without_first lanes i (bits (w ∷ ws)) more.0 m is more.1 in
-        let off : has_lane lanes i ≡ false = rw (quotient lanes i m (more.0 * 2) whole below, even more.0) refl in
-        rw off (lanes_to n (i + 1) (w ∷ ws) m lanes (omega arith) is (rw (twice i) (omega arith)) there)
+          let above : i + 1 ≤ value_of w = later (value_of w) i least past in
+          let there : NoFaults (lane_places (i + 1) (w ∷ ws)) (w ∷ ws) = (number_none (i + 1) w in_range above, none.1) in
+          let more = multiple (i + 1) (w ∷ ws) there in
+          let whole : lanes ≡ more.0 * 2 * 2 ^ i + m = without_first lanes i (bits (w ∷ ws)) more.0 m is more.1 in
+          let off : has_lane lanes i ≡ false = rw (quotient lanes i m (more.0 * 2) whole below, even more.0) refl in
+          rw off (lanes_to n (i + 1) (w ∷ ws) m lanes (omega arith) is (rw (twice i) (omega arith)) there)
     ]
 
 pub record AreLanes (ws : Words) : Type 0 where

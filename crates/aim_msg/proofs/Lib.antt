@@ -5,7 +5,6 @@ pub mod Splits
 pub mod Numbers
 pub mod StepLaws
 pub mod ListLaws
-pub mod Words
 pub mod TextExamples
 pub mod EntryStepLaws
 pub mod WordLaws

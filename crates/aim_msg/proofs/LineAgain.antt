@@ -1,6 +1,5 @@
 -- A line that is spelled is read again.
-use Rattle.std.proofs.Common.{◌≡◌, ◌≢◌, ℕ, zero, suc, ◌+◌, ◌-◌, ◌^◌, ◌<◌, ◌≤◌, ◌==◌, ◌&&◌, nat_le, Bool, true, false, List, [], ◌∷◌, ◌++◌, length, map, filter, take, Option, Some, None, Result, Ok, Err, decimal, codes, refl, sym, ap, ◌∙◌, arith, inl, inr, append-nil, length-take-le}
-use Rattle.std.specs.Prelude.{bytes_eq, if◌then◌else◌}
+use Rattle.std.proofs.Common.{◌≡◌, ℕ, zero, suc, ◌+◌, ◌^◌, ◌<◌, ◌≤◌, ◌==◌, ◌&&◌, nat_le, Bool, true, false, List, [], ◌∷◌, ◌++◌, length, map, filter, take, Result, Ok, Err, decimal, refl, sym, ap, ◌∙◌, arith, inl, inr, append-nil, length-take-le}
 use Rattle.std.specs.List.{range_with_len}
 use Rattle.std.proofs.lemmas.Bool.{cases_Bool, eq-eqb, ne_eqb, le-leb, and_from}
 use Rattle.std.proofs.lemmas.List.{length-map}
@@ -14,17 +13,16 @@ use Rattle.aim_msg.specs.declared.script.FateList.{FateList}
 use Rattle.aim_msg.specs.declared.script.Line.{Line}
 use Rattle.aim_msg.specs.declared.script.Line.TheVariants as line
 use Rattle.aim_msg.specs.declared.script.LineKind.{LineKind}
-use Rattle.aim_msg.specs.declared.reading.forms.MessageForm.{MessageForm}
 use Rattle.aim_msg.specs.declared.reading.forms.OrderForm.TheVariants as order
 use Rattle.aim_msg.specs.declared.reading.forms.LineForm.{LineForm}
 use Rattle.aim_msg.specs.declared.reading.forms.LineForm.TheVariants as form
 use Rattle.aim_msg.specs.Texts.{Words, spaced, vehicle_words, body_words, message_words}
 use Rattle.aim_msg.specs.Lines.{fate_word, fate_words, window_words, has_lane, all_lanes, lane_words, shape_words, line_words, line_text, IsFateList, KeepsRanges}
-use Rattle.aim_msg.specs.Faults.{words_of, first, rest, begins_with_digit, first_fault}
-use Rattle.aim_msg.specs.Forms.{message_form, shape_form, times_form, plan_form, line_form, line_places, has_count}
-use Rattle.aim_msg.specs.Reading.{unless, line_of, form_fault, line_in, line_at}
+use Rattle.aim_msg.specs.Faults.{words_of, first, rest, begins_with_digit}
+use Rattle.aim_msg.specs.Forms.{message_form, shape_form, plan_form, line_form, has_count}
+use Rattle.aim_msg.specs.Reading.{line_in, line_at}
 use Rattle.aim_msg.specs.Ranges.{Is32, AreParams, IsMessage, IsLine}
-use Rattle.aim_msg.specs.Steps.{◌>>=◌, Read, read_in, number_in, vehicle_in, message_in, shape_in, grid_in, times_in, times6_in, move_in, policy_in, lanes_in, phase_in, event_in, switch_in, stop_in, window_in, plan_in, change_plan_in, cancel_plan_in, fates_in, up_in, down_in, behind_keyword, steps_in}
+use Rattle.aim_msg.specs.Steps.{vehicle_in, message_in, grid_in, times_in, times6_in, move_in, policy_in, lanes_in, phase_in, event_in, switch_in, stop_in, plan_in, change_plan_in, cancel_plan_in, up_in, down_in, behind_keyword, steps_in}
 use Rattle.aim_msg.proofs.Numbers.{decimal_number, number_begins}
 use Rattle.aim_msg.proofs.WordLaws.{AreWords, words_spaced}
 use Rattle.aim_msg.proofs.LineWords.{line_are_words}

@@ -1,16 +1,12 @@
 -- What is read is spelled so.
-use Rattle.std.proofs.Common.{◌≡◌, ◌≢◌, ℕ, zero, suc, ◌+◌, ◌-◌, ◌^◌, ◌<◌, ◌≤◌, ◌==◌, ◌&&◌, ◌||◌, nat_le, nat_lt, Bool, true, false, not, List, [], ◌∷◌, ◌++◌, length, map, take, drop, replicate, Option, Some, None, Result, Ok, Err, decimal, codes, refl, sym, ap, subst, ◌∙◌, arith, inl, inr}
+use Rattle.std.proofs.Common.{◌≡◌, ◌≢◌, ℕ, zero, suc, ◌-◌, ◌^◌, ◌<◌, ◌≤◌, ◌==◌, ◌&&◌, nat_le, Bool, true, false, not, List, [], ◌∷◌, ◌++◌, length, map, take, drop, replicate, Option, Some, None, Result, Ok, Err, decimal, codes, refl, sym, ap, subst, ◌∙◌, arith, inl, inr}
 use Rattle.std.specs.Prelude.{bytes_eq, if◌then◌else◌}
 use Rattle.std.specs.List.{list_all}
-use Rattle.std.proofs.lemmas.Bool.{cases_Bool, and_parts, and_from, eqb-true, eq-eqb, ne_eqb, leb-true, le-leb, ltb-true}
+use Rattle.std.proofs.lemmas.Bool.{cases_Bool, and_parts, eqb-true, eq-eqb, ne_eqb, leb-true, le-leb}
 use Rattle.std.proofs.lemmas.List.{length-append, length-replicate, length-map}
 use Rattle.std.proofs.lemmas.List.Splits.{join_with_byte-slice_split}
 use Rattle.std.proofs.Math.Seq.{take-append_seam, drop-append_seam}
-use Rattle.aim_msg.specs.declared.messages.Turn.{Turn}
-use Rattle.aim_msg.specs.declared.messages.Params.{Params}
-use Rattle.aim_msg.specs.declared.script.FateList.{FateList}
 use Rattle.aim_msg.specs.declared.script.Line.{Line}
-use Rattle.aim_msg.specs.declared.script.Line.TheVariants as line
 use Rattle.aim_msg.specs.declared.script.LineKind.{LineKind}
 use Rattle.aim_msg.specs.declared.script.LineKind.TheVariants as kind
 use Rattle.aim_msg.specs.declared.reading.forms.MessageForm.{MessageForm}
@@ -22,16 +18,15 @@ use Rattle.aim_msg.specs.declared.reading.forms.ShapeForm.TheVariants as way
 use Rattle.aim_msg.specs.declared.reading.forms.LineForm.{LineForm}
 use Rattle.aim_msg.specs.declared.reading.forms.LineForm.TheVariants as form
 use Rattle.aim_msg.specs.Texts.{Words, spaced}
-use Rattle.aim_msg.specs.Lines.{fate_word, fate_words, lane_words, line_words, line_text, IsName, IsFateList, KeepsRanges}
-use Rattle.aim_msg.specs.Faults.{Place, number, first, rest, from, word_at, words_of, is_one_of, begins_with_digit, value_of, number_fault, word_fault, fault_at, first_fault, number32, number8}
-use Rattle.aim_msg.specs.Forms.{look_up, message_forms, order_forms, shape_forms, body_forms, plain_forms, message_form, order_form, shape_form, plain_form, times_form, plan_form, line_form, map_ok, fate, lane_places, fate_places, message_places, shape_places, line_places, has_count}
-use Rattle.aim_msg.specs.Reading.{at, unless, kind_of, fate_of, fates_of, message_of, line_of, form_fault, line_in, line_at}
-use Rattle.aim_msg.specs.Ranges.{Is32, Is8, AreParams, IsMessage, IsLine}
+use Rattle.aim_msg.specs.Lines.{fate_word, fate_words, line_words, line_text, IsFateList, KeepsRanges}
+use Rattle.aim_msg.specs.Faults.{Place, first, rest, from, word_at, words_of, begins_with_digit, value_of, number_fault, word_fault, fault_at, first_fault, number32, number8}
+use Rattle.aim_msg.specs.Forms.{look_up, message_forms, order_forms, shape_forms, plain_forms, message_form, order_form, shape_form, plain_form, times_form, plan_form, line_form, map_ok, fate, fate_places, line_places, has_count}
+use Rattle.aim_msg.specs.Reading.{unless, kind_of, fate_of, fates_of, line_of, form_fault, line_in, line_at}
+use Rattle.aim_msg.specs.Ranges.{Is32, Is8, IsLine}
 use Rattle.aim_msg.proofs.Numbers.{IsNumberIn, number_in_from, decimal_value}
 use Rattle.aim_msg.proofs.NoFaults.{NoFaults, no_faults}
-use Rattle.aim_msg.proofs.Spelled.{respelled, respelled_is, are_small, number_at_place, same_word, turn_back, class_back, window_back, kind_back, kind_most, name_is}
-use Rattle.aim_msg.proofs.LaneLaws.{AreLanes, lanes_are_spelled}
-use Rattle.aim_msg.proofs.ListsAgain.{not_letter}
+use Rattle.aim_msg.proofs.Spelled.{respelled_is, number_at_place, same_word, turn_back, class_back, window_back, kind_back, kind_most, name_is}
+use Rattle.aim_msg.proofs.LaneLaws.{lanes_are_spelled}
 
 pub in32 : (ws : Words) → fault_at number32 ws ≡ None → Is32 (value_of (first ws))
 in32 ws h = let is = number_at_place 0 4294967295 ws h in let most = is.most in omega arith
@@ -52,8 +47,8 @@ pub look_up_has : {F : Type 0} (P : List ℕ → F → Type 0) (fault : LineKind
 look_up_has P fault [] w f all h = absurd cc
 look_up_has P fault (row ∷ rows) w f all h = elim (cases_Bool (bytes_eq w row.0)) [
   | inl is ↦
-    let here : P w row.1 = subst (λ v. P v row.1) (sym (same_word w row.0 is)) all.0 in
-    subst (λ g. P w g) (ok_same (look_up fault (row ∷ rows) w) row.1 f (rw is refl) h) here
+      let here : P w row.1 = subst (λ v. P v row.1) (sym (same_word w row.0 is)) all.0 in
+      subst (λ g. P w g) (ok_same (look_up fault (row ∷ rows) w) row.1 f (rw is refl) h) here
   | inr not ↦ look_up_has P fault rows w f all.1 (rw not at h)
 ]
   where
@@ -153,7 +148,7 @@ plain_to version ws form.End h = h
 plain_chosen : (version : ℕ) (ws : Words) (f : LineForm) → plain_form version (first ws) ≡ Ok f → Chosen version f ws
 plain_chosen version ws f h =
     plain_to version ws f (look_up_has (IsPlain version) kind.Unknown (plain_forms version) (first ws) f
-      (refl, (refl, (times_plain version, (refl, (refl, (refl, (refl, (refl, (refl, (plan_plain version, (refl, (refl, (refl, (refl, (refl, tt))))))))))))))) h)
+    (refl, (refl, (times_plain version, (refl, (refl, (refl, (refl, (refl, (refl, (plan_plain version, (refl, (refl, (refl, (refl, (refl, tt))))))))))))))) h)
 
 -- a form inside another
 inside : {A : Type 0} (g : A → LineForm) (r : Result A LineKind) (f : LineForm) → map_ok g r ≡ Ok f → (a : A) × (r ≡ Ok a) × (f ≡ g a)
@@ -164,19 +159,19 @@ inside g (Err k) f h = absurd cc
 chosen_is : (version : ℕ) (ws : Words) (f : LineForm) → line_form version ws ≡ Ok f → Chosen version f ws
 chosen_is version ws f h = elim (cases_Bool (begins_with_digit (first ws))) [
   | inl event ↦
-    let in_event = inside form.Event (message_form (word_at ws 2)) f (rw event at h) in
-    subst (λ g. Chosen version g ws) (sym in_event.2) (message_chosen (word_at ws 2) in_event.0 in_event.1)
+      let in_event = inside form.Event (message_form (word_at ws 2)) f (rw event at h) in
+      subst (λ g. Chosen version g ws) (sym in_event.2) (message_chosen (word_at ws 2) in_event.0 in_event.1)
   | inr no_event ↦ elim (cases_Bool (bytes_eq (first ws) (codes "operator"))) [
-      | inl order ↦
+    | inl order ↦
         let in_order = inside form.Order (order_form (word_at ws 2)) f (rw (no_event, order) at h) in
         subst (λ g. Chosen version g ws) (sym in_order.2) (same_word (first ws) (codes "operator") order, order_chosen (word_at ws 2) in_order.0 in_order.1)
-      | inr no_order ↦ elim (cases_Bool (bytes_eq (first ws) (codes "move"))) [
-          | inl move ↦
-            let in_move = inside form.Move (shape_form (word_at ws 3)) f (rw (no_event, no_order, move) at h) in
-            subst (λ g. Chosen version g ws) (sym in_move.2) (same_word (first ws) (codes "move") move, shape_chosen (word_at ws 3) in_move.0 in_move.1)
-          | inr no_move ↦ plain_chosen version ws f (rw (no_event, no_order, no_move) at h)
-        ]
+    | inr no_order ↦ elim (cases_Bool (bytes_eq (first ws) (codes "move"))) [
+      | inl move ↦
+          let in_move = inside form.Move (shape_form (word_at ws 3)) f (rw (no_event, no_order, move) at h) in
+          subst (λ g. Chosen version g ws) (sym in_move.2) (same_word (first ws) (codes "move") move, shape_chosen (word_at ws 3) in_move.0 in_move.1)
+      | inr no_move ↦ plain_chosen version ws f (rw (no_event, no_order, no_move) at h)
     ]
+  ]
 ]
 
 -- what a line that was read keeps
@@ -189,14 +184,14 @@ fate_back : (w : List ℕ) → word_fault fate w ≡ None → (fate_word (fate_o
 fate_back w h = elim (cases_Bool (bytes_eq w (codes "d"))) [
   | inl is ↦ rw is (sym (same_word w (codes "d") is), omega arith)
   | inr not_d ↦ elim (cases_Bool (bytes_eq w (codes "l"))) [
-      | inl is ↦ rw (not_d, is) (sym (same_word w (codes "l") is), omega arith)
-      | inr not_l ↦ elim (cases_Bool (bytes_eq w (codes "r"))) [
-          | inl is ↦ rw (not_d, not_l, is) (sym (same_word w (codes "r") is), omega arith)
-          | inr not_r ↦
-            let is : IsNumberIn 1 255 w = number_in_from 1 255 w (delay (begins_with_digit w) refl (rw (not_d, not_l, not_r) at h)) in
-            rw (not_d, not_l, not_r) (delay_back (value_of w) is.least is.most ∙ decimal_value w is.number (below (value_of w) is.most), little (value_of w) is.most)
-        ]
+    | inl is ↦ rw (not_d, is) (sym (same_word w (codes "l") is), omega arith)
+    | inr not_l ↦ elim (cases_Bool (bytes_eq w (codes "r"))) [
+      | inl is ↦ rw (not_d, not_l, is) (sym (same_word w (codes "r") is), omega arith)
+      | inr not_r ↦
+          let is : IsNumberIn 1 255 w = number_in_from 1 255 w (delay (begins_with_digit w) refl (rw (not_d, not_l, not_r) at h)) in
+          rw (not_d, not_l, not_r) (delay_back (value_of w) is.least is.most ∙ decimal_value w is.number (below (value_of w) is.most), little (value_of w) is.most)
     ]
+  ]
 ]
   where
     delay : (b : Bool) → begins_with_digit w ≡ b → (if b then number_fault 1 255 w else Some kind.Words) ≡ None → number_fault 1 255 w ≡ None
@@ -231,9 +226,9 @@ fates_are_spelled ws some most n =
     let each = each_fate ws n in
     let len : length (map fate_of ws) ≡ length ws = length-map ws fate_of in
     let front : take (length ws) (map fate_of ws ++ replicate (64 - length ws) 0) ≡ map fate_of ws =
-        ap (λ k. take k (map fate_of ws ++ replicate (64 - length ws) 0)) (sym len) ∙ take-append_seam (map fate_of ws) (replicate (64 - length ws) 0) in
+    ap (λ k. take k (map fate_of ws ++ replicate (64 - length ws) 0)) (sym len) ∙ take-append_seam (map fate_of ws) (replicate (64 - length ws) 0) in
     let back : drop (length ws) (map fate_of ws ++ replicate (64 - length ws) 0) ≡ replicate (64 - length ws) 0 =
-        ap (λ k. drop k (map fate_of ws ++ replicate (64 - length ws) 0)) (sym len) ∙ drop-append_seam (map fate_of ws) (replicate (64 - length ws) 0) in
+    ap (λ k. drop k (map fate_of ws ++ replicate (64 - length ws) 0)) (sym len) ∙ drop-append_seam (map fate_of ws) (replicate (64 - length ws) 0) in
     record {
       spelled = rw front each.0;
       is = record { some = some; most = most; fates = rw front each.1; rest = back };
@@ -353,110 +348,110 @@ down_spelled version ws c count n =
 spelled_of : (version : ℕ) (f : LineForm) (ws : Words) → Chosen version f ws → has_count f (length ws) ≡ true → NoFaults (line_places version f ws) ws → IsSpelled version (line_of f ws) ws
 unfolding message_key order_key shape_key
 spelled_of version form.Version ws c count n = record {
-    spelled = rw (sym c) (respelled_is (line_places version form.Version ws) ws n (counted (line_places version form.Version ws) ws count) refl);
-    ranges = in32 (from 1 ws) n.1.0;
-    keeps = tt;
-  }
+  spelled = rw (sym c) (respelled_is (line_places version form.Version ws) ws n (counted (line_places version form.Version ws) ws count) refl);
+  ranges = in32 (from 1 ws) n.1.0;
+  keeps = tt;
+}
 spelled_of version form.Grid ws c count n = record {
-    spelled = rw (sym c) (respelled_is (line_places version form.Grid ws) ws n (counted (line_places version form.Grid ws) ws count) refl);
-    ranges = record { side = in32 (from 1 ws) n.1.0; n = in32 (from 2 ws) n.1.1.0; spacing = in32 (from 3 ws) n.1.1.1.0; fixed = in32 (from 4 ws) n.1.1.1.1.0; half = in32 (from 5 ws) n.1.1.1.1.1.0; spans = in32 (from 6 ws) n.1.1.1.1.1.1.0 };
-    keeps = tt;
-  }
+  spelled = rw (sym c) (respelled_is (line_places version form.Grid ws) ws n (counted (line_places version form.Grid ws) ws count) refl);
+  ranges = record { side = in32 (from 1 ws) n.1.0; n = in32 (from 2 ws) n.1.1.0; spacing = in32 (from 3 ws) n.1.1.1.0; fixed = in32 (from 4 ws) n.1.1.1.1.0; half = in32 (from 5 ws) n.1.1.1.1.1.0; spans = in32 (from 6 ws) n.1.1.1.1.1.1.0 };
+  keeps = tt;
+}
 spelled_of version form.Times ws c count n = record {
-    spelled = rw (sym c.0) (respelled_is (line_places version form.Times ws) ws n (counted (line_places version form.Times ws) ws count) refl);
-    ranges = record { horizon = in32 (from 1 ws) n.1.0; longest = in32 (from 2 ws) n.1.1.0; clearance = in32 (from 3 ws) n.1.1.1.0; internal = in32 (from 4 ws) n.1.1.1.1.0; edge = in32 (from 5 ws) n.1.1.1.1.1.0 };
-    keeps = c.1;
-  }
+  spelled = rw (sym c.0) (respelled_is (line_places version form.Times ws) ws n (counted (line_places version form.Times ws) ws count) refl);
+  ranges = record { horizon = in32 (from 1 ws) n.1.0; longest = in32 (from 2 ws) n.1.1.0; clearance = in32 (from 3 ws) n.1.1.1.0; internal = in32 (from 4 ws) n.1.1.1.1.0; edge = in32 (from 5 ws) n.1.1.1.1.1.0 };
+  keeps = c.1;
+}
 spelled_of version form.Times6 ws c count n = record {
-    spelled = rw (sym c.0) (respelled_is (line_places version form.Times6 ws) ws n (counted (line_places version form.Times6 ws) ws count) refl);
-    ranges = record { horizon = in32 (from 1 ws) n.1.0; longest = in32 (from 2 ws) n.1.1.0; clearance = in32 (from 3 ws) n.1.1.1.0; early = in32 (from 4 ws) n.1.1.1.1.0; late = in32 (from 5 ws) n.1.1.1.1.1.0; edge = in32 (from 6 ws) n.1.1.1.1.1.1.0 };
-    keeps = c.1;
-  }
+  spelled = rw (sym c.0) (respelled_is (line_places version form.Times6 ws) ws n (counted (line_places version form.Times6 ws) ws count) refl);
+  ranges = record { horizon = in32 (from 1 ws) n.1.0; longest = in32 (from 2 ws) n.1.1.0; clearance = in32 (from 3 ws) n.1.1.1.0; early = in32 (from 4 ws) n.1.1.1.1.0; late = in32 (from 5 ws) n.1.1.1.1.1.0; edge = in32 (from 6 ws) n.1.1.1.1.1.1.0 };
+  keeps = c.1;
+}
 spelled_of version form.Lanes ws c count n = record {
-    spelled = rw (sym c) (respelled_is (line_places version form.Lanes ws) ws n (counted (line_places version form.Lanes ws) ws count) refl);
-    ranges = in32 (from 1 ws) n.1.0;
-    keeps = tt;
-  }
+  spelled = rw (sym c) (respelled_is (line_places version form.Lanes ws) ws n (counted (line_places version form.Lanes ws) ws count) refl);
+  ranges = in32 (from 1 ws) n.1.0;
+  keeps = tt;
+}
 spelled_of version (form.Move way.Line) ws c count n = record {
-    spelled = rw (sym c.0, sym c.1, turn_back (from 2 ws) n.1.1.0) (respelled_is (line_places version (form.Move way.Line) ws) ws n (counted (line_places version (form.Move way.Line) ws) ws count) refl);
-    ranges = (in8 (from 1 ws) n.1.0, (in32 (from 4 ws) n.1.1.1.1.0, in32 (from 5 ws) n.1.1.1.1.1.0, in32 (from 6 ws) n.1.1.1.1.1.1.0, in32 (from 7 ws) n.1.1.1.1.1.1.1.0, in32 (from 8 ws) n.1.1.1.1.1.1.1.1.0));
-    keeps = tt;
-  }
+  spelled = rw (sym c.0, sym c.1, turn_back (from 2 ws) n.1.1.0) (respelled_is (line_places version (form.Move way.Line) ws) ws n (counted (line_places version (form.Move way.Line) ws) ws count) refl);
+  ranges = (in8 (from 1 ws) n.1.0, (in32 (from 4 ws) n.1.1.1.1.0, in32 (from 5 ws) n.1.1.1.1.1.0, in32 (from 6 ws) n.1.1.1.1.1.1.0, in32 (from 7 ws) n.1.1.1.1.1.1.1.0, in32 (from 8 ws) n.1.1.1.1.1.1.1.1.0));
+  keeps = tt;
+}
 spelled_of version (form.Move way.Curve) ws c count n = record {
-    spelled = rw (sym c.0, sym c.1, turn_back (from 2 ws) n.1.1.0) (respelled_is (line_places version (form.Move way.Curve) ws) ws n (counted (line_places version (form.Move way.Curve) ws) ws count) refl);
-    ranges = (in8 (from 1 ws) n.1.0, (in32 (from 4 ws) n.1.1.1.1.0, in32 (from 5 ws) n.1.1.1.1.1.0, in32 (from 6 ws) n.1.1.1.1.1.1.0, in32 (from 7 ws) n.1.1.1.1.1.1.1.0, in32 (from 8 ws) n.1.1.1.1.1.1.1.1.0, in32 (from 9 ws) n.1.1.1.1.1.1.1.1.1.0, in32 (from 10 ws) n.1.1.1.1.1.1.1.1.1.1.0));
-    keeps = tt;
-  }
+  spelled = rw (sym c.0, sym c.1, turn_back (from 2 ws) n.1.1.0) (respelled_is (line_places version (form.Move way.Curve) ws) ws n (counted (line_places version (form.Move way.Curve) ws) ws count) refl);
+  ranges = (in8 (from 1 ws) n.1.0, (in32 (from 4 ws) n.1.1.1.1.0, in32 (from 5 ws) n.1.1.1.1.1.0, in32 (from 6 ws) n.1.1.1.1.1.1.0, in32 (from 7 ws) n.1.1.1.1.1.1.1.0, in32 (from 8 ws) n.1.1.1.1.1.1.1.1.0, in32 (from 9 ws) n.1.1.1.1.1.1.1.1.1.0, in32 (from 10 ws) n.1.1.1.1.1.1.1.1.1.1.0));
+  keeps = tt;
+}
 spelled_of version form.Policy ws c count n = policy_spelled version ws c (counted (line_places 1 form.Policy ws) ws count) n
 spelled_of version form.Phase ws c count n = phase_spelled version ws c (between 4 19 (length ws) count) n
 spelled_of version form.Vehicles ws c count n = record {
-    spelled = rw (sym c) (respelled_is (line_places version form.Vehicles ws) ws n (counted (line_places version form.Vehicles ws) ws count) refl);
-    ranges = in32 (from 1 ws) n.1.0;
-    keeps = tt;
-  }
+  spelled = rw (sym c) (respelled_is (line_places version form.Vehicles ws) ws n (counted (line_places version form.Vehicles ws) ws count) refl);
+  ranges = in32 (from 1 ws) n.1.0;
+  keeps = tt;
+}
 spelled_of version form.Begin ws c count n = record {
-    spelled = rw (sym c) (respelled_is (line_places version form.Begin ws) ws n (counted (line_places version form.Begin ws) ws count) refl);
-    ranges = tt;
-    keeps = tt;
-  }
+  spelled = rw (sym c) (respelled_is (line_places version form.Begin ws) ws n (counted (line_places version form.Begin ws) ws count) refl);
+  ranges = tt;
+  keeps = tt;
+}
 spelled_of version (form.Event message.Request) ws c count n = record {
-    spelled = rw (sym c, turn_back (from 5 ws) n.1.1.1.1.1.0, class_back (from 12 ws) n.1.1.1.1.1.1.1.1.1.1.1.1.0) (respelled_is (line_places version (form.Event message.Request) ws) ws n (counted (line_places version (form.Event message.Request) ws) ws count) refl);
-    ranges = (in32 ws n.0, in32 (from 1 ws) n.1.0, record { seq = in32 (from 3 ws) n.1.1.1.0; body = record { lane = in8 (from 4 ws) n.1.1.1.1.0; arrive = in32 (from 6 ws) n.1.1.1.1.1.1.0; speed = in32 (from 7 ws) n.1.1.1.1.1.1.1.0; max_speed = in32 (from 8 ws) n.1.1.1.1.1.1.1.1.0; accel = in32 (from 9 ws) n.1.1.1.1.1.1.1.1.1.0; len = in32 (from 10 ws) n.1.1.1.1.1.1.1.1.1.1.0; width = in32 (from 11 ws) n.1.1.1.1.1.1.1.1.1.1.1.0 } });
-    keeps = tt;
-  }
+  spelled = rw (sym c, turn_back (from 5 ws) n.1.1.1.1.1.0, class_back (from 12 ws) n.1.1.1.1.1.1.1.1.1.1.1.1.0) (respelled_is (line_places version (form.Event message.Request) ws) ws n (counted (line_places version (form.Event message.Request) ws) ws count) refl);
+  ranges = (in32 ws n.0, in32 (from 1 ws) n.1.0, record { seq = in32 (from 3 ws) n.1.1.1.0; body = record { lane = in8 (from 4 ws) n.1.1.1.1.0; arrive = in32 (from 6 ws) n.1.1.1.1.1.1.0; speed = in32 (from 7 ws) n.1.1.1.1.1.1.1.0; max_speed = in32 (from 8 ws) n.1.1.1.1.1.1.1.1.0; accel = in32 (from 9 ws) n.1.1.1.1.1.1.1.1.1.0; len = in32 (from 10 ws) n.1.1.1.1.1.1.1.1.1.1.0; width = in32 (from 11 ws) n.1.1.1.1.1.1.1.1.1.1.1.0 } });
+  keeps = tt;
+}
 spelled_of version (form.Event message.Change) ws c count n = record {
-    spelled = rw (sym c, turn_back (from 6 ws) n.1.1.1.1.1.1.0, class_back (from 13 ws) n.1.1.1.1.1.1.1.1.1.1.1.1.1.0) (respelled_is (line_places version (form.Event message.Change) ws) ws n (counted (line_places version (form.Event message.Change) ws) ws count) refl);
-    ranges = (in32 ws n.0, in32 (from 1 ws) n.1.0, record { seq = in32 (from 3 ws) n.1.1.1.0; body = (in32 (from 4 ws) n.1.1.1.1.0, record { lane = in8 (from 5 ws) n.1.1.1.1.1.0; arrive = in32 (from 7 ws) n.1.1.1.1.1.1.1.0; speed = in32 (from 8 ws) n.1.1.1.1.1.1.1.1.0; max_speed = in32 (from 9 ws) n.1.1.1.1.1.1.1.1.1.0; accel = in32 (from 10 ws) n.1.1.1.1.1.1.1.1.1.1.0; len = in32 (from 11 ws) n.1.1.1.1.1.1.1.1.1.1.1.0; width = in32 (from 12 ws) n.1.1.1.1.1.1.1.1.1.1.1.1.0 }) });
-    keeps = tt;
-  }
+  spelled = rw (sym c, turn_back (from 6 ws) n.1.1.1.1.1.1.0, class_back (from 13 ws) n.1.1.1.1.1.1.1.1.1.1.1.1.1.0) (respelled_is (line_places version (form.Event message.Change) ws) ws n (counted (line_places version (form.Event message.Change) ws) ws count) refl);
+  ranges = (in32 ws n.0, in32 (from 1 ws) n.1.0, record { seq = in32 (from 3 ws) n.1.1.1.0; body = (in32 (from 4 ws) n.1.1.1.1.0, record { lane = in8 (from 5 ws) n.1.1.1.1.1.0; arrive = in32 (from 7 ws) n.1.1.1.1.1.1.1.0; speed = in32 (from 8 ws) n.1.1.1.1.1.1.1.1.0; max_speed = in32 (from 9 ws) n.1.1.1.1.1.1.1.1.1.0; accel = in32 (from 10 ws) n.1.1.1.1.1.1.1.1.1.1.0; len = in32 (from 11 ws) n.1.1.1.1.1.1.1.1.1.1.1.0; width = in32 (from 12 ws) n.1.1.1.1.1.1.1.1.1.1.1.1.0 }) });
+  keeps = tt;
+}
 spelled_of version (form.Event message.Cancel) ws c count n = record {
-    spelled = rw (sym c) (respelled_is (line_places version (form.Event message.Cancel) ws) ws n (counted (line_places version (form.Event message.Cancel) ws) ws count) refl);
-    ranges = (in32 ws n.0, in32 (from 1 ws) n.1.0, record { seq = in32 (from 3 ws) n.1.1.1.0; body = in32 (from 4 ws) n.1.1.1.1.0 });
-    keeps = tt;
-  }
+  spelled = rw (sym c) (respelled_is (line_places version (form.Event message.Cancel) ws) ws n (counted (line_places version (form.Event message.Cancel) ws) ws count) refl);
+  ranges = (in32 ws n.0, in32 (from 1 ws) n.1.0, record { seq = in32 (from 3 ws) n.1.1.1.0; body = in32 (from 4 ws) n.1.1.1.1.0 });
+  keeps = tt;
+}
 spelled_of version (form.Event message.Done) ws c count n = record {
-    spelled = rw (sym c) (respelled_is (line_places version (form.Event message.Done) ws) ws n (counted (line_places version (form.Event message.Done) ws) ws count) refl);
-    ranges = (in32 ws n.0, in32 (from 1 ws) n.1.0, record { seq = in32 (from 3 ws) n.1.1.1.0; body = in32 (from 4 ws) n.1.1.1.1.0 });
-    keeps = tt;
-  }
+  spelled = rw (sym c) (respelled_is (line_places version (form.Event message.Done) ws) ws n (counted (line_places version (form.Event message.Done) ws) ws count) refl);
+  ranges = (in32 ws n.0, in32 (from 1 ws) n.1.0, record { seq = in32 (from 3 ws) n.1.1.1.0; body = in32 (from 4 ws) n.1.1.1.1.0 });
+  keeps = tt;
+}
 spelled_of version (form.Order order.Switch) ws c count n = switch_spelled version ws c (counted (line_places 1 (form.Order order.Switch) ws) ws count) n
 spelled_of version (form.Order order.Stop) ws c count n = record {
-    spelled = rw (sym c.0, sym c.1) (respelled_is (line_places version (form.Order order.Stop) ws) ws n (counted (line_places version (form.Order order.Stop) ws) ws count) refl);
-    ranges = in32 (from 1 ws) n.1.0;
-    keeps = tt;
-  }
+  spelled = rw (sym c.0, sym c.1) (respelled_is (line_places version (form.Order order.Stop) ws) ws n (counted (line_places version (form.Order order.Stop) ws) ws count) refl);
+  ranges = in32 (from 1 ws) n.1.0;
+  keeps = tt;
+}
 spelled_of version form.Until ws c count n = record {
-    spelled = rw (sym c) (respelled_is (line_places version form.Until ws) ws n (counted (line_places version form.Until ws) ws count) refl);
-    ranges = in32 (from 1 ws) n.1.0;
-    keeps = tt;
-  }
+  spelled = rw (sym c) (respelled_is (line_places version form.Until ws) ws n (counted (line_places version form.Until ws) ws count) refl);
+  ranges = in32 (from 1 ws) n.1.0;
+  keeps = tt;
+}
 spelled_of version form.Plan ws c count n = record {
-    spelled = rw (ne_eqb version 3 c.1, sym c.0, turn_back (from 6 ws) n.1.1.1.1.1.1.0, class_back (from 12 ws) n.1.1.1.1.1.1.1.1.1.1.1.1.0) (respelled_is (line_places version form.Plan ws) ws n (counted (line_places version form.Plan ws) ws count) refl);
-    ranges = (in32 (from 1 ws) n.1.0, in32 (from 2 ws) n.1.1.0, in32 (from 3 ws) n.1.1.1.0, in32 (from 4 ws) n.1.1.1.1.0, record { lane = in8 (from 5 ws) n.1.1.1.1.1.0; arrive = omega arith; speed = in32 (from 7 ws) n.1.1.1.1.1.1.1.0; max_speed = in32 (from 8 ws) n.1.1.1.1.1.1.1.1.0; accel = in32 (from 9 ws) n.1.1.1.1.1.1.1.1.1.0; len = in32 (from 10 ws) n.1.1.1.1.1.1.1.1.1.1.0; width = in32 (from 11 ws) n.1.1.1.1.1.1.1.1.1.1.1.0 });
-    keeps = (refl, λ ahead. absurd cc);
-  }
+  spelled = rw (ne_eqb version 3 c.1, sym c.0, turn_back (from 6 ws) n.1.1.1.1.1.1.0, class_back (from 12 ws) n.1.1.1.1.1.1.1.1.1.1.1.1.0) (respelled_is (line_places version form.Plan ws) ws n (counted (line_places version form.Plan ws) ws count) refl);
+  ranges = (in32 (from 1 ws) n.1.0, in32 (from 2 ws) n.1.1.0, in32 (from 3 ws) n.1.1.1.0, in32 (from 4 ws) n.1.1.1.1.0, record { lane = in8 (from 5 ws) n.1.1.1.1.1.0; arrive = omega arith; speed = in32 (from 7 ws) n.1.1.1.1.1.1.1.0; max_speed = in32 (from 8 ws) n.1.1.1.1.1.1.1.1.0; accel = in32 (from 9 ws) n.1.1.1.1.1.1.1.1.1.0; len = in32 (from 10 ws) n.1.1.1.1.1.1.1.1.1.1.0; width = in32 (from 11 ws) n.1.1.1.1.1.1.1.1.1.1.1.0 });
+  keeps = (refl, λ ahead. absurd cc);
+}
 spelled_of version form.PlanInWindow ws c count n = record {
-    spelled = rw (eq-eqb version 3 c.1, sym c.0, turn_back (from 6 ws) n.1.1.1.1.1.1.0, class_back (from 12 ws) n.1.1.1.1.1.1.1.1.1.1.1.1.0, window_back (from 13 ws) n.1.1.1.1.1.1.1.1.1.1.1.1.1.0) (respelled_is (line_places version form.PlanInWindow ws) ws n (counted (line_places version form.PlanInWindow ws) ws count) refl);
-    ranges = (in32 (from 1 ws) n.1.0, in32 (from 2 ws) n.1.1.0, in32 (from 3 ws) n.1.1.1.0, in32 (from 4 ws) n.1.1.1.1.0, record { lane = in8 (from 5 ws) n.1.1.1.1.1.0; arrive = omega arith; speed = in32 (from 7 ws) n.1.1.1.1.1.1.1.0; max_speed = in32 (from 8 ws) n.1.1.1.1.1.1.1.1.0; accel = in32 (from 9 ws) n.1.1.1.1.1.1.1.1.1.0; len = in32 (from 10 ws) n.1.1.1.1.1.1.1.1.1.1.0; width = in32 (from 11 ws) n.1.1.1.1.1.1.1.1.1.1.1.0 });
-    keeps = (refl, λ ahead. c.1);
-  }
+  spelled = rw (eq-eqb version 3 c.1, sym c.0, turn_back (from 6 ws) n.1.1.1.1.1.1.0, class_back (from 12 ws) n.1.1.1.1.1.1.1.1.1.1.1.1.0, window_back (from 13 ws) n.1.1.1.1.1.1.1.1.1.1.1.1.1.0) (respelled_is (line_places version form.PlanInWindow ws) ws n (counted (line_places version form.PlanInWindow ws) ws count) refl);
+  ranges = (in32 (from 1 ws) n.1.0, in32 (from 2 ws) n.1.1.0, in32 (from 3 ws) n.1.1.1.0, in32 (from 4 ws) n.1.1.1.1.0, record { lane = in8 (from 5 ws) n.1.1.1.1.1.0; arrive = omega arith; speed = in32 (from 7 ws) n.1.1.1.1.1.1.1.0; max_speed = in32 (from 8 ws) n.1.1.1.1.1.1.1.1.0; accel = in32 (from 9 ws) n.1.1.1.1.1.1.1.1.1.0; len = in32 (from 10 ws) n.1.1.1.1.1.1.1.1.1.1.0; width = in32 (from 11 ws) n.1.1.1.1.1.1.1.1.1.1.1.0 });
+  keeps = (refl, λ ahead. c.1);
+}
 spelled_of version form.ChangePlan ws c count n = record {
-    spelled = rw (sym c) (respelled_is (line_places version form.ChangePlan ws) ws n (counted (line_places version form.ChangePlan ws) ws count) refl);
-    ranges = (in32 (from 1 ws) n.1.0, in32 (from 2 ws) n.1.1.0, in32 (from 3 ws) n.1.1.1.0);
-    keeps = tt;
-  }
+  spelled = rw (sym c) (respelled_is (line_places version form.ChangePlan ws) ws n (counted (line_places version form.ChangePlan ws) ws count) refl);
+  ranges = (in32 (from 1 ws) n.1.0, in32 (from 2 ws) n.1.1.0, in32 (from 3 ws) n.1.1.1.0);
+  keeps = tt;
+}
 spelled_of version form.CancelPlan ws c count n = record {
-    spelled = rw (sym c) (respelled_is (line_places version form.CancelPlan ws) ws n (counted (line_places version form.CancelPlan ws) ws count) refl);
-    ranges = (in32 (from 1 ws) n.1.0, in32 (from 2 ws) n.1.1.0);
-    keeps = tt;
-  }
+  spelled = rw (sym c) (respelled_is (line_places version form.CancelPlan ws) ws n (counted (line_places version form.CancelPlan ws) ws count) refl);
+  ranges = (in32 (from 1 ws) n.1.0, in32 (from 2 ws) n.1.1.0);
+  keeps = tt;
+}
 spelled_of version form.Up ws c count n = up_spelled version ws c (between 3 66 (length ws) count) n
 spelled_of version form.Down ws c count n = down_spelled version ws c (between 3 66 (length ws) count) n
 spelled_of version form.End ws c count n = record {
-    spelled = rw (sym c) (respelled_is (line_places version form.End ws) ws n (counted (line_places version form.End ws) ws count) refl);
-    ranges = tt;
-    keeps = tt;
-  }
+  spelled = rw (sym c) (respelled_is (line_places version form.End ws) ws n (counted (line_places version form.End ws) ws count) refl);
+  ranges = tt;
+  keeps = tt;
+}
 
 -- a value without a fault, and which form it has
 of_form : (l m : Line) (fault : Option LineKind) → unless m fault ≡ Ok l → (fault ≡ None) × (m ≡ l)
@@ -472,7 +467,7 @@ by_form version ws l (Ok f) is h =
     let in_form = of_form l (line_of f ws) (form_fault version f ws) h in
     let parts = by_count (has_count f (length ws)) (first_fault (line_places version f ws) ws) in_form.0 in
     subst (λ m. IsSpelled version m ws) in_form.1
-      (spelled_of version f ws (chosen_is version ws f is) parts.0 (no_faults (line_places version f ws) ws parts.1))
+    (spelled_of version f ws (chosen_is version ws f is) parts.0 (no_faults (line_places version f ws) ws parts.1))
 by_form version ws l (Err k) is h = absurd cc
 
 pub line_was_spelled : (version : ℕ) (bytes : List ℕ) (l : Line) → line_at version bytes ≡ Ok l → IsLine l × KeepsRanges version l × (bytes ≡ line_text version l)

@@ -1,6 +1,5 @@
 -- The words of lines and entries have no space.
-use Rattle.std.proofs.Common.{◌≡◌, ℕ, zero, suc, ◌+◌, ◌^◌, ◌<◌, ◌≤◌, ◌==◌, ◌&&◌, ◌||◌, nat_le, Bool, true, false, not, List, [], ◌∷◌, ◌++◌, length, map, filter, take, Option, Some, None, decimal, codes, refl, ap, sym, ◌∙◌, arith, inl, inr}
-use Rattle.std.specs.Prelude.{if◌then◌else◌}
+use Rattle.std.proofs.Common.{◌≡◌, ℕ, zero, suc, ◌+◌, ◌≤◌, ◌==◌, nat_le, Bool, true, false, not, List, [], ◌∷◌, map, filter, take, decimal, refl, ap, sym, arith, inl, inr}
 use Rattle.std.specs.List.{list_all, range_with_len}
 use Rattle.std.proofs.lemmas.Bool.{cases_Bool, and_parts, eqb-true, leb-true}
 use Rattle.aim_msg.specs.declared.messages.Turn.{Turn}
@@ -14,7 +13,7 @@ use Rattle.aim_msg.specs.declared.script.MoveShape.TheVariants as shape
 use Rattle.aim_msg.specs.declared.script.Name.{Name}
 use Rattle.aim_msg.specs.declared.script.Line.{Line}
 use Rattle.aim_msg.specs.declared.script.Line.TheVariants as line
-use Rattle.aim_msg.specs.Texts.{Words, turn_word, class_word, vehicle_words, params_words, body_words, message_words}
+use Rattle.aim_msg.specs.Texts.{turn_word, class_word, vehicle_words, params_words, body_words, message_words}
 use Rattle.aim_msg.specs.Lines.{name_word, kind_word, fate_word, window_word, window_words, has_lane, all_lanes, lane_words, shape_words, line_words, IsName, is_name_byte, KeepsRanges}
 use Rattle.aim_msg.specs.Ranges.{Is32, Is8, AreParams, IsBody, IsMessage, IsShape, IsLine}
 use Rattle.aim_msg.proofs.Numbers.{is_no_space, decimal_no_space}
@@ -74,24 +73,24 @@ kind_is_word : (kind : ℕ) → IsWord (kind_word kind)
 kind_is_word kind = elim (cases_Bool (kind == 0)) [
   | inl is ↦ rw is refl
   | inr not_0 ↦ elim (cases_Bool (kind == 1)) [
-      | inl is ↦ rw (not_0, is) refl
-      | inr not_1 ↦ elim (cases_Bool (kind == 2)) [
-          | inl is ↦ rw (not_0, not_1, is) refl
-          | inr not_2 ↦ rw (not_0, not_1, not_2) refl
-        ]
+    | inl is ↦ rw (not_0, is) refl
+    | inr not_1 ↦ elim (cases_Bool (kind == 2)) [
+      | inl is ↦ rw (not_0, not_1, is) refl
+      | inr not_2 ↦ rw (not_0, not_1, not_2) refl
     ]
+  ]
 ]
 
 fate_is_word : (f : ℕ) → f ≤ 257 → IsWord (fate_word f)
 fate_is_word f most = elim (cases_Bool (f == 0)) [
   | inl d ↦ rw d refl
   | inr not_d ↦ elim (cases_Bool (f == 256)) [
-      | inl l ↦ rw (not_d, l) refl
-      | inr not_l ↦ elim (cases_Bool (f == 257)) [
-          | inl r ↦ rw (not_d, not_l, r) refl
-          | inr not_r ↦ rw (not_d, not_l, not_r) (decimal_no_space f (omega arith))
-        ]
+    | inl l ↦ rw (not_d, l) refl
+    | inr not_l ↦ elim (cases_Bool (f == 257)) [
+      | inl r ↦ rw (not_d, not_l, r) refl
+      | inr not_r ↦ rw (not_d, not_l, not_r) (decimal_no_space f (omega arith))
     ]
+  ]
 ]
 
 fates_are_words : (fs : List ℕ) → list_all (λ f. nat_le f 257) fs ≡ true → AreWords (map fate_word fs)
@@ -136,9 +135,28 @@ line_are_words version (line.Event vehicle moment m) r k = (w32 vehicle r.0, (w3
 line_are_words version (line.SwitchTo moment name) r k = (refl, (w32 moment r.0, (refl, (name_is_word name k, tt))))
 line_are_words version (line.StopAt moment) r k = (refl, (w32 moment r, (refl, tt)))
 line_are_words version (line.Until step) r k = (refl, (w32 step r, tt))
-line_are_words version (line.PlanFor vehicle first lead resend params ahead) r k =
-    (refl, (w32 vehicle r.0, (w32 first r.1, (w32 lead r.2, (w32 resend r.3, (w8 params.lane r.4.lane, (turn_is_word params.turn,
-      words_append (vehicle_words params) (window_words version ahead) (vehicle_are_words params r.4) (window_are_words version ahead))))))))
+line_are_words version (line.PlanFor vehicle first lead resend params ahead) r k = (
+  refl,
+  (
+    w32 vehicle r.0,
+    (
+      w32 first r.1,
+      (
+        w32 lead r.2,
+        (
+          w32 resend r.3,
+          (
+            w8 params.lane r.4.lane,
+            (
+              turn_is_word params.turn,
+              words_append (vehicle_words params) (window_words version ahead) (vehicle_are_words params r.4) (window_are_words version ahead),
+            ),
+          ),
+        ),
+      ),
+    ),
+  ),
+)
 line_are_words version (line.ChangeAt vehicle step lead) r k = (refl, (w32 vehicle r.0, (w32 step r.1, (w32 lead r.2, tt))))
 line_are_words version (line.CancelAt vehicle step) r k = (refl, (w32 vehicle r.0, (w32 step r.1, tt)))
 line_are_words version (line.Up vehicle fates) r k = (refl, (w32 vehicle r.0, fates_are_words (take fates.len fates.fates) k.fates))

@@ -1,9 +1,8 @@
 -- Lists of lanes and of fates, element by element.
-use Rattle.std.proofs.Common.{◌≡◌, ℕ, ◌+◌, ◌-◌, ◌*◌, ◌%◌, ◌^◌, ◌<◌, ◌≤◌, Bool, true, false, ◌||◌, not, nat_lt, List, [], ◌∷◌, ◌++◌, length, take, drop, set, replicate, Option, Some, None, Result, Ok, Err, refl, sym, ap, ◌∙◌, arith, add-one, cond, ltb-false, drop-drop, length-take-le}
+use Rattle.std.proofs.Common.{◌≡◌, ℕ, ◌+◌, ◌-◌, ◌*◌, ◌%◌, ◌^◌, ◌<◌, ◌≤◌, Bool, true, false, ◌||◌, not, nat_lt, List, [], ◌∷◌, length, take, drop, set, replicate, Option, Some, None, Ok, Err, refl, sym, ap, ◌∙◌, arith, add-one, cond, ltb-false, drop-drop, length-take-le}
 use Rattle.std.proofs.Math.Nat.{mod-eq_of_lt, pow-suc}
 use Rattle.std.proofs.Math.Pow.{pow_mono}
 use Rattle.std.proofs.lemmas.List.{take_more_set, drop-set-lt, drop-replicate, take-append-drop}
-use Rattle.aim_msg.specs.declared.script.FateList.{FateList}
 use Rattle.aim_msg.specs.declared.script.LineKind.{LineKind}
 use Rattle.aim_msg.specs.declared.script.LineKind.TheVariants as kind
 use Rattle.aim_msg.specs.Texts.{Words}
@@ -64,9 +63,8 @@ fates_next fates len w ws f size room h =
 
 pub zeros_next : (fates : List ℕ) (len : ℕ) (f : ℕ) → drop len fates ≡ replicate (64 - len) 0 → drop (len + 1) (set fates len f) ≡ replicate (64 - (len + 1)) 0
 zeros_next fates len f rest =
-    let more : drop (len + 1) fates ≡ drop 1 (drop len fates) = sym (drop-drop 1 len fates) in
     let less : 64 - len - 1 ≡ 64 - (len + 1) = omega arith in
-    drop-set-lt (len + 1) fates len f (omega arith) ∙ more ∙ ap (drop 1) rest ∙ drop-replicate 1 (64 - len) 0 ∙ ap (λ n. replicate n 0) less
+    rw (drop-set-lt (len + 1) fates len f (omega arith), sym (drop-drop 1 len fates), rest, drop-replicate {X = ℕ} 1 (64 - len) 0, less) refl
 
 pub fates_end : (fates : List ℕ) (len : ℕ) → length fates ≡ 64 → len ≤ 64 → drop len fates ≡ replicate (64 - len) 0
     → fates_in (take len fates) [] ≡ Ok (record { fates = fates; len = len })

@@ -1,14 +1,13 @@
 -- Reading gives back kinds of policies and lists of fates.
-use Rattle.std.proofs.Common.{◌≡◌, ℕ, zero, suc, ◌+◌, ◌-◌, ◌^◌, ◌<◌, ◌≤◌, ◌==◌, ◌&&◌, ◌||◌, nat_le, Bool, true, false, not, List, [], ◌∷◌, ◌++◌, length, map, take, drop, replicate, Option, Some, None, Result, Ok, Err, decimal, codes, refl, sym, ap, ◌∙◌, arith, inl, inr, append_assoc, append-nil, IsTrue, length-take-le}
+use Rattle.std.proofs.Common.{◌≡◌, ℕ, zero, suc, ◌-◌, ◌^◌, ◌<◌, ◌≤◌, ◌==◌, nat_le, true, false, not, List, [], ◌∷◌, ◌++◌, length, map, take, replicate, Ok, decimal, codes, refl, sym, ap, ◌∙◌, arith, inl, inr, append_assoc, append-nil, length-take-le}
 use Rattle.std.specs.Prelude.{bytes_eq, if◌then◌else◌}
 use Rattle.std.specs.List.{list_all}
-use Rattle.std.proofs.lemmas.Bool.{cases_Bool, and_parts, eqb-true, eq-eqb, ne_eqb, leb-true, le-leb}
+use Rattle.std.proofs.lemmas.Bool.{cases_Bool, and_parts, eqb-true, eq-eqb, ne_eqb, leb-true}
 use Rattle.std.proofs.lemmas.List.{take-append-drop}
 use Rattle.aim_msg.specs.declared.script.FateList.{FateList}
-use Rattle.aim_msg.specs.declared.script.LineKind.{LineKind}
 use Rattle.aim_msg.specs.Texts.{Words}
 use Rattle.aim_msg.specs.Lines.{fate_word, fate_words, kind_word, IsFateList}
-use Rattle.aim_msg.specs.Faults.{Place, keyword, is_digit, begins_with_digit, is_number, is_one_of, value_of, word_fault, number_fault}
+use Rattle.aim_msg.specs.Faults.{keyword, begins_with_digit, word_fault}
 use Rattle.aim_msg.specs.Forms.{fate, kinds}
 use Rattle.aim_msg.specs.Reading.{unless, kind_of, fate_of}
 use Rattle.aim_msg.specs.Steps.{read_in, fates_in}
@@ -55,12 +54,12 @@ fate_again : (f : ℕ) → f ≤ 257 → unless (fate_of (fate_word f)) (word_fa
 fate_again f most = elim (cases_Bool (f == 0)) [
   | inl d ↦ rw d (ap Ok (sym (eqb-true f 0 d)))
   | inr not_d ↦ elim (cases_Bool (f == 256)) [
-      | inl l ↦ rw (not_d, l) (ap Ok (sym (eqb-true f 256 l)))
-      | inr not_l ↦ elim (cases_Bool (f == 257)) [
-          | inl r ↦ rw (not_d, not_l, r) (ap Ok (sym (eqb-true f 257 r)))
-          | inr not_r ↦ rw (not_d, not_l, not_r) (delay_again f (positive f not_d) (delay f most not_l not_r))
-        ]
+    | inl l ↦ rw (not_d, l) (ap Ok (sym (eqb-true f 256 l)))
+    | inr not_l ↦ elim (cases_Bool (f == 257)) [
+      | inl r ↦ rw (not_d, not_l, r) (ap Ok (sym (eqb-true f 257 r)))
+      | inr not_r ↦ rw (not_d, not_l, not_r) (delay_again f (positive f not_d) (delay f most not_l not_r))
     ]
+  ]
 ]
   where
     positive : (f : ℕ) → (f == 0) ≡ false → 1 ≤ f

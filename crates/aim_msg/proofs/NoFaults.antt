@@ -1,9 +1,9 @@
 -- Words without a fault, place by place.
-use Rattle.std.proofs.Common.{◌≡◌, ℕ, List, [], ◌∷◌, ◌++◌, Option, Some, None, refl}
+use Rattle.std.proofs.Common.{◌≡◌, List, [], ◌∷◌, Option, Some, None, refl}
 use Rattle.std.specs.Option.{option_or}
 use Rattle.aim_msg.specs.declared.script.LineKind.{LineKind}
 use Rattle.aim_msg.specs.Texts.{Words}
-use Rattle.aim_msg.specs.Faults.{Place, fault_at, rest, first_fault, behind}
+use Rattle.aim_msg.specs.Faults.{Place, fault_at, rest, first_fault}
 
 -- no word has a fault in its place
 abbrev pub NoFaults : List Place → Words → Type 0

@@ -1,13 +1,12 @@
 -- Worked lines: what they spell, or why they spell nothing.
-use Rattle.std.specs.Prelude.{◌≡◌, ℕ, zero, suc, List, [], ◌∷◌, ◌++◌, replicate, Option, Some, None, Result, Ok, Err, codes, refl, true, false}
-use Rattle.aim_msg.specs.declared.messages.Turn.TheVariants.{Left, Straight, Right}
+use Rattle.std.specs.Prelude.{◌≡◌, ℕ, zero, suc, List, [], ◌∷◌, ◌++◌, replicate, Some, None, Ok, codes, refl, true, false}
+use Rattle.aim_msg.specs.declared.messages.Turn.TheVariants.{Left, Straight}
 use Rattle.aim_msg.specs.declared.messages.Params.{Params}
 use Rattle.aim_msg.specs.declared.messages.Body.{Body}
 use Rattle.aim_msg.specs.declared.messages.Body.TheVariants as body
 use Rattle.aim_msg.specs.declared.script.MoveShape.TheVariants as shape
 use Rattle.aim_msg.specs.declared.script.Line.{Line}
 use Rattle.aim_msg.specs.declared.script.Line.TheVariants as line
-use Rattle.aim_msg.specs.declared.script.LineKind.{LineKind}
 use Rattle.aim_msg.specs.declared.script.LineKind.TheVariants as kind
 use Rattle.aim_msg.specs.Reading.{line_at, line_fault, name_of}
 

@@ -1,18 +1,15 @@
 -- Words without a fault are spelled as their values.
-use Rattle.std.proofs.Common.{◌≡◌, ℕ, zero, suc, ◌+◌, ◌-◌, ◌^◌, ◌<◌, ◌≤◌, ◌==◌, ◌&&◌, ◌||◌, nat_lt, nat_le, Bool, true, false, not, List, [], ◌∷◌, ◌++◌, length, map, take, drop, replicate, Option, Some, None, decimal, codes, refl, sym, ap, ◌∙◌, arith, inl, inr, cond}
+use Rattle.std.proofs.Common.{◌≡◌, ℕ, ◌-◌, ◌<◌, ◌≤◌, ◌==◌, ◌&&◌, ◌||◌, nat_lt, nat_le, Bool, true, false, not, List, [], ◌∷◌, ◌++◌, length, take, replicate, None, decimal, codes, refl, sym, ap, ◌∙◌, arith, inl, inr}
 use Rattle.std.specs.Prelude.{bytes_eq, if◌then◌else◌}
-use Rattle.std.specs.List.{list_all, list_any}
+use Rattle.std.specs.List.{list_all}
 use Rattle.std.proofs.lemmas.Bool.{cases_Bool, and_parts, ltb-true, leb-true}
 use Rattle.std.proofs.lemmas.Slice.Eq.{bytes_eq-Decides}
 use Rattle.std.proofs.Math.Seq.{take-append_seam, drop-append_seam}
 use Rattle.std.proofs.lemmas.List.{length-append, length-replicate}
 use Rattle.aim_msg.specs.declared.messages.Turn.TheVariants.{Left, Straight, Right}
-use Rattle.aim_msg.specs.declared.script.Name.{Name}
-use Rattle.aim_msg.specs.declared.script.LineKind.{LineKind}
-use Rattle.aim_msg.specs.declared.script.LineKind.TheVariants as kind
 use Rattle.aim_msg.specs.Texts.{Words, turn_word, class_word}
 use Rattle.aim_msg.specs.Lines.{kind_word, window_word, is_name_byte, name_word, IsName}
-use Rattle.aim_msg.specs.Faults.{Place, chosen, keyword, name, number, either, first, rest, is_number, is_name, begins_with_digit, is_one_of, keyword_fault, number_fault, word_fault, fault_at, value_of, turns, classes}
+use Rattle.aim_msg.specs.Faults.{Place, chosen, keyword, name, number, either, first, rest, is_name, is_one_of, keyword_fault, fault_at, value_of, turns, classes}
 use Rattle.aim_msg.specs.Forms.{kinds, windows}
 use Rattle.aim_msg.specs.Reading.{turn_of, is_emergency, is_early, kind_of, name_of}
 use Rattle.aim_msg.proofs.Numbers.{IsNumberIn, number_in_from, decimal_value}
@@ -119,9 +116,9 @@ pub two_back : (this that w : List ℕ) → is_one_of (that ∷ this ∷ []) w �
 two_back this that w h = elim (cases_Bool (bytes_eq w this)) [
   | inl is ↦ rw is (sym (same_word w this is))
   | inr not ↦ rw not (elim (cases_Bool (bytes_eq w that)) [
-      | inl is ↦ sym (same_word w that is)
-      | inr neither ↦ absurd (cc (rw (neither, not) at h))
-    ])
+    | inl is ↦ sym (same_word w that is)
+    | inr neither ↦ absurd (cc (rw (neither, not) at h))
+  ])
 ]
 
 pub class_back : (ws : Words) → fault_at classes ws ≡ None → class_word (is_emergency (first ws)) ≡ first ws
@@ -157,24 +154,24 @@ kind_most version ws h = elim (cases_Bool (version == 3)) [
     at_most_3 w = elim (cases_Bool (bytes_eq w (codes "fcfs"))) [
       | inl is ↦ rw is (omega arith)
       | inr not_0 ↦ rw not_0 (elim (cases_Bool (bytes_eq w (codes "emerg"))) [
+        | inl is ↦ rw is (omega arith)
+        | inr not_1 ↦ rw not_1 (elim (cases_Bool (bytes_eq w (codes "light"))) [
           | inl is ↦ rw is (omega arith)
-          | inr not_1 ↦ rw not_1 (elim (cases_Bool (bytes_eq w (codes "light"))) [
-              | inl is ↦ rw is (omega arith)
-              | inr not_2 ↦ rw not_2 (omega arith)
-            ])
+          | inr not_2 ↦ rw not_2 (omega arith)
         ])
+      ])
     ]
 
     at_most_2 : (w : List ℕ) → is_one_of (codes "fcfs" ∷ codes "emerg" ∷ codes "light" ∷ []) w ≡ true → kind_of w ≤ 2
     at_most_2 w h = elim (cases_Bool (bytes_eq w (codes "fcfs"))) [
       | inl is ↦ rw is (omega arith)
       | inr not_0 ↦ rw not_0 (elim (cases_Bool (bytes_eq w (codes "emerg"))) [
+        | inl is ↦ rw is (omega arith)
+        | inr not_1 ↦ rw not_1 (elim (cases_Bool (bytes_eq w (codes "light"))) [
           | inl is ↦ rw is (omega arith)
-          | inr not_1 ↦ rw not_1 (elim (cases_Bool (bytes_eq w (codes "light"))) [
-              | inl is ↦ rw is (omega arith)
-              | inr not_2 ↦ absurd (cc (rw (not_0, not_1, not_2) at h))
-            ])
+          | inr not_2 ↦ absurd (cc (rw (not_0, not_1, not_2) at h))
         ])
+      ])
     ]
 
 -- a name, and one of 1 to 16 bytes
@@ -192,12 +189,13 @@ name_is (w ∷ ws) h = parts (is_name_parts (is_name w) refl h)
         let lens = and_parts (nat_lt 0 (length w)) (nat_le (length w) 16) both.0 in
         let some : 0 < length w = ltb-true 0 (length w) lens.0 in
         let most : length w ≤ 16 = leb-true (length w) 16 lens.1 in
-        let front : take (length w) (w ++ replicate (16 - length w) 0) ≡ w = take-append_seam w (replicate (16 - length w) 0) in
-        ( record {
+        let front : take (length w) (w ++ replicate (16 - length w) 0) ≡ w = take-append_seam w (replicate (16 - length w) 0) in (
+          record {
             some = some;
             most = most;
             bytes = rw front both.1;
             rest = drop-append_seam w (replicate (16 - length w) 0);
-          }
-        , omega (arith, length-append w (replicate (16 - length w) 0), length-replicate {A = ℕ} (16 - length w) 0)
-        , front )
+          },
+          omega (arith, length-append w (replicate (16 - length w) 0), length-replicate {A = ℕ} (16 - length w) 0),
+          front,
+        )

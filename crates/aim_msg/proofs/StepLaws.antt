@@ -1,5 +1,5 @@
 -- Reading word by word gives what the tables of places say.
-use Rattle.std.proofs.Common.{◌≡◌, ℕ, ◌+◌, ◌-◌, ◌*◌, ◌^◌, ◌≤◌, Bool, true, false, List, [], ◌∷◌, ◌++◌, length, map, replicate, Option, Some, None, Result, Ok, Err, refl, sym, ap, ◌∙◌, arith, append_assoc, append-nil, add-zero, zero-add}
+use Rattle.std.proofs.Common.{◌≡◌, ℕ, ◌+◌, ◌-◌, ◌^◌, List, [], ◌∷◌, ◌++◌, length, map, replicate, Option, Some, None, Result, Ok, Err, refl, ap, ◌∙◌, arith, append_assoc, append-nil, add-zero, zero-add}
 use Rattle.std.specs.Prelude.{fold}
 use Rattle.std.specs.Option.{option_or}
 use Rattle.std.proofs.lemmas.List.{length-append}
@@ -19,11 +19,11 @@ use Rattle.aim_msg.specs.declared.reading.forms.ShapeForm.TheVariants as way
 use Rattle.aim_msg.specs.declared.reading.forms.LineForm.{LineForm}
 use Rattle.aim_msg.specs.declared.reading.forms.LineForm.TheVariants as form
 use Rattle.aim_msg.specs.Texts.{Words}
-use Rattle.aim_msg.specs.Faults.{Place, first, rest, from, word_at, value_of, fault_at, first_fault, behind, number_fault, word_fault, number}
+use Rattle.aim_msg.specs.Faults.{Place, first, rest, from, word_at, value_of, fault_at, first_fault, behind, number_fault, word_fault}
 use Rattle.aim_msg.specs.Forms.{fate, lane_places, fate_places, vehicle_places, params_places, message_places, shape_places, line_places}
 use Rattle.aim_msg.specs.Faults.{number32}
 use Rattle.aim_msg.specs.Reading.{at, unless, fate_of, fates_of, params_at, body_of, message_of, shape_of, line_of, is_emergency}
-use Rattle.aim_msg.specs.Steps.{◌>>=◌, Read, with_rest, read_in, number_in, vehicle_in, params_in, body_in, message_in, shape_in, grid_in, times_in, times6_in, move_in, policy_in, lanes_in, phase_in, event_in, switch_in, stop_in, window_in, plan_in, change_plan_in, cancel_plan_in, fates_in, up_in, down_in, behind_keyword, steps_in}
+use Rattle.aim_msg.specs.Steps.{◌>>=◌, with_rest, read_in, vehicle_in, params_in, body_in, message_in, shape_in, grid_in, times_in, times6_in, move_in, policy_in, lanes_in, phase_in, event_in, switch_in, stop_in, plan_in, change_plan_in, cancel_plan_in, fates_in, up_in, down_in, behind_keyword, steps_in}
 
 -- where no fault stands before, the rest decides
 pub bind_unless : {A B : Type 0} (x : A) (fault : Option LineKind) (f : A → Result B LineKind) (b : B) (later : Option LineKind)
@@ -61,8 +61,15 @@ faults_then (p ∷ ps) words later = option_or (fault_at p words) (faults_then p
 
 abbrev vehicle_at : ℕ → Turn → ℕ → Words → Params
 vehicle_at lane turn arrive words = record {
-  lane = lane; turn = turn; arrive = arrive; speed = at words 0; max_speed = at words 1; accel = at words 2;
-  length = at words 3; width = at words 4; emergency = is_emergency (word_at words 5);
+  lane = lane;
+  turn = turn;
+  arrive = arrive;
+  speed = at words 0;
+  max_speed = at words 1;
+  accel = at words 2;
+  length = at words 3;
+  width = at words 4;
+  emergency = is_emergency (word_at words 5);
 }
 
 vehicle_step : {B : Type 0} (lane : ℕ) (turn : Turn) (arrive : ℕ) (ws : Words) (f : Params × Words → Result B LineKind) (b : B) (later : Option LineKind)

@@ -1,10 +1,10 @@
 -- Words have no space, so a text is split into the words that it was made of.
-use Rattle.std.proofs.Common.{◌≡◌, ℕ, Bool, true, false, not, ◌&&◌, ◌==◌, List, [], ◌∷◌, ◌++◌, codes, map, take, decimal, ◌<◌, ◌^◌, refl, sym, ap, ◌∙◌, inl, inr, arith}
+use Rattle.std.proofs.Common.{◌≡◌, ℕ, true, false, not, ◌==◌, List, [], ◌∷◌, ◌++◌, refl, ap, ◌∙◌, inl, inr}
 use Rattle.std.specs.List.{list_all}
 use Rattle.std.proofs.lemmas.Bool.{and_parts, cases_Bool}
 use Rattle.aim_msg.specs.Texts.{Words, spaced}
 use Rattle.aim_msg.specs.Faults.{words_of}
-use Rattle.aim_msg.proofs.Numbers.{is_no_space, decimal_no_space}
+use Rattle.aim_msg.proofs.Numbers.{is_no_space}
 
 -- a word without a space
 abbrev pub IsWord : List ℕ → Type 0

@@ -1,5 +1,5 @@
 -- The entry that bytes spell, or why they spell none.
-use Rattle.std.specs.Prelude.{ℕ, Bool, true, false, List, [], ◌∷◌, ◌++◌, Option, Some, None, unwrap_or, Result, Ok, Err, codes, if◌then◌else◌, bytes_eq}
+use Rattle.std.specs.Prelude.{ℕ, Bool, List, [], ◌∷◌, ◌++◌, Option, Some, None, unwrap_or, Result, Ok, Err, codes, if◌then◌else◌, bytes_eq}
 use Rattle.aim_msg.specs.declared.entries.Act.{Act}
 use Rattle.aim_msg.specs.declared.entries.Act.TheVariants as act
 use Rattle.aim_msg.specs.declared.entries.Order.{Order}
@@ -20,7 +20,7 @@ use Rattle.aim_msg.specs.declared.replies.Reply.{Reply}
 use Rattle.aim_msg.specs.declared.replies.Reply.TheVariants as reply
 use Rattle.aim_msg.specs.declared.script.LineKind.{LineKind}
 use Rattle.aim_msg.specs.Texts.{Words}
-use Rattle.aim_msg.specs.Faults.{words_of, first, rest, from, word_at, value_of, Place, chosen, keyword, name, number, either, number32, number8, just, behind, text_fault}
+use Rattle.aim_msg.specs.Faults.{words_of, first, rest, from, word_at, value_of, Place, chosen, keyword, number, either, number32, number8, just, behind, text_fault}
 use Rattle.aim_msg.specs.Forms.{message_form, order_form, reply_form, reason_form, message_places}
 use Rattle.aim_msg.specs.Reading.{at, message_of, unless}
 

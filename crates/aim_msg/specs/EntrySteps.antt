@@ -18,7 +18,7 @@ use Rattle.aim_msg.specs.declared.reading.forms.ReplyForm.TheVariants as answer
 use Rattle.aim_msg.specs.declared.reading.forms.ReasonForm.{ReasonForm}
 use Rattle.aim_msg.specs.declared.reading.forms.ReasonForm.TheVariants as why
 use Rattle.aim_msg.specs.Texts.{Words}
-use Rattle.aim_msg.specs.Faults.{Place, just, either, number8, value_of}
+use Rattle.aim_msg.specs.Faults.{just, number8, value_of}
 use Rattle.aim_msg.specs.Forms.{message_form, order_form, reply_form, reason_form}
 use Rattle.aim_msg.specs.Entries.{callers, caller_of, paces, is_fast, fields, field_of, number64, helds, held_of}
 use Rattle.aim_msg.specs.Steps.{◌>>=◌, Read, read_in, number_in, message_in}

@@ -1,5 +1,5 @@
 -- The tables of script lines: by which words a line's form is chosen, and which places it has.
-use Rattle.std.specs.Prelude.{ℕ, ◌+◌, ◌==◌, Bool, List, [], ◌∷◌, ◌++◌, length, map, replicate, Result, Ok, Err, codes, nat_le, ◌&&◌, if◌then◌else◌, bytes_eq}
+use Rattle.std.specs.Prelude.{ℕ, ◌+◌, ◌==◌, Bool, List, [], ◌∷◌, ◌++◌, length, Result, Ok, Err, codes, nat_le, ◌&&◌, if◌then◌else◌, bytes_eq}
 use Rattle.aim_msg.specs.declared.script.LineKind.{LineKind}
 use Rattle.aim_msg.specs.declared.script.LineKind.TheVariants as kind
 use Rattle.aim_msg.specs.declared.reading.forms.MessageForm.{MessageForm}
@@ -15,7 +15,7 @@ use Rattle.aim_msg.specs.declared.reading.forms.ShapeForm.TheVariants as shape
 use Rattle.aim_msg.specs.declared.reading.forms.LineForm.{LineForm}
 use Rattle.aim_msg.specs.declared.reading.forms.LineForm.TheVariants as form
 use Rattle.aim_msg.specs.Texts.{Words}
-use Rattle.aim_msg.specs.Faults.{Place, chosen, keyword, name, number, either, first, rest, from, word_at, begins_with_digit, value_of, number32, number8, turns, classes}
+use Rattle.aim_msg.specs.Faults.{Place, chosen, keyword, name, number, either, from, word_at, begins_with_digit, value_of, number32, number8, turns, classes}
 
 -- the form in the row of that word, or that kind of fault where no row has it
 abbrev pub look_up : {F : Type 0} → LineKind → List (List ℕ × F) → List ℕ → Result F LineKind

@@ -7,6 +7,5 @@ pub mod Reading
 pub mod Entries
 pub mod Writing
 pub mod Steps
-pub mod Writing
 pub mod EntrySteps
 pub mod Ranges

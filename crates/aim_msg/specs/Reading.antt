@@ -1,5 +1,5 @@
 -- The script line that bytes spell, or why they spell none.
-use Rattle.std.specs.Prelude.{ℕ, ◌+◌, ◌-◌, ◌^◌, ◌==◌, Bool, false, List, ◌++◌, length, map, replicate, sum_by, Option, Some, None, Result, Ok, Err, codes, if◌then◌else◌, bytes_eq}
+use Rattle.std.specs.Prelude.{ℕ, ◌+◌, ◌-◌, ◌^◌, Bool, false, List, ◌++◌, length, map, replicate, sum_by, Option, Some, None, Result, Ok, Err, codes, if◌then◌else◌, bytes_eq}
 use Rattle.aim_msg.specs.declared.messages.Turn.{Turn}
 use Rattle.aim_msg.specs.declared.messages.Turn.TheVariants.{Left, Straight, Right}
 use Rattle.aim_msg.specs.declared.messages.Params.{Params}

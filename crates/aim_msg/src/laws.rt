@@ -13,42 +13,35 @@ ghost use Rattle.aim_msg.specs.Reading.{line_at};
 /// Reading the text of a line that keeps its ranges gives the line back.
 pub fn line_is_read_again()
     ensures { (version : ℕ) (line : Line) → IsLine line → KeepsRanges version line → line_at version (line_text version line) ≡ Ok line }
-{
-}
+{}
 
 /// Bytes that are read as a line are its text, and the line keeps its ranges.
 pub fn line_is_spelled_so()
     ensures { (version : ℕ) (bytes : List ℕ) (line : Line) → line_at version bytes ≡ Ok line → IsLine line × KeepsRanges version line × (bytes ≡ line_text version line) }
-{
-}
+{}
 
 /// No two lines have one text.
 pub fn line_has_one_text()
     ensures { (version : ℕ) (a b : Line) → IsLine a → KeepsRanges version a → IsLine b → KeepsRanges version b → line_text version a ≡ line_text version b → a ≡ b }
-{
-}
+{}
 
 /// No two replies have one text.
 pub fn reply_has_one_text()
     ensures { (a b : Reply) → IsReply a → IsReply b → reply_text a ≡ reply_text b → a ≡ b }
-{
-}
+{}
 
 /// Reading the text of an entry gives its position and the entry back.
 pub fn entry_is_read_again()
     ensures { (position : ℕ) (entry : Entry) → Is32 position → IsEntry entry → IsCallerOf entry.caller entry.act → entry_at (entry_text position entry) ≡ Ok (position, entry) }
-{
-}
+{}
 
 /// Bytes that are read as an entry are its text. Its caller is `OPERATOR` where its act is an order, and a vehicle
 /// below 65,536 where its act is a message.
 pub fn entry_is_spelled_so()
     ensures { (bytes : List ℕ) (position : ℕ) (entry : Entry) → entry_at bytes ≡ Ok (position, entry) → Is32 position × IsEntry entry × IsCallerOf entry.caller entry.act × (bytes ≡ entry_text position entry) }
-{
-}
+{}
 
 /// No two entries have one text.
 pub fn entry_has_one_text()
     ensures { (i j : ℕ) (a b : Entry) → Is32 i → Is32 j → IsEntry a → IsEntry b → IsCallerOf a.caller a.act → IsCallerOf b.caller b.act → entry_text i a ≡ entry_text j b → (i ≡ j) × (a ≡ b) }
-{
-}
+{}

@@ -12,6 +12,8 @@ mod lines;
 mod lists;
 mod numbers;
 mod replies;
+#[cfg(test)]
+mod tests;
 mod words;
 
 use crate::entries::Entry;

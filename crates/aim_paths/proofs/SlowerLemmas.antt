@@ -8,8 +8,8 @@ use Rattle.std.proofs.lemmas.Bool.Decides.{nat_tests}
 use Rattle.aim_msg.specs.declared.messages.Params.{Params}
 use Rattle.aim_msg.specs.declared.replies.Field.TheVariants as field
 use Rattle.aim_geometry.specs.Bounded.{ceil_div, is_outside}
-use Rattle.aim_geometry.specs.Ground.{is_touched, is_edge}
 use Rattle.aim_geometry.specs.declared.stations.Station.{Station}
+use Rattle.aim_geometry.specs.Ground.{is_touched, is_edge}
 use Rattle.aim_paths.specs.Intersection.{Intersection, stations, path}
 use Rattle.aim_paths.specs.Motion.{front, gain, way, top_step}
 use Rattle.aim_paths.specs.Foot.{path_length, crossing_steps, in_foot}

@@ -2,7 +2,7 @@
 #![tactic(auto)]
 
 pub mod builders;
-pub mod lanes;
+mod lanes;
 pub mod laws;
 pub mod layouts;
 pub mod paths;

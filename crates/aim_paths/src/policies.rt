@@ -45,7 +45,7 @@ impl Kind {
 
 /// A policy as a layout stores it, with room for 16 phases.
 #[derive(Debug, Drop)]
-pub struct StoredPolicy {
+pub(crate) struct StoredPolicy {
     kind: Kind,
     phases: [Phase; 16],
     count: u8,
@@ -65,7 +65,7 @@ impl Model for StoredPolicy {
 
 impl StoredPolicy {
     /// A policy without a phase.
-    pub fn new(kind: Kind) -> StoredPolicy
+    pub(crate) fn new(kind: Kind) -> StoredPolicy
         ensures { result ≡ record { kind = kind; phases = [] } }
     {
         let none = Phase {
@@ -80,14 +80,14 @@ impl StoredPolicy {
         }
     }
 
-    pub fn kind(&self) -> Kind
+    pub(crate) fn kind(&self) -> Kind
         ensures { result ≡ self.now.kind }
     {
         self.kind
     }
 
     /// The number of phases.
-    pub fn count(&self) -> u8
+    pub(crate) fn count(&self) -> u8
         ensures count { result ≡ length self.now.phases }
         ensures most { result ≤ 16 }
     {
@@ -95,7 +95,7 @@ impl StoredPolicy {
     }
 
     /// The phase of that number.
-    pub fn phase(&self, number: u8) -> Phase
+    pub(crate) fn phase(&self, number: u8) -> Phase
         requires { number < length self.now.phases }
         ensures { slice_get self.now.phases number ≡ Some result }
     {
@@ -103,7 +103,7 @@ impl StoredPolicy {
     }
 
     /// Whether it is a light policy without a phase.
-    pub fn lacks_phase(&self) -> bool
+    pub(crate) fn lacks_phase(&self) -> bool
         ensures { result ≡ lacks_phase_of (Some self.now) }
     {
         let has_lights = self.kind.has_lights();
@@ -111,7 +111,7 @@ impl StoredPolicy {
     }
 
     /// Whether the policy takes no phase, or one of the phase's numbers is out of its range.
-    pub fn refuses(&self, phase: Phase, clearance: u32) -> bool
+    pub(crate) fn refuses(&self, phase: Phase, clearance: u32) -> bool
         ensures { result ≡ (not (has_lights_of self.now.kind) || nat_le 16 (length self.now.phases) || nat_lt phase.red clearance || nat_lt 65536 phase.red || is_outside phase.green 65536 || phase.lanes == 0) }
     {
         let has_lights = self.kind.has_lights();
@@ -125,7 +125,7 @@ impl StoredPolicy {
     }
 
     /// Adds a phase behind the others.
-    pub fn add(&mut self, phase: Phase)
+    pub(crate) fn add(&mut self, phase: Phase)
         requires { length self.old.phases < 16 }
         ensures { self.new ≡ record self.old { phases = self.old.phases ++ phase ∷ [] } }
     {
@@ -134,7 +134,7 @@ impl StoredPolicy {
     }
 
     /// An equal policy.
-    pub fn copy(&self) -> StoredPolicy
+    pub(crate) fn copy(&self) -> StoredPolicy
         ensures { result ≡ self.now }
     {
         StoredPolicy {

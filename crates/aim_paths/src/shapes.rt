@@ -31,7 +31,7 @@ pub enum Shape {
 
 impl Shape {
     /// The number of parts, m.
-    pub fn parts(&self) -> u32
+    pub(crate) fn parts(&self) -> u32
         ensures { result ≡ parts_of self.now }
     {
         match self {
@@ -40,7 +40,7 @@ impl Shape {
     }
 
     /// Whether m isn't 1 to 4096, or a coordinate exceeds the side.
-    pub fn is_bad(&self, side: u32) -> bool
+    pub(crate) fn is_bad(&self, side: u32) -> bool
         ensures { result ≡ is_bad_shape side self.now }
     {
         match self {
@@ -72,7 +72,7 @@ impl Shape {
     }
 
     /// Station j.
-    pub fn station(&self, j: u32) -> Station
+    pub(crate) fn station(&self, j: u32) -> Station
         requires shape { is_bad_shape 1000000 self.now ≡ false }
         requires place { j ≤ parts_of self.now }
         ensures { result ≡ slice_index_or (stations_of self.now) j origin }
@@ -98,7 +98,7 @@ impl Shape {
     }
 
     /// The least station that is more than the spacing away from the next one.
-    pub fn wide_step(&self, spacing: u32) -> Option<u32>
+    pub(crate) fn wide_step(&self, spacing: u32) -> Option<u32>
         requires { is_bad_shape 1000000 self.now ≡ false }
         ensures { result ≡ wide_step_of spacing (stations_of self.now) }
     {
@@ -111,7 +111,7 @@ impl Shape {
     }
 
     /// Puts the stations into an empty list that has the room.
-    pub fn fill(&self, stations: &mut Vec<Station>)
+    pub(crate) fn fill(&self, stations: &mut Vec<Station>)
         requires shape { is_bad_shape 1000000 self.now ≡ false }
         requires none { stations.old.items ≡ [] }
         requires room { 4097 ≤ vec_capacity stations.old }

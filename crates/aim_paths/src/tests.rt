@@ -344,8 +344,26 @@ fn assert_lane(rt: &impl Abort, layout: &Layout, lane: u8, wanted: &Realistic) -
     Ok(())
 }
 
-#[test]
-fn twelve_lanes(rt: HostRuntime) -> Result<(), Fail> {
+/// The twelve lanes: three from each side, of which the first turns left and the third right.
+fn twelve() -> [Realistic; 12] {
+    [
+        left_turn(0, 10500, 13500, 10500, 13500, 24000, 97),
+        straight(0, 7500, 24000, 7500),
+        right_turn(0, 4500, 4500, 4500, 4500, 0, 94),
+        left_turn(13500, 0, 13500, 13500, 0, 13500, 96),
+        straight(16500, 0, 16500, 24000),
+        right_turn(19500, 0, 19500, 4500, 24000, 4500, 95),
+        left_turn(24000, 13500, 10500, 13500, 10500, 0, 97),
+        straight(24000, 16500, 0, 16500),
+        right_turn(24000, 19500, 19500, 19500, 19500, 24000, 95),
+        left_turn(10500, 24000, 10500, 10500, 24000, 10500, 97),
+        straight(7500, 24000, 7500, 0),
+        right_turn(4500, 24000, 4500, 19500, 0, 19500, 95),
+    ]
+}
+
+/// The layout of these lanes on a ground of 48 by 48 tiles.
+fn realistic(alloc: Global, lanes: &[Realistic; 12]) -> Result<Layout, Fail> {
     let grid = Grid {
         side: 24000,
         n: 48,
@@ -362,26 +380,18 @@ fn twelve_lanes(rt: HostRuntime) -> Result<(), Fail> {
         late: 2,
         edge: 5,
     };
-    let lanes = [
-        left_turn(0, 10500, 13500, 10500, 13500, 24000, 97),
-        straight(0, 7500, 24000, 7500),
-        right_turn(0, 4500, 4500, 4500, 4500, 0, 94),
-        left_turn(13500, 0, 13500, 13500, 0, 13500, 96),
-        straight(16500, 0, 16500, 24000),
-        right_turn(19500, 0, 19500, 4500, 24000, 4500, 95),
-        left_turn(24000, 13500, 10500, 13500, 10500, 0, 97),
-        straight(24000, 16500, 0, 16500),
-        right_turn(24000, 19500, 19500, 19500, 19500, 24000, 95),
-        left_turn(10500, 24000, 10500, 10500, 24000, 10500, 97),
-        straight(7500, 24000, 7500, 0),
-        right_turn(4500, 24000, 4500, 19500, 0, 19500, 95),
-    ];
-    let mut builder = Builder::new(rt.alloc(), Ground::build(grid, times)?, 12)?;
+    let mut builder = Builder::new(alloc, Ground::build(grid, times)?, 12)?;
     for (lane, wanted) in lanes.iter().enumerate() {
         builder.add_move(lane as u32, wanted.turn, wanted.shape)?;
     }
     builder.add_policy(Kind::Fcfs)?;
-    let layout = builder.finish()?;
+    Ok(builder.finish()?)
+}
+
+#[test]
+fn twelve_lanes(rt: HostRuntime) -> Result<(), Fail> {
+    let lanes = twelve();
+    let layout = realistic(rt.alloc(), &lanes)?;
     for (lane, wanted) in lanes.iter().enumerate() {
         assert_lane(&rt, &layout, lane as u8, wanted)?;
     }

@@ -60,12 +60,7 @@ pub fn is_emergency(words: &mut Words<'_>) -> Result<bool, LineKind>
 
 // SPEED MAX ACCEL LENGTH WIDTH CLASS
 #[tactic(auto, unfolding(crate::specs::Steps::vehicle_in))]
-pub fn vehicle(
-    words: &mut Words<'_>,
-    lane: u8,
-    turn: Turn,
-    arrive: u32,
-) -> Result<Params, LineKind>
+pub fn vehicle(words: &mut Words<'_>, lane: u8, turn: Turn, arrive: u32) -> Result<Params, LineKind>
     ensures { Gives result words.new (vehicle_in lane turn arrive words.old) }
 {
     Ok(Params {

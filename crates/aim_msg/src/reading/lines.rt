@@ -143,7 +143,15 @@ fn shape(words: &mut Words<'_>, form: ShapeForm) -> Result<MoveShape, LineKind>
             let x2 = number32(words)?;
             let y2 = number32(words)?;
             let m = number32(words)?;
-            Ok(MoveShape::Curve { x0, y0, x1, y1, x2, y2, m })
+            Ok(MoveShape::Curve {
+                x0,
+                y0,
+                x1,
+                y1,
+                x2,
+                y2,
+                m,
+            })
         }
     }
 }

@@ -1,4 +1,4 @@
-use Rattle.std.proofs.Common.{◌≡◌, ◌+◌, ◌≤◌, ap, sym, ◌∙◌, arith, length, take, ◌∷◌, [], List}
+use Rattle.std.proofs.Common.{◌≡◌, ap, sym, ◌∙◌, arith, length, take, ◌∷◌}
 use Rattle.std.proofs.Math.ListN.{length-set}
 use Rattle.aim_msg.specs.Steps.{fates_in}
 use Rattle.aim_msg.proofs.ListLaws.{fates_next, zeros_next, fates_end}

@@ -1,4 +1,4 @@
-use Rattle.std.proofs.Common.{arith, ap, ◌∷◌, ◌<◌, ◌≡◌, ℕ, length, get_or}
+use Rattle.std.proofs.Common.{arith, ap}
 use Rattle.aim_msg.proofs.Splits.{word_alone, word_before}
 use Rattle.aim_msg.specs.Steps.{words_left}
 use Rattle.aim_msg.proofs.reading.words.Words.next.Goals as goal
