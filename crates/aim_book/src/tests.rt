@@ -5,7 +5,6 @@ ghost use Rattle.std.specs.Prelude.{◌≡◌, ◌<◌, ◌≤◌};
 use crate::{Book, Full, OpenFault, bad_field, has_called, is_plain};
 use aim_geometry::{Grid, Ground, Times};
 use aim_msg::{Body, Message, Params, Reason, Reply, Turn};
-
 use aim_paths::{Builder, Kind, Layout, Shape};
 use std::alloc::Global;
 use std::process::Abort;
