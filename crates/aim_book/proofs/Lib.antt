@@ -7,7 +7,7 @@ pub mod BlockLemmas
 pub mod DistanceLemmas
 pub mod RowLemmas
 pub mod FootLemmas
-pub mod GoodLemmas
+pub mod MovingLemmas
 pub mod ReplyLemmas
 pub mod SpanLemmas
 pub mod TakenLemmas

@@ -1,6 +1,6 @@
 -- The answer to a steady request, in two parts.
 use Rattle.std.proofs.Common.{◌≡◌, ℕ, ◌+◌, ◌-◌, ◌<◌, Bool, true, false, nat_le, List, [], length, Option, Some, None, arith, refl, sym, ◌∙◌, ap, unwrap_or, if◌then◌else◌}
-use Rattle.std.specs.Prelude.{is_some}
+use Rattle.std.specs.Prelude.{is_none}
 use Rattle.std.specs.List.{slice_index_or}
 use Rattle.std.proofs.lemmas.Option.{slice_get-get_or}
 use Rattle.std.proofs.lemmas.Bool.{leb-false}
@@ -19,7 +19,8 @@ use Rattle.aim_book.specs.declared.conflicts.Conflict.{Conflict}
 use Rattle.aim_book.specs.Conflicts.{IsFirstConflict}
 use Rattle.aim_book.specs.Takings.{SharesNone}
 use Rattle.aim_book.proofs.BlockLemmas.{MayAsk, first_blocked-none, first_blocked-some}
-use Rattle.aim_book.proofs.GoodLemmas.{good_facts}
+use Rattle.aim_paths.proofs.GoodLemmas.{good_params}
+use Rattle.aim_book.proofs.MovingLemmas.{steady_moves}
 use Rattle.aim_paths.specs.Foot.{crossing_steps}
 use Rattle.aim_paths.specs.History.{fresh, now_of}
 use Rattle.aim_paths.specs.Reservations.{holds}
@@ -61,10 +62,10 @@ pub record Asks (i : Intersection) (h : List Entry) (v : ℕ) (m : Message) (p :
   pub steady : IsSteady i p
 
 -- the stations of a good request's path
-path_stations : (i : Intersection) (p : Params) → IsValid i → is_some (path i p.lane p.turn) ≡ true → (0 < length (stations i p.lane p.turn)) × AreWithin i.grid.side (stations i p.lane p.turn)
+path_stations : (i : Intersection) (p : Params) → IsValid i → is_none (path i p.lane p.turn) ≡ false → (0 < length (stations i p.lane p.turn)) × AreWithin i.grid.side (stations i p.lane p.turn)
 path_stations i p valid there = go (path i p.lane p.turn) refl there
   where
-    go : (o : Option (List Station)) → path i p.lane p.turn ≡ o → is_some o ≡ true → (0 < length (unwrap_or (path i p.lane p.turn) [])) × AreWithin i.grid.side (unwrap_or (path i p.lane p.turn) [])
+    go : (o : Option (List Station)) → path i p.lane p.turn ≡ o → is_none o ≡ false → (0 < length (unwrap_or (path i p.lane p.turn) [])) × AreWithin i.grid.side (unwrap_or (path i p.lane p.turn) [])
     go None e t = absurd (cc)
     go (Some ss) e t =
         let q = valid.sound.paths p.lane p.turn ss e in
@@ -76,12 +77,13 @@ answer_settled : (i : Intersection) (h : List Entry) (v moment : ℕ) (m : Messa
     answer i h v moment (act.Message m) ≡ settled i h (now_of h moment) p (option_or (early_reason i h (now_of h moment) p) (taken o))
 answer_settled i h v moment m p o a blocked =
     let now = now_of h moment in
-    let good = good_facts i p a.steady.good in
-    let ss = path_stations i p a.valid good.path in
+    let good = good_params i p a.steady.good in
+    let moves = steady_moves i p a.steady in
+    let ss = path_stations i p a.valid good.turn in
     let none = holds-none i h v now a.served a.first in
     let zero : now + i.times.edge ≡ now = (let e = a.plain.edge in omega arith) in
     answer-served i h v moment m p a.plain a.served a.first a.body a.steady
-    ∙ rw (zero, cells-from i p (now + i.times.horizon) a.plain a.valid.sound.grid ss.0 ss.1 good.moves a.steady.speed)
+    ∙ rw (zero, cells-from i p (now + i.times.horizon) a.plain a.valid.sound.grid ss.0 ss.1 moves.moves a.steady.speed)
     (by_tests (nat_le p.arrive now) (nat_le (now + i.times.horizon) (p.arrive + crossing_steps i p false - 1)) (exceeds (asked_from now p) (distance (fresh h) p.lane)) (reason.Late now) (reason.Far (now + i.times.horizon)) (reason.Distance (unwrap_or (distance (fresh h) p.lane) 0)) (asked i h v moment) p i h now (first_blocked (asked i h v moment) p false) (taken o)
     (rw none refl) (rw none refl) (rw none refl) (λ e. ap (granted_or (asked i h v moment) p) (blocked e) ∙ granted_settled i h v moment p o none))
 

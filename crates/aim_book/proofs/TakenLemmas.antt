@@ -24,7 +24,7 @@ use Rattle.aim_book.specs.Serving.{ActsSteady, AreServed, AsksSteady, IsPlain, I
 use Rattle.aim_book.specs.Takings.{crosses, granted_to, is_crossed, is_taken, is_taken_by_some, is_shared, cell_at, params_in, takes, IsFirstShared, SharesNone}
 use Rattle.aim_book.specs.Rows.{IsFirstCommon}
 use Rattle.aim_book.proofs.TestLemmas.{and_true, or_false}
-use Rattle.aim_book.proofs.GoodLemmas.{steady_moves}
+use Rattle.aim_book.proofs.MovingLemmas.{steady_moves}
 use Rattle.aim_book.proofs.ServedLemmas.{IsServed-at}
 use Rattle.aim_book.proofs.CrossingLemmas.{in_cells-at, in_cells-none}
 
