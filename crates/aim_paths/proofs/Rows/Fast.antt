@@ -33,4 +33,3 @@ free_behind_an_inner_buffer = refl
 
 pub distance : replies small (ask 0 0 1 0 10 ∷ ask 1 0 1 1 10 ∷ ask 2 0 1 1 12 ∷ ask 3 8 1 1 18 ∷ ask 2 12 2 1 24 ∷ []) ≡ steady 0 10 20 ∷ reject (Taken 1 2 13 0) 5 None ∷ reject (Distance 5000) 6 None ∷ steady 3 18 28 ∷ steady 4 24 34 ∷ []
 distance = refl
-

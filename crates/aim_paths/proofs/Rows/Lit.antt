@@ -13,4 +13,3 @@ switch_back = refl
 
 pub emergency : replies siren_small (ask 0 0 1 0 10 ∷ send 1 0 1 (Request (ambulance 1 10)) ∷ ask 2 0 1 0 40 ∷ send 1 8 2 (Request (ambulance 1 18)) ∷ finish 1 29 3 3 ∷ ask 2 30 2 0 60 ∷ []) ≡ steady 0 10 20 ∷ reject (Taken 1 2 13 0) 5 None ∷ reject (Emergency 1) 20 None ∷ steady 3 18 28 ∷ Ack 3 ∷ steady 5 60 70 ∷ []
 emergency = refl
-

@@ -57,4 +57,3 @@ bad_steps = refl
 
 pub too_soon : replies small (ask 0 0 1 0 10 ∷ ask 1 3 1 1 10 ∷ ask 1 5 2 1 18 ∷ []) ≡ steady 0 10 20 ∷ reject (Taken 1 2 13 0) 6 None ∷ reject (TooSoon 6) 6 None ∷ []
 too_soon = refl
-
