@@ -2,7 +2,7 @@
 use Rattle.std.proofs.lemmas.List.{take_all}
 use Rattle.std.proofs.Common.{◌≡◌, ℕ, ◌+◌, ◌-◌, ◌<◌, ◌≤◌, min, drop, length-drop, Bool, true, false, ◌&&◌, ◌||◌, ◌*◌, ◌/◌, nat_lt, List, length, get_or, Some, arith, refl, sym, ◌∙◌, ap}
 use Rattle.std.specs.Prelude.{slice_get}
-use Rattle.std.proofs.lemmas.Option.{slice_get-get_or, get_or_from_slice_get}
+use Rattle.std.proofs.lemmas.Option.{get_or_from_slice_get}
 use Rattle.std.specs.List.{list_any, slice_range}
 use Rattle.std.proofs.Math.Decide.{dec_lt}
 use Rattle.aim_geometry.specs.declared.ground.Grid.{Grid}

@@ -1,13 +1,12 @@
 -- The first tile of two sets of rows.
-use Rattle.std.proofs.Common.{◌≡◌, ℕ, ◌+◌, ◌<◌, ◌^◌, false, ◌&&◌, List, get_or, arith, refl, sym, ◌∙◌, ◌⊎◌, inl, inr, w64}
+use Rattle.std.proofs.Common.{◌≡◌, ℕ, ◌<◌, ◌^◌, false, ◌&&◌, arith, refl, sym, ◌∙◌, w64}
 use Rattle.std.specs.Prelude.{bit_and}
 use Rattle.std.specs.Int.{trailing_zeros}
 use Rattle.std.proofs.lemmas.Nat.{and_le_l}
 use Rattle.std.proofs.lemmas.Nat.Bits.{bit_at-trailing_zeros, bit_at-zero}
-use Rattle.std.proofs.Math.Decide.{dec_lt}
-use Rattle.aim_geometry.specs.Rects.{has_bit, tile_at}
+use Rattle.aim_geometry.specs.Rects.{has_bit}
 use Rattle.aim_geometry.proofs.Bits.{has_bit_and}
-use Rattle.aim_book.specs.Rows.{IsFirstBit, IsFirstCommon}
+use Rattle.aim_book.specs.Rows.{IsFirstBit}
 
 -- the lowest bit that is set in both
 pub first_bit_at : (a b : ℕ) → a < 2 ^ 64 → (bit_and a b ≡ 0 → ⊥) → IsFirstBit a b (trailing_zeros w64 (bit_and a b))

@@ -1,5 +1,5 @@
 -- The spans of a steady crossing, step by step.
-use Rattle.std.proofs.Common.{◌≡◌, ℕ, zero, suc, ◌+◌, ◌-◌, ◌*◌, ◌^◌, ◌<◌, ◌≤◌, Bool, true, false, cond, List, [], ◌∷◌, ◌++◌, length, length-append, get_or, map, filter, arith, refl, sym, ◌∙◌, ap, lt-ltb, le-ltb, ◌⊎◌, inl, inr}
+use Rattle.std.proofs.Common.{◌≡◌, ℕ, zero, suc, ◌+◌, ◌-◌, ◌^◌, ◌<◌, ◌≤◌, Bool, true, false, cond, List, [], ◌∷◌, ◌++◌, length, length-append, get_or, map, filter, arith, refl, sym, ◌∙◌, ap, lt-ltb, le-ltb, ◌⊎◌, inl, inr}
 use Rattle.std.specs.Prelude.{◌==◌, flat_map, count_by}
 use Rattle.std.specs.List.{range_with_len}
 use Rattle.std.specs.Int.{bit_at}
@@ -16,8 +16,7 @@ use Rattle.aim_geometry.specs.Rects.{has_bit, tile_at}
 use Rattle.aim_geometry.proofs.BoundedLemmas.{some_below_found, some_below_false}
 use Rattle.aim_paths.specs.Intersection.{Intersection}
 use Rattle.aim_paths.specs.Foot.{crossing_steps}
-use Rattle.aim_paths.specs.Cells.{Cell, in_cells, steps_of}
-use Rattle.aim_paths.specs.Bad.{span_count}
+use Rattle.aim_paths.specs.Cells.{Cell, in_cells}
 use Rattle.aim_book.specs.Serving.{IsPlain}
 use Rattle.aim_book.specs.Takings.{cell_at}
 use Rattle.aim_book.specs.Feet.{is_footed, is_filled}
