@@ -1,5 +1,5 @@
 //! Reads script lines and entries.
-ghost use Rattle.std.specs.Prelude.{◌≡◌, ◌≤◌, true, length};
+ghost use Rattle.std.specs.Prelude.{◌≡◌, ◌<◌, ◌≤◌, length};
 ghost use Rattle.aim_msg.specs.Forms.{has_count};
 ghost use Rattle.aim_msg.specs.Reading.{line_at};
 ghost use Rattle.aim_msg.specs.Entries.{entry_at};
@@ -72,7 +72,7 @@ fn line_in(words: &mut Words<'_>, form: LineForm, version: u8) -> Result<Line, L
 ///    `Number` where it isn't spelled as a number, and `Range` where the number is too small or too great.
 #[tactic(auto, using(crate::proofs::StepLaws::steps_are))]
 pub fn read_line(line: &[u8], version: u8) -> Result<Line, LineKind>
-    requires { (1 ≤ version) × (version ≤ 3) }
+    requires { (0 < version) × (version ≤ 3) }
     ensures { result ≡ line_at version line.now }
 {
     let form = line_form(line, version)?;

@@ -10,6 +10,7 @@ use crate::reading::numbers::number;
 use crate::reading::words::Words;
 use crate::script::LineKind;
 
+/// A number of 32 bits.
 #[tactic(auto, unfolding(crate::specs::Steps::read_in))]
 pub fn number32(words: &mut Words<'_>) -> Result<u32, LineKind>
     ensures { Gives result words.new (read_in number32 value_of words.old) }
@@ -19,6 +20,7 @@ pub fn number32(words: &mut Words<'_>) -> Result<u32, LineKind>
     Ok(n as u32)
 }
 
+/// A number of a byte.
 #[tactic(auto, unfolding(crate::specs::Steps::read_in))]
 pub fn number8(words: &mut Words<'_>) -> Result<u8, LineKind>
     ensures { Gives result words.new (read_in number8 value_of words.old) }
@@ -28,6 +30,7 @@ pub fn number8(words: &mut Words<'_>) -> Result<u8, LineKind>
     Ok(n as u8)
 }
 
+/// A turn.
 #[tactic(auto, unfolding(crate::specs::Steps::read_in))]
 pub fn turn(words: &mut Words<'_>) -> Result<Turn, LineKind>
     ensures { Gives result words.new (read_in turns turn_of words.old) }
@@ -45,7 +48,7 @@ pub fn turn(words: &mut Words<'_>) -> Result<Turn, LineKind>
 }
 
 #[tactic(auto, unfolding(crate::specs::Steps::read_in))]
-pub fn is_emergency(words: &mut Words<'_>) -> Result<bool, LineKind>
+fn is_emergency(words: &mut Words<'_>) -> Result<bool, LineKind>
     ensures { Gives result words.new (read_in classes is_emergency words.old) }
 {
     let word = words.word()?;
@@ -58,7 +61,7 @@ pub fn is_emergency(words: &mut Words<'_>) -> Result<bool, LineKind>
     }
 }
 
-// SPEED MAX ACCEL LENGTH WIDTH CLASS
+/// SPEED MAX ACCEL LENGTH WIDTH CLASS, behind the lane, the turn and the arrival.
 #[tactic(auto, unfolding(crate::specs::Steps::vehicle_in))]
 pub fn vehicle(words: &mut Words<'_>, lane: u8, turn: Turn, arrive: u32) -> Result<Params, LineKind>
     ensures { Gives result words.new (vehicle_in lane turn arrive words.old) }

@@ -85,6 +85,7 @@ fn window(words: &mut Words<'_>, windowed: bool) -> Result<bool, LineKind>
     }
 }
 
+/// `grid`: the ground and the room of a sheet.
 #[tactic(auto, unfolding(crate::specs::Steps::grid_in))]
 pub fn grid(words: &mut Words<'_>) -> Result<Line, LineKind>
     ensures { result ≡ grid_in words.old }
@@ -99,6 +100,7 @@ pub fn grid(words: &mut Words<'_>) -> Result<Line, LineKind>
     }))
 }
 
+/// `times` of version 1.
 #[tactic(auto, unfolding(crate::specs::Steps::times_in))]
 pub fn times(words: &mut Words<'_>) -> Result<Line, LineKind>
     ensures { result ≡ times_in words.old }
@@ -112,6 +114,7 @@ pub fn times(words: &mut Words<'_>) -> Result<Line, LineKind>
     }))
 }
 
+/// `times` of versions 2 and 3.
 #[tactic(auto, unfolding(crate::specs::Steps::times6_in))]
 pub fn times6(words: &mut Words<'_>) -> Result<Line, LineKind>
     ensures { result ≡ times6_in words.old }
@@ -156,6 +159,7 @@ fn shape(words: &mut Words<'_>, form: ShapeForm) -> Result<MoveShape, LineKind>
     }
 }
 
+/// `move`, with a way of that form.
 #[tactic(auto, unfolding(crate::specs::Steps::move_in))]
 pub fn move_line(words: &mut Words<'_>, form: ShapeForm) -> Result<Line, LineKind>
     ensures { result ≡ move_in form words.old }
@@ -167,6 +171,7 @@ pub fn move_line(words: &mut Words<'_>, form: ShapeForm) -> Result<Line, LineKin
     Ok(Line::Move { lane, turn, shape })
 }
 
+/// `policy`, with a kind of that version.
 #[tactic(auto, unfolding(crate::specs::Steps::policy_in))]
 pub fn policy(words: &mut Words<'_>, version: u8) -> Result<Line, LineKind>
     ensures { result ≡ policy_in version words.old }
@@ -176,6 +181,7 @@ pub fn policy(words: &mut Words<'_>, version: u8) -> Result<Line, LineKind>
     Ok(Line::Policy { name, kind })
 }
 
+/// An event, with a message of that form.
 #[tactic(auto, unfolding(crate::specs::Steps::event_in))]
 pub fn event(words: &mut Words<'_>, form: MessageForm) -> Result<Line, LineKind>
     ensures { result ≡ event_in form words.old }
@@ -191,6 +197,7 @@ pub fn event(words: &mut Words<'_>, form: MessageForm) -> Result<Line, LineKind>
     })
 }
 
+/// `operator MOMENT switch NAME`.
 #[tactic(auto, unfolding(crate::specs::Steps::switch_in))]
 pub fn switch(words: &mut Words<'_>) -> Result<Line, LineKind>
     ensures { result ≡ switch_in words.old }
@@ -201,6 +208,7 @@ pub fn switch(words: &mut Words<'_>) -> Result<Line, LineKind>
     Ok(Line::SwitchTo { moment, name })
 }
 
+/// `plan`, with a window in the last place or with none.
 #[tactic(auto, unfolding(crate::specs::Steps::plan_in))]
 pub fn plan(words: &mut Words<'_>, windowed: bool) -> Result<Line, LineKind>
     ensures { result ≡ plan_in windowed words.old }
@@ -223,6 +231,7 @@ pub fn plan(words: &mut Words<'_>, windowed: bool) -> Result<Line, LineKind>
     })
 }
 
+/// `change V STEP LEAD`.
 #[tactic(auto, unfolding(crate::specs::Steps::change_plan_in))]
 pub fn change_plan(words: &mut Words<'_>) -> Result<Line, LineKind>
     ensures { result ≡ change_plan_in words.old }
@@ -234,6 +243,7 @@ pub fn change_plan(words: &mut Words<'_>) -> Result<Line, LineKind>
     })
 }
 
+/// `cancel V STEP`.
 #[tactic(auto, unfolding(crate::specs::Steps::cancel_plan_in))]
 pub fn cancel_plan(words: &mut Words<'_>) -> Result<Line, LineKind>
     ensures { result ≡ cancel_plan_in words.old }
@@ -244,6 +254,7 @@ pub fn cancel_plan(words: &mut Words<'_>) -> Result<Line, LineKind>
     })
 }
 
+/// `operator MOMENT stop`.
 #[tactic(auto, unfolding(crate::specs::Steps::stop_in))]
 pub fn stop(words: &mut Words<'_>) -> Result<Line, LineKind>
     ensures { result ≡ stop_in words.old }

@@ -25,6 +25,7 @@ fn lanes(words: &mut Words<'_>) -> Result<u16, LineKind>
     Ok(lanes)
 }
 
+/// `phase`, with the lanes that it names.
 #[tactic(auto, unfolding(crate::specs::Steps::phase_in))]
 pub fn phase(words: &mut Words<'_>) -> Result<Line, LineKind>
     ensures { result ≡ phase_in words.old }
@@ -70,6 +71,7 @@ fn fates(words: &mut Words<'_>) -> Result<FateList, LineKind>
     })
 }
 
+/// `up`, with 64 fates at most.
 #[tactic(auto, unfolding(crate::specs::Steps::up_in))]
 pub fn up(words: &mut Words<'_>) -> Result<Line, LineKind>
     requires { length words.old ≤ 65 }
@@ -80,6 +82,7 @@ pub fn up(words: &mut Words<'_>) -> Result<Line, LineKind>
     Ok(Line::Up { vehicle, fates })
 }
 
+/// `down`, with 64 fates at most.
 #[tactic(auto, unfolding(crate::specs::Steps::down_in))]
 pub fn down(words: &mut Words<'_>) -> Result<Line, LineKind>
     requires { length words.old ≤ 65 }

@@ -13,6 +13,7 @@ fn is_digit(b: u8) -> bool
     b.is_ascii_digit()
 }
 
+/// Whether the word begins with a digit.
 pub fn begins_with_digit(word: &[u8]) -> bool
     ensures { result ≡ begins_with_digit word.now }
 {

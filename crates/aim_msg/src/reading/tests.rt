@@ -39,7 +39,7 @@ const FORMS_3: [&[u8]; 5] = [
 
 // Whether the text is read as a line that is written so.
 fn comes_back(alloc: Global, text: &[u8], version: u8) -> Result<bool, Fail>
-    requires version { (1 ≤ version) × (version ≤ 3) }
+    requires { (0 < version) × (version ≤ 3) }
 {
     let Ok(line) = read_line(text, version) else {
         return Ok(false);
