@@ -1,3 +1,6 @@
 pub mod Examples
 pub mod FirstLemmas
 pub mod LineLemmas
+pub mod AppendLemmas
+pub mod KindLemmas
+pub mod TextLemmas

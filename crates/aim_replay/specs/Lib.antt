@@ -5,3 +5,4 @@ pub mod Verdicts
 pub mod Texts
 pub mod First
 pub mod Today
+pub mod Stands
