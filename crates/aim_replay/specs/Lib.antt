@@ -6,3 +6,4 @@ pub mod Texts
 pub mod First
 pub mod Today
 pub mod Stands
+pub mod Endings
