@@ -1,9 +1,10 @@
 -- Bounds on stations.
-use Rattle.std.proofs.Common.{◌≡◌, ℕ, ◌+◌, ◌-◌, ◌*◌, ◌/◌, ◌<◌, ◌≤◌, arith, ◌∙◌}
-use Rattle.std.proofs.Math.Nat.{mul-le-mul, mul-le-mul_left, add-mul-div_left}
+use Rattle.std.proofs.Common.{◌≡◌, ℕ, ◌+◌, ◌-◌, ◌*◌, ◌/◌, ◌^◌, ◌<◌, ◌≤◌, arith, ◌∙◌}
+use Rattle.std.proofs.Math.Nat.{mul-le-mul, mul-le-mul_left, add-mul-div_left, div-le_of_le-mul}
 use Rattle.std.proofs.Math.Decide.{dec_lt}
+use Rattle.std.proofs.Math.Nat.{pow-suc, pow-zero}
 use Rattle.aim_geometry.specs.Bounded.{ceil_div}
-use Rattle.aim_geometry.specs.Stations.{on_line}
+use Rattle.aim_geometry.specs.Stations.{on_line, on_curve}
 
 -- a mean is at most the greatest
 pub mean_le : (a b c x y z top : ℕ) → x ≤ top → y ≤ top → z ≤ top → a * x + b * y + c * z ≤ (a + b + c) * top
@@ -19,6 +20,24 @@ curve_le m j x y z top h p q r =
 
 pub square_le : (m : ℕ) → m ≤ 4096 → m * m * 1000000 ≤ 16777216000000
 square_le m h = let s : m * m ≤ 4096 * 4096 = mul-le-mul h h in omega arith
+
+line_le : (m j x y top : ℕ) → j ≤ m → x ≤ top → y ≤ top → (m - j) * x + j * y ≤ m * top
+line_le m j x y top h p q =
+    let e : (m - j) + j ≡ m = omega arith in
+    rw e at (parts (m - j) j x y top p q)
+  where
+    parts : (d j x y top : ℕ) → x ≤ top → y ≤ top → d * x + j * y ≤ (d + j) * top
+    parts d j x y top p q = grind arith
+
+square : (a : ℕ) → a ^ 2 ≡ a * a
+square a = rw (pow-suc a 1, pow-suc a 0, pow-zero a) (omega arith)
+
+-- a station lies between the least and the greatest of the places that make it
+pub on_line_le : (x0 x1 m j top : ℕ) → j ≤ m → x0 ≤ top → x1 ≤ top → on_line x0 x1 m j ≤ top
+on_line_le x0 x1 m j top h p q = div-le_of_le-mul m (line_le m j x0 x1 top h p q)
+
+pub on_curve_le : (x0 x1 x2 m j top : ℕ) → j ≤ m → x0 ≤ top → x1 ≤ top → x2 ≤ top → on_curve x0 x1 x2 m j ≤ top
+on_curve_le x0 x1 x2 m j top h p q r = rw (square (m - j), square j, square m) (div-le_of_le-mul (m * m) (curve_le m j x0 x1 x2 top h p q r))
 
 -- On the way up a station is the start and the whole part of its share of the way.
 pub on_line-up : (x0 x1 m j : ℕ) → 0 < m → j ≤ m → x0 ≤ x1 → on_line x0 x1 m j ≡ x0 + j * (x1 - x0) / m

@@ -10,3 +10,4 @@ pub mod AnswerLemmas
 pub mod GoodLemmas
 pub mod SlowerLemmas
 pub mod AheadLemmas
+pub mod ShapeLemmas

@@ -1,99 +1,99 @@
--- Which layouts can be built, step by step, and why a step is refused.
-use Rattle.std.specs.Prelude.{ℕ, ◌+◌, ◌-◌, ◌%◌, ◌==◌, Bool, true, false, ◌&&◌, ◌||◌, not, nat_lt, nat_le, List, [], ◌∷◌, ◌++◌, length, slice_set, Option, Some, None, is_some}
+-- Which lines make a layout, and why a line is refused.
+use Rattle.std.specs.Prelude.{ℕ, ◌+◌, ◌-◌, ◌==◌, Bool, true, false, ◌&&◌, ◌||◌, not, nat_lt, nat_le, List, [], ◌∷◌, ◌++◌, length, replicate, slice_get, slice_set, Option, Some, None, is_some, option_map, if◌then◌else◌}
 use Rattle.std.specs.List.{list_any, slice_index_or}
 use Rattle.aim_msg.specs.declared.messages.Turn.{Turn}
 use Rattle.aim_msg.specs.declared.messages.Turn.TheVariants.{Left, Straight, Right}
-use Rattle.aim_msg.specs.declared.script.MoveShape.{MoveShape}
-use Rattle.aim_msg.specs.declared.script.MoveShape.TheVariants as shape
-use Rattle.aim_geometry.specs.declared.ground.Grid.{Grid}
-use Rattle.aim_geometry.specs.declared.ground.Times.{Times}
-use Rattle.aim_geometry.specs.Bounded.{some_below, least_below, last, is_outside}
-use Rattle.aim_paths.specs.declared.policies.Phase.{Phase}
 use Rattle.aim_geometry.specs.declared.stations.Station.{Station}
-use Rattle.aim_geometry.specs.Stations.{line, curve}
+use Rattle.aim_geometry.specs.Bounded.{is_outside, some_below}
+use Rattle.aim_geometry.specs.Sites.{Site}
+use Rattle.aim_paths.specs.declared.builders.LayoutFault.{LayoutFault}
+use Rattle.aim_paths.specs.declared.builders.LayoutFault.TheVariants as fault
+use Rattle.aim_paths.specs.declared.policies.Kind.{Kind}
+use Rattle.aim_paths.specs.declared.policies.Phase.{Phase}
+use Rattle.aim_paths.specs.declared.shapes.Shape.{Shape}
+use Rattle.aim_paths.specs.Shapes.{stations_of, is_bad_shape, wide_step}
 use Rattle.aim_paths.specs.Intersection.{Intersection, Lane, Policy, path}
 use Rattle.aim_paths.specs.Lights.{has_lights, has_lane, in_lane_tiles}
 
-abbrev pub is_bad_grid : Grid → Bool
-is_bad_grid g =
-    is_outside g.side 1000000 || is_outside g.n 64 || not (g.side % g.n == 0) || is_outside g.spacing 10000 || nat_lt 10000 g.fixed || nat_lt 100000 g.half
-    || is_outside g.spans 131072
+abbrev pub no_paths : Lane
+no_paths = record { left = None; straight = None; right = None }
 
-abbrev pub is_bad_buffers : Times → Bool
-is_bad_buffers t = nat_lt t.edge t.early || nat_lt t.edge t.late
-
-abbrev pub is_bad_times : Times → Bool
-is_bad_times t = is_outside t.horizon 8192 || is_outside t.longest 65536 || nat_lt 1024 t.clearance || nat_lt 1024 t.edge
-
-abbrev pub shape_stations : MoveShape → List Station
-shape_stations (shape.Line x0 y0 x1 y1 m) = line x0 y0 x1 y1 m
-shape_stations (shape.Curve x0 y0 x1 y1 x2 y2 m) = curve x0 y0 x1 y1 x2 y2 m
-
-abbrev pub parts : MoveShape → ℕ
-parts (shape.Line x0 y0 x1 y1 m) = m
-parts (shape.Curve x0 y0 x1 y1 x2 y2 m) = m
-
-abbrev pub coordinates : MoveShape → List ℕ
-coordinates (shape.Line x0 y0 x1 y1 m) = x0 ∷ y0 ∷ x1 ∷ y1 ∷ []
-coordinates (shape.Curve x0 y0 x1 y1 x2 y2 m) = x0 ∷ y0 ∷ x1 ∷ y1 ∷ x2 ∷ y2 ∷ []
-
-abbrev pub is_bad_move : Intersection → ℕ → Turn → MoveShape → Bool
-is_bad_move i lane turn s =
-    nat_le (length i.lanes) lane || is_some (path i lane turn) || nat_lt 0 (length i.policies) || is_outside (parts s) 4096
-    || list_any (nat_lt i.grid.side) (coordinates s)
-
-abbrev pub apart : ℕ → ℕ → ℕ
-apart a b = (a - b) + (b - a)
-
--- the least station with more than the spacing to the next
-abbrev pub wide_step : ℕ → List Station → Option ℕ
-wide_step spacing ss =
-    least_below (length ss - 1) (λ j.
-    let a = slice_index_or ss j (record { x = 0; y = 0 }) in
-    let b = slice_index_or ss (j + 1) (record { x = 0; y = 0 }) in
-    nat_lt spacing (apart a.x b.x) || nat_lt spacing (apart a.y b.y))
+-- a layout of so many lanes, with no path and no policy
+abbrev pub bare : Site → ℕ → Intersection
+bare s lanes = record { grid = s.grid; times = s.times; lanes = replicate lanes no_paths; policies = [] }
 
 abbrev pub with_path : Lane → Turn → List Station → Lane
 with_path l Left ss = record l { left = Some ss }
 with_path l Straight ss = record l { straight = Some ss }
 with_path l Right ss = record l { right = Some ss }
 
-abbrev pub no_paths : Lane
-no_paths = record { left = None; straight = None; right = None }
+-- whether the lane isn't there, the lane has that turn already, a policy was added, or the shape is out of its ranges
+abbrev pub is_bad_move : Intersection → ℕ → Turn → Shape → Bool
+is_bad_move i lane turn s =
+    nat_le (length i.lanes) lane || is_some (path i lane turn) || nat_lt 0 (length i.policies) || is_bad_shape i.grid.side s
 
-abbrev pub with_move : Intersection → ℕ → Turn → MoveShape → Intersection
+abbrev pub move_fault : Intersection → ℕ → Turn → Shape → Option LayoutFault
+move_fault i lane turn s =
+    if is_bad_move i lane turn s then Some (fault.Move lane turn)
+    else option_map (λ j. fault.Spacing lane turn j) (wide_step i.grid.spacing (stations_of s))
+
+abbrev pub with_move : Intersection → ℕ → Turn → Shape → Intersection
 with_move i lane turn s =
-    record i { lanes = slice_set i.lanes lane (with_path (slice_index_or i.lanes lane no_paths) turn (shape_stations s)) }
+    record i { lanes = slice_set i.lanes lane (with_path (slice_index_or i.lanes lane no_paths) turn (stations_of s)) }
 
--- whether the last policy is one with lights and no phase
+abbrev pub last_policy : Intersection → Option Policy
+last_policy i = slice_get i.policies (length i.policies - 1)
+
+-- whether it is a light policy without a phase
 abbrev pub lacks_phase : Option Policy → Bool
 lacks_phase None = false
 lacks_phase (Some p) = has_lights p.kind && length p.phases == 0
 
-abbrev pub last_policy : Intersection → Option Policy
-last_policy i = last (λ p. true) i.policies
+-- the fault of that policy, or of that phase of it
+abbrev pub policy_fault : Intersection → Option LayoutFault
+policy_fault i =
+    if nat_le 8 (length i.policies) then Some (fault.Phase 8 0)
+    else if lacks_phase (last_policy i) then Some (fault.Phase (length i.policies - 1) 0)
+    else None
 
-abbrev pub is_full_of_policies : Intersection → Bool
-is_full_of_policies i = nat_le 8 (length i.policies) || lacks_phase (last_policy i)
+abbrev pub with_policy : Intersection → Kind → Intersection
+with_policy i k = record i { policies = i.policies ++ record { kind = k; phases = [] } ∷ [] }
 
 -- whether two lanes share a tile
 abbrev pub share_tile : Intersection → ℕ → ℕ → Bool
 share_tile i a b = some_below i.grid.n (λ r. some_below i.grid.n (λ c. in_lane_tiles i a r c && in_lane_tiles i b r c))
 
+-- whether a lane of the phase isn't there, or two of its lanes share a tile
+abbrev pub has_bad_lanes : Intersection → ℕ → Bool
+has_bad_lanes i lanes =
+    some_below 16 (λ a. has_lane lanes a && (nat_le (length i.lanes) a || some_below a (λ b. has_lane lanes b && share_tile i a b)))
+
 abbrev pub is_bad_phase_of : Intersection → Phase → Option Policy → Bool
 is_bad_phase_of i p None = true
-is_bad_phase_of i p (Some last) =
-    not (has_lights last.kind) || nat_le 16 (length last.phases) || nat_lt p.red i.times.clearance || nat_lt 65536 p.red || is_outside p.green 65536
-    || p.lanes == 0
-    || some_below 16 (λ a. has_lane p.lanes a && (nat_le (length i.lanes) a || some_below a (λ b. has_lane p.lanes b && share_tile i a b)))
+is_bad_phase_of i p (Some q) =
+    not (has_lights q.kind) || nat_le 16 (length q.phases) || nat_lt p.red i.times.clearance || nat_lt 65536 p.red || is_outside p.green 65536
+    || p.lanes == 0 || has_bad_lanes i p.lanes
 
-abbrev pub is_bad_phase : Intersection → Phase → Bool
-is_bad_phase i p = is_bad_phase_of i p (last_policy i)
+-- the number of phases of the policy, if there is one
+abbrev pub phase_count : Option Policy → ℕ
+phase_count None = 0
+phase_count (Some q) = length q.phases
 
-abbrev pub with_phase : List Policy → Phase → List Policy
-with_phase [] p = []
-with_phase (q ∷ []) p = record q { phases = q.phases ++ p ∷ [] } ∷ []
-with_phase (q ∷ r ∷ qs) p = q ∷ with_phase (r ∷ qs) p
+abbrev pub phase_fault : Intersection → Phase → Option LayoutFault
+phase_fault i p =
+    if is_bad_phase_of i p (last_policy i) then Some (fault.Phase (length i.policies - 1) (phase_count (last_policy i)))
+    else None
 
-abbrev pub is_unfinished : Intersection → Bool
-is_unfinished i = length i.policies == 0 || lacks_phase (last_policy i)
+abbrev pub with_phase_of : Intersection → Phase → Option Policy → Intersection
+with_phase_of i p None = i
+with_phase_of i p (Some q) =
+    record i { policies = slice_set i.policies (length i.policies - 1) (record q { phases = q.phases ++ p ∷ [] }) }
+
+-- the last policy gets the phase
+abbrev pub with_phase : Intersection → Phase → Intersection
+with_phase i p = with_phase_of i p (last_policy i)
+
+abbrev pub finish_fault : Intersection → Option LayoutFault
+finish_fault i =
+    if length i.policies == 0 || lacks_phase (last_policy i) then Some (fault.Phase (length i.policies - 1) 0)
+    else None

@@ -11,3 +11,7 @@ pub mod Answer
 pub mod Legal
 pub mod Charts
 pub mod Building
+pub mod Shapes
+pub mod LaneTiles
+pub mod LaneRooms
+pub mod Valid

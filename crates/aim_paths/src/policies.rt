@@ -1,5 +1,10 @@
 //! The policies of a layout.
 
+ghost use Rattle.std.specs.Prelude.{◌≡◌, ◌<◌, ◌≤◌, [], ◌∷◌, ◌++◌, length, slice_get, Some};
+ghost use Rattle.aim_paths.specs.Lights.{has_lights as has_lights_of};
+
+use std::marker::Model;
+
 /// How requests are answered while the policy is in force.
 #[derive(Clone, Copy, Debug, PartialEq, Eq)]
 pub enum Kind {
@@ -22,4 +27,96 @@ pub struct Phase {
     pub green: u32,
     /// The lanes that are green. Bit i is lane i.
     pub lanes: u16,
+}
+
+impl Kind {
+    /// Whether policies of this kind have phases.
+    pub fn has_lights(self) -> bool
+        ensures { result ≡ has_lights_of self }
+    {
+        match self {
+            Kind::Light | Kind::LightEmerg => true,
+            Kind::Fcfs | Kind::Emerg => false,
+        }
+    }
+}
+
+/// A policy as a layout stores it, with room for 16 phases.
+#[derive(Debug, Drop)]
+pub struct StoredPolicy {
+    kind: Kind,
+    phases: [Phase; 16],
+    count: u8,
+}
+
+impl Model for StoredPolicy {
+    ghost use Rattle.aim_paths.specs.Intersection.{Policy};
+
+    ghost Value = { Policy };
+
+    ghost use Rattle.std.specs.Prelude.{◌≡◌, ◌≤◌, length, take};
+
+    ghost view = { λ p. record { kind = p.kind; phases = take p.count p.phases } };
+
+    ghost invariant = { λ p. (p.count ≤ 16) × (length p.phases ≡ 16) };
+}
+
+impl StoredPolicy {
+    /// A policy without a phase.
+    pub fn new(kind: Kind) -> StoredPolicy
+        ensures { result ≡ record { kind = kind; phases = [] } }
+    {
+        let none = Phase {
+            red: 0,
+            green: 0,
+            lanes: 0,
+        };
+        StoredPolicy {
+            kind,
+            phases: [none; 16],
+            count: 0,
+        }
+    }
+
+    pub fn kind(&self) -> Kind
+        ensures { result ≡ self.now.kind }
+    {
+        self.kind
+    }
+
+    /// The number of phases.
+    pub fn count(&self) -> u8
+        ensures count { result ≡ length self.now.phases }
+        ensures most { result ≤ 16 }
+    {
+        self.count
+    }
+
+    /// The phase of that number.
+    pub fn phase(&self, number: u8) -> Phase
+        requires { number < length self.now.phases }
+        ensures { slice_get self.now.phases number ≡ Some result }
+    {
+        self.phases[number as usize]
+    }
+
+    /// Adds a phase behind the others.
+    pub fn add(&mut self, phase: Phase)
+        requires { length self.old.phases < 16 }
+        ensures { self.new ≡ record self.old { phases = self.old.phases ++ phase ∷ [] } }
+    {
+        self.phases[self.count as usize] = phase;
+        self.count += 1;
+    }
+
+    /// An equal policy.
+    pub fn copy(&self) -> StoredPolicy
+        ensures { result ≡ self.now }
+    {
+        StoredPolicy {
+            kind: self.kind,
+            phases: self.phases,
+            count: self.count,
+        }
+    }
 }

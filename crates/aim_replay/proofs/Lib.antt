@@ -4,3 +4,4 @@ pub mod LineLemmas
 pub mod AppendLemmas
 pub mod KindLemmas
 pub mod TextLemmas
+pub mod CallLemmas

@@ -5,38 +5,40 @@ use Rattle.aim_msg.specs.declared.script.Line.{Line}
 use Rattle.aim_msg.specs.declared.script.Line.TheVariants as line
 use Rattle.aim_msg.specs.Lines.{name_word}
 use Rattle.aim_geometry.specs.Bounded.{is_outside}
-use Rattle.aim_paths.specs.Building.{is_bad_grid, is_bad_buffers, is_bad_times, is_bad_move, wide_step, shape_stations, is_full_of_policies, is_bad_phase, is_unfinished}
+use Rattle.aim_geometry.specs.Sites.{has_bad_numbers, has_bad_buffers, has_bad_times}
+use Rattle.aim_paths.specs.Shapes.{stations_of, wide_step}
+use Rattle.aim_paths.specs.Building.{is_bad_move, policy_fault, phase_fault, finish_fault}
 use Rattle.aim_replay.specs.Order.{may_follow}
-use Rattle.aim_replay.specs.Said.{grid_of, times_of, times6_of, layout_of, is_named, vehicles_of, last_of}
+use Rattle.aim_replay.specs.Said.{shape_of, grid_of, times_of, times6_of, layout_of, is_named, vehicles_of, last_of}
 
 abbrev pub is_bad_version : List Line → Line → Bool
 is_bad_version before (line.Version n) = is_outside n 3
 is_bad_version before _ = false
 
-abbrev pub is_bad_ground : List Line → Line → Bool
-is_bad_ground before (line.Grid g) = is_bad_grid (grid_of g)
-is_bad_ground before _ = false
+abbrev pub has_grid_fault : List Line → Line → Bool
+has_grid_fault before (line.Grid g) = has_bad_numbers (grid_of g)
+has_grid_fault before _ = false
 
-abbrev pub has_bad_buffers : List Line → Line → Bool
-has_bad_buffers before (line.Times t) = is_bad_buffers (times_of t)
-has_bad_buffers before (line.Times6 t) = is_bad_buffers (times6_of t)
-has_bad_buffers before _ = false
+abbrev pub has_buffers_fault : List Line → Line → Bool
+has_buffers_fault before (line.Times t) = has_bad_buffers (times_of t)
+has_buffers_fault before (line.Times6 t) = has_bad_buffers (times6_of t)
+has_buffers_fault before _ = false
 
-abbrev pub has_bad_times : List Line → Line → Bool
-has_bad_times before (line.Times t) = is_bad_times (times_of t)
-has_bad_times before (line.Times6 t) = is_bad_times (times6_of t)
-has_bad_times before _ = false
+abbrev pub has_times_fault : List Line → Line → Bool
+has_times_fault before (line.Times t) = has_bad_times (times_of t)
+has_times_fault before (line.Times6 t) = has_bad_times (times6_of t)
+has_times_fault before _ = false
 
 abbrev pub is_bad_lane : List Line → Line → Bool
 is_bad_lane before (line.Lanes n) = is_outside n 16
 is_bad_lane before _ = false
 
 abbrev pub is_no_move : List Line → Line → Bool
-is_no_move before (line.Move lane turn shape) = is_bad_move (layout_of before) lane turn shape
+is_no_move before (line.Move lane turn shape) = is_bad_move (layout_of before) lane turn (shape_of shape)
 is_no_move before _ = false
 
 abbrev pub is_wide : List Line → Line → Bool
-is_wide before (line.Move lane turn shape) = let i = layout_of before in is_some (wide_step i.grid.spacing (shape_stations shape))
+is_wide before (line.Move lane turn shape) = let i = layout_of before in is_some (wide_step i.grid.spacing (stations_of (shape_of shape)))
 is_wide before _ = false
 
 -- a policy has a new name, and a switch one that was given
@@ -46,9 +48,9 @@ is_bad_policy before (line.SwitchTo moment name) = not (is_named before (name_wo
 is_bad_policy before _ = false
 
 abbrev pub is_no_phase : List Line → Line → Bool
-is_no_phase before (line.Policy name k) = is_full_of_policies (layout_of before)
-is_no_phase before (line.Phase red green lanes) = is_bad_phase (layout_of before) (record { red = red; green = green; lanes = lanes })
-is_no_phase before (line.Vehicles n) = is_unfinished (layout_of before)
+is_no_phase before (line.Policy name k) = is_some (policy_fault (layout_of before))
+is_no_phase before (line.Phase red green lanes) = is_some (phase_fault (layout_of before) (record { red = red; green = green; lanes = lanes }))
+is_no_phase before (line.Vehicles n) = is_some (finish_fault (layout_of before))
 is_no_phase before _ = false
 
 abbrev pub is_no_vehicle : List Line → Line → Bool
@@ -85,9 +87,9 @@ kinds missing =
     ∷ (codes "order", is_out_of_order)
     ∷ (codes "unsupported", missing.field)
     ∷ (codes "version", is_bad_version)
-    ∷ (codes "grid", is_bad_ground)
-    ∷ (codes "buffers", has_bad_buffers)
-    ∷ (codes "times", has_bad_times)
+    ∷ (codes "grid", has_grid_fault)
+    ∷ (codes "buffers", has_buffers_fault)
+    ∷ (codes "times", has_times_fault)
     ∷ (codes "lane", is_bad_lane)
     ∷ (codes "move", is_no_move)
     ∷ (codes "spacing", is_wide)

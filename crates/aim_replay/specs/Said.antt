@@ -7,6 +7,8 @@ use Rattle.aim_msg.specs.declared.entries.TheConstants.{OPERATOR}
 use Rattle.aim_msg.specs.declared.script.Grid6.{Grid6}
 use Rattle.aim_msg.specs.declared.script.Times5.{Times5}
 use Rattle.aim_msg.specs.declared.script.Times6.{Times6}
+use Rattle.aim_msg.specs.declared.script.MoveShape.{MoveShape}
+use Rattle.aim_msg.specs.declared.script.MoveShape.TheVariants as shape
 use Rattle.aim_msg.specs.declared.script.Line.{Line}
 use Rattle.aim_msg.specs.declared.script.Line.TheVariants as line
 use Rattle.aim_msg.specs.Lines.{name_word}
@@ -15,7 +17,9 @@ use Rattle.aim_geometry.specs.declared.ground.Times.{Times}
 use Rattle.aim_paths.specs.declared.policies.Kind.{Kind}
 use Rattle.aim_paths.specs.declared.policies.Kind.TheVariants as kind
 use Rattle.aim_paths.specs.Intersection.{Intersection}
-use Rattle.aim_paths.specs.Building.{with_move, no_paths, with_phase}
+use Rattle.aim_paths.specs.declared.shapes.Shape.{Shape}
+use Rattle.aim_paths.specs.declared.shapes.Shape.TheVariants as path
+use Rattle.aim_paths.specs.Building.{no_paths, with_move, with_policy, with_phase}
 use Rattle.aim_paths.specs.Legal.{Call}
 use Rattle.aim_geometry.specs.Bounded.{last, find_map}
 
@@ -40,15 +44,19 @@ times6_of t = record { horizon = t.horizon; longest = t.longest; clearance = t.c
 abbrev pub kind_of : ℕ → Kind
 kind_of k = if k == 0 then kind.Fcfs else if k == 1 then kind.Emerg else if k == 2 then kind.Light else kind.LightEmerg
 
+abbrev pub shape_of : MoveShape → Shape
+shape_of (shape.Line x0 y0 x1 y1 m) = path.Line x0 y0 x1 y1 m
+shape_of (shape.Curve x0 y0 x1 y1 x2 y2 m) = path.Curve x0 y0 x1 y1 x2 y2 m
+
 -- what a line adds to the layout
 abbrev pub with_line : Intersection → Line → Intersection
 with_line i (line.Grid g) = record i { grid = grid_of g }
 with_line i (line.Times t) = record i { times = times_of t }
 with_line i (line.Times6 t) = record i { times = times6_of t }
 with_line i (line.Lanes n) = record i { lanes = replicate n no_paths }
-with_line i (line.Move lane turn shape) = with_move i lane turn shape
-with_line i (line.Policy name k) = record i { policies = i.policies ++ record { kind = kind_of k; phases = [] } ∷ [] }
-with_line i (line.Phase red green lanes) = record i { policies = with_phase i.policies (record { red = red; green = green; lanes = lanes }) }
+with_line i (line.Move lane turn s) = with_move i lane turn (shape_of s)
+with_line i (line.Policy name k) = with_policy i (kind_of k)
+with_line i (line.Phase red green lanes) = with_phase i (record { red = red; green = green; lanes = lanes })
 with_line i _ = i
 
 -- a layout of which nothing is said yet
