@@ -14,5 +14,5 @@ pub use messages::{Body, Message, Params, Turn};
 pub use replies::{Field, Reason, Reply};
 pub use script::{FateList, Grid6, Line, LineKind, MoveShape, Name, Times5, Times6};
 pub use writing::{
-    NoMemory, entry_text, put_number, write_entry, write_line, write_message, write_reply,
+    NoMemory, Text, entry_text, put_number, write_entry, write_line, write_message, write_reply,
 };

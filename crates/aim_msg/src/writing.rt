@@ -15,7 +15,7 @@ use crate::replies::Reply;
 use crate::script::Line;
 use crate::writing::entries::{put_entry, put_message, put_reply};
 use crate::writing::lines::put_line;
-use crate::writing::text::Text;
+pub use crate::writing::text::Text;
 use itoa::Buffer;
 pub use std::alloc::AllocError as NoMemory;
 

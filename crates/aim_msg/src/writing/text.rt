@@ -11,7 +11,7 @@ pub(crate) const ROOM: usize = 400;
 
 /// The words so far, each with a space behind it.
 #[derive(Drop)]
-pub(crate) struct Text {
+pub struct Text {
     bytes: [u8; ROOM],
     len: usize,
 }
@@ -28,7 +28,7 @@ impl Model for Text {
 
 impl Text {
     /// No word.
-    pub(crate) fn new() -> Text
+    pub fn new() -> Text
         ensures { result ≡ [] }
     {
         Text {
@@ -38,14 +38,14 @@ impl Text {
     }
 
     /// The words with a space between each two.
-    pub(crate) fn line(&self) -> &[u8]
+    pub fn line(&self) -> &[u8]
         ensures { result.now ≡ take (length self.now - 1) self.now }
     {
         &self.bytes[..self.len.saturating_sub(1)]
     }
 
     /// Puts the line at the front of an array, and says how long it is.
-    pub(crate) fn give(self, out: &mut [u8; ROOM]) -> usize
+    pub fn give(self, out: &mut [u8; ROOM]) -> usize
         ensures line { take result out.new ≡ take (length self - 1) self }
         ensures len { result ≡ length self - 1 }
     {
@@ -55,7 +55,7 @@ impl Text {
     }
 
     /// Adds a word.
-    pub(crate) fn word(&mut self, word: &[u8])
+    pub fn word(&mut self, word: &[u8])
         requires { length self.old + length word.now < 400 }
         ensures added { self.new ≡ added self.old (word.now ∷ []) }
         ensures len { length self.new ≡ length self.old + length word.now + 1 }
@@ -67,7 +67,7 @@ impl Text {
     }
 
     /// Adds a number.
-    pub(crate) fn number<I: Integer>(&mut self, n: I)
+    pub fn number<I: Integer>(&mut self, n: I)
         requires { length self.old + I.MAX_STR_LEN < 400 }
         ensures added { self.new ≡ added self.old (I.text n ∷ []) }
         ensures len { length self.new ≤ length self.old + I.MAX_STR_LEN + 1 }
