@@ -1,3 +1,9 @@
 pub mod ReadingExamples
 pub mod EntryReadingExamples
 pub mod Words
+pub mod Splits
+pub mod Numbers
+pub mod StepLaws
+pub mod ListLaws
+pub mod TextExamples
+pub mod EntryStepLaws

@@ -1,12 +1,16 @@
 -- The entry that bytes spell, or why they spell none.
-use Rattle.std.specs.Prelude.{ℕ, Bool, true, false, List, [], ◌∷◌, ◌++◌, Option, Some, None, Result, Ok, Err, codes, if◌then◌else◌, bytes_eq}
-use Rattle.aim_msg.specs.declared.messages.Message.{Message}
+use Rattle.std.specs.Prelude.{ℕ, Bool, true, false, List, [], ◌∷◌, ◌++◌, Option, Some, None, unwrap_or, Result, Ok, Err, codes, if◌then◌else◌, bytes_eq}
 use Rattle.aim_msg.specs.declared.entries.Act.{Act}
 use Rattle.aim_msg.specs.declared.entries.Act.TheVariants as act
 use Rattle.aim_msg.specs.declared.entries.Order.{Order}
 use Rattle.aim_msg.specs.declared.entries.Order.TheVariants as order
 use Rattle.aim_msg.specs.declared.reading.forms.MessageForm.{MessageForm}
-use Rattle.aim_msg.specs.declared.reading.forms.MessageForm.TheVariants as message
+use Rattle.aim_msg.specs.declared.reading.forms.OrderForm.{OrderForm}
+use Rattle.aim_msg.specs.declared.reading.forms.OrderForm.TheVariants as command
+use Rattle.aim_msg.specs.declared.reading.forms.ReplyForm.{ReplyForm}
+use Rattle.aim_msg.specs.declared.reading.forms.ReplyForm.TheVariants as answer
+use Rattle.aim_msg.specs.declared.reading.forms.ReasonForm.{ReasonForm}
+use Rattle.aim_msg.specs.declared.reading.forms.ReasonForm.TheVariants as why
 use Rattle.aim_msg.specs.declared.entries.Entry.{Entry}
 use Rattle.aim_msg.specs.declared.replies.Field.{Field}
 use Rattle.aim_msg.specs.declared.replies.Field.TheVariants as field
@@ -17,12 +21,16 @@ use Rattle.aim_msg.specs.declared.replies.Reply.TheVariants as reply
 use Rattle.aim_msg.specs.declared.script.LineKind.{LineKind}
 use Rattle.aim_msg.specs.Texts.{Words}
 use Rattle.aim_msg.specs.Faults.{words_of, first, rest, from, word_at, value_of, Place, chosen, keyword, name, number, either, number32, number8, just, behind, text_fault}
-use Rattle.aim_msg.specs.Forms.{message_form, message_places}
+use Rattle.aim_msg.specs.Forms.{message_form, order_form, reply_form, reason_form, message_places}
 use Rattle.aim_msg.specs.Reading.{at, message_of, unless}
 
 -- a place where no word may stand
 abbrev pub wrong : Place
 wrong = keyword []
+
+-- a number of 64 bits
+abbrev pub number64 : Place
+number64 = number 0 18446744073709551615
 
 abbrev pub paces : Place
 paces = keyword (codes "fast" ∷ codes "steady" ∷ [])
@@ -31,69 +39,81 @@ abbrev pub fields : Place
 fields = keyword (codes "lane" ∷ codes "turn" ∷ codes "arrive" ∷ codes "max" ∷ codes "speed" ∷ codes "accel" ∷ codes "length"
     ∷ codes "width" ∷ codes "steps" ∷ codes "spans" ∷ [])
 
--- the places of a reason that begins with that word
-abbrev pub reason_places : List ℕ → List Place
-reason_places word =
-    if bytes_eq word (codes "holds") then chosen ∷ number32 ∷ []
-    else if bytes_eq word (codes "no-reservation") then chosen ∷ []
-    else if bytes_eq word (codes "begun") then chosen ∷ number32 ∷ []
-    else if bytes_eq word (codes "too-soon") then chosen ∷ number32 ∷ []
-    else if bytes_eq word (codes "bad") then chosen ∷ fields ∷ []
-    else if bytes_eq word (codes "late") then chosen ∷ number32 ∷ []
-    else if bytes_eq word (codes "far") then chosen ∷ number32 ∷ []
-    else if bytes_eq word (codes "distance") then chosen ∷ number 0 18446744073709551615 ∷ []
-    else if bytes_eq word (codes "emergency") then chosen ∷ number8 ∷ []
-    else if bytes_eq word (codes "green") then chosen ∷ number8 ∷ number8 ∷ number32 ∷ number8 ∷ []
-    else if bytes_eq word (codes "taken") then chosen ∷ number8 ∷ number8 ∷ number32 ∷ number32 ∷ []
-    else if bytes_eq word (codes "reused") then chosen ∷ number32 ∷ []
-    else wrong ∷ []
+-- the places of a reason's words behind the first
+abbrev pub reason_places : ReasonForm → List Place
+reason_places why.Holds = number32 ∷ []
+reason_places why.NoReservation = []
+reason_places why.Begun = number32 ∷ []
+reason_places why.TooSoon = number32 ∷ []
+reason_places why.Bad = fields ∷ []
+reason_places why.Late = number32 ∷ []
+reason_places why.Far = number32 ∷ []
+reason_places why.Distance = number64 ∷ []
+reason_places why.Emergency = number8 ∷ []
+reason_places why.Green = number8 ∷ number8 ∷ number32 ∷ number8 ∷ []
+reason_places why.Taken = number8 ∷ number8 ∷ number32 ∷ number32 ∷ []
+reason_places why.Reused = number32 ∷ []
+
+abbrev pub helds : Place
+helds = either (codes "none" ∷ []) 0 4294967295
 
 -- `next NEXT held ID`, with `none` in place of ID where nothing is held
 abbrev pub standing_places : List Place
-standing_places = just (codes "next") ∷ number32 ∷ just (codes "held") ∷ either (codes "none" ∷ []) 0 4294967295 ∷ []
+standing_places = just (codes "next") ∷ number32 ∷ just (codes "held") ∷ helds ∷ []
 
--- the places of a reply that begins with the first of those words
-abbrev pub reply_places : Words → List Place
-reply_places words =
-    if bytes_eq (first words) (codes "confirm") then chosen ∷ number32 ∷ number32 ∷ number32 ∷ number32 ∷ paces ∷ number32 ∷ []
-    else if bytes_eq (first words) (codes "reject") then chosen ∷ (reason_places (word_at words 1) ++ standing_places)
-    else if bytes_eq (first words) (codes "ack") then chosen ∷ number32 ∷ []
-    else if bytes_eq (first words) (codes "emergency-stop") then chosen ∷ []
-    else if bytes_eq (first words) (codes "stale") then chosen ∷ number32 ∷ []
-    else if bytes_eq (first words) (codes "switched") then chosen ∷ number32 ∷ []
-    else if bytes_eq (first words) (codes "stopped") then chosen ∷ []
-    else wrong ∷ []
+-- the places of a reason and of what stands behind it
+abbrev pub refusal_places : Result ReasonForm LineKind → List Place
+refusal_places (Ok r) = chosen ∷ (reason_places r ++ standing_places)
+refusal_places (Err k) = wrong ∷ []
 
--- the places of an order that begins with that word
-abbrev pub order_places : List ℕ → List Place
-order_places word =
-    if bytes_eq word (codes "switch") then chosen ∷ number8 ∷ []
-    else if bytes_eq word (codes "stop") then chosen ∷ []
-    else wrong ∷ []
+-- the places of a reply's words behind the first
+abbrev pub reply_places : ReplyForm → Words → List Place
+reply_places answer.Confirm words = number32 ∷ number32 ∷ number32 ∷ number32 ∷ paces ∷ number32 ∷ []
+reply_places answer.Reject words = refusal_places (reason_form (first words))
+reply_places answer.Ack words = number32 ∷ []
+reply_places answer.EmergencyStop words = []
+reply_places answer.Stale words = number32 ∷ []
+reply_places answer.Switched words = number32 ∷ []
+reply_places answer.Stopped words = []
 
--- the operator orders, and a vehicle sends messages
-abbrev pub is_operator : Words → Bool
-is_operator words = bytes_eq (word_at words 1) (codes "operator")
+abbrev pub answer_places : Result ReplyForm LineKind → Words → List Place
+answer_places (Ok a) words = chosen ∷ reply_places a (rest words)
+answer_places (Err k) words = wrong ∷ []
+
+-- the places of an order's words behind the first
+abbrev pub order_places : OrderForm → List Place
+order_places command.Switch = number8 ∷ []
+order_places command.Stop = []
+
+abbrev pub order_act_places : Result OrderForm LineKind → List Place
+order_act_places (Ok o) = chosen ∷ order_places o
+order_act_places (Err k) = wrong ∷ []
 
 abbrev pub message_act_places : Result MessageForm LineKind → List Place
 message_act_places (Ok m) = chosen ∷ message_places m
 message_act_places (Err k) = wrong ∷ []
 
-abbrev pub act_places : Bool → List ℕ → List Place
-act_places operator word = if operator then order_places word else message_act_places (message_form word)
+abbrev pub callers : Place
+callers = either (codes "operator" ∷ []) 0 65535
 
--- the words of the act, and those of the reply behind the arrow
-abbrev pub act_part : Words → Words
-act_part words = from 3 words
+-- the vehicle that a caller's word names, and none where it is the operator's
+abbrev pub caller_of : List ℕ → Option ℕ
+caller_of word = if bytes_eq word (codes "operator") then None else Some (value_of word)
 
-abbrev pub reply_part : Words → Words
-reply_part words = from 1 (behind (act_places (is_operator words) (first (act_part words))) (act_part words))
+-- the places of an act's words: the operator orders, and a vehicle sends messages
+abbrev pub act_places : Option ℕ → Words → List Place
+act_places None words = order_act_places (order_form (first words))
+act_places (Some vehicle) words = message_act_places (message_form (first words))
+
+-- `ACT -> REPLY` of that caller
+abbrev pub call_places : Option ℕ → Words → List Place
+call_places caller words =
+    let behind_arrow : Words = rest (behind (act_places caller words) words) in
+    act_places caller words ++ just (codes "->") ∷ answer_places (reply_form (first behind_arrow)) behind_arrow
 
 -- POSITION CALLER MOMENT ACT -> REPLY
 abbrev pub entry_places : Words → List Place
-entry_places words =
-    number32 ∷ either (codes "operator" ∷ []) 0 65535 ∷ number32
-    ∷ (act_places (is_operator words) (first (act_part words)) ++ just (codes "->") ∷ reply_places (reply_part words))
+entry_places words = number32 ∷ callers ∷ number32 ∷ call_places (caller_of (word_at words 1)) (from 3 words)
 
 abbrev pub field_of : List ℕ → Field
 field_of word =
@@ -108,59 +128,84 @@ field_of word =
     else if bytes_eq word (codes "steps") then field.Steps
     else field.Spans
 
-abbrev pub reason_of : Words → Reason
-reason_of words =
-    if bytes_eq (first words) (codes "holds") then reason.Holds (at words 1)
-    else if bytes_eq (first words) (codes "no-reservation") then reason.NoReservation
-    else if bytes_eq (first words) (codes "begun") then reason.Begun (at words 1)
-    else if bytes_eq (first words) (codes "too-soon") then reason.TooSoon (at words 1)
-    else if bytes_eq (first words) (codes "bad") then reason.Bad (field_of (word_at words 1))
-    else if bytes_eq (first words) (codes "late") then reason.Late (at words 1)
-    else if bytes_eq (first words) (codes "far") then reason.Far (at words 1)
-    else if bytes_eq (first words) (codes "distance") then reason.Distance (at words 1)
-    else if bytes_eq (first words) (codes "emergency") then reason.Emergency (at words 1)
-    else if bytes_eq (first words) (codes "green") then reason.Green (at words 1) (at words 2) (at words 3) (at words 4)
-    else if bytes_eq (first words) (codes "taken") then reason.Taken (at words 1) (at words 2) (at words 3) (at words 4)
-    else reason.Reused (at words 1)
+-- a reason, of the words behind its first
+abbrev pub reason_of : ReasonForm → Words → Reason
+reason_of why.Holds words = reason.Holds (at words 0)
+reason_of why.NoReservation words = reason.NoReservation
+reason_of why.Begun words = reason.Begun (at words 0)
+reason_of why.TooSoon words = reason.TooSoon (at words 0)
+reason_of why.Bad words = reason.Bad (field_of (word_at words 0))
+reason_of why.Late words = reason.Late (at words 0)
+reason_of why.Far words = reason.Far (at words 0)
+reason_of why.Distance words = reason.Distance (at words 0)
+reason_of why.Emergency words = reason.Emergency (at words 0)
+reason_of why.Green words = reason.Green (at words 0) (at words 1) (at words 2) (at words 3)
+reason_of why.Taken words = reason.Taken (at words 0) (at words 1) (at words 2) (at words 3)
+reason_of why.Reused words = reason.Reused (at words 0)
 
 abbrev pub held_of : List ℕ → Option ℕ
 held_of word = if bytes_eq word (codes "none") then None else Some (value_of word)
 
--- a refusal, of the words behind `reject` and of those behind its reason
-abbrev pub reject_of : Words → Words → Reply
-reject_of words standing = reply.Reject (reason_of words) (at standing 1) (held_of (word_at standing 3))
+-- a refusal of that reason, of the words behind the reason
+abbrev pub reject_of : Reason → Words → Reply
+reject_of because words = reply.Reject because (at words 1) (held_of (word_at words 3))
 
-abbrev pub reply_of : Words → Reply
-reply_of words =
-    if bytes_eq (first words) (codes "confirm")
-        then reply.Confirm (at words 1) (at words 2) (at words 3) (at words 4) (bytes_eq (word_at words 5) (codes "fast")) (at words 6)
-    else if bytes_eq (first words) (codes "reject") then reject_of (rest words) (behind (reason_places (word_at words 1)) (rest words))
-    else if bytes_eq (first words) (codes "ack") then reply.Ack (at words 1)
-    else if bytes_eq (first words) (codes "emergency-stop") then reply.EmergencyStop
-    else if bytes_eq (first words) (codes "stale") then reply.Stale (at words 1)
-    else if bytes_eq (first words) (codes "switched") then reply.Switched (at words 1)
-    else reply.Stopped
+-- a refusal, of the words behind `reject`, and any reply where they have no form
+abbrev pub refusal_of : Result ReasonForm LineKind → Words → Reply
+refusal_of (Ok r) words = reject_of (reason_of r (rest words)) (behind (reason_places r) (rest words))
+refusal_of (Err k) words = reply.Stopped
 
-abbrev pub order_of : Words → Order
-order_of words = if bytes_eq (first words) (codes "switch") then order.Switch (at words 1) else order.Stop
+abbrev pub is_fast : List ℕ → Bool
+is_fast word = bytes_eq word (codes "fast")
 
--- the message of that form, and any message where there is no form
-abbrev pub message_in : Result MessageForm LineKind → Words → Message
-message_in (Ok m) words = message_of m words
-message_in (Err k) words = message_of message.Done words
+-- a reply, of the words behind its first
+abbrev pub reply_of : ReplyForm → Words → Reply
+reply_of answer.Confirm words = reply.Confirm (at words 0) (at words 1) (at words 2) (at words 3) (is_fast (word_at words 4)) (at words 5)
+reply_of answer.Reject words = refusal_of (reason_form (first words)) words
+reply_of answer.Ack words = reply.Ack (at words 0)
+reply_of answer.EmergencyStop words = reply.EmergencyStop
+reply_of answer.Stale words = reply.Stale (at words 0)
+reply_of answer.Switched words = reply.Switched (at words 0)
+reply_of answer.Stopped words = reply.Stopped
 
-abbrev pub act_of : Bool → Words → Act
-act_of operator words =
-    if operator then act.Order (order_of words) else act.Message (message_in (message_form (first words)) (rest words))
+-- a reply, and any where the words have no form
+abbrev pub answer_of : Result ReplyForm LineKind → Words → Reply
+answer_of (Ok a) words = reply_of a (rest words)
+answer_of (Err k) words = reply.Stopped
+
+-- an order, of the words behind its first
+abbrev pub order_of : OrderForm → Words → Order
+order_of command.Switch words = order.Switch (at words 0)
+order_of command.Stop words = order.Stop
+
+-- an order, and any where the words have no form
+abbrev pub order_act_of : Result OrderForm LineKind → Words → Act
+order_act_of (Ok o) words = act.Order (order_of o (rest words))
+order_act_of (Err k) words = act.Order order.Stop
+
+-- a message, and any act where the words have no form
+abbrev pub message_act_of : Result MessageForm LineKind → Words → Act
+message_act_of (Ok m) words = act.Message (message_of m (rest words))
+message_act_of (Err k) words = act.Order order.Stop
+
+abbrev pub act_of : Option ℕ → Words → Act
+act_of None words = order_act_of (order_form (first words)) words
+act_of (Some vehicle) words = message_act_of (message_form (first words)) words
+
+-- the entry of that caller and moment, of the words of its act and its reply
+abbrev pub call_of : Option ℕ → ℕ → Words → Entry
+call_of caller moment words =
+    let behind_arrow : Words = rest (behind (act_places caller words) words) in
+    record {
+      caller = unwrap_or caller 65536;
+      moment = moment;
+      act = act_of caller words;
+      reply = answer_of (reply_form (first behind_arrow)) behind_arrow;
+    }
 
 -- the entry of words that have no fault
 abbrev pub entry_of : Words → Entry
-entry_of words = record {
-  caller = if is_operator words then 65536 else at words 1;
-  moment = at words 2;
-  act = act_of (is_operator words) (act_part words);
-  reply = reply_of (reply_part words);
-}
+entry_of words = call_of (caller_of (word_at words 1)) (at words 2) (from 3 words)
 
 abbrev pub entry_in : Words → Result (ℕ × Entry) LineKind
 entry_in words = unless (at words 0, entry_of words) (text_fault (entry_places words) words)

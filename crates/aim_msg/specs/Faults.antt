@@ -1,8 +1,7 @@
 -- What may stand in the places of a text, and which word is the first that may not stand in its place.
-use Rattle.std.specs.Prelude.{ℕ, zero, suc, ◌-◌, ◌==◌, Bool, false, List, [], ◌∷◌, length, Option, Some, None, codes, nat_lt, nat_le, not, ◌&&◌, ◌||◌, if◌then◌else◌, bytes_eq}
+use Rattle.std.specs.Prelude.{ℕ, zero, suc, ◌+◌, ◌-◌, ◌*◌, ◌==◌, Bool, false, List, [], ◌∷◌, length, Option, Some, None, codes, nat_lt, nat_le, not, ◌&&◌, ◌||◌, if◌then◌else◌, bytes_eq}
 use Rattle.std.specs.List.{list_all, list_any, slice_split}
 use Rattle.std.specs.Option.{option_or}
-use Rattle.std.specs.Str.Parse.{digits_value}
 use Rattle.aim_msg.specs.declared.script.LineKind.{LineKind}
 use Rattle.aim_msg.specs.declared.script.LineKind.TheVariants as kind
 use Rattle.aim_msg.specs.Texts.{Words}
@@ -53,9 +52,14 @@ is_number [] = false
 is_number (b ∷ []) = is_digit b
 is_number (b ∷ c ∷ bs) = not (b == 48) && list_all is_digit (b ∷ c ∷ bs)
 
+-- the number that the digits write when they follow those of n
+abbrev pub value_after : ℕ → List ℕ → ℕ
+value_after n [] = n
+value_after n (b ∷ bs) = value_after (10 * n + (b - 48)) bs
+
 -- the number that the digits write
 abbrev pub value_of : List ℕ → ℕ
-value_of word = digits_value 10 word
+value_of word = value_after 0 word
 
 abbrev pub is_one_of : Words → List ℕ → Bool
 is_one_of words word = list_any (bytes_eq word) words
@@ -83,6 +87,7 @@ word_fault (either words low high) word =
 
 -- why the first word may not stand in the place, if it may not: a word that is missing may stand nowhere
 abbrev pub fault_at : Place → Words → Option LineKind
+fault_at chosen words = None
 fault_at p [] = Some kind.Words
 fault_at p (w ∷ ws) = word_fault p w
 

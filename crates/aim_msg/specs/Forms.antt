@@ -4,6 +4,12 @@ use Rattle.aim_msg.specs.declared.script.LineKind.{LineKind}
 use Rattle.aim_msg.specs.declared.script.LineKind.TheVariants as kind
 use Rattle.aim_msg.specs.declared.reading.forms.MessageForm.{MessageForm}
 use Rattle.aim_msg.specs.declared.reading.forms.MessageForm.TheVariants as message
+use Rattle.aim_msg.specs.declared.reading.forms.OrderForm.{OrderForm}
+use Rattle.aim_msg.specs.declared.reading.forms.OrderForm.TheVariants as order
+use Rattle.aim_msg.specs.declared.reading.forms.ReplyForm.{ReplyForm}
+use Rattle.aim_msg.specs.declared.reading.forms.ReplyForm.TheVariants as reply
+use Rattle.aim_msg.specs.declared.reading.forms.ReasonForm.{ReasonForm}
+use Rattle.aim_msg.specs.declared.reading.forms.ReasonForm.TheVariants as reason
 use Rattle.aim_msg.specs.declared.reading.forms.ShapeForm.{ShapeForm}
 use Rattle.aim_msg.specs.declared.reading.forms.ShapeForm.TheVariants as shape
 use Rattle.aim_msg.specs.declared.reading.forms.LineForm.{LineForm}
@@ -17,37 +23,103 @@ look_up fault [] word = Err fault
 look_up fault (row ∷ rows) word = if bytes_eq word row.0 then Ok row.1 else look_up fault rows word
 
 -- by the first word of a message
-abbrev pub message_form : List ℕ → Result MessageForm LineKind
-message_form word = look_up kind.Words
-    ((codes "request", message.Request) ∷ (codes "change", message.Change) ∷ (codes "cancel", message.Cancel) ∷ (codes "done", message.Done) ∷ []) word
+abbrev pub message_forms : List (List ℕ × MessageForm)
+message_forms =
+    (codes "request", message.Request) ∷ (codes "change", message.Change) ∷ (codes "cancel", message.Cancel) ∷ (codes "done", message.Done) ∷ []
 
--- by the third word of an order
-abbrev pub order_form : List ℕ → Result LineForm LineKind
-order_form word = look_up kind.Words ((codes "switch", form.Switch) ∷ (codes "stop", form.Stop) ∷ []) word
+abbrev pub message_form : List ℕ → Result MessageForm LineKind
+message_form word = look_up kind.Words message_forms word
+
+-- by the first word of an order
+abbrev pub order_forms : List (List ℕ × OrderForm)
+order_forms =
+    (codes "switch", order.Switch)
+    ∷ (codes "stop", order.Stop)
+    ∷ []
+
+abbrev pub order_form : List ℕ → Result OrderForm LineKind
+order_form word = look_up kind.Words order_forms word
+
+-- by the first word of a reply
+abbrev pub reply_forms : List (List ℕ × ReplyForm)
+reply_forms =
+    (codes "confirm", reply.Confirm)
+    ∷ (codes "reject", reply.Reject)
+    ∷ (codes "ack", reply.Ack)
+    ∷ (codes "emergency-stop", reply.EmergencyStop)
+    ∷ (codes "stale", reply.Stale)
+    ∷ (codes "switched", reply.Switched)
+    ∷ (codes "stopped", reply.Stopped)
+    ∷ []
+
+abbrev pub reply_form : List ℕ → Result ReplyForm LineKind
+reply_form word = look_up kind.Words reply_forms word
+
+-- by the first word of a reason
+abbrev pub reason_forms : List (List ℕ × ReasonForm)
+reason_forms =
+    (codes "holds", reason.Holds)
+    ∷ (codes "no-reservation", reason.NoReservation)
+    ∷ (codes "begun", reason.Begun)
+    ∷ (codes "too-soon", reason.TooSoon)
+    ∷ (codes "bad", reason.Bad)
+    ∷ (codes "late", reason.Late)
+    ∷ (codes "far", reason.Far)
+    ∷ (codes "distance", reason.Distance)
+    ∷ (codes "emergency", reason.Emergency)
+    ∷ (codes "green", reason.Green)
+    ∷ (codes "taken", reason.Taken)
+    ∷ (codes "reused", reason.Reused)
+    ∷ []
+
+abbrev pub reason_form : List ℕ → Result ReasonForm LineKind
+reason_form word = look_up kind.Words reason_forms word
 
 -- by the fourth word of a move
-abbrev pub shape_form : List ℕ → Result ShapeForm LineKind
-shape_form word = look_up kind.Words ((codes "line", shape.Line) ∷ (codes "curve", shape.Curve) ∷ []) word
+abbrev pub shape_forms : List (List ℕ × ShapeForm)
+shape_forms =
+    (codes "line", shape.Line) ∷ (codes "curve", shape.Curve) ∷ []
 
--- by the first word
-abbrev pub plain_form : ℕ → List ℕ → Result LineForm LineKind
-plain_form version word = look_up kind.Unknown (
-    (codes "aim", form.Version)
-    ∷ (codes "grid", form.Grid)
-    ∷ (codes "times", if version == 1 then form.Times else form.Times6)
-    ∷ (codes "lanes", form.Lanes)
-    ∷ (codes "policy", form.Policy)
-    ∷ (codes "phase", form.Phase)
-    ∷ (codes "vehicles", form.Vehicles)
-    ∷ (codes "begin", form.Begin)
-    ∷ (codes "until", form.Until)
-    ∷ (codes "plan", if version == 3 then form.PlanInWindow else form.Plan)
+abbrev pub shape_form : List ℕ → Result ShapeForm LineKind
+shape_form word = look_up kind.Words shape_forms word
+
+-- the form of `times`, and that of `plan`
+abbrev pub times_form : ℕ → LineForm
+times_form version = if version == 1 then form.Times else form.Times6
+
+abbrev pub plan_form : ℕ → LineForm
+plan_form version = if version == 3 then form.PlanInWindow else form.Plan
+
+-- by the first word, in a script's body
+abbrev pub body_forms : ℕ → List (List ℕ × LineForm)
+body_forms version =
+    (codes "until", form.Until)
+    ∷ (codes "plan", plan_form version)
     ∷ (codes "change", form.ChangePlan)
     ∷ (codes "cancel", form.CancelPlan)
     ∷ (codes "up", form.Up)
     ∷ (codes "down", form.Down)
     ∷ (codes "end", form.End)
-    ∷ []) word
+    ∷ []
+
+-- by the first word
+abbrev pub plain_forms : ℕ → List (List ℕ × LineForm)
+plain_forms version =
+    (codes "aim", form.Version)
+    ∷ (codes "grid", form.Grid)
+    ∷ (codes "times", times_form version)
+    ∷ (codes "lanes", form.Lanes)
+    ∷ (codes "policy", form.Policy)
+    ∷ (codes "phase", form.Phase)
+    ∷ (codes "vehicles", form.Vehicles)
+    ∷ (codes "begin", form.Begin)
+    ∷ body_forms version
+
+abbrev pub body_form : ℕ → List ℕ → Result LineForm LineKind
+body_form version word = look_up kind.Unknown (body_forms version) word
+
+abbrev pub plain_form : ℕ → List ℕ → Result LineForm LineKind
+plain_form version word = look_up kind.Unknown (plain_forms version) word
 
 abbrev pub map_ok : {A B : Type 0} → (A → B) → Result A LineKind → Result B LineKind
 map_ok f (Ok a) = Ok (f a)
@@ -57,7 +129,7 @@ map_ok f (Err k) = Err k
 abbrev pub line_form : ℕ → Words → Result LineForm LineKind
 line_form version words =
     if begins_with_digit (word_at words 0) then map_ok form.Event (message_form (word_at words 2))
-    else if bytes_eq (word_at words 0) (codes "operator") then order_form (word_at words 2)
+    else if bytes_eq (word_at words 0) (codes "operator") then map_ok form.Order (order_form (word_at words 2))
     else if bytes_eq (word_at words 0) (codes "move") then map_ok form.Move (shape_form (word_at words 3))
     else plain_form version (word_at words 0)
 
@@ -118,8 +190,8 @@ line_places version form.Phase words = chosen ∷ number32 ∷ number32 ∷ lane
 line_places version form.Vehicles words = chosen ∷ number32 ∷ []
 line_places version form.Begin words = chosen ∷ []
 line_places version (form.Event m) words = number32 ∷ number32 ∷ chosen ∷ message_places m
-line_places version form.Switch words = chosen ∷ number32 ∷ chosen ∷ name ∷ []
-line_places version form.Stop words = chosen ∷ number32 ∷ chosen ∷ []
+line_places version (form.Order order.Switch) words = chosen ∷ number32 ∷ chosen ∷ name ∷ []
+line_places version (form.Order order.Stop) words = chosen ∷ number32 ∷ chosen ∷ []
 line_places version form.Until words = chosen ∷ number32 ∷ []
 line_places version form.Plan words = plan_places
 line_places version form.PlanInWindow words = plan_places ++ windows ∷ []

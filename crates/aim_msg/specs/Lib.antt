@@ -6,3 +6,5 @@ pub mod Forms
 pub mod Reading
 pub mod Entries
 pub mod Writing
+pub mod Steps
+pub mod EntrySteps

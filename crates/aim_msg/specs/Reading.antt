@@ -16,6 +16,7 @@ use Rattle.aim_msg.specs.declared.messages.Message.{Message}
 use Rattle.aim_msg.specs.declared.script.MoveShape.{MoveShape}
 use Rattle.aim_msg.specs.declared.reading.forms.MessageForm.{MessageForm}
 use Rattle.aim_msg.specs.declared.reading.forms.MessageForm.TheVariants as message
+use Rattle.aim_msg.specs.declared.reading.forms.OrderForm.TheVariants as order
 use Rattle.aim_msg.specs.declared.reading.forms.ShapeForm.{ShapeForm}
 use Rattle.aim_msg.specs.declared.reading.forms.ShapeForm.TheVariants as way
 use Rattle.aim_msg.specs.declared.reading.forms.LineForm.{LineForm}
@@ -31,6 +32,12 @@ at words i = value_of (word_at words i)
 abbrev pub turn_of : List ℕ → Turn
 turn_of word = if bytes_eq word (codes "left") then Left else if bytes_eq word (codes "straight") then Straight else Right
 
+abbrev pub is_emergency : List ℕ → Bool
+is_emergency word = bytes_eq word (codes "emergency")
+
+abbrev pub is_early : List ℕ → Bool
+is_early word = bytes_eq word (codes "early")
+
 -- LANE and TURN from one place on, ARRIVE, and the rest from another
 abbrev pub params_at : Words → ℕ → ℕ → ℕ → Params
 params_at words i arrive j = record {
@@ -42,7 +49,7 @@ params_at words i arrive j = record {
   accel = at words (j + 2);
   length = at words (j + 3);
   width = at words (j + 4);
-  emergency = bytes_eq (word_at words (j + 5)) (codes "emergency");
+  emergency = is_emergency (word_at words (j + 5));
 }
 
 abbrev pub name_of : List ℕ → Name
@@ -96,11 +103,11 @@ line_of form.Phase words = line.Phase (at words 1) (at words 2) (lanes_of (from 
 line_of form.Vehicles words = line.Vehicles (at words 1)
 line_of form.Begin words = line.Begin
 line_of (form.Event m) words = line.Event (at words 0) (at words 1) (message_of m (from 3 words))
-line_of form.Switch words = line.SwitchTo (at words 1) (name_of (word_at words 3))
-line_of form.Stop words = line.StopAt (at words 1)
+line_of (form.Order order.Switch) words = line.SwitchTo (at words 1) (name_of (word_at words 3))
+line_of (form.Order order.Stop) words = line.StopAt (at words 1)
 line_of form.Until words = line.Until (at words 1)
 line_of form.Plan words = plan_of words false
-line_of form.PlanInWindow words = plan_of words (bytes_eq (word_at words 13) (codes "early"))
+line_of form.PlanInWindow words = plan_of words (is_early (word_at words 13))
 line_of form.ChangePlan words = line.ChangeAt (at words 1) (at words 2) (at words 3)
 line_of form.CancelPlan words = line.CancelAt (at words 1) (at words 2)
 line_of form.Up words = line.Up (at words 1) (fates_of (from 2 words))

@@ -119,3 +119,6 @@ entry_text place e = spaced (entry_words place e)
 
 abbrev pub reply_text : Reply → List ℕ
 reply_text r = spaced (reply_words r)
+
+abbrev pub message_text : Message → List ℕ
+message_text m = spaced (message_words m)

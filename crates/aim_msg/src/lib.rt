@@ -11,6 +11,7 @@ pub mod writing;
 
 pub use entries::{Act, Entry, OPERATOR, Order};
 pub use messages::{Body, Message, Params, Turn};
+pub use reading::{read_entry, read_line};
 pub use replies::{Field, Reason, Reply};
 pub use script::{FateList, Grid6, Line, LineKind, MoveShape, Name, Times5, Times6};
 pub use writing::{

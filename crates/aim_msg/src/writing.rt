@@ -2,10 +2,12 @@
 
 ghost use Rattle.std.specs.Prelude.{◌≡◌, ◌++◌, ◌<◌, ◌≤◌, take, length, decimal, OnOk, OnErr};
 ghost use Rattle.aim_msg.specs.Lines.{line_text, KeepsRanges};
-ghost use Rattle.aim_msg.specs.Texts.{entry_text, reply_text, spaced, message_words};
+ghost use Rattle.aim_msg.specs.Texts.{entry_text, reply_text, message_text};
 
 mod entries;
 mod lines;
+#[cfg(test)]
+mod tests;
 mod text;
 mod words;
 
@@ -44,7 +46,7 @@ pub fn write_line(line: &Line, version: u8, out: &mut Vec<u8>) -> Result<(), NoM
 /// Appends the text of a message, as scripts and logs have it. Where memory runs out, nothing is appended.
 #[tactic(auto, using(crate::proofs::Words::spaced_added))]
 pub fn write_message(message: &Message, out: &mut Vec<u8>) -> Result<(), NoMemory>
-    ensures ok { OnOk result (out.new.items ≡ out.old.items ++ spaced (message_words message.now)) }
+    ensures ok { OnOk result (out.new.items ≡ out.old.items ++ message_text message.now) }
     ensures err { OnErr result (out.new.items ≡ out.old.items) }
 {
     let mut text = Text::new();

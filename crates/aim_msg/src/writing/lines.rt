@@ -194,7 +194,7 @@ fn put_phase(out: &mut Text, red: u32, green: u32, lanes: u16)
     put_lanes(out, lanes);
 }
 
-// Adds the words of an order up to what is ordered.
+// Adds the words of an order, up to the word for what is ordered.
 fn put_order(out: &mut Text, moment: u32, what: &[u8])
     requires { length out.old + length what.now + 21 ≤ 400 }
     ensures added { out.new ≡ added out.old (codes "operator" ∷ decimal moment ∷ what.now ∷ []) }
