@@ -1,5 +1,6 @@
 -- The first line of the bytes that are held.
-use Rattle.std.proofs.Common.{◌≡◌, ℕ, ◌+◌, ◌<◌, ◌≤◌, List, [], ◌∷◌, ◌++◌, length, take, drop, min, refl, sym, ap, ◌∙◌, subst, arith}
+use Rattle.std.proofs.Common.{◌≡◌, ℕ, ◌+◌, ◌<◌, ◌≤◌, List, [], ◌∷◌, ◌++◌, length, take, drop, min, sym, ap, ◌∙◌, subst, arith}
+use Rattle.std.proofs.Math.Seq.{take-add}
 use Rattle.std.proofs.lemmas.List.{length-take, length-append, length-drop, take-append-drop, take-take, take_at, drop_at, append_assoc}
 use Rattle.aim_io.specs.Lines.{HasNoEnd, EndsAt, ShowsBytes}
 
@@ -39,4 +40,30 @@ past_bytes given place size bytes few last short further no_end =
       last = omega (arith, size_is);
       short = omega (arith, size_is);
       further = omega (arith, length-drop size bytes);
+    }
+
+no_end_append : (xs ys : List ℕ) → HasNoEnd xs → HasNoEnd ys → HasNoEnd (xs ++ ys)
+no_end_append [] ys p q = q
+no_end_append (x ∷ xs) ys p q = (p.0, no_end_append xs ys p.1 q)
+
+pub no_end_past : (bytes : List ℕ) (seen more : ℕ) → HasNoEnd (take seen bytes) → HasNoEnd (take more (drop seen bytes)) → HasNoEnd (take (seen + more) bytes)
+no_end_past bytes seen more p q = subst HasNoEnd (sym (take-add seen more bytes)) (no_end_append (take seen bytes) (take more (drop seen bytes)) p q)
+
+pub no_end_whole : (bytes : List ℕ) (seen : ℕ) → HasNoEnd (take seen bytes) → HasNoEnd (drop seen bytes) → HasNoEnd bytes
+no_end_whole bytes seen p q = subst HasNoEnd (take-append-drop seen bytes) (no_end_append (take seen bytes) (drop seen bytes) p q)
+
+-- a line that ends behind bytes without an end
+pub ends_past : (bytes : List ℕ) (seen at : ℕ) → seen ≤ length bytes → HasNoEnd (take seen bytes) → EndsAt (drop seen bytes) at → EndsAt bytes (seen + at)
+ends_past bytes seen at fits none ends =
+    let rest = drop seen bytes in
+    let front = take seen bytes ++ take at rest in
+    let tail = drop (at + 1) rest in
+    let size : length front ≡ seen + at =
+    length-append (take seen bytes) (take at rest) ∙ omega (arith, length-take seen bytes, length-take at rest, ends.fits, fits) in
+    let whole : bytes ≡ front ++ 10 ∷ tail =
+    sym (take-append-drop seen bytes) ∙ ap (λ (l : List ℕ). take seen bytes ++ l) ends.split ∙ sym (append_assoc (take seen bytes) (take at rest) (10 ∷ tail)) in
+    record {
+      fits = omega (arith, ends.fits, length-drop seen bytes);
+      no_end = no_end_past bytes seen at none ends.no_end;
+      split = split_at bytes front tail (seen + at) whole size;
     }

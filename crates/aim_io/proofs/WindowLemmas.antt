@@ -1,5 +1,5 @@
 -- A window of a list: what stands from a start up to an end.
-use Rattle.std.proofs.Common.{◌≡◌, ℕ, ◌+◌, ◌-◌, ◌<◌, ◌≤◌, List, [], ◌∷◌, ◌++◌, length, take, drop, min, refl, sym, ap, ◌∙◌, subst, arith}
+use Rattle.std.proofs.Common.{◌≡◌, ℕ, ◌+◌, ◌-◌, ◌≤◌, List, [], ◌++◌, length, take, drop, ap, ◌∙◌, arith}
 use Rattle.std.proofs.Math.Seq.{take-add}
 use Rattle.std.proofs.lemmas.List.{length-take, length-drop, drop-take, take-take, drop-append-le, drop_all}
 
@@ -28,3 +28,7 @@ window_grows old new start stop n ordered fits same =
     let short : start ≤ length (take stop new) = omega (arith, length-take stop new) in
     ap (drop start) (take-add stop n new) ∙ drop-append-le start (take stop new) (take n (drop stop new)) short
     ∙ ap (λ (l : List ℕ). drop start l ++ take n (drop stop new)) same
+
+-- one that ends where it starts
+pub window_none : (bytes : List ℕ) (start stop : ℕ) → start ≡ stop → drop start (take stop bytes) ≡ []
+window_none bytes start stop same = rw same (window_empty bytes stop)

@@ -100,3 +100,24 @@ ShowsFault given place bytes Read = ⊥
 ShowsFault given place bytes (Long number) = (number ≡ given + 1) × ShowsLong given place bytes
 ShowsFault given place bytes Bytes = ShowsBytes given place bytes
 ShowsFault given place bytes Lines = ShowsLines given bytes
+
+-- what the first of the bytes to come show where further ones have to tell the next answer
+pub record ShowsNothing (given place : ℕ) (bytes : List ℕ) : Type 0 where
+  pub is_open : IsOpen bytes
+  pub few : 0 < length bytes → given < 262144
+  pub within : place + length bytes ≤ 67108864
+
+-- these lines, each with its byte 10
+abbrev pub joined_lines : List (List ℕ) → List ℕ
+joined_lines [] = []
+joined_lines (line ∷ lines) = line ++ 10 ∷ joined_lines lines
+
+-- this byte before the first of these lines, if there is one
+abbrev pub onto_whole : ℕ → List (List ℕ) → List (List ℕ)
+onto_whole b [] = []
+onto_whole b (line ∷ lines) = (b ∷ line) ∷ lines
+
+-- the lines of which the byte 10 is among these bytes
+abbrev pub whole_lines : List ℕ → List (List ℕ)
+whole_lines [] = []
+whole_lines (b ∷ bytes) = if b == 10 then [] ∷ whole_lines bytes else onto_whole b (whole_lines bytes)

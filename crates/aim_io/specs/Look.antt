@@ -1,8 +1,8 @@
 -- What the bytes that a reader holds say of the next line.
-use Rattle.std.specs.Prelude.{◌≡◌, ◌≤◌, ◌<◌, ℕ, ◌+◌, List, length}
+use Rattle.std.specs.Prelude.{◌≤◌, ◌<◌, ℕ, ◌+◌, List}
 use Rattle.aim_io.specs.declared.lines.Look.{Look}
 use Rattle.aim_io.specs.declared.lines.Look.TheVariants as look
-use Rattle.aim_io.specs.Lines.{IsOpen, EndsAt, ShowsFault}
+use Rattle.aim_io.specs.Lines.{EndsAt, ShowsFault, ShowsNothing}
 
 -- the next line has its end here, within all limits
 pub record ShowsLine (given place : ℕ) (held : List ℕ) (len : ℕ) : Type 0 where
@@ -10,12 +10,6 @@ pub record ShowsLine (given place : ℕ) (held : List ℕ) (len : ℕ) : Type 0 
   pub short : len ≤ 400
   pub ends : EndsAt held len
   pub within : place + len + 1 ≤ 67108864
-
--- further bytes have to tell
-pub record ShowsNothing (given place : ℕ) (held : List ℕ) : Type 0 where
-  pub is_open : IsOpen held
-  pub few : 0 < length held → given < 262144
-  pub within : place + length held ≤ 67108864
 
 abbrev pub SaysOf : ℕ → ℕ → List ℕ → Look → Type 0
 SaysOf given place held (look.Line len) = ShowsLine given place held len

@@ -1,11 +1,13 @@
 -- What contracts see of a line reader, and what its calls answer.
-use Rattle.std.specs.Prelude.{◌≡◌, ◌≢◌, ◌≤◌, ◌<◌, ℕ, ◌+◌, List, [], ◌∷◌, ◌++◌, length, take, drop, Bool, true, false, Some, None, Result, Ok, Err, ⊤}
+use Rattle.std.specs.Prelude.{◌≡◌, ◌≤◌, ◌<◌, ℕ, ◌+◌, List, [], ◌∷◌, length, Bool, true, false, Some, None, Result, Ok, Err, ⊤, ◌⊎◌, IfSome, if◌then◌else◌}
+use Rattle.std.specs.Bool.{OnTrue, OnFalse}
 use Rattle.std.specs.Borrow.{Bor}
 use Rattle.std.specs.declared.option.Option.{Option}
 use Rattle.std.specs.Io.KnownBytes.{Consumes, IsAtEnd, Keeps, prepend_known}
 use Rattle.aim_io.specs.declared.lines.LineFault.{LineFault}
-use Rattle.aim_io.specs.declared.lines.LineFault.TheVariants.{Read, Long, Bytes, Lines}
-use Rattle.aim_io.specs.Lines.{Outcome, Line, Stop, outcomes, HasNoEnd, ShowsLines, ShowsLong, ShowsBytes}
+use Rattle.aim_io.specs.declared.lines.LineFault.TheVariants.{Read}
+use Rattle.aim_io.specs.Known.{WhereKnown}
+use Rattle.aim_io.specs.Lines.{Outcome, Line, Stop, outcomes, with_end, IsOpen, ShowsFault, ShowsNothing}
 
 -- a reader: the bytes that it has read ahead, the last line that it gave, how many lines it gave, how many bytes it took
 -- for them, the fault that it answers from now on, and whether it has seen the end of the input
@@ -19,6 +21,13 @@ pub record Reader : Type 0 where
 
 abbrev pub fresh : Reader
 fresh = record { held = []; line = []; given = 0; place = 0; fault = None; ended = false }
+
+-- what each reader keeps: it gave no more than the lines allowed, it read no more than one byte past those allowed, and
+-- holds nothing once it has seen the end of the input
+pub record IsSound (reader : Reader) : Type 0 where
+  pub few : reader.given ≤ 262144
+  pub read : reader.place + length reader.held ≤ 67108865
+  pub ended : reader.ended ≡ true → reader.held ≡ []
 
 -- what is still to come: the bytes read ahead, and then those that the source has left
 abbrev pub input : Reader → Option (List ℕ) → Option (List ℕ)
@@ -38,9 +47,52 @@ Stops reader bytes Read = ⊤
 Stops reader bytes fault = coming reader bytes ≡ Stop fault ∷ []
 
 -- what a call that asks for the next line answers, by the bytes to come before and after it
+abbrev pub AnswersOf : Reader → Reader → Result Bool LineFault → List ℕ → List ℕ → Type 0
+AnswersOf old new (Ok true) bytes rest = coming old bytes ≡ Line new.line ∷ coming new rest
+AnswersOf old new (Ok false) bytes rest = (bytes ≡ []) × (rest ≡ [])
+AnswersOf old new (Err fault) bytes rest = (rest ≡ bytes) × Stops old bytes fault
+
 abbrev pub Answers : Reader → Reader → Option (List ℕ) → Option (List ℕ) → Result Bool LineFault → Type 0
-Answers old new None after result = ⊤
-Answers old new (Some bytes) None result = ⊥
-Answers old new (Some bytes) (Some rest) (Ok true) = coming old bytes ≡ Line new.line ∷ coming new rest
-Answers old new (Some bytes) (Some rest) (Ok false) = (bytes ≡ []) × (rest ≡ [])
-Answers old new (Some bytes) (Some rest) (Err fault) = (rest ≡ bytes) × Stops old bytes fault
+Answers old new before after result = WhereKnown before after (AnswersOf old new result)
+
+-- the bytes that are gone when a line was given, and that a reader took for none
+abbrev pub taken_by : Reader → Bool → List ℕ
+taken_by new more = if more then with_end new.ended new.line else []
+
+-- the reader after a call that gave a line, or none at the end
+abbrev pub after_call : Reader → Reader → Bool → Reader
+after_call old new more = record old {
+  held = new.held;
+  line = new.line;
+  given = old.given + (if more then 1 else 0);
+  place = old.place + length (taken_by new more);
+  ended = new.ended;
+}
+
+-- a call gave a line, or none at the end
+pub record Gave (old new : Reader) (left_old left_new : Option (List ℕ)) (more : Bool) : Type 0 where
+  pub no_fault : old.fault ≡ None
+  pub is_open : OnTrue more (IsOpen new.line)
+  pub taken : Consumes (input old left_old) (input new left_new) (taken_by new more)
+  pub after : new ≡ after_call old new more
+  pub end : OnFalse more (new.ended ≡ true)
+  pub going : OnTrue more (old.ended ≡ false)
+  pub last : new.ended ≡ true → OnTrue more (0 < length new.line) × (new.held ≡ [])
+  pub sound : IsSound new
+  pub knows : KnowsEnd old left_old → KnowsEnd new left_new
+  pub step : KnowsEnd old left_old → Answers old new (input old left_old) (input new left_new) (Ok more)
+
+-- a call answered this fault for the first time
+pub record Faulted (old new : Reader) (left_old left_new : Option (List ℕ)) (fault : LineFault) : Type 0 where
+  pub after : new ≡ record old { held = new.held; line = []; fault = Some fault }
+  pub keeps : Keeps (input old left_old) (input new left_new)
+  pub shows : (fault ≡ Read) ⊎ ShowsFault new.given new.place new.held fault
+  pub read : fault ≡ Read → ShowsNothing new.given new.place new.held × (new.ended ≡ false)
+  pub step : KnowsEnd old left_old → Answers old new (input old left_old) (input new left_new) (Err fault)
+
+-- what a call that gives the next line answers, and how it leaves the reader once the line is no longer used
+abbrev pub GivesLine : Reader → Reader → Option (List ℕ) → Option (List ℕ) → Result (Option (Bor (List ℕ))) LineFault → Type 0
+GivesLine old new left_old left_new (Ok (Some line)) = (new.line ≡ line.now) × Gave old new left_old left_new true
+GivesLine old new left_old left_new (Ok None) = Gave old new left_old left_new false
+GivesLine old new left_old left_new (Err fault) =
+    (old.fault ≡ None → Faulted old new left_old left_new fault) × IfSome old.fault (λ first. (fault ≡ first) × (new ≡ old))

@@ -3,7 +3,7 @@ ghost use Rattle.std.specs.Prelude.{◌≡◌, ◌≢◌, ◌⊎◌, ◌+◌, �
 ghost use Rattle.std.specs.Bool.{OnFalse, OnTrue};
 ghost use Rattle.std.specs.Io.KnownBytes.{Consumes, IsAtEnd, Keeps};
 ghost use Rattle.aim_io.specs.Causes.{HasCause, Rose};
-ghost use Rattle.aim_io.specs.Lines.{HasNoEnd, EndsAt, IsOpen, with_end};
+ghost use Rattle.aim_io.specs.Lines.{HasNoEnd, EndsAt, IsOpen, ShowsNothing, ShowsFault};
 ghost use Rattle.aim_io.specs.Look.{SaysOf};
 
 use crate::{Failed, Source};
@@ -58,9 +58,25 @@ fn line_end(bytes: &[u8]) -> Option<usize>
     bytes.iter().position(|&byte| byte == LINE_END)
 }
 
-// What so many lines given, so many bytes gone and these bytes to come say of the next line.
-fn look_at(given: u32, place: usize, held: &[u8]) -> Look
-    requires { place ≤ 67108864 }
+// The same, where the first `seen` bytes were looked at before.
+fn line_end_past(bytes: &[u8], seen: usize) -> Option<usize>
+    requires in_range { seen ≤ length bytes.now }
+    requires no_end { HasNoEnd (take seen bytes.now) }
+    ensures found { IfSome result (EndsAt bytes.now) }
+    ensures none { IfNone result (HasNoEnd bytes.now) }
+{
+    match line_end(&bytes[seen..]) {
+        Some(at) => Some(seen + at),
+        None => None,
+    }
+}
+
+// What so many lines given, so many bytes gone and these bytes to come say of the next line. Of
+// the bytes to come the first `seen` were looked at before.
+fn look_at(given: u32, place: usize, held: &[u8], seen: usize) -> Look
+    requires within { place + seen ≤ 67108864 }
+    requires in_range { seen ≤ length held.now }
+    requires is_open { IsOpen (take seen held.now) }
     ensures { SaysOf given place held.now result }
 {
     if given >= MOST_LINES {
@@ -71,7 +87,7 @@ fn look_at(given: u32, place: usize, held: &[u8]) -> Look
         };
     }
     let room = TOO_LONG.min(MOST_BYTES - place);
-    match line_end(&held[..room.min(held.len())]) {
+    match line_end_past(&held[..room.min(held.len())], seen) {
         Some(len) => Look::Line(len),
         None if held.len() <= room && held.len() < TOO_LONG => Look::Open,
         None if room == TOO_LONG => Look::Stop(LineFault::Long(given + 1)),
@@ -145,7 +161,10 @@ impl Model for LineReader {
 }
 
 impl LineReader {
-    ghost use Rattle.aim_io.specs.Reader.{fresh, input, KnowsEnd, Answers};
+    ghost use Rattle.std.specs.Borrow.{sem};
+    ghost use Rattle.std.specs.Io.BufRead.{Rests};
+    ghost use Rattle.aim_io.specs.contracts.lines.LineReader.{the_row};
+    ghost use Rattle.aim_io.specs.Reader.{fresh, input, IsSound, KnowsEnd, Answers, taken_by, after_call, GivesLine};
 
     /// A reader that has read nothing.
     pub fn new() -> LineReader
@@ -171,23 +190,40 @@ impl LineReader {
         &self.bytes[self.line_start..self.line_start + self.line_len]
     }
 
-    // What is held says of the next line.
-    fn look(&self) -> Look
-        ensures { SaysOf self.now.given self.now.place self.now.held result }
+    // What is held says of the next line, of which the first `seen` bytes were looked at before.
+    fn look(&self, seen: usize) -> Look
+        requires within { self.now.place + seen ≤ 67108864 }
+        requires in_range { seen ≤ length self.now.held }
+        requires is_open { IsOpen (take seen self.now.held) }
+        ensures says { SaysOf self.now.given self.now.place self.now.held result }
+        ensures sound { IsSound self.now }
     {
-        look_at(self.given, self.place, &self.bytes[self.start..self.end])
+        look_at(
+            self.given,
+            self.place,
+            &self.bytes[self.start..self.end],
+            seen,
+        )
     }
 
-    // Takes a line of so many bytes and its end, `size` bytes in all.
+    // How many bytes were read ahead.
+    fn held_len(&self) -> usize
+        ensures { result ≡ length self.now.held }
+    {
+        self.end - self.start
+    }
+
+    // Takes a line of so many bytes, and its end.
     fn take(&mut self, len: usize)
         requires given { self.old.given < 262144 }
         requires held { len < length self.old.held }
         requires within { self.old.place + len + 1 ≤ 67108864 }
-        ensures { self.new ≡ record self.old {
-            held = drop (len + 1) self.old.held;
-            line = take len self.old.held;
-            given = self.old.given + 1;
-            place = self.old.place + len + 1;
+        ensures going { self.new.ended ≡ false }
+        ensures new { self.new ≡ record self.old {
+          held = drop (len + 1) self.old.held;
+          line = take len self.old.held;
+          given = self.old.given + 1;
+          place = self.old.place + len + 1;
         } }
     {
         self.line_start = self.start;
@@ -203,11 +239,11 @@ impl LineReader {
         requires within { self.old.place + length self.old.held ≤ 67108864 }
         ensures line { result ≡ nat_lt 0 (length self.old.held) }
         ensures new { self.new ≡ record self.old {
-            held = [];
-            line = self.old.held;
-            given = self.old.given + (if result then 1 else 0);
-            place = self.old.place + length self.old.held;
-            ended = true;
+          held = [];
+          line = self.old.held;
+          given = self.old.given + (if result then 1 else 0);
+          place = self.old.place + length self.old.held;
+          ended = true;
         } }
     {
         let len = self.end - self.start;
@@ -230,6 +266,7 @@ impl LineReader {
         requires within { self.old.place + length self.old.held ≤ 67108864 }
         ensures same { self.new ≡ record self.old { held = self.new.held; line = self.new.line } }
         ensures keeps { Keeps (input self.old (S.left source.old)) (input self.new (S.left source.new)) }
+        ensures front { take (length self.old.held) self.new.held ≡ self.old.held }
         ensures more { IfOk result (λ more. OnTrue more (length self.old.held < length self.new.held)) }
         ensures none { IfOk result (λ more. OnFalse more (self.new.held ≡ self.old.held)) }
         ensures end { KnowsEnd self.old (S.left source.old) → IfOk result (λ more. OnFalse more (IsAtEnd (S.left source.new))) }
@@ -257,5 +294,78 @@ impl LineReader {
         self.line_len = 0;
         self.fault = Some(fault);
         Err(fault)
+    }
+
+    /// Takes the next line, which `line` then shows, and says whether there was one: `false` comes
+    /// exactly where the input is at its end with no byte left over. It reads a piece only where
+    /// the bytes already read hold neither the end of the next line nor its 401st byte. Takes no
+    /// memory.
+    pub fn advance<S: Source>(&mut self, source: &mut S) -> Result<bool, LineFault>
+        // What is answered, by the bytes to come alone.
+        ensures step { KnowsEnd self.old (S.left source.old) → self.old.fault ≡ None
+            → Answers self.old self.new (input self.old (S.left source.old)) (input self.new (S.left source.new)) result }
+        ensures knows { KnowsEnd self.old (S.left source.old) → KnowsEnd self.new (S.left source.new) }
+
+        // A line, or the end of the input.
+        ensures line { IfOk result (λ more. OnTrue more (IsOpen self.new.line)) }
+        ensures taken { IfOk result (λ more. Consumes (input self.old (S.left source.old)) (input self.new (S.left source.new)) (taken_by self.new more)) }
+        ensures after { IfOk result (λ more. self.new ≡ after_call self.old self.new more) }
+        ensures end { IfOk result (λ more. OnFalse more (self.new.ended ≡ true)) }
+        ensures going { IfOk result (λ more. OnTrue more (self.old.ended ≡ false)) }
+        ensures last { IfOk result (λ more. self.new.ended ≡ true → OnTrue more (0 < length self.new.line) × (self.new.held ≡ [])) }
+        ensures no_fault { OnOk result (self.old.fault ≡ None) }
+        ensures sound { IsSound self.new }
+
+        // A fault takes nothing, and stays.
+        ensures fault { IfErr result (λ f. self.old.fault ≡ None → self.new ≡ record self.old { held = self.new.held; line = []; fault = Some f }) }
+        ensures keeps { OnErr result (Keeps (input self.old (S.left source.old)) (input self.new (S.left source.new))) }
+        ensures shows { IfErr result (λ f. self.old.fault ≡ None → (f ≡ LineFault.Read) ⊎ ShowsFault self.new.given self.new.place self.new.held f) }
+        ensures read { result ≡ Err LineFault.Read → self.old.fault ≡ None
+            → ShowsNothing self.new.given self.new.place self.new.held × (self.new.ended ≡ false) × Rose (S.faults source.old) (S.faults source.new) }
+        ensures again { IfSome self.old.fault (λ f. (result ≡ Err f) × (self.new ≡ self.old) × (source.new ≡ source.old)) }
+
+        // When it reads.
+        ensures later { S.faults source.old ≤ S.faults source.new }
+        ensures lazy { (IsOpen self.old.held → ⊥) → source.new ≡ source.old }
+        ensures ended { self.old.ended ≡ true → source.new ≡ source.old }
+    {
+        if let Some(fault) = self.fault {
+            return Err(fault);
+        }
+        let mut seen = 0;
+        'pieces: loop {
+            match self.look(seen) {
+                Look::Line(len) => {
+                    self.take(len);
+                    return Ok(true);
+                }
+                Look::Stop(fault) => return self.fail(fault),
+                Look::Open => {
+                    seen = self.held_len();
+                    match self.fill(source) {
+                        Err(_) => return self.fail(LineFault::Read),
+                        Ok(false) => return Ok(self.take_rest()),
+                        Ok(true) => {}
+                    }
+                }
+            }
+        }
+    }
+
+    /// The next line, or `None` exactly where the input is at its end with no byte left over. It
+    /// reads as `advance` does, and answers as that.
+    pub fn next<S: Source>(&mut self, source: &mut S) -> Result<Option<&[u8]>, LineFault>
+        ensures* rests { sem 𝓛 (Rests the_row self.entry (λ new. GivesLine self.old new (S.left source.old) (S.left source.new) result)) }
+        ensures read { result ≡ Err LineFault.Read → self.old.fault ≡ None → Rose (S.faults source.old) (S.faults source.new) }
+        ensures again { IfSome self.old.fault (λ _. source.new ≡ source.old) }
+        ensures later { S.faults source.old ≤ S.faults source.new }
+        ensures lazy { (IsOpen self.old.held → ⊥) → source.new ≡ source.old }
+        ensures ended { self.old.ended ≡ true → source.new ≡ source.old }
+    {
+        match self.advance(source) {
+            Ok(true) => Ok(Some(self.line())),
+            Ok(false) => Ok(None),
+            Err(fault) => Err(fault),
+        }
     }
 }

@@ -62,9 +62,9 @@ impl Source for MemSource {
         ensures fails { is_err result ≡ is_listed self.old.failing self.old.calls }
         ensures most { IfOk result (λ n. n ≡ min (length self.old.left) (length buf.new)) }
         ensures counts { self.new ≡ record self.old {
-            left = self.new.left;
-            calls = counted self.old.calls;
-            faults = if is_err result then counted self.old.faults else self.old.faults;
+          left = self.new.left;
+          calls = counted self.old.calls;
+          faults = if is_err result then counted self.old.faults else self.old.faults;
         } }
     {
         let call = self.calls;
@@ -195,9 +195,9 @@ impl Sink for MemSink {
         ensures fails { is_err result ≡ (is_listed self.old.failing self.old.calls || (length self.old.held == self.old.room && nat_lt 0 (length piece.now))) }
         ensures most { IfOk result (λ n. n ≡ min (self.old.room - length self.old.held) (length piece.now)) }
         ensures counts { self.new ≡ record self.old {
-            held = self.new.held;
-            calls = counted self.old.calls;
-            faults = if is_err result then counted self.old.faults else self.old.faults;
+          held = self.new.held;
+          calls = counted self.old.calls;
+          faults = if is_err result then counted self.old.faults else self.old.faults;
         } }
     {
         let call = self.calls;

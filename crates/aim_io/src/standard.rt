@@ -1,6 +1,7 @@
 // Readers and writers of std as sources and sinks. Nothing is told of what they hold.
 ghost use Rattle.std.specs.Prelude.{◌≡◌, ◌<◌, None, length, IfOk, if◌then◌else◌, is_err};
 ghost use Rattle.std.specs.Io.{ReadsAtMost, WritesAtMost};
+ghost use Rattle.std.specs.Io.KnownBytes.{ReadConsumes, WriteAppends};
 ghost use Rattle.aim_io.specs.Causes.{HasCause, counted};
 
 use crate::{Failed, Sink, Source};
@@ -14,18 +15,19 @@ pub struct StdSource<R> {
 }
 
 impl<R: Read + Drop> StdSource<R> {
-    ghost use Rattle.aim_io.specs.Standard.{source_faults};
+    ghost use Rattle.aim_io.specs.Standard.{source_reader, source_faults};
 
     /// A source over `reader`, with no fault yet.
     pub fn new(reader: R) -> StdSource<R>
-        ensures { source_faults result ≡ 0 }
+        ensures reader { source_reader result ≡ reader }
+        ensures faults { source_faults result ≡ 0 }
     {
         StdSource { reader, faults: 0 }
     }
 }
 
 impl<R: Read + Drop> Source for StdSource<R> {
-    ghost use Rattle.aim_io.specs.Standard.{source_faults};
+    ghost use Rattle.aim_io.specs.Standard.{source_reader, source_faults};
 
     ghost left = { λ _. None };
 
@@ -35,6 +37,7 @@ impl<R: Read + Drop> Source for StdSource<R> {
     fn read(&mut self, buf: &mut [u8]) -> Result<usize, Failed>
         ensures bound { ReadsAtMost result buf.new }
         ensures cause { HasCause (source_faults self.old) (source_faults self.new) result }
+        ensures reader { ReadConsumes (R.remaining (source_reader self.old)) (R.remaining (source_reader self.new)) result buf.new }
         ensures count { source_faults self.new ≡ (if is_err result then counted (source_faults self.old) else source_faults self.old) }
     {
         match self.reader.read(buf) {
@@ -55,18 +58,19 @@ pub struct StdSink<W> {
 }
 
 impl<W: Write + Drop> StdSink<W> {
-    ghost use Rattle.aim_io.specs.Standard.{sink_faults};
+    ghost use Rattle.aim_io.specs.Standard.{sink_writer, sink_faults};
 
     /// A sink over `writer`, with no fault yet.
     pub fn new(writer: W) -> StdSink<W>
-        ensures { sink_faults result ≡ 0 }
+        ensures writer { sink_writer result ≡ writer }
+        ensures faults { sink_faults result ≡ 0 }
     {
         StdSink { writer, faults: 0 }
     }
 }
 
 impl<W: Write + Drop> Sink for StdSink<W> {
-    ghost use Rattle.aim_io.specs.Standard.{sink_faults};
+    ghost use Rattle.aim_io.specs.Standard.{sink_writer, sink_faults};
 
     ghost held = { λ _. None };
 
@@ -78,6 +82,7 @@ impl<W: Write + Drop> Sink for StdSink<W> {
         ensures bound { WritesAtMost result piece.now }
         ensures some { IfOk result (λ n. 0 < length piece.now → 0 < n) }
         ensures cause { HasCause (sink_faults self.old) (sink_faults self.new) result }
+        ensures writer { WriteAppends (W.contents (sink_writer self.old)) (W.contents (sink_writer self.new)) result piece.now }
         ensures count { sink_faults self.new ≡ (if is_err result then counted (sink_faults self.old) else sink_faults self.old) }
     {
         match self.writer.write(piece) {

@@ -11,3 +11,9 @@ pub mod GoodLemmas
 pub mod SlowerLemmas
 pub mod AheadLemmas
 pub mod ShapeLemmas
+pub mod ValidLemmas
+pub mod LaneLemmas
+pub mod Elements
+pub mod LaneTileLemmas
+pub mod SoundLemmas
+pub mod ShareLemmas

@@ -1,17 +1,16 @@
 -- The stations of shapes, one by one.
-use Rattle.std.proofs.Common.{◌≡◌, ◌≢◌, ℕ, ◌+◌, ◌-◌, ◌*◌, ◌<◌, ◌≤◌, Bool, true, false, List, [], ◌∷◌, ◌++◌, map, length, get_or, take, drop, slice_get, Some, None, Option, arith, refl, sym, ◌∙◌, ap, nat_lt}
-use Rattle.std.specs.List.{range_with_len, list_any}
+use Rattle.std.proofs.Common.{◌≡◌, ℕ, ◌+◌, ◌<◌, ◌≤◌, false, List, [], ◌∷◌, length, get_or, arith, nat_lt}
+use Rattle.std.specs.List.{list_any}
 use Rattle.std.proofs.lemmas.Bool.{or_parts, ltb-false}
 use Rattle.std.proofs.lemmas.Bool.Decides.{nat_tests}
 use Rattle.std.proofs.lemmas.List.FromFn.{length-map-range_with_len, get_or-map-range_with_len}
 use Rattle.aim_geometry.specs.declared.stations.Station.{Station}
-use Rattle.aim_geometry.specs.Stations.{on_line, on_curve, line, curve}
-use Rattle.aim_geometry.specs.Bounded.{least_below, is_outside}
+use Rattle.aim_geometry.specs.Stations.{on_line, on_curve}
+use Rattle.aim_geometry.specs.Bounded.{is_outside}
 use Rattle.aim_geometry.proofs.StationLemmas.{on_line_le, on_curve_le}
-use Rattle.aim_geometry.proofs.BoundedLemmas.{least_below_at, least_below_none}
 use Rattle.aim_paths.specs.declared.shapes.Shape.{Shape}
 use Rattle.aim_paths.specs.declared.shapes.Shape.TheVariants.{Line, Curve}
-use Rattle.aim_paths.specs.Shapes.{stations_of, parts_of, coordinates, is_bad_shape, are_wide, wide_step, origin}
+use Rattle.aim_paths.specs.Shapes.{stations_of, parts_of, coordinates, is_bad_shape}
 
 -- station j, by its formula
 abbrev pub place : Shape → ℕ → Station

@@ -1,6 +1,6 @@
 -- Which lines make a layout, and why a line is refused.
-use Rattle.std.specs.Prelude.{ℕ, ◌+◌, ◌-◌, ◌==◌, Bool, true, false, ◌&&◌, ◌||◌, not, nat_lt, nat_le, List, [], ◌∷◌, ◌++◌, length, replicate, slice_get, slice_set, Option, Some, None, is_some, option_map, if◌then◌else◌}
-use Rattle.std.specs.List.{list_any, slice_index_or}
+use Rattle.std.specs.Prelude.{ℕ, ◌-◌, ◌^◌, ◌==◌, Bool, true, false, ◌&&◌, ◌||◌, not, nat_lt, nat_le, List, [], ◌∷◌, ◌++◌, length, replicate, slice_get, slice_set, Option, Some, None, is_some, option_map, if◌then◌else◌}
+use Rattle.std.specs.List.{slice_index_or}
 use Rattle.aim_msg.specs.declared.messages.Turn.{Turn}
 use Rattle.aim_msg.specs.declared.messages.Turn.TheVariants.{Left, Straight, Right}
 use Rattle.aim_geometry.specs.declared.stations.Station.{Station}
@@ -66,7 +66,8 @@ share_tile i a b = some_below i.grid.n (λ r. some_below i.grid.n (λ c. in_lane
 -- whether a lane of the phase isn't there, or two of its lanes share a tile
 abbrev pub has_bad_lanes : Intersection → ℕ → Bool
 has_bad_lanes i lanes =
-    some_below 16 (λ a. has_lane lanes a && (nat_le (length i.lanes) a || some_below a (λ b. has_lane lanes b && share_tile i a b)))
+    nat_le (2 ^ length i.lanes) lanes
+    || some_below (length i.lanes) (λ a. has_lane lanes a && some_below a (λ b. has_lane lanes b && share_tile i a b))
 
 abbrev pub is_bad_phase_of : Intersection → Phase → Option Policy → Bool
 is_bad_phase_of i p None = true

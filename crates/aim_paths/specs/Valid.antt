@@ -1,5 +1,5 @@
 -- The facts of a layout to which no refusal applies.
-use Rattle.std.specs.Prelude.{◌≡◌, ◌≢◌, ℕ, ◌+◌, ◌<◌, ◌≤◌, true, false, List, [], length, slice_get, Some}
+use Rattle.std.specs.Prelude.{◌≡◌, ℕ, ◌+◌, ◌<◌, ◌≤◌, true, false, List, [], length, slice_get, Some}
 use Rattle.aim_msg.specs.declared.messages.Turn.{Turn}
 use Rattle.aim_geometry.specs.declared.ground.Grid.{Grid}
 use Rattle.aim_geometry.specs.declared.stations.Station.{Station}
@@ -26,8 +26,8 @@ pub record IsPhase (i : Intersection) (p : Phase) : Type 0 where
   pub some_green : 0 < p.green
   pub green : p.green ≤ 65536
   pub some_lanes : 0 < p.lanes
-  pub lanes : (a : ℕ) → a < 16 → has_lane p.lanes a ≡ true → a < length i.lanes
-  pub apart : (a b row col : ℕ) → b < a → a < 16 → has_lane p.lanes a ≡ true → has_lane p.lanes b ≡ true →
+  pub lanes : (a : ℕ) → has_lane p.lanes a ≡ true → a < length i.lanes
+  pub apart : (a b row col : ℕ) → b < a → has_lane p.lanes a ≡ true → has_lane p.lanes b ≡ true →
       row < i.grid.n → col < i.grid.n → in_lane_tiles i a row col ≡ true → in_lane_tiles i b row col ≡ false
 
 -- only a light policy has phases, at most 16

@@ -98,8 +98,26 @@ fn with_room(alloc: Global, stations: &Vec<Station>) -> Result<Vec<Station>, NoM
     Ok(copy)
 }
 
+/// Adds the path of a turn that isn't offered yet to the lane and to its rows of tiles.
+pub fn add_path(
+    ground: &Ground,
+    paths: &mut LanePaths,
+    rows: &mut [u64; 64],
+    turn: Turn,
+    shape: &Shape,
+)
+    requires shape { is_bad_shape ground.now.grid.side shape.now ≡ false }
+    requires none { path_of paths.old turn ≡ None }
+    ensures paths { paths.new ≡ with_path paths.old turn (stations_of shape.now) }
+    ensures rows { (row col : ℕ) → row < 64 → col < 64 → tile_at rows.new row col ≡ (tile_at rows.old row col || is_met ground.now.grid (stations_of shape.now) row col) }
+{
+    let _grid = ground.grid();
+    paths.add(turn, shape);
+    mark(ground, paths.stations(turn), rows);
+}
+
 /// Sets the bits of the tiles that meet the square of the lane tile sets round one of the stations.
-pub fn mark(ground: &Ground, stations: &[Station], rows: &mut [u64; 64])
+fn mark(ground: &Ground, stations: &[Station], rows: &mut [u64; 64])
     requires { (j : ℕ) (s : Station) → slice_get stations.now j ≡ Some s → (s.x ≤ ground.now.grid.side) × (s.y ≤ ground.now.grid.side) }
     ensures { (row col : ℕ) → row < 64 → col < 64 → tile_at rows.new row col ≡ (tile_at rows.old row col || is_met ground.now.grid stations.now row col) }
 {

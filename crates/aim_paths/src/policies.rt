@@ -1,6 +1,8 @@
 //! The policies of a layout.
 
-ghost use Rattle.std.specs.Prelude.{◌≡◌, ◌<◌, ◌≤◌, [], ◌∷◌, ◌++◌, length, slice_get, Some};
+ghost use Rattle.std.specs.Prelude.{◌≡◌, ◌<◌, ◌≤◌, ◌==◌, ◌||◌, not, nat_le, nat_lt, [], ◌∷◌, ◌++◌, length, slice_get, Some};
+ghost use Rattle.aim_geometry.specs.Bounded.{is_outside};
+ghost use Rattle.aim_paths.specs.Building.{lacks_phase as lacks_phase_of};
 ghost use Rattle.aim_paths.specs.Lights.{has_lights as has_lights_of};
 
 use std::marker::Model;
@@ -98,6 +100,28 @@ impl StoredPolicy {
         ensures { slice_get self.now.phases number ≡ Some result }
     {
         self.phases[number as usize]
+    }
+
+    /// Whether it is a light policy without a phase.
+    pub fn lacks_phase(&self) -> bool
+        ensures { result ≡ lacks_phase_of (Some self.now) }
+    {
+        let has_lights = self.kind.has_lights();
+        has_lights && self.count == 0
+    }
+
+    /// Whether the policy takes no phase, or one of the phase's numbers is out of its range.
+    pub fn refuses(&self, phase: Phase, clearance: u32) -> bool
+        ensures { result ≡ (not (has_lights_of self.now.kind) || nat_le 16 (length self.now.phases) || nat_lt phase.red clearance || nat_lt 65536 phase.red || is_outside phase.green 65536 || phase.lanes == 0) }
+    {
+        let has_lights = self.kind.has_lights();
+        !has_lights
+            || self.count >= 16
+            || phase.red < clearance
+            || phase.red > 65_536
+            || phase.green == 0
+            || phase.green > 65_536
+            || phase.lanes == 0
     }
 
     /// Adds a phase behind the others.

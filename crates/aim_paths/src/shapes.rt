@@ -44,9 +44,29 @@ impl Shape {
         ensures { result ≡ is_bad_shape side self.now }
     {
         match self {
-            Shape::Line { x0, y0, x1, y1, m } => *m == 0 || *m > 4096 || *x0 > side || *y0 > side || *x1 > side || *y1 > side,
-            Shape::Curve { x0, y0, x1, y1, x2, y2, m } => {
-                *m == 0 || *m > 4096 || *x0 > side || *y0 > side || *x1 > side || *y1 > side || *x2 > side || *y2 > side
+            Shape::Line { x0, y0, x1, y1, m } => *m == 0
+                || *m > 4096
+                || *x0 > side
+                || *y0 > side
+                || *x1 > side
+                || *y1 > side,
+            Shape::Curve {
+                x0,
+                y0,
+                x1,
+                y1,
+                x2,
+                y2,
+                m,
+            } => {
+                *m == 0
+                    || *m > 4096
+                    || *x0 > side
+                    || *y0 > side
+                    || *x1 > side
+                    || *y1 > side
+                    || *x2 > side
+                    || *y2 > side
             }
         }
     }
@@ -62,7 +82,15 @@ impl Shape {
                 x: line_station(x0, x1, m, j),
                 y: line_station(y0, y1, m, j),
             },
-            Shape::Curve { x0, y0, x1, y1, x2, y2, m } => Station {
+            Shape::Curve {
+                x0,
+                y0,
+                x1,
+                y1,
+                x2,
+                y2,
+                m,
+            } => Station {
                 x: curve_station(x0, x1, x2, m, j),
                 y: curve_station(y0, y1, y2, m, j),
             },

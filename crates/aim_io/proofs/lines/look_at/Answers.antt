@@ -1,4 +1,4 @@
-use Rattle.std.proofs.Common.{arith, ◌≡◌, ◌+◌, ◌<◌, ◌≤◌, length, take}
+use Rattle.std.proofs.Common.{arith, ◌<◌, length}
 use Rattle.std.proofs.lemmas.List.{length-take}
 use Rattle.aim_io.proofs.LookLemmas.{ends_in, past_bytes}
 use Rattle.aim_io.proofs.lines.look_at.Goals as goal
@@ -17,7 +17,7 @@ returns-in-Some c =
 pub returns-in-None-3 : goal.returns-in-None-3
 returns-in-None-3 c =
     let further : c.min-room.result < length c.args.held.now = elim c.if-held-room.branch [
-      then-held-room+else-held-lt-TOO_LONG w ↦ omega arith
-    | else-held-room w ↦ omega arith
+      | then-held-room+else-held-lt-TOO_LONG w ↦ omega arith
+      | else-held-room w ↦ omega arith
     ] in
     past_bytes c.args.given c.args.place c.min.result c.args.held.now (omega arith) (omega (arith, further)) (omega (arith, further)) (omega (arith, further)) c.in-None.ensures.none

@@ -1,10 +1,10 @@
-use Rattle.std.proofs.Common.{◌≡◌, ℕ, ◌+◌, ◌<◌, ◌≤◌, List, arith, length, take, drop, sym}
+use Rattle.std.proofs.Common.{◌≡◌, ◌+◌, arith, take}
 use Rattle.std.proofs.lemmas.List.{drop-drop}
 use Rattle.aim_io.proofs.WindowLemmas.{take_window, length_window}
 use Rattle.aim_io.proofs.lines.LineReader.take.Goals as goal
 
-pub returns : goal.returns
-returns c =
+pub returns-clause-new : goal.returns-clause-new
+returns-clause-new c =
     let size = length_window c.self.inside.bytes c.self.inside.start c.self.inside.end (omega (arith, c.self.invariant, c.self.told)) in
     let held = rw (← c.self.view_is) at c.requires.held in
     let line = take_window c.self.inside.bytes c.self.inside.start c.self.inside.end c.args.len (omega (arith, held, size)) in

@@ -1,4 +1,4 @@
-use Rattle.std.proofs.Common.{◌≡◌, ◌+◌, ◌≤◌, arith, length, take, drop}
+use Rattle.std.proofs.Common.{arith}
 use Rattle.aim_io.proofs.WindowLemmas.{window, length_window, window_empty}
 use Rattle.aim_io.proofs.lines.LineReader.take_rest.Goals as goal
 

@@ -1,4 +1,4 @@
-use Rattle.std.proofs.Common.{◌≡◌, ◌≤◌, ◌<◌, take, vec_capacity, vec_len}
+use Rattle.std.proofs.Common.{◌≡◌, ◌≤◌, take, vec_capacity, vec_len}
 use Rattle.aim_paths.specs.Shapes.{stations_of}
 use Rattle.aim_paths.proofs.shapes.Shape.fill.Given as goal
 

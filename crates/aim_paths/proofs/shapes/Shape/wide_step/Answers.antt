@@ -1,4 +1,4 @@
-use Rattle.std.proofs.Common.{◌≡◌, ◌+◌, ◌-◌, ◌<◌, ◌≤◌, ℕ, true, false, length, arith, sym, ◌∙◌}
+use Rattle.std.proofs.Common.{◌≡◌, ◌+◌, ◌-◌, true, length, arith, sym, ◌∙◌}
 use Rattle.std.specs.List.{slice_index_or}
 use Rattle.aim_geometry.proofs.BoundedLemmas.{least_below_at, least_below_none}
 use Rattle.aim_paths.specs.Shapes.{are_wide, origin, stations_of, parts_of}
@@ -10,7 +10,7 @@ returns-then-are_wide c =
     let ss = stations_of c.args.self.now in
     let count : length ss ≡ parts_of c.args.self.now + 1 = length-stations_of c.args.self.now in
     let wide : are_wide c.args.spacing (slice_index_or ss c.loop-j.j origin) (slice_index_or ss (c.loop-j.j + 1) origin) ≡ true =
-        rw (← c.station.ensures, ← c.station-in-loop-j.ensures) (sym c.are_wide.ensures ∙ c.if-are_wide.true) in
+    rw (← c.station.ensures, ← c.station-in-loop-j.ensures) (sym c.are_wide.ensures ∙ c.if-are_wide.true) in
     sym (least_below_at (length ss - 1) (λ j. are_wide c.args.spacing (slice_index_or ss j origin) (slice_index_or ss (j + 1) origin)) c.loop-j.j (omega arith) c.loop-j.invariant wide)
 
 pub returns : goal.returns

@@ -1,0 +1,123 @@
+-- The answer to a steady request over a plain layout, after a history of such requests.
+use Rattle.std.proofs.Common.{◌≡◌, ℕ, ◌+◌, ◌-◌, ◌*◌, ◌/◌, ◌%◌, ◌^◌, Bool, true, false, ◌&&◌, not, nat_lt, nat_le, List, [], ◌∷◌, map, Option, Some, None, arith, refl, ◌∙◌, ap, unwrap_or, if◌then◌else◌, length}
+use Rattle.std.specs.Prelude.{◌==◌, option_map, slice_get, find, option_and_then}
+use Rattle.std.specs.List.{list_any, range_with_len}
+use Rattle.std.specs.Option.{option_or}
+use Rattle.std.proofs.Math.Bool.{and-false}
+use Rattle.std.proofs.Math.Nat.{zero-div}
+use Rattle.std.proofs.lemmas.Bool.{le-ltb}
+use Rattle.aim_msg.specs.declared.messages.Params.{Params}
+use Rattle.aim_msg.specs.declared.messages.Message.{Message}
+use Rattle.aim_msg.specs.declared.messages.Body.{Body}
+use Rattle.aim_msg.specs.declared.messages.Body.TheVariants as body
+use Rattle.aim_msg.specs.declared.entries.Act.TheVariants as act
+use Rattle.aim_msg.specs.declared.entries.Entry.{Entry}
+use Rattle.aim_msg.specs.declared.replies.Reason.{Reason}
+use Rattle.aim_msg.specs.declared.replies.Reason.TheVariants as reason
+use Rattle.aim_msg.specs.declared.replies.Reply.{Reply}
+use Rattle.aim_paths.specs.declared.policies.Kind.{Kind}
+use Rattle.aim_paths.specs.declared.policies.Kind.TheVariants as kind
+use Rattle.aim_geometry.proofs.BoundedLemmas.{least_below_none}
+use Rattle.aim_geometry.specs.Bounded.{last}
+use Rattle.aim_paths.specs.Intersection.{Intersection, Policy}
+use Rattle.aim_paths.specs.Bad.{bad}
+use Rattle.aim_paths.specs.Cells.{Cell, cells}
+use Rattle.aim_paths.specs.History.{fresh, now_of, is_new, is_confirm}
+use Rattle.aim_paths.specs.Reservations.{holds, held, taken_by}
+use Rattle.aim_paths.specs.Lights.{policy_at, green_at, green_lanes, green, is_claimed, in_lane_tiles, has_lane, has_lights, lit, round}
+use Rattle.aim_paths.specs.Priority.{standing_next, asked_from, distance}
+use Rattle.aim_paths.specs.Answer.{Asked, answer, answer_message, answer_fresh, answer_request, answer_asking, answer_params, answer_good, answer_free, answer_unless_emergency, is_stopped, is_giving_way, first_blocked, blocked_by, granted_or, refusal, exceeds, gives_way}
+use Rattle.aim_book.specs.Serving.{IsPlain, IsSteady, AreServed, has_called}
+use Rattle.aim_book.proofs.ServedLemmas.{is_new-first, fresh-served, of_vehicle-none, is_stopped-served, policy_at-served, placed}
+
+-- a message with a new number
+message_new : (a : Asked) (m : Message) (p : Params) → is_new a.history a.vehicle m.seq ≡ true → m.body ≡ body.Request p → answer_message a m ≡ answer_fresh a (body.Request p)
+message_new a m p new b = rw (new, b) refl
+
+not_before_0 : (n : ℕ) → nat_lt n 0 ≡ false
+not_before_0 n = le-ltb n 0 (omega arith)
+
+-- a request of a vehicle that holds nothing and may ask, with params that are good
+request_good : (a : Asked) (p : Params) → is_stopped a.history ≡ false → holds a.layout a.served a.vehicle a.now ≡ None → standing_next a.served a.vehicle ≡ 0 → bad a.layout p ≡ None → answer_fresh a (body.Request p) ≡ answer_good a p
+request_good a p going free standing good =
+    going_on a p going ∙ ap (λ o. answer_request a p o) free ∙ may_ask a p (rw standing (not_before_0 a.now)) ∙ ap (λ o. answer_params a p o) good
+  where
+    going_on : (a : Asked) (p : Params) → is_stopped a.history ≡ false → answer_fresh a (body.Request p) ≡ answer_request a p (holds a.layout a.served a.vehicle a.now)
+    going_on a p going = rw going refl
+
+    may_ask : (a : Asked) (p : Params) → nat_lt a.now (standing_next a.served a.vehicle) ≡ false → answer_asking a p ≡ answer_params a p (bad a.layout p)
+    may_ask a p early = rw early refl
+
+-- the answer where no vehicle gives way to emergencies and the fast trial is not made
+abbrev pub answer_steady : Asked → Params → Reply
+answer_steady a p =
+    if nat_le p.arrive (a.now + a.layout.times.edge) then refusal a p.arrive (reason.Late a.now)
+    else if list_any (λ c. nat_le (a.now + a.layout.times.horizon) c.step) (cells a.layout p false) then refusal a p.arrive (reason.Far (a.now + a.layout.times.horizon))
+    else if exceeds (asked_from a.now p) (distance a.served p.lane) then refusal a p.arrive (reason.Distance (unwrap_or (distance a.served p.lane) 0))
+    else granted_or a p (first_blocked a p false)
+
+free_steady : (a : Asked) (p : Params) → p.accel ≡ 0 → answer_free a p ≡ granted_or a p (first_blocked a p false)
+free_steady a p zero = rw zero refl
+
+calm : (a : Asked) (p : Params) (o : Option ℕ) → is_giving_way a p.arrive ≡ false → answer_unless_emergency a p o ≡ answer_free a p
+calm a p None way = refl
+calm a p (Some lane) way = rw way refl
+
+good_steady : (a : Asked) (p : Params) → is_giving_way a p.arrive ≡ false → p.accel ≡ 0 → answer_good a p ≡ answer_steady a p
+good_steady a p way zero = rw (calm a p (Rattle.aim_paths.specs.Priority.approached a.layout a.served a.vehicle p a.now) way, free_steady a p zero) refl
+
+-- the first of the policies is FCFS
+first_policy : (policies : List Policy) → map (λ p. p.kind) policies ≡ kind.Fcfs ∷ [] → option_map (λ p. p.kind) (slice_get policies 0) ≡ Some kind.Fcfs
+first_policy [] e = absurd (cc)
+first_policy (p ∷ policies) e = let k : p.kind ≡ kind.Fcfs = cc in rw k refl
+
+way_plain : (a : Asked) (at : ℕ) → IsPlain a.layout → AreServed a.layout [] a.history → is_giving_way a at ≡ false
+way_plain a at plain s = rw (policy_at-served a.layout a.history at s, first_policy a.layout.policies plain.policies) refl
+
+no_lanes : (policies : List Policy) (o : ℕ) → map (λ p. p.kind) policies ≡ kind.Fcfs ∷ [] → green_lanes (slice_get policies 0) o ≡ 0
+no_lanes [] o e = absurd (cc)
+no_lanes (p ∷ policies) o e = let k : p.kind ≡ kind.Fcfs = cc in rw k refl
+
+no_lane : (lane : ℕ) → has_lane 0 lane ≡ false
+no_lane lane = rw (zero-div (2 ^ lane)) refl
+
+any_false : {X : Type 0} (test : X → Bool) (xs : List X) → ((x : X) → test x ≡ false) → list_any test xs ≡ false
+any_false test [] none = refl
+any_false test (x ∷ xs) none = rw (none x, any_false test xs none) refl
+
+claimed_plain : (i : Intersection) (h : List Entry) (lane : ℕ) (c : Cell) → IsPlain i → AreServed i [] h → is_claimed i h lane c ≡ false
+claimed_plain i h lane c plain s =
+    rw (any_false (λ at. has_lane (green_at i h at) lane) (range_with_len (c.step - i.times.clearance) (c.step + 1 - (c.step - i.times.clearance))) dark) (and-false (in_lane_tiles i lane c.row c.col))
+  where
+    dark : (at : ℕ) → has_lane (green_at i h at) lane ≡ false
+    dark at = rw (policy_at-served i h at s, no_lanes i.policies (at - 0) plain.policies) (no_lane lane)
+
+-- no lane claims a cell
+pub green-plain : (i : Intersection) (h : List Entry) (c : Cell) (except : ℕ) → IsPlain i → AreServed i [] h → green i h c except ≡ None
+green-plain i h c except plain s =
+    least_below_none (length i.lanes) (λ lane. not (lane == except) && is_claimed i h lane c)
+    (λ lane l. rw (claimed_plain i h lane c plain s) (and-false (not (lane == except))))
+
+-- only a vehicle blocks a cell
+pub blocked_by-plain : (a : Asked) (p : Params) (c : Cell) → IsPlain a.layout → AreServed a.layout [] a.history →
+    blocked_by a (held a.layout a.served a.now) p c ≡ option_map (λ by. reason.Taken c.row c.col c.step by) (taken_by (held a.layout a.served a.now) a.layout a.vehicle c)
+blocked_by-plain a p c plain s = rw (green-plain a.layout a.history c p.lane plain s) refl
+
+-- a vehicle without an entry holds nothing
+pub holds-none : (i : Intersection) (h : List Entry) (v now : ℕ) → AreServed i [] h → has_called v h ≡ false → holds i (fresh h) v now ≡ None
+holds-none i h v now s first = rw (fresh-served i h s, of_vehicle-none v [] h first) refl
+
+-- and may ask at any time
+pub standing_next-none : (i : Intersection) (h : List Entry) (v : ℕ) → AreServed i [] h → has_called v h ≡ false → standing_next (fresh h) v ≡ 0
+standing_next-none i h v s first = rw (fresh-served i h s, of_vehicle-none v [] h first) refl
+
+-- what the answer depends on, for a vehicle that asks at a moment
+abbrev pub asked : Intersection → List Entry → ℕ → ℕ → Asked
+asked i h v moment = record { layout = i; history = h; served = fresh h; vehicle = v; now = now_of h moment }
+
+pub answer-served : (i : Intersection) (h : List Entry) (v moment : ℕ) (m : Message) (p : Params) → IsPlain i → AreServed i [] h → has_called v h ≡ false → m.body ≡ body.Request p → IsSteady i p →
+    answer i h v moment (act.Message m) ≡ answer_steady (asked i h v moment) p
+answer-served i h v moment m p plain s first b steady =
+    message_new (asked i h v moment) m p (is_new-first h v m.seq first) b
+    ∙ request_good (asked i h v moment) p (is_stopped-served i [] h s) (holds-none i h v (now_of h moment) s first) (standing_next-none i h v s first) steady.good
+    ∙ good_steady (asked i h v moment) p (way_plain (asked i h v moment) p.arrive plain s) steady.accel

@@ -1,0 +1,90 @@
+-- Squares round stations, and feet.
+use Rattle.std.proofs.lemmas.List.{take_all}
+use Rattle.std.proofs.Common.{◌≡◌, ℕ, ◌+◌, ◌-◌, ◌<◌, ◌≤◌, min, drop, length-drop, Bool, true, false, ◌&&◌, ◌||◌, ◌*◌, ◌/◌, nat_lt, nat_le, List, [], None, length, get_or, Some, arith, refl, sym, ◌∙◌, ap, lt-ltb, le-ltb}
+use Rattle.std.specs.Prelude.{slice_get}
+use Rattle.std.proofs.lemmas.Option.{slice_get-get_or, get_or_from_slice_get}
+use Rattle.std.specs.List.{list_any, slice_range}
+use Rattle.std.proofs.Math.Decide.{dec_lt}
+use Rattle.std.proofs.Math.Bool.{and-false}
+use Rattle.std.proofs.lemmas.Bool.{lt-leb}
+use Rattle.aim_geometry.specs.declared.ground.Grid.{Grid}
+use Rattle.aim_geometry.specs.declared.stations.Station.{Station}
+use Rattle.aim_geometry.specs.declared.tiles.TileRect.{TileRect}
+use Rattle.aim_geometry.specs.Ground.{is_touched}
+use Rattle.aim_geometry.specs.Rects.{in_rect, IsRect, in_rows, in_columns}
+use Rattle.aim_paths.proofs.Ranges.{list_any-slice_range_more}
+use Rattle.aim_msg.specs.declared.messages.Params.{Params}
+use Rattle.aim_geometry.specs.Bounded.{ceil_div}
+use Rattle.aim_paths.specs.Intersection.{Intersection, path}
+use Rattle.aim_paths.specs.Motion.{front}
+use Rattle.aim_paths.specs.Foot.{crossing_steps, path_length, in_foot}
+use Rattle.aim_book.specs.Feet.{is_under, is_under_some, is_footed}
+use Rattle.aim_book.specs.Moving.{IsMoving}
+use Rattle.aim_book.proofs.CrossingLemmas.{front-steady, rear_on_path}
+
+one_more : (t old a b some here : Bool) → t ≡ ((old || (a && b && some)) || (a && b && here)) → t ≡ (old || (a && b && (some || here)))
+one_more t true a b some here e = e
+one_more t false true true some here e = e
+one_more t false true false some here e = e
+one_more t false false b some here e = e
+
+-- one station more
+pub under_more : (g : Grid) (half : ℕ) (ss : List Station) (low j r c : ℕ) (d : Station) (t old : Bool) → low ≤ j → j < length ss →
+    t ≡ ((old || is_under_some g half (slice_range ss low j) r c) || is_under g half (get_or ss j d) r c) →
+    t ≡ (old || is_under_some g half (slice_range ss low (j + 1)) r c)
+under_more g half ss low j r c d t old a b e =
+    one_more t old (nat_lt r g.n) (nat_lt c g.n) (list_any (λ s. is_touched g half s r c) (slice_range ss low j)) (is_touched g half (get_or ss j d) r c) e
+    ∙ ap (λ x. old || (nat_lt r g.n && nat_lt c g.n && x)) (sym (list_any-slice_range_more (λ s. is_touched g half s r c) ss low j d a b))
+
+-- the stations lie on the ground
+abbrev pub AreInside : Grid → List Station → Type 0
+AreInside g ss = (j : ℕ) (s : Station) → slice_get ss j ≡ Some s → (s.x ≤ g.side) × (s.y ≤ g.side)
+
+pub inside_at : (g : Grid) (ss : List Station) (j : ℕ) (d : Station) → AreInside g ss → j < length ss → ((get_or ss j d).x ≤ g.side) × ((get_or ss j d).y ≤ g.side)
+inside_at g ss j d inside l = inside j (get_or ss j d) (slice_get-get_or ss j d l)
+
+-- a part that ends past the list ends where the list does
+pub slice_range_cut : {X : Type 0} (xs : List X) (low high : ℕ) → slice_range xs low high ≡ slice_range xs low (min high (length xs))
+slice_range_cut xs low high = elim (dec_lt (length xs) high) [
+  | yes b ↦ (let e : min high (length xs) ≡ length xs = omega arith in
+      rw (e, take_all (high - low) (drop low xs) (omega (arith, length-drop low xs)), take_all (length xs - low) (drop low xs) (omega (arith, length-drop low xs))) refl)
+  | no b ↦ (let e : min high (length xs) ≡ high = omega arith in rw e refl)
+]
+
+-- the same where the station is read
+pub under_more_some : (g : Grid) (half : ℕ) (ss : List Station) (low j r c : ℕ) (s : Station) (t old : Bool) → low ≤ j → j < length ss → slice_get ss j ≡ Some s →
+    t ≡ ((old || is_under_some g half (slice_range ss low j) r c) || is_under g half s r c) →
+    t ≡ (old || is_under_some g half (slice_range ss low (j + 1)) r c)
+under_more_some g half ss low j r c s t old a b at e =
+    under_more g half ss low j r c s t old a b (rw (get_or_from_slice_get ss j s s at) e)
+
+-- the covered stations, as the code cuts them
+pub range_covers : (p : Params) (ss : List Station) (spacing k parts : ℕ) → p.speed ≡ p.max_speed → parts + 1 ≡ length ss →
+    slice_range ss ((p.speed * k - p.length) / spacing) (min ((p.speed * k + p.speed + (spacing - 1)) / spacing) parts + 1)
+    ≡ slice_range ss ((front p false k - p.length) / spacing) (ceil_div (front p false (k + 1)) spacing + 1)
+range_covers p ss spacing k parts same count =
+    let a : front p false k ≡ p.speed * k = front-steady p k same in
+    let b : front p false (k + 1) ≡ p.speed * k + p.speed = front-steady p (k + 1) same ∙ omega arith in
+    let cut : min ((p.speed * k + p.speed + (spacing - 1)) / spacing) parts + 1 ≡ min ((p.speed * k + p.speed + (spacing - 1)) / spacing + 1) (length ss) = omega arith in
+    rw (a, b, cut) (sym (slice_range_cut ss ((p.speed * k - p.length) / spacing) ((p.speed * k + p.speed + (spacing - 1)) / spacing + 1)))
+
+-- before the last crossing step the rear is on the path
+pub reach_of : (i : Intersection) (p : Params) (ss : List Station) (k : ℕ) → IsMoving p → path i p.lane p.turn ≡ Some ss → k < crossing_steps i p false → p.speed * k ≤ (length ss - 1) * i.grid.spacing + p.length
+reach_of i p ss k moving there l =
+    let r = rear_on_path i p k moving.moves moving.same l in
+    let same : path_length i p ≡ (length ss - 1) * i.grid.spacing = rw there refl in
+    let at = front-steady p k moving.same in
+    omega arith
+
+-- the foot's tiles, by its stations
+pub footed_at : (i : Intersection) (p : Params) (ss : List Station) (k low next half r c : ℕ) → path i p.lane p.turn ≡ Some ss → half ≡ ceil_div p.width 2 + i.grid.spacing + i.grid.fixed →
+    slice_range ss low next ≡ slice_range ss ((front p false k - p.length) / i.grid.spacing) (ceil_div (front p false (k + 1)) i.grid.spacing + 1) →
+    is_under_some i.grid half (slice_range ss low next) r c ≡ is_footed i p k r c
+footed_at i p ss k low next half r c there wide part = rw (wide, part, there) refl
+
+-- a foot's tiles are set
+pub foot_set : (i : Intersection) (p : Params) (g ground : Grid) (ss : List Station) (k low next half r c : ℕ) (t old : Bool) → g ≡ i.grid → ground ≡ i.grid → path i p.lane p.turn ≡ Some ss → half ≡ ceil_div p.width 2 + g.spacing + g.fixed →
+    slice_range ss low next ≡ slice_range ss ((front p false k - p.length) / g.spacing) (ceil_div (front p false (k + 1)) g.spacing + 1) →
+    t ≡ (old || is_under_some ground half (slice_range ss low next) r c) → t ≡ (old || is_footed i p k r c)
+foot_set i p g ground ss k low next half r c t old same there path_there wide part set =
+    rw there at set ∙ ap (λ b. old || b) (footed_at i p ss k low next half r c path_there (rw same at wide) (rw same at part))

@@ -1,0 +1,14 @@
+pub mod TestLemmas
+pub mod ServedLemmas
+pub mod AnswerLemmas
+pub mod CrossingLemmas
+pub mod TakingLemmas
+pub mod BlockLemmas
+pub mod DistanceLemmas
+pub mod RowLemmas
+pub mod FootLemmas
+pub mod GoodLemmas
+pub mod ReplyLemmas
+pub mod SpanLemmas
+pub mod TakenLemmas
+pub mod BookLemmas

@@ -1,0 +1,10 @@
+-- What contracts see of a book.
+use Rattle.std.specs.Prelude.{ℕ, List}
+use Rattle.aim_msg.specs.declared.entries.Entry.{Entry}
+use Rattle.aim_paths.specs.Intersection.{Intersection}
+
+pub record State : Type 0 where
+  pub layout : Intersection
+  pub vehicles : ℕ
+  pub room : ℕ
+  pub journal : List Entry

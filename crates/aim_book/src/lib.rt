@@ -1,0 +1,17 @@
+//! The one-thread manager: it answers requests and keeps a journal of them.
+#![tactic(auto)]
+
+mod answers;
+mod book;
+mod conflicts;
+mod distances;
+mod feet;
+mod fields;
+mod journals;
+mod rows;
+mod takings;
+mod times;
+
+pub use book::{Book, Full, OpenFault};
+pub use fields::bad_field;
+pub use journals::has_called;

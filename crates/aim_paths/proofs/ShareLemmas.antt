@@ -1,0 +1,68 @@
+-- Lanes that share a tile, and words that share a bit.
+use Rattle.std.proofs.Common.{◌≡◌, ℕ, ◌/◌, ◌^◌, ◌<◌, ◌≤◌, true, false, ◌&&◌, not, arith, refl, sym, ◌∙◌, List, w64, nat_lt, lt-ltb, eqb}
+use Rattle.std.specs.Prelude.{bit_and, slice_index, nat_le}
+use Rattle.std.specs.Int.{trailing_zeros}
+use Rattle.std.proofs.Math.Decide.{dec_lt}
+use Rattle.std.proofs.Math.Nat.{div-eq_of_lt}
+use Rattle.std.proofs.lemmas.Bool.{and_parts, lt-leb, le-leb, ltb-true, ne_eqb}
+use Rattle.std.proofs.lemmas.Nat.{and_le_l, le-div}
+use Rattle.std.proofs.lemmas.Nat.Bits.{bit_at-trailing_zeros, bit_at-zero}
+use Rattle.aim_geometry.specs.Bounded.{some_below}
+use Rattle.aim_geometry.specs.Rects.{has_bit}
+use Rattle.aim_geometry.proofs.BoundedLemmas.{some_below_at, some_below_none}
+use Rattle.aim_geometry.proofs.Bits.{has_bit_and}
+use Rattle.aim_paths.specs.Intersection.{Intersection}
+use Rattle.aim_paths.specs.Lights.{in_lane_tiles}
+use Rattle.aim_paths.specs.LaneTiles.{is_lane_tile, HasTilesOf}
+use Rattle.aim_paths.specs.Building.{share_tile}
+
+-- whether a number reaches a power of two
+pub reaches : (x p : ℕ) → 0 < p → not (eqb (x / p) 0) ≡ nat_le p x
+reaches x p h = elim (dec_lt x p) [
+  | yes l ↦ rw (div-eq_of_lt l, lt-leb p x l) refl
+  | no l ↦ (let q : 1 ≤ x / p = le-div 1 x p h (omega arith) in
+      let n : x / p ≡ 0 → ⊥ = λ e. (omega arith) in
+      rw (ne_eqb (x / p) 0 n, le-leb p x (omega arith)) refl)
+]
+
+-- a tile of the grid is the lane's where its bit is set
+lane_tile_in : (i : Intersection) (lane row col : ℕ) → row < i.grid.n → col < i.grid.n → is_lane_tile i lane row col ≡ in_lane_tiles i lane row col
+lane_tile_in i lane row col r c = rw (lt-ltb row i.grid.n r, lt-ltb col i.grid.n c) refl
+
+-- the tile of a bit that two lanes share
+pub record IsShared (i : Intersection) (a b row col : ℕ) : Type 0 where
+  pub row_in : row < i.grid.n
+  pub col_in : col < i.grid.n
+  pub one : in_lane_tiles i a row col ≡ true
+  pub other : in_lane_tiles i b row col ≡ true
+
+shared_tile : (i : Intersection) (a b row col : ℕ) → is_lane_tile i a row col ≡ true → is_lane_tile i b row col ≡ true → IsShared i a b row col
+shared_tile i a b row col h k =
+    let p = and_parts (nat_lt row i.grid.n && nat_lt col i.grid.n) (in_lane_tiles i a row col) h in
+    let q = and_parts (nat_lt row i.grid.n && nat_lt col i.grid.n) (in_lane_tiles i b row col) k in
+    let r = and_parts (nat_lt row i.grid.n) (nat_lt col i.grid.n) p.0 in
+    record { row_in = ltb-true row i.grid.n r.0; col_in = ltb-true col i.grid.n r.1; one = p.1; other = q.1 }
+
+-- words of two lanes' rows that have a common part show a tile that both have
+pub share_tile-some : (i : Intersection) (a b : ℕ) (x y : List ℕ) (row : ℕ) → HasTilesOf i a x → HasTilesOf i b y → row < 64 → slice_index x row < 2 ^ 64 →
+    0 < bit_and (slice_index x row) (slice_index y row) → share_tile i a b ≡ true
+share_tile-some i a b x y row h k r wide some =
+    let z = bit_and (slice_index x row) (slice_index y row) in
+    let small : z < 2 ^ 64 = omega (arith, and_le_l (slice_index x row) (slice_index y row)) in
+    let t = bit_at-trailing_zeros w64 z some small in
+    let col = trailing_zeros w64 z in
+    let set : has_bit z col ≡ true = rw t.1 refl in
+    let p = and_parts (has_bit (slice_index x row) col) (has_bit (slice_index y row) col) (sym (has_bit_and (slice_index x row) (slice_index y row) col) ∙ set) in
+    let s = shared_tile i a b row col (sym (h row col r t.0) ∙ p.0) (sym (k row col r t.0) ∙ p.1) in
+    some_below_at i.grid.n (λ r. some_below i.grid.n (λ c. in_lane_tiles i a r c && in_lane_tiles i b r c)) row s.row_in
+    (some_below_at i.grid.n (λ c. in_lane_tiles i a row c && in_lane_tiles i b row c) col s.col_in (rw (s.one, s.other) refl))
+
+-- where no words have a common part, no tile is shared
+pub share_tile-none : (i : Intersection) (a b : ℕ) (x y : List ℕ) → HasTilesOf i a x → HasTilesOf i b y → i.grid.n ≤ 64 →
+    ((row : ℕ) → row < 64 → bit_and (slice_index x row) (slice_index y row) ≡ 0) → share_tile i a b ≡ false
+share_tile-none i a b x y h k few none =
+    some_below_none i.grid.n (λ r. some_below i.grid.n (λ c. in_lane_tiles i a r c && in_lane_tiles i b r c)) (λ r l.
+    some_below_none i.grid.n (λ c. in_lane_tiles i a r c && in_lane_tiles i b r c) (λ c m.
+    let e = has_bit_and (slice_index x r) (slice_index y r) c in
+    rw (← lane_tile_in i a r c l m, ← lane_tile_in i b r c l m, ← h r c (omega arith) (omega arith), ← k r c (omega arith) (omega arith))
+    (sym e ∙ rw (none r (omega arith), bit_at-zero c) refl)))

@@ -1,0 +1,18 @@
+use Rattle.std.proofs.Common.{◌≡◌, ◌<◌, length, arith, get_or, []}
+use Rattle.aim_paths.specs.Intersection.{Intersection}
+use Rattle.aim_paths.specs.Building.{no_paths}
+use Rattle.aim_paths.proofs.Elements.{get_or-read}
+use Rattle.aim_paths.proofs.LaneTileLemmas.{HasTiles-move}
+use Rattle.aim_paths.proofs.SoundLemmas.{IsMove, IsMove-tests, IsSound-move}
+use Rattle.aim_paths.proofs.builders.Builder.put.Goals as goal
+
+pub invariant_of-self : goal.invariant_of-self
+invariant_of-self c =
+    let i : Intersection = record { grid = c.self.inside.ground.grid; times = c.self.inside.ground.times; lanes = c.self.inside.lanes.items; policies = c.self.inside.policies.items } in
+    let m : IsMove i c.args.lane c.args.turn c.args.shape.now = IsMove-tests i c.args.lane c.args.turn c.args.shape.now (rw (← c.self.view_is) at c.requires) in
+    let paths : get_or i.lanes c.args.lane no_paths ≡ c.index_mut-paths.result.now = get_or-read i.lanes c.args.lane c.index_mut-paths.result.now no_paths m.there c.index_mut-paths.ensures.value in
+    let row : c.args.lane < length c.self.inside.tiles.items = let t = c.self.invariant.1.count in let l = m.there in omega arith in
+    let rows : get_or c.self.inside.tiles.items c.args.lane [] ≡ c.index_mut-rows.result.now = get_or-read c.self.inside.tiles.items c.args.lane c.index_mut-rows.result.now [] row c.index_mut-rows.ensures.value in
+    let sound = IsSound-move i c.args.lane c.args.turn c.args.shape.now c.self.invariant.0 m in
+    let tiles = HasTiles-move i c.args.lane c.args.turn c.args.shape.now c.self.inside.tiles.items c.add_path.new.rows m.there m.free c.self.invariant.1 (rw rows c.add_path.ensures.rows) in
+    rw (c.add_path.ensures.paths, ← paths) (sound, tiles, c.self.invariant.2)

@@ -1,0 +1,4 @@
+pub mod Spans
+pub mod Sheets
+pub mod Nodes
+pub mod Pools

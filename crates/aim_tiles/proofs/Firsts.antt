@@ -1,0 +1,194 @@
+-- From the first hit of a run to the first taken cell.
+use Rattle.std.proofs.Common.{◌≡◌, ◌≢◌, ◌⊎◌, ℕ, ◌+◌, ◌-◌, ◌*◌, ◌<◌, ◌≤◌, Bool, true, false, not, ◌&&◌, ◌||◌, List, length, get_or, take, drop, Option, Some, None, refl, sym, ap, subst, ◌∙◌, inl, inr, arith}
+use Rattle.std.specs.Prelude.{◌==◌, nat_lt, slice_index, IfSome, IfNone, is_some}
+use Rattle.std.specs.List.{list_any}
+use Rattle.std.specs.declared.cmp.Ordering.TheVariants.{Less, Equal}
+use Rattle.std.specs.Ordering.{is_le, nat_cmp, ordering_then, is_lt}
+use Rattle.std.proofs.lemmas.Bool.{and_parts, and_from, and_cases, both_ways, false_from_ne_true, cases_lt, cases_order, cases_eq, eqb-true, eq-eqb, lt-ltb, le-ltb}
+use Rattle.std.proofs.lemmas.List.{get_or_default, get_or-drop, get_or-take, length-take, length-drop}
+use Rattle.std.proofs.lemmas.List.Folds.{list_any_at, Any-from_list_any, list_any_none}
+use Rattle.aim_pool.specs.declared.spans.Span.{Span}
+use Rattle.aim_pool.specs.Spans.{Cell, has_bit, is_at, precedes, in_span, in_spans, AreRising, AreMarked}
+use Rattle.aim_pool.proofs.Order.{Precedes, precedes_parts, is_at_parts}
+use Rattle.aim_tiles.specs.Cells.{TakenCells, cell_cmp, has_cell}
+use Rattle.aim_tiles.specs.Pages.{is_marked}
+use Rattle.aim_tiles.specs.Searches.{is_hit, is_taken, IsClear, IsFirst, IsFirstHit, IsRun}
+use Rattle.aim_tiles.specs.Sheets.{AreTiles}
+use Rattle.aim_tiles.proofs.Writes.{row_of_span}
+use Rattle.aim_tiles.proofs.Sets.{contains-marked_cells}
+use Rattle.aim_tiles.proofs.Views.{view_of}
+
+pub some_then : {X : Type 0} (o : Option X) (P Q : X → Type 0) → ((x : X) → P x → Q x) → IfSome o P → IfSome o Q
+some_then None P Q step is = tt
+some_then (Some x) P Q step is = step x is
+
+pub none_then : {X : Type 0} (o : Option X) (P : Type 0) → is_some o ≡ false → IfNone o P → P
+none_then None P _ is = is
+none_then (Some x) P some is = absurd (cc)
+
+-- the spans from place at on, as many as count
+module _ (spans : List Span) (at : ℕ) (le : at ≤ length spans) where
+  abbrev pub rest : List Span
+  rest = take (length spans - at) (drop at spans)
+
+  pub length-rest : length rest ≡ length spans - at
+  length-rest = omega (arith, length-take (length spans - at) (drop at spans), length-drop at spans)
+
+  pub rest_at : (k : ℕ) (d : Span) → k < length spans - at → get_or rest k d ≡ get_or spans (at + k) d
+  rest_at k d lt = get_or-take (length spans - at) (drop at spans) k d lt ∙ get_or-drop at spans k d
+
+  pub rest_rows : (size : ℕ) → size ≤ 64 → AreTiles size spans → AreMarked spans → (k : ℕ) (d : Span) → k < length rest → (get_or rest k d).row < 64
+  rest_rows size few tiles marked k d lt =
+      let in_rest : k < length spans - at = omega (arith, length-rest) in
+      let row : (get_or spans (at + k) d).row < size = row_of_span spans (at + k) d (omega arith) marked size tiles in
+      omega (arith, row, ap (λ (s : Span). s.row) (rest_at k d in_rest))
+
+  module _ (count : ℕ) (within : count ≤ length rest) where
+    pub length-run : length (take count rest) ≡ count
+    length-run = omega (arith, length-take count rest)
+
+    pub run_at : (k : ℕ) (d : Span) → k < count → get_or (take count rest) k d ≡ get_or spans (at + k) d
+    run_at k d lt = get_or-take count rest k d lt ∙ rest_at k d (omega (arith, length-rest))
+
+    pub run_is : (masks : List ℕ) → 0 < count → IsRun rest masks count → IsRun (take count rest) (take count masks) (length (take count rest))
+    run_is masks some is = record {
+      step = λ k d lt. (let l : k < count = omega (arith, length-run) in
+        ap (λ (s : Span). s.step) (get_or-take count rest k d l) ∙ is.step k d l ∙ ap (λ (s : Span). s.step) (sym (get_or-take count rest 0 d some)));
+      row = λ k d lt. (let l : k < count = omega (arith, length-run) in
+        ap (λ (s : Span). s.row) (get_or-take count rest k d l) ∙ is.row k d l ∙ ap (λ (s : Span). s.row + k) (sym (get_or-take count rest 0 d some)));
+      mask = λ k d lt. (let l : k < count = omega (arith, length-run) in
+        get_or-take count masks k 0 l ∙ is.mask k d l ∙ ap (λ (s : Span). s.mask) (sym (get_or-take count rest k d l)));
+    }
+
+    -- a cell of the run is one of the spans
+    pub in_run : (cell : Cell) → in_spans (take count rest) cell ≡ true → in_spans spans cell ≡ true
+    in_run cell is =
+        let found = Any-from_list_any (λ s. in_span s cell) (take count rest) is in
+        let lt : found.0 < count = omega (arith, found.2, length-run) in
+        let there : get_or spans (at + found.0) found.1 ≡ found.1 = sym (run_at found.0 found.1 lt) ∙ found.3 in
+        list_any_at (λ s. in_span s cell) spans (at + found.0) found.1 (omega (arith, length-rest)) (ap (λ s. in_span s cell) there ∙ found.4)
+
+    pub run_tiles : (size : ℕ) → AreTiles size spans → AreTiles size (take count rest)
+    run_tiles size tiles cell is = tiles cell (in_run cell is)
+
+    module _ (test : Span → Cell → Bool) (clear : (k : ℕ) (d : Span) → k < at → IsClear test (get_or spans k d)) where
+      -- the first hit of the run is that of the spans
+      pub hit_of_run : (cell : Cell) → IsFirstHit test (take count rest) cell → IsFirstHit test spans cell
+      hit_of_run cell is =
+          let lt : is.place < count = omega (arith, is.within, length-run) in
+          record {
+            place = at + is.place;
+            within = omega (arith, length-rest);
+            hit = λ d. subst (λ (s : Span). test s cell ≡ true) (run_at is.place d lt) (is.hit d);
+            before = λ k d below. elim (cases_lt k at) [
+              | inl earlier ↦ clear k d earlier
+              | inr from ↦ (let e : at + (k - at) ≡ k = omega arith in
+                  subst (λ (s : Span). IsClear test s) (run_at (k - at) d (omega arith) ∙ ap (λ m. get_or spans m d) e) (is.before (k - at) d (omega arith)))
+            ];
+            lowest = λ d column below. subst (λ (s : Span). test s (cell.0, cell.1, column) ≡ false) (run_at is.place d lt) (is.lowest d column below);
+          }
+
+      pub clear_of_run : ((k : ℕ) (d : Span) → k < length (take count rest) → IsClear test (get_or (take count rest) k d)) → (k : ℕ) (d : Span) → k < at + count → IsClear test (get_or spans k d)
+      clear_of_run is k d below = elim (cases_lt k at) [
+        | inl earlier ↦ clear k d earlier
+        | inr from ↦ (let e : at + (k - at) ≡ k = omega arith in
+            let l : k - at < count = omega arith in
+            subst (λ (s : Span). IsClear test s) (run_at (k - at) d l ∙ ap (λ m. get_or spans m d) e) (is (k - at) d (omega (arith, length-run))))
+      ]
+
+less : (a b : ℕ) → a < b → nat_cmp a b ≡ Less
+less a b lt = rw (lt-ltb a b lt) refl
+
+equal : (a b : ℕ) → a ≡ b → nat_cmp a b ≡ Equal
+equal a b e = rw (le-ltb a b (omega arith), eq-eqb a b e) refl
+
+-- one cell is not after another
+earlier_step : (a b : Cell) → a.0 < b.0 → is_le (cell_cmp a b) ≡ true
+earlier_step a b lt = rw (less a.0 b.0 lt) refl
+
+lower_row : (a b : Cell) → a.0 ≡ b.0 → a.1 < b.1 → is_le (cell_cmp a b) ≡ true
+lower_row a b e lt = rw (equal a.0 b.0 e, less a.1 b.1 lt) refl
+
+no_higher_column : (a b : Cell) → a.0 ≡ b.0 → a.1 ≡ b.1 → a.2 ≤ b.2 → is_le (cell_cmp a b) ≡ true
+no_higher_column a b e f le = elim (cases_eq a.2 b.2) [
+  | inl same ↦ rw (equal a.0 b.0 e, equal a.1 b.1 f, equal a.2 b.2 same) refl
+  | inr other ↦ rw (equal a.0 b.0 e, equal a.1 b.1 f, less a.2 b.2 (omega arith)) refl
+]
+
+module _ (words : List ℕ) (size horizon now : ℕ) (spans own : List Span) (table : TakenCells) (is : view_of words size horizon now ≡ table) where
+  abbrev hits : Span → Cell → Bool
+  hits = is_hit words size horizon now own
+
+  held : (cell : Cell) → has_cell table cell ≡ is_marked words size horizon now cell
+  held cell = sym (ap (λ (t : TakenCells). has_cell t cell) is) ∙ contains-marked_cells words size horizon now cell
+
+  -- a hit at one of the spans is taken
+  taken_of_hit : (k : ℕ) (d : Span) (cell : Cell) → k < length spans → hits (get_or spans k d) cell ≡ true → is_taken table spans own cell ≡ true
+  taken_of_hit k d cell lt hit =
+      let parts = and_parts (in_span (get_or spans k d) cell) (is_marked words size horizon now cell && not (in_spans own cell)) hit in
+      and_from (in_spans spans cell) (has_cell table cell && not (in_spans own cell)) (list_any_at (λ s. in_span s cell) spans k d lt parts.0) (ap (λ b. b && not (in_spans own cell)) (held cell) ∙ parts.1)
+
+  -- and a taken cell is a hit at one of them
+  record HitAt (cell : Cell) : Type 0 where
+    at : ℕ
+    within : at < length spans
+    hit : (d : Span) → hits (get_or spans at d) cell ≡ true
+
+  hit_of_taken : (cell : Cell) → is_taken table spans own cell ≡ true → HitAt cell
+  hit_of_taken cell taken =
+      let parts = and_parts (in_spans spans cell) (has_cell table cell && not (in_spans own cell)) taken in
+      let found = Any-from_list_any (λ s. in_span s cell) spans parts.0 in
+      let hit : hits found.1 cell ≡ true = and_from (in_span found.1 cell) (is_marked words size horizon now cell && not (in_spans own cell)) found.4 (sym (ap (λ b. b && not (in_spans own cell)) (held cell)) ∙ parts.1) in
+      record { at = found.0; within = found.2; hit = λ d. subst (λ (s : Span). hits s cell ≡ true) (sym (get_or_default spans found.0 d found.1 found.2 ∙ found.3)) hit }
+
+  place_of_hit : (span : Span) (cell : Cell) → hits span cell ≡ true → (span.step ≡ cell.0) × (span.row ≡ cell.1)
+  place_of_hit span cell hit = is_at_parts span cell.0 cell.1 (and_parts (is_at span cell.0 cell.1) (has_bit span.mask cell.2) (and_parts (in_span span cell) (is_marked words size horizon now cell && not (in_spans own cell)) hit).0).0
+
+  module _ (rising : AreRising spans) (cell : Cell) (first : IsFirstHit hits spans cell) where
+    e : Span
+    e = record { step = 0; row = 0; mask = 0 }
+
+    least : (other : Cell) → HitAt other → is_le (cell_cmp cell other) ≡ true
+    least other hit =
+        let here = place_of_hit (get_or spans first.place e) cell (first.hit e) in
+        let there = place_of_hit (get_or spans hit.at e) other (hit.hit e) in
+        elim (cases_order first.place hit.at) [
+          | inl same ↦ (
+            let s : cell.0 ≡ other.0 = sym here.0 ∙ ap (λ k. (get_or spans k e).step) same ∙ there.0 in
+            let r : cell.1 ≡ other.1 = sym here.1 ∙ ap (λ k. (get_or spans k e).row) same ∙ there.1 in
+            elim (cases_lt other.2 cell.2) [
+              | inl lower ↦ absurd (both_ways (hits (get_or spans first.place e) (cell.0, cell.1, other.2)) (first.lowest e other.2 lower)
+                  (subst (λ k. hits (get_or spans k e) (cell.0, cell.1, other.2) ≡ true) (sym same) ((λ i. hits (get_or spans hit.at e) (s i, r i, other.2)) ∙ hit.hit e)))
+              | inr le ↦ no_higher_column cell other s r le
+            ])
+          | inr (inl before) ↦ (
+            let p : Precedes (get_or spans first.place e) (get_or spans hit.at e).step (get_or spans hit.at e).row
+              = precedes_parts (get_or spans first.place e) (get_or spans hit.at e).step (get_or spans hit.at e).row (rising first.place hit.at e before hit.within) in
+            elim (cases_eq cell.0 other.0) [
+              | inl s ↦ lower_row cell other s (let l : (get_or spans first.place e).row < (get_or spans hit.at e).row = p.lower (here.0 ∙ s ∙ sym there.0) in omega (arith, l, here.1, there.1))
+              | inr n ↦ earlier_step cell other (omega (arith, p.no_later, here.0, there.0, n))
+            ])
+          | inr (inr after) ↦ absurd (both_ways (hits (get_or spans hit.at e) other) (first.before hit.at e after other) (hit.hit e))
+        ]
+
+    pub first_taken_is : IsFirst (is_taken table spans own) cell
+    first_taken_is = record {
+      passes = taken_of_hit first.place e cell first.within (first.hit e);
+      least = λ other taken. least other (hit_of_taken other taken);
+    }
+
+  pub none_taken : ((k : ℕ) (d : Span) → k < length spans → IsClear hits (get_or spans k d)) → (cell : Cell) → is_taken table spans own cell ≡ false
+  none_taken clear cell = false_from_ne_true (is_taken table spans own cell) (λ taken. (let h : HitAt cell = hit_of_taken cell taken in
+      both_ways (hits (get_or spans h.at (record { step = 0; row = 0; mask = 0 })) cell) (clear h.at (record { step = 0; row = 0; mask = 0 }) h.within cell) (h.hit (record { step = 0; row = 0; mask = 0 }))))
+
+-- the same for what a search gives
+pub taken_found : (words : List ℕ) (size horizon now : ℕ) (spans read own : List Span) (table : TakenCells) (found : Option Cell) → view_of words size horizon now ≡ table → read ≡ spans → AreRising read
+  → IfSome found (IsFirstHit (is_hit words size horizon now own) read) → IfSome found (IsFirst (is_taken table spans own))
+taken_found words size horizon now spans read own table found is same rising first =
+    some_then found (IsFirstHit (is_hit words size horizon now own) read) (IsFirst (is_taken table spans own))
+      (λ cell hit. subst (λ (ss : List Span). IsFirst (is_taken table ss own) cell) same (first_taken_is words size horizon now read own table is rising cell hit)) first
+
+pub taken_none : (words : List ℕ) (size horizon now : ℕ) (spans read own : List Span) (table : TakenCells) (found : Option Cell) → view_of words size horizon now ≡ table → read ≡ spans
+  → IfNone found ((k : ℕ) (d : Span) → k < length read → IsClear (is_hit words size horizon now own) (get_or read k d)) → IfNone found ((cell : Cell) → is_taken table spans own cell ≡ false)
+taken_none words size horizon now spans read own table None is same clear = λ cell. subst (λ (ss : List Span). is_taken table ss own cell ≡ false) same (none_taken words size horizon now read own table is clear cell)
+taken_none words size horizon now spans read own table (Some cell) is same clear = tt

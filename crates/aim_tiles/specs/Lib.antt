@@ -1,0 +1,5 @@
+pub mod Words
+pub mod Cells
+pub mod Pages
+pub mod Sheets
+pub mod Searches

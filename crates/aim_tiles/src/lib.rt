@@ -1,0 +1,18 @@
+//! The tiles that are taken in the steps to come.
+//!
+//! A table is a finite set of cells, each a step, a row and a column, over the steps from now on up to a
+//! horizon. It is kept as a ring of pages, one for each step, of one word for each row with one bit for
+//! each column.
+#![tactic(auto)]
+
+mod counters;
+mod lanes;
+mod marks;
+mod pages;
+mod searches;
+mod tables;
+
+pub use counters::Steps;
+pub use lanes::first_meeting;
+pub use tables::Table;
+pub use std::alloc::AllocError as NoMemory;

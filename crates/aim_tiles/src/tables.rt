@@ -1,0 +1,106 @@
+//! A table of the tiles that are taken.
+
+ghost use Rattle.std.specs.Prelude.{◌≡◌, ℕ, ◌+◌, ◌-◌, ◌*◌, ◌<◌, ◌≤◌, ◌&&◌, ◌||◌, not, nat_le, min, false, length, IfOk, IfNone, IfSome};
+ghost use Rattle.std.specs.FinSet as set;
+ghost use Rattle.aim_pool.specs.Spans.{Cell, in_spans};
+ghost use Rattle.aim_tiles.specs.Cells.{has_cell};
+ghost use Rattle.aim_tiles.specs.Searches.{is_taken, IsFirst, spans_of};
+ghost use Rattle.aim_tiles.specs.Sheets.{AreTiles, AreAhead};
+ghost use Rattle.std.specs.Option.{option_copied};
+
+use crate::NoMemory;
+use crate::counters::Steps;
+use crate::marks::{clear_pages, mark_spans, unmark_spans};
+use crate::pages::Pages;
+use crate::searches::first_in_spans;
+use aim_pool::Sheet;
+use std::alloc::Global;
+use std::marker::Model;
+use std::sync::ledger::Ledger;
+
+/// The cells that are taken in the steps from now on up to the horizon.
+#[derive(Drop)]
+pub struct Table {
+    pages: Pages,
+    current: u32,
+}
+
+impl Model for Table {
+    ghost use Rattle.std.specs.Prelude.{◌≤◌};
+    ghost use Rattle.aim_tiles.specs.Cells.{TakenCells, taken_code};
+
+    ghost Value = { TakenCells };
+
+    ghost coded = { taken_code };
+
+    ghost use Rattle.aim_tiles.specs.Pages.{marked_cells};
+
+    ghost view = { λ t. record { size = t.pages.size; horizon = t.pages.horizon; current = t.current; cells = marked_cells t.pages.words.items t.pages.size t.pages.horizon t.current } };
+
+    ghost invariant = { λ t. t.current ≤ 1073741824 };
+}
+
+impl Table {
+    /// A table of `n` rows and columns over so many steps. No cell is taken, and now is 0.
+    pub fn new(alloc: Global, n: u32, horizon: u32) -> Result<Table, NoMemory>
+        requires some { 0 < n }
+        requires few { n ≤ 64 }
+        requires ahead { 0 < horizon }
+        requires near { horizon ≤ 8192 }
+        ensures { IfOk result (λ table. table ≡ record { size = n; horizon = horizon; current = 0; cells = set.empty }) }
+    {
+        Ok(Table {
+            pages: Pages::new(alloc, n, horizon)?,
+            current: 0,
+        })
+    }
+
+    /// Goes on to a later step: the cells of the steps before it leave.
+    pub fn advance<L: Ledger>(&mut self, now: u32, steps: &mut Steps<L>)
+        requires later { self.old.current ≤ now }
+        requires last { now ≤ 1073741824 }
+        ensures cells { (cell : Cell) → has_cell self.new cell ≡ (has_cell self.old cell && nat_le now cell.0) }
+        ensures rest { self.new ≡ record self.old { current = now; cells = self.new.cells } }
+        ensures cost { steps.new ≤ steps.old + self.old.size * min (now - self.old.current) self.old.horizon }
+        ensures counted { steps.old ≤ steps.new }
+    {
+        let leaving = (now - self.current).min(self.pages.horizon());
+        clear_pages(&mut self.pages, self.current, leaving, steps);
+        self.current = now;
+    }
+
+    /// The least cell of the sheet, by step, then row, then column, that is taken and is none of the own
+    /// sheet's.
+    pub fn first_taken<L: Ledger>(&self, sheet: &Sheet, own: Option<&Sheet>, steps: &mut Steps<L>) -> Option<(u32, u8, u8)>
+        requires { AreTiles self.now.size sheet.now.spans }
+        ensures found { IfSome result (IsFirst (is_taken self.now sheet.now.spans (spans_of (option_copied own.entry)))) }
+        ensures none { IfNone result ((cell : Cell) → is_taken self.now sheet.now.spans (spans_of (option_copied own.entry)) cell ≡ false) }
+        ensures cost { steps.new ≤ steps.old + length sheet.now.spans }
+        ensures counted { steps.old ≤ steps.new }
+    {
+        first_in_spans(&self.pages, self.current, sheet.spans(), own, steps)
+    }
+
+    /// Takes the sheet's cells.
+    pub fn claim<L: Ledger>(&mut self, sheet: &Sheet, steps: &mut Steps<L>)
+        requires tiles { AreTiles self.old.size sheet.now.spans }
+        requires ahead { AreAhead self.old.current self.old.horizon sheet.now.spans }
+        ensures cells { (cell : Cell) → has_cell self.new cell ≡ (has_cell self.old cell || in_spans sheet.now.spans cell) }
+        ensures rest { self.new ≡ record self.old { cells = self.new.cells } }
+        ensures cost { steps.new ≤ steps.old + length sheet.now.spans }
+        ensures counted { steps.old ≤ steps.new }
+    {
+        mark_spans(&mut self.pages, sheet.spans(), steps);
+    }
+
+    /// Lets go of the sheet's cells. Those of steps that the table doesn't have are passed over.
+    pub fn release<L: Ledger>(&mut self, sheet: &Sheet, steps: &mut Steps<L>)
+        requires { AreTiles self.old.size sheet.now.spans }
+        ensures cells { (cell : Cell) → has_cell self.new cell ≡ (has_cell self.old cell && not (in_spans sheet.now.spans cell)) }
+        ensures rest { self.new ≡ record self.old { cells = self.new.cells } }
+        ensures cost { steps.new ≤ steps.old + length sheet.now.spans }
+        ensures counted { steps.old ≤ steps.new }
+    {
+        unmark_spans(&mut self.pages, self.current, sheet.spans(), steps);
+    }
+}

@@ -1,0 +1,68 @@
+-- What the steps of one turn tell.
+use Rattle.std.proofs.Common.{◌≡◌, ℕ, Bool, true, false, List, [], ◌∷◌, ◌++◌, refl, sym, ap, ◌∙◌, subst, MatchBool, Some, None, Option}
+use Rattle.atomic_table.specs.Table.{Me, rest}
+use Rattle.aim_turn.specs.declared.view.View.{View}
+use Rattle.aim_turn.specs.History.{entries_of, Begins}
+use Rattle.aim_turn.specs.Turned.{seated, turning, queued, counted, rested, Meaning, Drew, Came, Looked, Added, Passed, Rests, Entered, Leaves, Left}
+use Rattle.aim_turn.proofs.Steps.{inside}
+
+abbrev value_of : {K : Type 0} → List (ℕ × Option K) → Option K
+value_of [] = None
+value_of (y ∷ ys) = y.1
+
+module _ {K S E : Type 0} {M : Meaning K S E} where
+  pub ready : {s : S} {n found : ℕ} {m m' : Me (Option K) (View S E)} → Rests M s n m → (d : Drew M m found m') → m' ≡ (queued (seated (Some s) m.0.numbers (Some n) m.0.seen m.0.mine) d.ticket, [])
+  ready at_rest d = d.after ∙ ap (λ (y : Me (Option K) (View S E)). (queued y.0 d.ticket, y.1)) at_rest.is
+
+  -- what the look tells, after a draw and looks that told nothing
+  pub comes : {s : S} {n found now : ℕ} {m m' l l' : Me (Option K) (View S E)} → Rests M s n m → (d : Drew M m found m') → l ≡ m' → Looked M l now l' → now ≡ found
+      → Came M (queued (seated (Some s) m.0.numbers (Some n) m.0.seen m.0.mine) d.ticket, []) l'
+  comes {now = now} {l' = l'} at_rest d same told is =
+      let told' = subst (λ (y : Me (Option K) (View S E)). Looked M y now l') (same ∙ ready at_rest d) told in
+      told'.came d.ticket refl (is ∙ d.word)
+
+  pub held : {v : View S E} {m' : Me (Option K) (View S E)} → Came M (v, []) m' → (k : K) × (m'.1 ≡ (0, Some k) ∷ [])
+  held came = (came.value, ap (λ (y : Me (Option K) (View S E)). y.1) came.after)
+
+  pub entered : {s : S} {n t : ℕ} {m m' m'' : Me (Option K) (View S E)} {k : K} → Came M (queued (seated (Some s) m.0.numbers (Some n) m.0.seen m.0.mine) t, []) m' → m'.1 ≡ (0, Some k) ∷ [] → m'' ≡ (m'.0, (0, None) ∷ []) → Entered M s n m k m''
+  entered {s = s} {n = n} {t = t} {m = m} {k = k} came in_hand is =
+      let same : came.value ≡ k = inside came.value k (ap value_of (sym (ap (λ (y : Me (Option K) (View S E)). y.1) came.after) ∙ in_hand)) in
+      let all : M.entries k ≡ came.log = sym (ap M.entries same) ∙ came.stands in
+      let set : M.setting k ≡ s = sym (ap M.setting same) ∙ inside _ _ came.setting in
+      record {
+        ticket = t;
+        after = is ∙ ap (λ (y : Me (Option K) (View S E)). (y.0, (0, None) ∷ [])) came.after ∙ ap (λ l. (turning (Some s) m.0.numbers (Some n) t l m.0.mine, (0, None) ∷ [])) (sym all);
+        setting = set;
+        lawful = subst (λ l. M.is_lawful s l) (sym all) (subst (λ s'. M.is_lawful s' came.log) (inside _ _ came.setting) came.lawful);
+        seen = subst (λ l. Begins m.0.seen l) (sym all) came.seen;
+        mine = ap (entries_of M.caller_of n) all ∙ came.mine n refl;
+      }
+
+  -- the seat, with the value back in its slot
+  pub put : {s : S} {n : ℕ} {m m' : Me (Option K) (View S E)} {k : K} {made : Bool} → (l : Leaves M s n m k made) → m' ≡ (m.0, (0, Some k) ∷ rest m.1) → m' ≡ (turning (Some s) m.0.numbers (Some n) l.ticket m.0.seen m.0.mine, (0, Some k) ∷ [])
+  put {k = k} l is = is ∙ ap (λ (y : Me (Option K) (View S E)). (y.0, (0, Some k) ∷ rest y.1)) l.before
+
+  -- the entry of a call that made one
+  pub entry : {s : S} {n : ℕ} {m : Me (Option K) (View S E)} {k : K} {made : Bool} → Leaves M s n m k made → made ≡ true → (e : E) × (M.entries k ≡ m.0.seen ++ e ∷ []) × (M.caller_of e ≡ n)
+  entry {n = n} {m = m} {k = k} l is = subst (λ b. MatchBool b ((e : E) × (M.entries k ≡ m.0.seen ++ e ∷ []) × (M.caller_of e ≡ n)) (M.entries k ≡ m.0.seen)) is l.entry
+
+  pub no_entry : {s : S} {n : ℕ} {m : Me (Option K) (View S E)} {k : K} {made : Bool} → Leaves M s n m k made → made ≡ false → M.entries k ≡ m.0.seen
+  no_entry {n = n} {m = m} {k = k} l is = subst (λ b. MatchBool b ((e : E) × (M.entries k ≡ m.0.seen ++ e ∷ []) × (M.caller_of e ≡ n)) (M.entries k ≡ m.0.seen)) is l.entry
+
+  -- the seat after the count
+  pub put_counted : {s : S} {n : ℕ} {m m' m'' : Me (Option K) (View S E)} {k : K} {made : Bool} → (l : Leaves M s n m k made) → m' ≡ (m.0, (0, Some k) ∷ rest m.1) → (came_true : made ≡ true) → Added M m' m''
+      → m'' ≡ (turning (Some s) m.0.numbers (Some n) l.ticket (m.0.seen ++ (entry l came_true).0 ∷ []) (m.0.mine ++ (entry l came_true).0 ∷ []), (0, Some k) ∷ [])
+  put_counted {k = k} l is came_true a =
+      let e = entry l came_true in
+      let p = put l is in
+      a.after k e.0 (ap (λ (y : Me (Option K) (View S E)). y.1) p) (e.1 ∙ ap (λ (y : Me (Option K) (View S E)). y.0.seen ++ e.0 ∷ []) (sym p)) ∙ ap (λ (y : Me (Option K) (View S E)). (counted y.0 e.0, y.1)) p
+
+  pub left_counted : {s : S} {n : ℕ} {m m' m'' a b : Me (Option K) (View S E)} {k : K} {made : Bool} → (l : Leaves M s n m k made) → m' ≡ (m.0, (0, Some k) ∷ rest m.1) → (came_true : made ≡ true) → Added M m' m'' → a ≡ m'' → Passed M a b → Left M s n m k made b
+  left_counted {s = s} {n = n} {m = m} {b = b} {k = k} l is came_true a same p =
+      let e = entry l came_true in
+      subst (λ c. Left M s n m k c b) (sym came_true)
+      record { after = (e.0, e.1, e.2, p.after ∙ ap (λ (y : Me (Option K) (View S E)). (rested y.0, rest y.1)) (same ∙ put_counted l is came_true a) ∙ ap (λ ls. (seated (Some s) m.0.numbers (Some n) ls (m.0.mine ++ e.0 ∷ []), [])) (sym e.1)) }
+
+  pub left_plain : {s : S} {n : ℕ} {m m' a b : Me (Option K) (View S E)} {k : K} {made : Bool} → (l : Leaves M s n m k made) → m' ≡ (m.0, (0, Some k) ∷ rest m.1) → made ≡ false → a ≡ m' → Passed M a b → Left M s n m k made b
+  left_plain {s = s} {n = n} {m = m} {b = b} {k = k} l is was_false same p =
+      subst (λ c. Left M s n m k c b) (sym was_false) record { after = p.after ∙ ap (λ (y : Me (Option K) (View S E)). (rested y.0, rest y.1)) (same ∙ put l is) }

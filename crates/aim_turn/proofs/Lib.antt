@@ -1,0 +1,10 @@
+pub mod Totals
+pub mod Histories
+pub mod Steps
+pub mod Enters
+pub mod Calls
+pub mod Seats
+pub mod Opens
+pub mod Tallies
+pub mod Closes
+pub mod Orders
