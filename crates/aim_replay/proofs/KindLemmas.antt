@@ -16,7 +16,8 @@ use Rattle.aim_msg.specs.declared.script.Line.{Line}
 use Rattle.aim_msg.specs.declared.script.Line.TheVariants as line
 use Rattle.aim_geometry.specs.Bounded.{is_outside}
 use Rattle.aim_paths.specs.Intersection.{Intersection}
-use Rattle.aim_paths.specs.Building.{is_bad_grid, is_bad_buffers, is_bad_times, is_bad_move, wide_step, shape_stations, is_full_of_policies, is_unfinished}
+use Rattle.aim_geometry.specs.Sites.{has_bad_numbers, has_bad_buffers, has_bad_times}
+use Rattle.aim_paths.specs.Building.{policy_fault, finish_fault}
 use Rattle.aim_replay.specs.Order.{Part, part_after, belongs, to_version, to_ground, to_times, to_lanes, in_moves, in_policies, to_begin, in_body, nothing}
 use Rattle.aim_replay.specs.Said.{last_of, layout_of, grid_of, times_of, names_of, vehicles_of}
 use Rattle.aim_replay.specs.Kinds.{Test, Missing, kinds, kind_of_fault, is_wide, is_no_move}
@@ -51,11 +52,11 @@ pub version_kind : (before : List Line) (n : ℕ) → part_after (last_of before
 version_kind before n part = kind_is before (line.Version n) ∙ rw part refl
 
 pub grid_kind : (before : List Line) (g : Grid6) → part_after (last_of before) ≡ to_ground
-    → kind_of_fault today before (line.Grid g) ≡ (if not (g.fixed == 0) then Some (codes "unsupported") else if is_bad_grid (grid_of g) then Some (codes "grid") else None)
+    → kind_of_fault today before (line.Grid g) ≡ (if not (g.fixed == 0) then Some (codes "unsupported") else if has_bad_numbers (grid_of g) then Some (codes "grid") else None)
 grid_kind before g part = kind_is before (line.Grid g) ∙ rw part refl
 
 pub times_kind : (before : List Line) (t : Times5) → part_after (last_of before) ≡ to_times
-    → kind_of_fault today before (line.Times t) ≡ (if not (t.internal == 0) || not (t.edge == 0) then Some (codes "unsupported") else if is_bad_buffers (times_of t) then Some (codes "buffers") else if is_bad_times (times_of t) then Some (codes "times") else None)
+    → kind_of_fault today before (line.Times t) ≡ (if not (t.internal == 0) || not (t.edge == 0) then Some (codes "unsupported") else if has_bad_buffers (times_of t) then Some (codes "buffers") else if has_bad_times (times_of t) then Some (codes "times") else None)
 times_kind before t part = kind_is before (line.Times t) ∙ rw part refl
 
 pub lanes_kind : (before : List Line) (n : ℕ) → part_after (last_of before) ≡ to_lanes
@@ -79,7 +80,7 @@ none_named [] test is = refl
 none_named (name ∷ names) test is = absurd (omega arith)
 
 -- the first policy
-pub policy_kind : (before : List Line) (name : Name) (k : ℕ) → part_after (last_of before) ≡ in_moves → length (names_of before) ≡ 0 → is_full_of_policies (layout_of before) ≡ false
+pub policy_kind : (before : List Line) (name : Name) (k : ℕ) → part_after (last_of before) ≡ in_moves → length (names_of before) ≡ 0 → is_some (policy_fault (layout_of before)) ≡ false
     → kind_of_fault today before (line.Policy name k) ≡ (if not (k == 0) then Some (codes "unsupported") else None)
 policy_kind before name k part none full = kind_is before (line.Policy name k) ∙ rw (part, none, none_named (names_of before) (bytes_eq (name_word name)) none, full, or_false (not (k == 0))) refl
 
@@ -89,7 +90,7 @@ pub second_policy_kind : (before : List Line) (name : Name) (k : ℕ) → part_a
 second_policy_kind before name k part some = kind_is before (line.Policy name k) ∙ rw (part, lt-ltb 0 (length (names_of before)) some, or_true (not (k == 0))) refl
 
 pub vehicles_kind : (before : List Line) (n : ℕ) → (part_after (last_of before) ≡ in_moves) ⊎ (part_after (last_of before) ≡ in_policies)
-    → kind_of_fault today before (line.Vehicles n) ≡ (if nat_lt 64 n then Some (codes "unsupported") else if is_unfinished (layout_of before) then Some (codes "phase") else if n == 0 then Some (codes "vehicle") else None)
+    → kind_of_fault today before (line.Vehicles n) ≡ (if nat_lt 64 n then Some (codes "unsupported") else if is_some (finish_fault (layout_of before)) then Some (codes "phase") else if n == 0 then Some (codes "vehicle") else None)
 vehicles_kind before n (inl part) = kind_is before (line.Vehicles n) ∙ rw part refl
 vehicles_kind before n (inr part) = kind_is before (line.Vehicles n) ∙ rw part refl
 

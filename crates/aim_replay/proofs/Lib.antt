@@ -5,3 +5,5 @@ pub mod AppendLemmas
 pub mod KindLemmas
 pub mod TextLemmas
 pub mod CallLemmas
+pub mod StageLemmas
+pub mod SessionLemmas

@@ -1,5 +1,6 @@
 -- What the program's words for a decision stand for.
-use Rattle.std.specs.Prelude.{ℕ, List, codes}
+use Rattle.std.specs.Prelude.{◌≡◌, ℕ, List, [], ◌∷◌, codes, decimal}
+use Rattle.aim_msg.specs.Texts.{Words}
 use Rattle.aim_replay.specs.declared.endings.Kind.{Kind}
 use Rattle.aim_replay.specs.declared.endings.Kind.TheVariants as kind
 use Rattle.aim_replay.specs.declared.endings.Limit.{Limit}
@@ -29,7 +30,14 @@ abbrev pub limit_text : Limit → List ℕ
 limit_text limit.Bytes = codes "bytes"
 limit_text limit.Lines = codes "lines"
 
-abbrev pub decision_of : Ending → Decision
-decision_of (ending.Bad number k) = bad number (kind_text k)
-decision_of (ending.Limit l) = limited (limit_text l)
-decision_of ending.Whole = whole
+-- the words of the last line
+abbrev pub ending_words : Ending → Words
+ending_words (ending.Bad number k) = codes "bad" ∷ codes "line" ∷ decimal number ∷ kind_text k ∷ []
+ending_words (ending.Limit l) = codes "limit" ∷ limit_text l ∷ []
+ending_words (ending.Whole entries) = codes "end" ∷ decimal entries ∷ []
+
+-- the ending tells this decision, with so many entries before it
+abbrev pub Tells : Decision → ℕ → Ending → Type 0
+Tells d entries (ending.Bad number k) = d ≡ bad number (kind_text k)
+Tells d entries (ending.Limit l) = d ≡ limited (limit_text l)
+Tells d entries (ending.Whole n) = (d ≡ whole) × (n ≡ entries)

@@ -3,8 +3,8 @@
 ghost use Rattle.std.specs.Prelude.{◌≡◌, ◌<◌, ◌≤◌, ◌+◌, ◌++◌, ◌∷◌, [], length, take};
 ghost use Rattle.aim_msg.specs.Texts.{spaced};
 ghost use Rattle.aim_msg.specs.Writing.{added};
-ghost use Rattle.aim_replay.specs.Endings.{decision_of, kind_text, limit_text};
-ghost use Rattle.aim_replay.specs.Texts.{last_words, printed};
+ghost use Rattle.aim_replay.specs.Endings.{ending_words, kind_text, limit_text};
+ghost use Rattle.aim_replay.specs.Texts.{printed};
 
 use aim_msg::{LineKind, Text};
 
@@ -59,8 +59,8 @@ pub enum Ending {
     Bad(u32, Kind),
     /// The input goes past a limit.
     Limit(Limit),
-    /// The script is whole.
-    Whole,
+    /// The script is whole, and has so many entries.
+    Whole(u32),
 }
 
 // The word for a kind of line that can't be read.
@@ -112,9 +112,9 @@ fn limit_text(limit: Limit) -> &'static [u8]
 }
 
 // Adds the words of the last line.
-fn put_ending(text: &mut Text, ending: Ending, entries: u32)
+fn put_ending(text: &mut Text, ending: Ending)
     requires { text.old ≡ [] }
-    ensures words { text.new ≡ added [] (last_words entries (decision_of ending)) }
+    ensures words { text.new ≡ added [] (ending_words ending) }
     ensures fits { length text.new ≤ 50 }
 {
     match ending {
@@ -128,22 +128,21 @@ fn put_ending(text: &mut Text, ending: Ending, entries: u32)
             text.word(b"limit");
             text.word(limit_text(limit));
         }
-        Ending::Whole => {
+        Ending::Whole(entries) => {
             text.word(b"end");
             text.number(entries);
         }
     }
 }
 
-/// Puts the last line of a replay with so many entries at the front of `line`, its byte 10
-/// included, and says how long it is. Takes no memory.
-#[tactic(auto, using(aim_msg::proofs::Words::spaced_added))]
-pub fn last_line(ending: Ending, entries: u32, line: &mut [u8; 400]) -> usize
-    ensures text { take result line.new ≡ printed (spaced (last_words entries (decision_of ending))) }
+/// Puts the last line of a replay at the front of `line`, its byte 10 included, and says how long
+/// it is. Takes no memory.
+pub fn last_line(ending: Ending, line: &mut [u8; 400]) -> usize
+    ensures text { take result line.new ≡ printed (spaced (ending_words ending)) }
     ensures fits { result ≤ 400 }
 {
     let mut text = Text::new();
-    put_ending(&mut text, ending, entries);
+    put_ending(&mut text, ending);
     let len = text.give(line);
     line[len] = b'\n';
     len + 1

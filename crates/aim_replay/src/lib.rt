@@ -3,5 +3,7 @@
 
 mod endings;
 pub mod laws;
+mod session;
+mod stages;
 
 pub use endings::{Ending, Kind, Limit, last_line};
