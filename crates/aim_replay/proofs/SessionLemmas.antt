@@ -1,5 +1,5 @@
 -- How a replay goes on with one more line, and how it ends.
-use Rattle.std.proofs.Common.{◌≡◌, ◌≢◌, ◌⊎◌, inl, inr, ℕ, ◌+◌, ◌<◌, ◌≤◌, Bool, true, false, List, [], ◌∷◌, ◌++◌, length, take, drop, Option, Some, None, IfSome, Result, Ok, Err, refl, sym, ap, ◌∙◌, subst, arith, append_assoc, append-nil, length-append, if◌then◌else◌}
+use Rattle.std.proofs.Common.{◌≡◌, ◌≢◌, ◌⊎◌, inl, inr, ℕ, ◌+◌, ◌<◌, ◌≤◌, Bool, true, false, List, [], ◌∷◌, ◌++◌, length, take, drop, Option, Some, None, IfSome, Result, Ok, Err, refl, sym, ap, ◌∙◌, subst, arith, append_assoc, append-nil, length-append, codes, decimal, if◌then◌else◌}
 use Rattle.std.specs.List.{AllByRecursion, slice_index_or}
 use Rattle.std.specs.Bool.{OnTrue, OnFalse}
 use Rattle.std.specs.Io.KnownBytes.{Appends, Consumes, Keeps, IsAtEnd, prepend_known}
@@ -9,23 +9,25 @@ use Rattle.aim_io.specs.declared.lines.LineFault.{LineFault}
 use Rattle.aim_io.specs.declared.lines.LineFault.TheVariants as line_fault
 use Rattle.aim_io.specs.Known.{AppendsFront}
 use Rattle.aim_io.specs.Lines.{Outcome, Line as LineOf, Stop, outcomes_from, IsOpen, ShowsNothing, with_end}
-use Rattle.aim_io.specs.Reader.{Reader, fresh, input, coming, Answers, Stops, KnowsEnd, after_call}
-use Rattle.aim_msg.specs.Texts.{entry_text, spaced}
+use Rattle.aim_io.specs.Reader.{Reader, fresh, input, coming, Answers, Stops, KnowsEnd, IsSound, after_call}
+use Rattle.aim_msg.specs.Texts.{Words, entry_text, spaced}
 use Rattle.aim_msg.specs.declared.entries.Entry.{Entry}
 use Rattle.aim_msg.specs.declared.script.Line.{Line}
 use Rattle.aim_paths.specs.Intersection.{Intersection}
 use Rattle.aim_paths.specs.Legal.{Call, journal}
 use Rattle.aim_replay.specs.declared.endings.Ending.{Ending}
+use Rattle.aim_replay.specs.declared.endings.Ending.TheVariants as ending
+use Rattle.aim_replay.specs.declared.endings.Kind.{Kind}
 use Rattle.aim_replay.specs.declared.stages.Stage.{Stage}
 use Rattle.aim_replay.specs.declared.stages.Stage.TheVariants as stage
 use Rattle.aim_replay.specs.Said.{layout_of, calls_of, names_of}
-use Rattle.aim_replay.specs.Verdicts.{Decision, Verdict, Judgement, judge, decides, goes_on, of_fault, at_end, verdict_from, verdict}
-use Rattle.aim_replay.specs.Texts.{entry_lines, printed, journal_of}
+use Rattle.aim_replay.specs.Verdicts.{Decision, Verdict, Judgement, bad, number_after, judge, decides, goes_on, of_fault, at_end, verdict_from, verdict}
+use Rattle.aim_replay.specs.Texts.{entry_lines, printed, journal_of, last_words, replay_text, status_of}
 use Rattle.aim_replay.specs.Today.{today}
-use Rattle.aim_replay.specs.Endings.{Tells}
+use Rattle.aim_replay.specs.Endings.{Tells, kind_text, ending_words}
 use Rattle.aim_replay.specs.Stands.{IsHeader}
 use Rattle.aim_replay.specs.Stages.{Stands, Says, Judged, Grows, MayTake, journal_at}
-use Rattle.aim_replay.specs.Replays.{AreWhole, StopsShort, Writes, WritesFront, ended, script_after, unless_decided, entries_text, gained}
+use Rattle.aim_replay.specs.Replays.{Replays, AreWhole, StopsShort, Writes, WritesFront, ended, script_after, unless_decided, entries_text, gained}
 use Rattle.aim_replay.specs.Sessions.{Decides, Took, Reached, Responds, TellsVerdict}
 use Rattle.aim_replay.proofs.TextLemmas.{entry_lines-append, Begins, journal_of_begins, nothing_begins}
 
@@ -304,3 +306,111 @@ on_true false is h = absurd (cc)
 pub on_false : {P : Type 0} (b : Bool) → b ≡ false → OnFalse b P → P
 on_false true is h = absurd (cc)
 on_false false is h = h
+
+pub sound_start : IsSound fresh
+sound_start = record { few = omega arith; read = omega arith; ended = λ is. refl }
+
+pub knows_start : (left : Option (List ℕ)) → KnowsEnd fresh left
+knows_start left is = absurd (cc)
+
+pub front_reached : (bytes rest start now : Option (List ℕ)) (reader : Reader) (s : Stage) → Reached bytes rest start now reader s → WritesFront bytes start now (entries_text today)
+front_reached bytes rest start now reader s r = stops_whole r.before s reader bytes rest start now r.stands r.decides r.written
+
+-- nothing more was written
+pub written_kept : (start mid now : Option (List ℕ)) (text : List ℕ) → Appends start mid text → Appends mid now [] → Appends start now text
+written_kept start mid now text first none = subst (Appends start now) (append-nil text) (Appends-trans start mid now text [] first none)
+
+-- the reader after a fault of the source
+pub short_reached : (bytes left after start now : Option (List ℕ)) (old new : Reader) (f : LineFault) (P : Type 0) (s : Stage) → Reached bytes (input old left) start now old s
+    → new ≡ record old { held = new.held; line = []; fault = Some f } → ShowsNothing new.given new.place new.held × (new.ended ≡ false) × P → Keeps (input old left) (input new after) → StopsShort today bytes after start now
+short_reached bytes left after start now old new f P s r same shows kept =
+    let going : old.ended ≡ false = sym (ap (λ (x : Reader). x.ended) same) ∙ shows.1 in
+    stops_short bytes (input old left) after start now old new s r going (ap (λ (x : Reader). x.given) same) (ap (λ (x : Reader). x.place) same) shows.0 kept
+
+pub fault_told : (bytes rest left start now : Option (List ℕ)) (old new : Reader) (s : Stage) (f : LineFault) (e : Ending) → Reached bytes rest start now old s → IsOfInput f → Answers old new rest left (Err f) → Tells (of_fault f) (length (journal_at s)) e
+    → IfSome bytes (λ bs. TellsVerdict e (verdict today bs))
+fault_told bytes rest left start now old new s f e r other step tells = told r.before s (of_fault f) e bytes r.stands.says (ends_fault r.before old new f bytes rest left other r.decides step) tells
+
+pub fault_written : (bytes rest left start now : Option (List ℕ)) (old new : Reader) (s : Stage) (f : LineFault) → Reached bytes rest start now old s → IsOfInput f → Answers old new rest left (Err f) → Writes bytes start now (entries_text today)
+fault_written bytes rest left start now old new s f r other step = written_all r.before s (of_fault f) bytes start now r.stands.says (ends_fault r.before old new f bytes rest left other r.decides step) r.written
+
+pub end_told : (bytes rest left start now : Option (List ℕ)) (old new : Reader) (s : Stage) (e : Ending) (r : Reached bytes rest start now old s) → Answers old new rest left (Ok false) → Tells (at_end r.before) (length (journal_at s)) e
+    → IfSome bytes (λ bs. TellsVerdict e (verdict today bs))
+end_told bytes rest left start now old new s e r step tells = told r.before s (at_end r.before) e bytes r.stands.says (ends_input r.before old new bytes rest left r.decides step) tells
+
+pub end_written : (bytes rest left start now : Option (List ℕ)) (old new : Reader) (s : Stage) → Reached bytes rest start now old s → Answers old new rest left (Ok false) → Writes bytes start now (entries_text today)
+end_written bytes rest left start now old new s r step = written_all r.before s (at_end r.before) bytes start now r.stands.says (ends_input r.before old new bytes rest left r.decides step) r.written
+
+pub bad_told : (bytes rest left start now : Option (List ℕ)) (old new : Reader) (s : Stage) (number : ℕ) (kind : Kind) (r : Reached bytes rest start now old s) → Answers old new rest left (Ok true) → judge today r.before (LineOf new.line) ≡ decides (bad (number_after r.before) (kind_text kind))
+    → number ≡ old.given + 1 → IfSome bytes (λ bs. TellsVerdict (ending.Bad number kind) (verdict today bs))
+bad_told bytes rest left start now old new s number kind r step is same =
+    let d = bad (number_after r.before) (kind_text kind) in
+    let count : number_after r.before ≡ number = omega (arith, r.count, same) in
+    told r.before s d (ending.Bad number kind) bytes r.stands.says (ends_line r.before d old new bytes rest left is r.decides step) (ap (λ n. bad n (kind_text kind)) count)
+
+pub bad_written : (bytes rest left start mid now : Option (List ℕ)) (old new : Reader) (s : Stage) (d : Decision) (r : Reached bytes rest start mid old s) → Answers old new rest left (Ok true) → judge today r.before (LineOf new.line) ≡ decides d → Appends mid now []
+    → Writes bytes start now (entries_text today)
+bad_written bytes rest left start mid now old new s d r step is none =
+    written_all r.before s d bytes start now r.stands.says (ends_line r.before d old new bytes rest left is r.decides step) (written_kept start mid now (entry_lines 0 (journal_at s)) r.written none)
+
+pub memory_front : (bytes rest start mid now : Option (List ℕ)) (reader : Reader) (s : Stage) → Reached bytes rest start mid reader s → Appends mid now [] → WritesFront bytes start now (entries_text today)
+memory_front bytes rest start mid now reader s r none = stops_whole r.before s reader bytes rest start now r.stands r.decides (written_kept start mid now (entry_lines 0 (journal_at s)) r.written none)
+
+-- the last line of an ending is that of the verdict that it tells
+last_words_are : (d : Decision) (entries : ℕ) (e : Ending) → Tells d entries e → last_words entries d ≡ ending_words e
+last_words_are d entries (ending.Bad number k) tells = ap (last_words entries) tells
+last_words_are d entries (ending.Limit l) tells = ap (last_words entries) tells
+last_words_are d entries (ending.Whole n) tells = ap (last_words entries) tells.0 ∙ ap (λ m. codes "end" ∷ decimal m ∷ []) (sym tells.1)
+
+-- the text is the entries' lines and the last line
+text_is : (bytes : List ℕ) (e : Ending) → TellsVerdict e (verdict today bytes) → replay_text today None bytes ≡ entries_text today bytes ++ printed (spaced (ending_words e))
+text_is bytes e tells =
+    let v = verdict today bytes in
+    ap (λ (words : Words). entries_text today bytes ++ printed (spaced words)) (last_words_are v.decision (length (journal_of v)) e tells)
+
+-- the last line was written behind the entries' lines
+pub all_written : (bytes start mid now : Option (List ℕ)) (e : Ending) → IfSome bytes (λ bs. TellsVerdict e (verdict today bs)) → Writes bytes start mid (entries_text today) → Appends mid now (printed (spaced (ending_words e)))
+    → Writes bytes start now (replay_text today None)
+all_written None start mid now e tells first last = tt
+all_written (Some bytes) start mid now e tells first last = subst (Appends start now) (sym (text_is bytes e tells)) (Appends-trans start mid now _ _ first last)
+
+-- a front of the last line was written behind them
+pub front_written : (bytes start mid now : Option (List ℕ)) (e : Ending) → IfSome bytes (λ bs. TellsVerdict e (verdict today bs)) → Writes bytes start mid (entries_text today) → AppendsFront mid now (printed (spaced (ending_words e)))
+    → WritesFront bytes start now (replay_text today None)
+front_written None start mid now e tells first last = tt
+front_written (Some bytes) start mid now e tells first last = record {
+  front = entries_text today bytes ++ last.front;
+  rest = last.rest;
+  whole = text_is bytes e tells ∙ ap (λ (t : List ℕ). entries_text today bytes ++ t) last.whole ∙ sym (append_assoc (entries_text today bytes) last.front last.rest);
+  added = Appends-trans start mid now _ _ first last.added;
+}
+
+-- a front of the entries' lines is a front of the text
+pub front_of_text : (bytes start now : Option (List ℕ)) → WritesFront bytes start now (entries_text today) → WritesFront bytes start now (replay_text today None)
+front_of_text None start now front = tt
+front_of_text (Some bytes) start now front =
+    let v = verdict today bytes in
+    let last = printed (spaced (last_words (length (journal_of v)) v.decision)) in
+    record {
+      front = front.front;
+      rest = front.rest ++ last;
+      whole = ap (λ (t : List ℕ). t ++ last) front.whole ∙ append_assoc front.front front.rest last;
+      added = front.added;
+    }
+
+-- the status of an ending
+abbrev pub status_told : Ending → ℕ
+status_told (ending.Bad number k) = 3
+status_told (ending.Limit l) = 6
+status_told (ending.Whole n) = 0
+
+status_is : (d : Decision) (entries : ℕ) (e : Ending) → Tells d entries e → status_told e ≡ status_of d
+status_is d entries (ending.Bad number k) tells = ap status_of (sym tells)
+status_is d entries (ending.Limit l) tells = ap status_of (sym tells)
+status_is d entries (ending.Whole n) tells = ap status_of (sym tells.0)
+
+pub replays : (bytes old new : Option (List ℕ)) (e : Ending) → IfSome bytes (λ bs. TellsVerdict e (verdict today bs)) → Writes bytes old new (replay_text today None) → IfSome bytes (λ bs. Replays today None bs old new (status_told e))
+replays None old new e tells written = tt
+replays (Some bytes) old new e tells written =
+    let v = verdict today bytes in
+    record { text = written; status = status_is v.decision (length (journal_of v)) e tells }

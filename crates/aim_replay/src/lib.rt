@@ -6,4 +6,4 @@ pub mod laws;
 mod session;
 mod stages;
 
-pub use endings::{Ending, Kind, Limit, last_line};
+pub use session::replay;
