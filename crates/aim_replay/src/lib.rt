@@ -1,4 +1,9 @@
 //! Replays of scripts: what a script says, line by line, and what its replay prints.
 #![tactic(auto)]
 
+mod endings;
 pub mod laws;
+mod session;
+mod stages;
+
+pub use session::replay;

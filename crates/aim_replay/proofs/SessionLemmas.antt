@@ -1,0 +1,416 @@
+-- How a replay goes on with one more line, and how it ends.
+use Rattle.std.proofs.Common.{◌≡◌, ◌≢◌, ◌⊎◌, inl, inr, ℕ, ◌+◌, ◌<◌, ◌≤◌, Bool, true, false, List, [], ◌∷◌, ◌++◌, length, take, drop, Option, Some, None, IfSome, Result, Ok, Err, refl, sym, ap, ◌∙◌, subst, arith, append_assoc, append-nil, length-append, codes, decimal, if◌then◌else◌}
+use Rattle.std.specs.List.{AllByRecursion, slice_index_or}
+use Rattle.std.specs.Bool.{OnTrue, OnFalse}
+use Rattle.std.specs.Io.KnownBytes.{Appends, Consumes, Keeps, IsAtEnd, prepend_known}
+use Rattle.std.proofs.KnownBytes.{Appends-nil, Appends-trans, Consumes-trans}
+use Rattle.std.proofs.lemmas.List.{drop_at, drop_all}
+use Rattle.aim_io.specs.declared.lines.LineFault.{LineFault}
+use Rattle.aim_io.specs.declared.lines.LineFault.TheVariants as line_fault
+use Rattle.aim_io.specs.Known.{AppendsFront}
+use Rattle.aim_io.specs.Lines.{Outcome, Line as LineOf, Stop, outcomes_from, IsOpen, ShowsNothing, with_end}
+use Rattle.aim_io.specs.Reader.{Reader, fresh, input, coming, Answers, Stops, KnowsEnd, IsSound, after_call}
+use Rattle.aim_msg.specs.Texts.{Words, entry_text, spaced}
+use Rattle.aim_msg.specs.declared.entries.Entry.{Entry}
+use Rattle.aim_msg.specs.declared.script.Line.{Line}
+use Rattle.aim_paths.specs.Intersection.{Intersection}
+use Rattle.aim_paths.specs.Legal.{Call, journal}
+use Rattle.aim_replay.specs.declared.endings.Ending.{Ending}
+use Rattle.aim_replay.specs.declared.endings.Ending.TheVariants as ending
+use Rattle.aim_replay.specs.declared.endings.Kind.{Kind}
+use Rattle.aim_replay.specs.declared.stages.Stage.{Stage}
+use Rattle.aim_replay.specs.declared.stages.Stage.TheVariants as stage
+use Rattle.aim_replay.specs.Said.{layout_of, calls_of, names_of}
+use Rattle.aim_replay.specs.Verdicts.{Decision, Verdict, Judgement, bad, number_after, judge, decides, goes_on, of_fault, at_end, verdict_from, verdict}
+use Rattle.aim_replay.specs.Texts.{entry_lines, printed, journal_of, last_words, replay_text, status_of}
+use Rattle.aim_replay.specs.Today.{today}
+use Rattle.aim_replay.specs.Endings.{Tells, kind_text, ending_words}
+use Rattle.aim_replay.specs.Stands.{IsHeader}
+use Rattle.aim_replay.specs.Stages.{Stands, Says, Judged, Grows, MayTake, journal_at}
+use Rattle.aim_replay.specs.Replays.{Replays, AreWhole, StopsShort, Writes, WritesFront, ended, script_after, unless_decided, entries_text, gained}
+use Rattle.aim_replay.specs.Sessions.{Decides, Took, Reached, Responds, TellsVerdict}
+use Rattle.aim_replay.proofs.TextLemmas.{entry_lines-append, Begins, journal_of_begins, nothing_begins}
+
+-- the lines of what a journal has gained come behind those of the journal
+pub gained_after : (old new : List Entry) → Grows old new → entry_lines 0 new ≡ entry_lines 0 old ++ gained old new
+gained_after old new (inl same) = rw (same, drop_all (length old) old (omega arith)) (sym (append-nil (entry_lines 0 old)))
+gained_after old new (inr (e, more)) =
+    rw (more, drop_at old (e ∷ []) (length old) refl) (entry_lines-append 0 old (e ∷ []) ∙ ap (λ n. entry_lines 0 old ++ entry_lines n (e ∷ [])) (omega arith))
+
+-- the journal of the lines is that of the stage
+header_journal : (before : List Line) (i : Intersection) → IsHeader before i → journal (layout_of before) (calls_of before) ≡ []
+header_journal before i h = ap (journal (layout_of before)) (h.no_calls (names_of before))
+
+pub journal_is : (before : List Line) (s : Stage) → Says before s → journal (layout_of before) (calls_of before) ≡ journal_at s
+journal_is before stage.Version says = header_journal before _ says
+journal_is before stage.Grid says = header_journal before _ says
+journal_is before (stage.Times g) says = header_journal before _ says.0
+journal_is before (stage.Lanes g) says = header_journal before _ says.0
+journal_is before (stage.Moves b) says = header_journal before _ says.0
+journal_is before (stage.Policies b) says = header_journal before _ says.0
+journal_is before (stage.Begin k n) says = rw says.0.layout says.0.journal
+journal_is before (stage.Body k n) says = rw says.0.layout says.0.journal
+journal_is before (stage.Over k) says = rw says.layout says.journal
+
+-- the journal so far is the first of that of the whole script
+begins : (before : List Line) (s : Stage) (os : List Outcome) → Stands before s → Begins (journal_at s) (verdict_from today before os)
+begins before stage.Version os st = nothing_begins (verdict_from today before os)
+begins before stage.Grid os st = nothing_begins (verdict_from today before os)
+begins before (stage.Times g) os st = nothing_begins (verdict_from today before os)
+begins before (stage.Lanes g) os st = nothing_begins (verdict_from today before os)
+begins before (stage.Moves b) os st = nothing_begins (verdict_from today before os)
+begins before (stage.Policies b) os st = nothing_begins (verdict_from today before os)
+begins before (stage.Begin k n) os st = journal_of_begins today before os k.journal (rw st.part refl) (journal_is before (stage.Begin k n) st.says)
+begins before (stage.Body k n) os st = journal_of_begins today before os k.journal (rw st.part refl) (journal_is before (stage.Body k n) st.says)
+begins before (stage.Over k) os st = journal_of_begins today before os k.journal (rw st.part refl) (journal_is before (stage.Over k) st.says)
+
+-- a verdict is made, behind these lines
+abbrev pub IsVerdict : List Line → Decision → Option (List ℕ) → Type 0
+IsVerdict before d bytes = IfSome bytes (λ bs. verdict today bs ≡ record { before = before; decision = d })
+
+verdict_goes : (before : List Line) (l : Line) (line : List ℕ) (os : List Outcome) → judge today before (LineOf line) ≡ goes_on l → verdict_from today before (LineOf line ∷ os) ≡ verdict_from today (before ++ l ∷ []) os
+verdict_goes before l line os is = rw is refl
+
+verdict_stops : (before : List Line) (d : Decision) (o : Outcome) (os : List Outcome) → judge today before o ≡ decides d → verdict_from today before (o ∷ os) ≡ record { before = before; decision = d }
+verdict_stops before d o os is = rw is refl
+
+pub decides_more : (before : List Line) (l : Line) (old new : Reader) (bytes rest left : Option (List ℕ)) → judge today before (LineOf new.line) ≡ goes_on l → Decides before old bytes rest → Answers old new rest left (Ok true)
+    → Decides (before ++ l ∷ []) new bytes left
+decides_more before l old new None rest left is decided step = tt
+decides_more before l old new (Some bytes) None left is decided step = absurd decided
+decides_more before l old new (Some bytes) (Some xs) None is decided step = absurd step
+decides_more before l old new (Some bytes) (Some xs) (Some ys) is decided step =
+    sym (verdict_goes before l new.line (coming new ys) is) ∙ ap (verdict_from today before) (sym step) ∙ decided
+
+pub ends_line : (before : List Line) (d : Decision) (old new : Reader) (bytes rest left : Option (List ℕ)) → judge today before (LineOf new.line) ≡ decides d → Decides before old bytes rest → Answers old new rest left (Ok true)
+    → IsVerdict before d bytes
+ends_line before d old new None rest left is decided step = tt
+ends_line before d old new (Some bytes) None left is decided step = absurd decided
+ends_line before d old new (Some bytes) (Some xs) None is decided step = absurd step
+ends_line before d old new (Some bytes) (Some xs) (Some ys) is decided step =
+    sym decided ∙ ap (verdict_from today before) step ∙ verdict_stops before d (LineOf new.line) (coming new ys) is
+
+nothing_comes : (reader : Reader) → coming reader [] ≡ []
+unfolding outcomes_from
+nothing_comes reader = refl
+
+pub ends_input : (before : List Line) (old new : Reader) (bytes rest left : Option (List ℕ)) → Decides before old bytes rest → Answers old new rest left (Ok false) → IsVerdict before (at_end before) bytes
+ends_input before old new None rest left decided step = tt
+ends_input before old new (Some bytes) None left decided step = absurd decided
+ends_input before old new (Some bytes) (Some xs) None decided step = absurd step
+ends_input before old new (Some bytes) (Some xs) (Some ys) decided step =
+    sym decided ∙ ap (λ (zs : List ℕ). verdict_from today before (coming old zs)) step.0 ∙ ap (verdict_from today before) (nothing_comes old)
+
+-- a fault of the input that isn't the source's
+abbrev pub IsOfInput : LineFault → Type 0
+IsOfInput line_fault.Read = ⊥
+IsOfInput _ = Unit {0}
+
+stops_there : (old : Reader) (xs : List ℕ) (f : LineFault) → IsOfInput f → Stops old xs f → coming old xs ≡ Stop f ∷ []
+stops_there old xs line_fault.Read other stops = absurd other
+stops_there old xs (line_fault.Long n) other stops = stops
+stops_there old xs line_fault.Bytes other stops = stops
+stops_there old xs line_fault.Lines other stops = stops
+
+pub ends_fault : (before : List Line) (old new : Reader) (f : LineFault) (bytes rest left : Option (List ℕ)) → IsOfInput f → Decides before old bytes rest → Answers old new rest left (Err f) → IsVerdict before (of_fault f) bytes
+ends_fault before old new f None rest left other decided step = tt
+ends_fault before old new f (Some bytes) None left other decided step = absurd decided
+ends_fault before old new f (Some bytes) (Some xs) None other decided step = absurd step
+ends_fault before old new f (Some bytes) (Some xs) (Some ys) other decided step =
+    sym decided ∙ ap (verdict_from today before) (stops_there old xs f other step.1) ∙ verdict_stops before (of_fault f) (Stop f) [] refl
+
+-- the ending tells the verdict
+pub told : (before : List Line) (s : Stage) (d : Decision) (e : Ending) (bytes : Option (List ℕ)) → Says before s → IsVerdict before d bytes → Tells d (length (journal_at s)) e → IfSome bytes (λ bs. TellsVerdict e (verdict today bs))
+told before s d e None says is tells = tt
+told before s d e (Some bytes) says is tells =
+    subst (TellsVerdict e) (sym is) (subst (λ (h : List Entry). Tells d (length h) e) (sym (journal_is before s says)) tells)
+
+-- all entries' lines were written
+pub written_all : (before : List Line) (s : Stage) (d : Decision) (bytes old new : Option (List ℕ)) → Says before s → IsVerdict before d bytes → Appends old new (entry_lines 0 (journal_at s)) → Writes bytes old new (entries_text today)
+written_all before s d None old new says is written = tt
+written_all before s d (Some bytes) old new says is written =
+    subst (Appends old new) (sym (ap (λ v. entry_lines 0 (journal_of v)) is ∙ ap (entry_lines 0) (journal_is before s says))) written
+
+-- what was written is a front of the entries' lines
+pub stops : (before : List Line) (s : Stage) (reader : Reader) (bytes rest old new : Option (List ℕ)) (done todo : List ℕ) → Stands before s → Decides before reader bytes rest → entry_lines 0 (journal_at s) ≡ done ++ todo → Appends old new done
+    → WritesFront bytes old new (entries_text today)
+stops before s reader None rest old new done todo st decided split written = tt
+stops before s reader (Some bytes) None old new done todo st decided split written = absurd decided
+stops before s reader (Some bytes) (Some rest) old new done todo st decided split written =
+    let b = begins before s (coming reader rest) st in
+    let more = entry_lines (length (journal_at s)) b.rest in
+    let text : entries_text today bytes ≡ entry_lines 0 (journal_at s) ++ more =
+    ap (λ v. entry_lines 0 (journal_of v)) (sym decided) ∙ ap (entry_lines 0) b.all ∙ entry_lines-append 0 (journal_at s) b.rest ∙ ap (λ n. entry_lines 0 (journal_at s) ++ entry_lines n b.rest) (omega arith) in
+    record {
+      front = done;
+      rest = todo ++ more;
+      whole = text ∙ ap (λ (t : List ℕ). t ++ more) split ∙ append_assoc done todo more;
+      added = written;
+    }
+
+pub stops_whole : (before : List Line) (s : Stage) (reader : Reader) (bytes rest old new : Option (List ℕ)) → Stands before s → Decides before reader bytes rest → Appends old new (entry_lines 0 (journal_at s)) → WritesFront bytes old new (entries_text today)
+stops_whole before s reader bytes rest old new st decided written = stops before s reader bytes rest old new (entry_lines 0 (journal_at s)) [] st decided (sym (append-nil (entry_lines 0 (journal_at s)))) written
+
+-- what was written of a line whose entry's line the sink didn't take whole
+pub stops_inside : (before : List Line) (s : Stage) (old new : Reader) (bytes rest left start mid now : Option (List ℕ)) → Decides before old bytes rest → Answers old new rest left (Ok true) → Appends start mid (entry_lines 0 (journal_at s))
+    → (next : Stage) × Judged before new.line (Ok next) × Grows (journal_at s) (journal_at next) × AppendsFront mid now (gained (journal_at s) (journal_at next)) → WritesFront bytes start now (entries_text today)
+stops_inside before s old new bytes rest left start mid now decided step written (next, (l, is, st), grows, front) =
+    let done = Appends-trans start mid now _ _ written front.added in
+    let first = entry_lines 0 (journal_at s) in
+    let split = gained_after (journal_at s) (journal_at next) grows ∙ ap (λ (t : List ℕ). first ++ t) front.whole ∙ sym (append_assoc first front.front front.rest) in
+    stops (before ++ l ∷ []) next new bytes left start now (first ++ front.front) front.rest st (decides_more before l old new bytes rest left is decided step) split done
+
+ended_more : (lines : List (List ℕ)) (line : List ℕ) → ended (lines ++ line ∷ []) ≡ ended lines ++ (line ++ 10 ∷ [])
+ended_more [] line = refl
+ended_more (first ∷ lines) line = ap (λ (t : List ℕ). first ++ 10 ∷ t) (ended_more lines line) ∙ sym (append_assoc first (10 ∷ ended lines) (line ++ 10 ∷ []))
+
+all_more : (lines : List (List ℕ)) (line : List ℕ) → AllByRecursion IsOpen lines → IsOpen line → AllByRecursion IsOpen (lines ++ line ∷ [])
+all_more [] line all last = (last, tt)
+all_more (first ∷ lines) line all last = (all.0, all_more lines line all.1 last)
+
+script_more : (start before : List Line) (l : Line) (lines : List (List ℕ)) (line : List ℕ) → script_after today start lines ≡ Some before → judge today before (LineOf line) ≡ goes_on l
+    → script_after today start (lines ++ line ∷ []) ≡ Some (before ++ l ∷ [])
+script_more start before l [] line is more = let same : start ≡ before = cc in rw (same, more) refl
+script_more start before l (first ∷ lines) line is more = go (judge today start (LineOf first)) is (λ after. script_more after before l lines line)
+  where
+    go : (j : Judgement) → unless_decided start j (λ after. script_after today after lines) ≡ Some before
+        → ((after : List Line) → script_after today after lines ≡ Some before → judge today before (LineOf line) ≡ goes_on l → script_after today after (lines ++ line ∷ []) ≡ Some (before ++ l ∷ []))
+        → unless_decided start j (λ after. script_after today after (lines ++ line ∷ [])) ≡ Some (before ++ l ∷ [])
+    go (decides d) is later = absurd (cc)
+    go (goes_on m) is later = later (start ++ m ∷ []) is more
+
+-- a line that was taken
+pub record Gives (old new : Reader) (rest left : Option (List ℕ)) : Type 0 where
+  pub is_open : IsOpen new.line
+  pub taken : Consumes rest left (with_end new.ended new.line)
+  pub after : new ≡ after_call old new true
+  pub going : old.ended ≡ false
+  pub step : Answers old new rest left (Ok true)
+  pub few : new.given ≤ 262144
+
+took_more : (before : List Line) (l : Line) (old new : Reader) (bytes rest left : Option (List ℕ)) → judge today before (LineOf new.line) ≡ goes_on l → Gives old new rest left → new.ended ≡ false → Took before old bytes rest → Took (before ++ l ∷ []) new bytes left
+took_more before l old new bytes rest left is gives going took =
+    let line = new.line in
+    let count : length (took.lines ++ line ∷ []) ≡ new.given = length-append took.lines (line ∷ []) ∙ ap (λ n. n + 1) took.count ∙ sym (ap (λ (r : Reader). r.given) gives.after) in
+    let taken : Consumes rest left (line ++ 10 ∷ []) = rw going at gives.taken in
+    let size : new.place ≡ old.place + length (line ++ 10 ∷ []) = ap (λ (r : Reader). r.place) gives.after ∙ rw going refl in
+    record {
+      lines = took.lines ++ line ∷ [];
+      taken = subst (Consumes bytes left) (sym (ended_more took.lines line)) (Consumes-trans bytes rest left _ _ took.taken taken);
+      whole = record {
+        each = all_more took.lines line took.whole.each gives.is_open;
+        few = rw count gives.few;
+        script = script_more [] before l took.lines line took.whole.script is;
+      };
+      count = count;
+      place = ap (λ (t : List ℕ). length t) (ended_more took.lines line) ∙ length-append (ended took.lines) (line ++ 10 ∷ []) ∙ ap (λ n. n + length (line ++ 10 ∷ [])) took.place ∙ sym size;
+    }
+
+pub reached_more : (bytes rest left start mid now : Option (List ℕ)) (old new : Reader) (s next : Stage) (r : Reached bytes rest start mid old s) → Gives old new rest left → Responds r.before s new.line mid now (Ok next)
+    → Reached bytes left start now new next
+reached_more bytes rest left start mid now old new s next r gives responds =
+    let l = responds.0.0 in
+    let is = responds.0.1 in
+    let first = entry_lines 0 (journal_at s) in
+    record {
+      before = r.before ++ l ∷ [];
+      stands = responds.0.2;
+      count = length-append r.before (l ∷ []) ∙ ap (λ n. n + 1) r.count ∙ sym (ap (λ (x : Reader). x.given) gives.after);
+      decides = decides_more r.before l old new bytes rest left is r.decides gives.step;
+      took = λ going. took_more r.before l old new bytes rest left is gives going (r.took gives.going);
+      written = subst (Appends start now) (sym (gained_after (journal_at s) (journal_at next) responds.1)) (Appends-trans start mid now _ _ r.written responds.2);
+    }
+
+pub reached_start : (bytes held : Option (List ℕ)) → Reached bytes (input fresh bytes) held held fresh stage.Version
+unfolding outcomes_from
+reached_start bytes held = record {
+  before = [];
+  stands = record { part = refl; over = refl; says = record { version = refl; layout = refl; spans = omega arith; names = refl; no_vehicles = refl; no_calls = λ names. refl; no_events = λ v. refl } };
+  count = refl;
+  decides = decides_start bytes;
+  took = λ going. took_start bytes;
+  written = Appends-nil held;
+}
+  where
+    decides_start : (bytes : Option (List ℕ)) → Decides [] fresh bytes (input fresh bytes)
+    decides_start None = tt
+    decides_start (Some bytes) = refl
+
+    took_start : (bytes : Option (List ℕ)) → Took [] fresh bytes (input fresh bytes)
+    took_start None = record { lines = []; taken = tt; whole = record { each = tt; few = omega arith; script = refl }; count = refl; place = refl }
+    took_start (Some bytes) = record { lines = []; taken = refl; whole = record { each = tt; few = omega arith; script = refl }; count = refl; place = refl }
+
+-- what was taken where the source failed
+held_back : (bytes rest left : Option (List ℕ)) (all held : List ℕ) → Consumes bytes rest all → Keeps rest (prepend_known held left) → Consumes bytes left (all ++ held)
+held_back None rest left all held taken kept = tt
+held_back (Some bytes) None left all held taken kept = absurd taken
+held_back (Some bytes) (Some xs) None all held taken kept = absurd kept
+held_back (Some bytes) (Some xs) (Some ys) all held taken kept = taken ∙ ap (λ (t : List ℕ). all ++ t) (sym kept) ∙ sym (append_assoc all held ys)
+
+pub stops_short : (bytes rest left start now : Option (List ℕ)) (old new : Reader) (s : Stage) → Reached bytes rest start now old s → old.ended ≡ false → new.given ≡ old.given → new.place ≡ old.place → ShowsNothing new.given new.place new.held
+    → Keeps rest (input new left) → StopsShort today bytes left start now
+stops_short bytes rest left start now old new s r going given place shows kept =
+    let took = r.took going in
+    record {
+      lines = took.lines;
+      part = new.held;
+      taken = held_back bytes rest left (ended took.lines) new.held took.taken kept;
+      within = omega (arith, length-append (ended took.lines) new.held, took.place, place, shows.within);
+      is_open = shows.is_open;
+      before = r.before;
+      whole = took.whole;
+      written = subst (λ (h : List Entry). Appends start now (entry_lines 0 h)) (sym (journal_is r.before s r.stands.says)) r.written;
+    }
+
+few_entries : (before : List Line) (s : Stage) → Says before s → length (journal_at s) ≤ length before
+few_entries before stage.Version says = omega arith
+few_entries before stage.Grid says = omega arith
+few_entries before (stage.Times g) says = omega arith
+few_entries before (stage.Lanes g) says = omega arith
+few_entries before (stage.Moves b) says = omega arith
+few_entries before (stage.Policies b) says = omega arith
+few_entries before (stage.Begin k n) says = says.0.few
+few_entries before (stage.Body k n) says = says.0.few
+few_entries before (stage.Over k) says = says.few
+
+-- the journal has no more entries than lines were given
+pub few_reached : (bytes rest start now : Option (List ℕ)) (reader : Reader) (s : Stage) → Reached bytes rest start now reader s → length (journal_at s) ≤ reader.given
+few_reached bytes rest start now reader s r = omega (arith, few_entries r.before s r.stands.says, r.count)
+
+may_take : (before : List Line) (s : Stage) → Says before s → length before < 262144 → MayTake s
+may_take before stage.Version says few = tt
+may_take before stage.Grid says few = tt
+may_take before (stage.Times g) says few = tt
+may_take before (stage.Lanes g) says few = tt
+may_take before (stage.Moves b) says few = tt
+may_take before (stage.Policies b) says few = tt
+may_take before (stage.Begin k n) says few = tt
+may_take before (stage.Body k n) says few = (says.1, omega (arith, says.0.few))
+may_take before (stage.Over k) says few = tt
+
+pub may_reached : (bytes rest start now : Option (List ℕ)) (reader : Reader) (s : Stage) → Reached bytes rest start now reader s → reader.given < 262144 → MayTake s
+may_reached bytes rest start now reader s r few = may_take r.before s r.stands.says (omega (arith, r.count))
+
+nil_right : (xs ys : List ℕ) → xs ++ ys ≡ [] → ys ≡ []
+nil_right [] ys is = is
+nil_right (x ∷ xs) ys is = absurd (cc)
+
+-- nothing was left at the end
+pub left_at_end : (reader : Reader) (left : Option (List ℕ)) → KnowsEnd reader left → reader.ended ≡ true → IsAtEnd left
+left_at_end reader left knows is = knows is
+
+pub on_true : {P : Type 0} (b : Bool) → b ≡ true → OnTrue b P → P
+on_true true is h = h
+on_true false is h = absurd (cc)
+
+pub on_false : {P : Type 0} (b : Bool) → b ≡ false → OnFalse b P → P
+on_false true is h = absurd (cc)
+on_false false is h = h
+
+pub sound_start : IsSound fresh
+sound_start = record { few = omega arith; read = omega arith; ended = λ is. refl }
+
+pub knows_start : (left : Option (List ℕ)) → KnowsEnd fresh left
+knows_start left is = absurd (cc)
+
+pub front_reached : (bytes rest start now : Option (List ℕ)) (reader : Reader) (s : Stage) → Reached bytes rest start now reader s → WritesFront bytes start now (entries_text today)
+front_reached bytes rest start now reader s r = stops_whole r.before s reader bytes rest start now r.stands r.decides r.written
+
+-- nothing more was written
+pub written_kept : (start mid now : Option (List ℕ)) (text : List ℕ) → Appends start mid text → Appends mid now [] → Appends start now text
+written_kept start mid now text first none = subst (Appends start now) (append-nil text) (Appends-trans start mid now text [] first none)
+
+-- the reader after a fault of the source
+pub short_reached : (bytes left after start now : Option (List ℕ)) (old new : Reader) (f : LineFault) (P : Type 0) (s : Stage) → Reached bytes (input old left) start now old s
+    → new ≡ record old { held = new.held; line = []; fault = Some f } → ShowsNothing new.given new.place new.held × (new.ended ≡ false) × P → Keeps (input old left) (input new after) → StopsShort today bytes after start now
+short_reached bytes left after start now old new f P s r same shows kept =
+    let going : old.ended ≡ false = sym (ap (λ (x : Reader). x.ended) same) ∙ shows.1 in
+    stops_short bytes (input old left) after start now old new s r going (ap (λ (x : Reader). x.given) same) (ap (λ (x : Reader). x.place) same) shows.0 kept
+
+pub fault_told : (bytes rest left start now : Option (List ℕ)) (old new : Reader) (s : Stage) (f : LineFault) (e : Ending) → Reached bytes rest start now old s → IsOfInput f → Answers old new rest left (Err f) → Tells (of_fault f) (length (journal_at s)) e
+    → IfSome bytes (λ bs. TellsVerdict e (verdict today bs))
+fault_told bytes rest left start now old new s f e r other step tells = told r.before s (of_fault f) e bytes r.stands.says (ends_fault r.before old new f bytes rest left other r.decides step) tells
+
+pub fault_written : (bytes rest left start now : Option (List ℕ)) (old new : Reader) (s : Stage) (f : LineFault) → Reached bytes rest start now old s → IsOfInput f → Answers old new rest left (Err f) → Writes bytes start now (entries_text today)
+fault_written bytes rest left start now old new s f r other step = written_all r.before s (of_fault f) bytes start now r.stands.says (ends_fault r.before old new f bytes rest left other r.decides step) r.written
+
+pub end_told : (bytes rest left start now : Option (List ℕ)) (old new : Reader) (s : Stage) (e : Ending) (r : Reached bytes rest start now old s) → Answers old new rest left (Ok false) → Tells (at_end r.before) (length (journal_at s)) e
+    → IfSome bytes (λ bs. TellsVerdict e (verdict today bs))
+end_told bytes rest left start now old new s e r step tells = told r.before s (at_end r.before) e bytes r.stands.says (ends_input r.before old new bytes rest left r.decides step) tells
+
+pub end_written : (bytes rest left start now : Option (List ℕ)) (old new : Reader) (s : Stage) → Reached bytes rest start now old s → Answers old new rest left (Ok false) → Writes bytes start now (entries_text today)
+end_written bytes rest left start now old new s r step = written_all r.before s (at_end r.before) bytes start now r.stands.says (ends_input r.before old new bytes rest left r.decides step) r.written
+
+pub bad_told : (bytes rest left start now : Option (List ℕ)) (old new : Reader) (s : Stage) (number : ℕ) (kind : Kind) (r : Reached bytes rest start now old s) → Answers old new rest left (Ok true) → judge today r.before (LineOf new.line) ≡ decides (bad (number_after r.before) (kind_text kind))
+    → number ≡ old.given + 1 → IfSome bytes (λ bs. TellsVerdict (ending.Bad number kind) (verdict today bs))
+bad_told bytes rest left start now old new s number kind r step is same =
+    let d = bad (number_after r.before) (kind_text kind) in
+    let count : number_after r.before ≡ number = omega (arith, r.count, same) in
+    told r.before s d (ending.Bad number kind) bytes r.stands.says (ends_line r.before d old new bytes rest left is r.decides step) (ap (λ n. bad n (kind_text kind)) count)
+
+pub bad_written : (bytes rest left start mid now : Option (List ℕ)) (old new : Reader) (s : Stage) (d : Decision) (r : Reached bytes rest start mid old s) → Answers old new rest left (Ok true) → judge today r.before (LineOf new.line) ≡ decides d → Appends mid now []
+    → Writes bytes start now (entries_text today)
+bad_written bytes rest left start mid now old new s d r step is none =
+    written_all r.before s d bytes start now r.stands.says (ends_line r.before d old new bytes rest left is r.decides step) (written_kept start mid now (entry_lines 0 (journal_at s)) r.written none)
+
+pub memory_front : (bytes rest start mid now : Option (List ℕ)) (reader : Reader) (s : Stage) → Reached bytes rest start mid reader s → Appends mid now [] → WritesFront bytes start now (entries_text today)
+memory_front bytes rest start mid now reader s r none = stops_whole r.before s reader bytes rest start now r.stands r.decides (written_kept start mid now (entry_lines 0 (journal_at s)) r.written none)
+
+-- the last line of an ending is that of the verdict that it tells
+last_words_are : (d : Decision) (entries : ℕ) (e : Ending) → Tells d entries e → last_words entries d ≡ ending_words e
+last_words_are d entries (ending.Bad number k) tells = ap (last_words entries) tells
+last_words_are d entries (ending.Limit l) tells = ap (last_words entries) tells
+last_words_are d entries (ending.Whole n) tells = ap (last_words entries) tells.0 ∙ ap (λ m. codes "end" ∷ decimal m ∷ []) (sym tells.1)
+
+-- the text is the entries' lines and the last line
+text_is : (bytes : List ℕ) (e : Ending) → TellsVerdict e (verdict today bytes) → replay_text today None bytes ≡ entries_text today bytes ++ printed (spaced (ending_words e))
+text_is bytes e tells =
+    let v = verdict today bytes in
+    ap (λ (words : Words). entries_text today bytes ++ printed (spaced words)) (last_words_are v.decision (length (journal_of v)) e tells)
+
+-- the last line was written behind the entries' lines
+pub all_written : (bytes start mid now : Option (List ℕ)) (e : Ending) → IfSome bytes (λ bs. TellsVerdict e (verdict today bs)) → Writes bytes start mid (entries_text today) → Appends mid now (printed (spaced (ending_words e)))
+    → Writes bytes start now (replay_text today None)
+all_written None start mid now e tells first last = tt
+all_written (Some bytes) start mid now e tells first last = subst (Appends start now) (sym (text_is bytes e tells)) (Appends-trans start mid now _ _ first last)
+
+-- a front of the last line was written behind them
+pub front_written : (bytes start mid now : Option (List ℕ)) (e : Ending) → IfSome bytes (λ bs. TellsVerdict e (verdict today bs)) → Writes bytes start mid (entries_text today) → AppendsFront mid now (printed (spaced (ending_words e)))
+    → WritesFront bytes start now (replay_text today None)
+front_written None start mid now e tells first last = tt
+front_written (Some bytes) start mid now e tells first last = record {
+  front = entries_text today bytes ++ last.front;
+  rest = last.rest;
+  whole = text_is bytes e tells ∙ ap (λ (t : List ℕ). entries_text today bytes ++ t) last.whole ∙ sym (append_assoc (entries_text today bytes) last.front last.rest);
+  added = Appends-trans start mid now _ _ first last.added;
+}
+
+-- a front of the entries' lines is a front of the text
+pub front_of_text : (bytes start now : Option (List ℕ)) → WritesFront bytes start now (entries_text today) → WritesFront bytes start now (replay_text today None)
+front_of_text None start now front = tt
+front_of_text (Some bytes) start now front =
+    let v = verdict today bytes in
+    let last = printed (spaced (last_words (length (journal_of v)) v.decision)) in
+    record {
+      front = front.front;
+      rest = front.rest ++ last;
+      whole = ap (λ (t : List ℕ). t ++ last) front.whole ∙ append_assoc front.front front.rest last;
+      added = front.added;
+    }
+
+-- the status of an ending
+abbrev pub status_told : Ending → ℕ
+status_told (ending.Bad number k) = 3
+status_told (ending.Limit l) = 6
+status_told (ending.Whole n) = 0
+
+status_is : (d : Decision) (entries : ℕ) (e : Ending) → Tells d entries e → status_told e ≡ status_of d
+status_is d entries (ending.Bad number k) tells = ap status_of (sym tells)
+status_is d entries (ending.Limit l) tells = ap status_of (sym tells)
+status_is d entries (ending.Whole n) tells = ap status_of (sym tells.0)
+
+pub replays : (bytes old new : Option (List ℕ)) (e : Ending) → IfSome bytes (λ bs. TellsVerdict e (verdict today bs)) → Writes bytes old new (replay_text today None) → IfSome bytes (λ bs. Replays today None bs old new (status_told e))
+replays None old new e tells written = tt
+replays (Some bytes) old new e tells written =
+    let v = verdict today bytes in
+    record { text = written; status = status_is v.decision (length (journal_of v)) e tells }

@@ -1,0 +1,66 @@
+-- What a replay takes out of its source and adds to its sink.
+use Rattle.std.specs.Prelude.{◌≡◌, ℕ, ◌≤◌, ◌+◌, Bool, true, false, List, [], ◌∷◌, ◌++◌, length, drop, Option, Some, None, IfSome, ⊤}
+use Rattle.std.specs.List.{AllByRecursion}
+use Rattle.std.specs.Io.KnownBytes.{Appends, Consumes, Keeps}
+use Rattle.aim_io.specs.Known.{AppendsFront}
+use Rattle.aim_io.specs.Lines.{Line as LineOf, IsOpen}
+use Rattle.aim_msg.specs.declared.entries.Entry.{Entry}
+use Rattle.aim_msg.specs.declared.script.Line.{Line}
+use Rattle.aim_paths.specs.Legal.{journal}
+use Rattle.aim_replay.specs.Said.{layout_of, calls_of}
+use Rattle.aim_replay.specs.Kinds.{Missing}
+use Rattle.aim_replay.specs.Verdicts.{Judgement, decides, goes_on, judge, verdict}
+use Rattle.aim_replay.specs.Texts.{entry_lines, journal_of, replay_text, replay_status}
+
+-- these lines, each with its byte 10
+abbrev pub ended : List (List ℕ) → List ℕ
+ended [] = []
+ended (line ∷ lines) = line ++ 10 ∷ ended lines
+
+abbrev pub unless_decided : List Line → Judgement → (List Line → Option (List Line)) → Option (List Line)
+unless_decided before (decides d) next = None
+unless_decided before (goes_on l) next = next (before ++ l ∷ [])
+
+-- the script with further lines, if none of them decides
+abbrev pub script_after : Missing → List Line → List (List ℕ) → Option (List Line)
+script_after missing before [] = Some before
+script_after missing before (line ∷ lines) = unless_decided before (judge missing before (LineOf line)) (λ more. script_after missing more lines)
+
+-- whole lines were read that make this script: none of them decides, and none goes past a limit
+pub record AreWhole (missing : Missing) (lines : List (List ℕ)) (before : List Line) : Type 0 where
+  pub each : AllByRecursion IsOpen lines
+  pub few : length lines ≤ 262144
+  pub script : script_after missing [] lines ≡ Some before
+
+-- The source failed: the bytes that were read are whole lines, none of which decides, and the beginning of a further
+-- line, and what was written are the lines of the entries of these lines' events and orders.
+pub record StopsShort (missing : Missing) (left_old left_new held_old held_new : Option (List ℕ)) : Type 0 where
+  pub lines : List (List ℕ)
+  pub part : List ℕ
+  pub taken : Consumes left_old left_new (ended lines ++ part)
+  pub within : length (ended lines ++ part) ≤ 67108864
+  pub is_open : IsOpen part
+  pub before : List Line
+  pub whole : AreWhole missing lines before
+  pub written : Appends held_old held_new (entry_lines 0 (journal (layout_of before) (calls_of before)))
+
+-- where the source tells its bytes, a front of their text was written
+abbrev pub WritesFront : Option (List ℕ) → Option (List ℕ) → Option (List ℕ) → (List ℕ → List ℕ) → Type 0
+WritesFront bytes old new text = IfSome bytes (λ bs. AppendsFront old new (text bs))
+
+-- where the source tells its bytes, their text was written
+abbrev pub Writes : Option (List ℕ) → Option (List ℕ) → Option (List ℕ) → (List ℕ → List ℕ) → Type 0
+Writes bytes old new text = IfSome bytes (λ bs. Appends old new (text bs))
+
+-- the whole text of these bytes was written, and the status is theirs
+pub record Replays (missing : Missing) (asked : Option ℕ) (bytes : List ℕ) (old new : Option (List ℕ)) (result : ℕ) : Type 0 where
+  pub text : Appends old new (replay_text missing asked bytes)
+  pub status : result ≡ replay_status missing bytes
+
+-- the lines of the entries of the events and orders that stand before the line that decides
+abbrev pub entries_text : Missing → List ℕ → List ℕ
+entries_text missing bytes = entry_lines 0 (journal_of (verdict missing bytes))
+
+-- the lines of the entries that a journal has gained
+abbrev pub gained : List Entry → List Entry → List ℕ
+gained old new = entry_lines (length old) (drop (length old) new)

@@ -1,0 +1,56 @@
+-- What is known between two lines of a replay.
+use Rattle.std.specs.Prelude.{◌≡◌, ℕ, ◌+◌, ◌≤◌, Bool, true, false, List, [], length, Option, Some, None, IfSome, Result, Ok, Err}
+use Rattle.std.specs.Io.KnownBytes.{Appends, Consumes}
+use Rattle.aim_io.specs.Known.{AppendsFront}
+use Rattle.aim_io.specs.Reader.{Reader, coming}
+use Rattle.aim_msg.specs.declared.script.Line.{Line}
+use Rattle.aim_replay.specs.declared.endings.Ending.{Ending}
+use Rattle.aim_replay.specs.declared.endings.Ending.TheVariants as ending
+use Rattle.aim_replay.specs.declared.session.Halt.{Halt}
+use Rattle.aim_replay.specs.declared.session.Halt.TheVariants as halt
+use Rattle.aim_replay.specs.declared.stages.Stage.{Stage}
+use Rattle.aim_replay.specs.declared.stages.Refusal.TheVariants as refusal
+use Rattle.aim_replay.specs.Verdicts.{Verdict, verdict_from, verdict}
+use Rattle.aim_replay.specs.Texts.{entry_lines, journal_of}
+use Rattle.aim_replay.specs.Today.{today}
+use Rattle.aim_replay.specs.Endings.{Tells}
+use Rattle.aim_replay.specs.Stages.{Stands, Judged, Grows, journal_at}
+use Rattle.aim_replay.specs.Replays.{AreWhole, ended, gained}
+
+-- what is still to come decides the same as all
+abbrev pub Decides : List Line → Reader → Option (List ℕ) → Option (List ℕ) → Type 0
+Decides before reader None rest = Unit {0}
+Decides before reader (Some bytes) None = ⊥
+Decides before reader (Some bytes) (Some rest) = verdict_from today before (coming reader rest) ≡ verdict today bytes
+
+-- whole lines were taken that make this script
+pub record Took (before : List Line) (reader : Reader) (bytes rest : Option (List ℕ)) : Type 0 where
+  pub lines : List (List ℕ)
+  pub taken : Consumes bytes rest (ended lines)
+  pub whole : AreWhole today lines before
+  pub count : length lines ≡ reader.given
+  pub place : length (ended lines) ≡ reader.place
+
+-- how far a replay has come: the lines so far, for which the stage stands, and whose entries' lines were written
+pub record Reached (bytes rest old now : Option (List ℕ)) (reader : Reader) (s : Stage) : Type 0 where
+  pub before : List Line
+  pub stands : Stands before s
+  pub count : length before ≡ reader.given
+  pub decides : Decides before reader bytes rest
+  pub took : reader.ended ≡ false → Took before reader bytes rest
+  pub written : Appends old now (entry_lines 0 (journal_at s))
+
+-- what a line comes to, and what was written of it
+abbrev pub Responds : List Line → Stage → List ℕ → Option (List ℕ) → Option (List ℕ) → Result Stage Halt → Type 0
+Responds before s line old new (Ok next) = Judged before line (Ok next) × Grows (journal_at s) (journal_at next) × Appends old new (gained (journal_at s) (journal_at next))
+Responds before s line old new (Err (halt.Bad kind)) = Judged before line (Err (refusal.Bad kind)) × Appends old new []
+Responds before s line old new (Err halt.Write) = (next : Stage) × Judged before line (Ok next) × Grows (journal_at s) (journal_at next) × AppendsFront old new (gained (journal_at s) (journal_at next))
+Responds before s line old new (Err halt.NoMemory) = (journal_at s ≡ []) × Appends old new []
+
+-- the ending tells the verdict
+abbrev pub TellsVerdict : Ending → Verdict → Type 0
+TellsVerdict e v = Tells v.decision (length (journal_of v)) e
+
+abbrev pub is_whole : Ending → Bool
+is_whole (ending.Whole n) = true
+is_whole _ = false

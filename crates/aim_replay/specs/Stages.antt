@@ -1,0 +1,122 @@
+-- What is known of the lines of a script so far, at each stage of its replay.
+use Rattle.std.specs.Prelude.{◌≡◌, ◌⊎◌, ℕ, ◌<◌, ◌==◌, Bool, true, false, List, [], ◌∷◌, ◌++◌, ◌||◌, not, nat_lt, nat_le, length, Option, Some, None, is_some, Result, Ok, Err, codes, if◌then◌else◌}
+use Rattle.std.specs.List.{list_any}
+use Rattle.aim_msg.specs.declared.messages.Params.{Params}
+use Rattle.aim_paths.specs.Bad.{bad as bad_field}
+use Rattle.aim_msg.specs.declared.entries.Entry.{Entry}
+use Rattle.aim_msg.specs.declared.script.Line.{Line}
+use Rattle.aim_geometry.specs.declared.ground.Times.{Times}
+use Rattle.aim_paths.specs.Intersection.{Intersection}
+use Rattle.aim_geometry.specs.Sites.{has_bad_numbers}
+use Rattle.aim_book.specs.State.{State}
+use Rattle.aim_book.specs.Serving.{IsPlain}
+use Rattle.aim_paths.specs.declared.builders.LayoutFault.{LayoutFault}
+use Rattle.aim_paths.specs.declared.builders.LayoutFault.TheVariants as fault
+use Rattle.aim_replay.specs.declared.stages.Stage.{Stage}
+use Rattle.aim_replay.specs.declared.stages.Stage.TheVariants as stage
+use Rattle.aim_replay.specs.declared.stages.Refusal.{Refusal}
+use Rattle.aim_replay.specs.declared.stages.Refusal.TheVariants as refusal
+use Rattle.aim_io.specs.Lines.{Line as LineOf}
+use Rattle.aim_replay.specs.Order.{Part, part_after, is_end, to_version, to_ground, to_times, to_lanes, in_moves, in_policies, to_begin, in_body, nothing}
+use Rattle.aim_replay.specs.Said.{nowhere, last_of}
+use Rattle.aim_replay.specs.Verdicts.{judge, of_read, goes_on, decides, bad, number_after}
+use Rattle.aim_replay.specs.Today.{today}
+use Rattle.aim_replay.specs.Endings.{kind_text}
+use Rattle.aim_replay.specs.Stands.{IsHeader, IsBody}
+
+-- the part of the script that goes on at the stage
+abbrev pub part_of : Stage → Part
+part_of stage.Version = to_version
+part_of stage.Grid = to_ground
+part_of (stage.Times g) = to_times
+part_of (stage.Lanes s) = to_lanes
+part_of (stage.Moves b) = in_moves
+part_of (stage.Policies b) = in_policies
+part_of (stage.Begin k n) = to_begin
+part_of (stage.Body k n) = in_body
+part_of (stage.Over k) = nothing
+
+abbrev pub is_over : Stage → Bool
+is_over (stage.Over k) = true
+is_over _ = false
+
+-- the journal so far
+abbrev pub journal_at : Stage → List Entry
+journal_at (stage.Begin k n) = k.journal
+journal_at (stage.Body k n) = k.journal
+journal_at (stage.Over k) = k.journal
+journal_at _ = []
+
+-- no buffers in time
+pub record IsUnbuffered (t : Times) : Type 0 where
+  pub early : t.early ≡ 0
+  pub late : t.late ≡ 0
+  pub edge : t.edge ≡ 0
+
+-- the book is over a plain layout, for so many vehicles, with room for an entry of every line
+pub record IsDesk (k : State) (n : ℕ) : Type 0 where
+  pub plain : IsPlain k.layout
+  pub vehicles : k.vehicles ≡ n
+  pub room : k.room ≡ 262144
+
+-- the layout so far, or the book, is what the lines say
+abbrev pub Says : List Line → Stage → Type 0
+Says before stage.Version = IsHeader before nowhere
+Says before stage.Grid = IsHeader before nowhere
+Says before (stage.Times g) = IsHeader before (record nowhere { grid = g }) × (has_bad_numbers g ≡ false)
+Says before (stage.Lanes s) = IsHeader before (record nowhere { grid = s.grid; times = s.times }) × IsUnbuffered s.times
+Says before (stage.Moves b) = IsHeader before b × IsUnbuffered b.times × (b.policies ≡ [])
+Says before (stage.Policies b) = IsHeader before b × IsPlain b
+Says before (stage.Begin k n) = IsBody before k.layout n k.journal × IsDesk k n × (k.journal ≡ [])
+Says before (stage.Body k n) = IsBody before k.layout n k.journal × IsDesk k n
+Says before (stage.Over k) = IsBody before k.layout k.vehicles k.journal
+
+-- the stage stands for these lines
+pub record Stands (before : List Line) (s : Stage) : Type 0 where
+  pub part : part_after (last_of before) ≡ part_of s
+  pub over : is_end (last_of before) ≡ is_over s
+  pub says : Says before s
+
+-- whether a request accelerates, or couldn't be granted on any history
+abbrev pub is_missing_request : Intersection → Params → Bool
+is_missing_request i p = not (p.accel == 0) || not (p.speed == p.max_speed) || is_some (bad_field i p)
+
+-- what is wrong with a request of a vehicle v, one of n, at some moment
+abbrev pub request_kind : State → ℕ → ℕ → ℕ → Params → Option (List ℕ)
+request_kind k n v at p =
+    if list_any (λ e. e.caller == v) k.journal || is_missing_request k.layout p then Some (codes "unsupported")
+    else if nat_le n v then Some (codes "vehicle")
+    else if nat_lt 1073741824 at then Some (codes "moment")
+    else None
+
+-- the kind of a line whose move is refused
+abbrev pub move_kind_of : LayoutFault → List ℕ
+move_kind_of (fault.Spacing lane turn station) = codes "spacing"
+move_kind_of _ = codes "move"
+
+-- whether a further line may be taken
+abbrev pub MayTake : Stage → Type 0
+MayTake (stage.Body k n) = IsDesk k n × (length k.journal < 262144)
+MayTake _ = Unit {0}
+
+-- what a further line comes to
+abbrev pub Takes : List Line → Line → Result Stage Refusal → Type 0
+Takes before l (Ok next) = (of_read today before (Ok l) ≡ goes_on l) × Stands (before ++ l ∷ []) next
+Takes before l (Err (refusal.Bad kind)) = of_read today before (Ok l) ≡ decides (bad (number_after before) (kind_text kind))
+Takes before l (Err refusal.NoMemory) = Unit {0}
+
+-- what further bytes come to
+abbrev pub Judged : List Line → List ℕ → Result Stage Refusal → Type 0
+Judged before bytes (Ok next) = (l : Line) × (judge today before (LineOf bytes) ≡ goes_on l) × Stands (before ++ l ∷ []) next
+Judged before bytes (Err (refusal.Bad kind)) = judge today before (LineOf bytes) ≡ decides (bad (number_after before) (kind_text kind))
+Judged before bytes (Err refusal.NoMemory) = Unit {0}
+
+-- the journal stays, or gets one more entry
+abbrev pub Grows : List Entry → List Entry → Type 0
+Grows old new = (new ≡ old) ⊎ ((e : Entry) × (new ≡ old ++ e ∷ []))
+
+-- a book is opened, if there is a vehicle and memory
+abbrev pub Opens : Intersection → ℕ → Result Stage Refusal → Type 0
+Opens i n (Ok next) = (n == 0 ≡ false) × (next ≡ stage.Begin (record { layout = i; vehicles = n; room = 262144; journal = [] }) n)
+Opens i n (Err (refusal.Bad kind)) = (n == 0 ≡ true) × (kind_text kind ≡ codes "vehicle")
+Opens i n (Err refusal.NoMemory) = Unit {0}

@@ -1,0 +1,204 @@
+//! Replays a script: from bytes to bytes.
+
+ghost use Rattle.std.specs.Prelude.{◌≡◌, ◌⊎◌, ◌<◌, ◌≤◌, ◌∷◌, List, [], Contains, None, true, length, Ok, Err, IfOk, IfSome, OnOk, OnErr};
+ghost use Rattle.std.specs.Io.KnownBytes.{Appends, IsAtEnd};
+ghost use Rattle.aim_io.specs.Causes.{HasCause, Rose};
+ghost use Rattle.aim_io.specs.Known.{AppendsFront};
+ghost use Rattle.aim_msg.specs.declared.entries.Entry.{Entry};
+ghost use Rattle.aim_msg.specs.declared.script.Line.{Line};
+ghost use Rattle.aim_msg.specs.Texts.{entry_text as text_of, spaced};
+ghost use Rattle.aim_replay.specs.Texts.{printed, replay_text};
+ghost use Rattle.aim_replay.specs.Today.{today};
+ghost use Rattle.aim_replay.specs.Verdicts.{verdict};
+ghost use Rattle.aim_replay.specs.Stages.{Grows, MayTake, Stands, journal_at};
+ghost use Rattle.aim_replay.specs.Replays.{Replays, StopsShort, Writes, WritesFront, entries_text, gained};
+ghost use Rattle.aim_replay.specs.Endings.{ending_words};
+ghost use Rattle.aim_replay.specs.Sessions.{Responds, TellsVerdict, is_whole};
+
+use crate::endings::{Ending, Kind, Limit, last_line};
+use crate::stages::{Refusal, Stage};
+use aim_io::{Failed, LineFault, LineReader, Sink, Source, put_all};
+use aim_msg::{Entry, entry_text};
+use std::alloc::Global;
+
+/// Why a line isn't answered.
+#[derive(Clone, Copy, Debug, PartialEq, Eq)]
+enum Halt {
+    /// It is at fault.
+    Bad(Kind),
+    /// The sink has failed.
+    Write,
+    /// Memory has run out.
+    NoMemory,
+}
+
+/// Why a replay stops before its text is whole.
+#[derive(Clone, Copy, Debug, PartialEq, Eq)]
+enum Stop {
+    /// The source has failed.
+    Read,
+    /// The sink has failed.
+    Write,
+    /// Memory has run out.
+    NoMemory,
+}
+
+// Writes the line of an entry.
+fn put_entry<K: Sink>(sink: &mut K, position: u32, entry: &Entry) -> Result<(), Failed>
+    ensures ok { OnOk result (Appends (K.held sink.old) (K.held sink.new) (printed (text_of position entry.now))) }
+    ensures err { OnErr result (AppendsFront (K.held sink.old) (K.held sink.new) (printed (text_of position entry.now))) }
+    ensures cause { HasCause (K.faults sink.old) (K.faults sink.new) result }
+{
+    let mut line = [0; 400];
+    let len = entry_text(position, entry, &mut line);
+    line[len] = b'\n';
+    put_all(sink, &line[..len + 1])?;
+    Ok(())
+}
+
+// Writes the line of the entry that a journal has gained, if it has.
+fn put_gained<K: Sink>(sink: &mut K, journal: &[Entry], count: usize) -> Result<(), Failed>
+    requires { length journal.now ≤ 262144 }
+    ensures ok { (old : List Entry) → count ≡ length old → Grows old journal.now → OnOk result (Appends (K.held sink.old) (K.held sink.new) (gained old journal.now)) }
+    ensures err { (old : List Entry) → count ≡ length old → Grows old journal.now → OnErr result (AppendsFront (K.held sink.old) (K.held sink.new) (gained old journal.now)) }
+    ensures cause { HasCause (K.faults sink.old) (K.faults sink.new) result }
+{
+    if count < journal.len() {
+        put_entry(sink, count as u32, &journal[count])?;
+    }
+    Ok(())
+}
+
+// Takes a line, and writes the line of its entry, if it makes one.
+fn answer_line<K: Sink>(
+    alloc: Global,
+    stage: Stage,
+    sink: &mut K,
+    line: &[u8],
+) -> Result<Stage, Halt>
+    requires may { MayTake stage }
+    requires few { length (journal_at stage) < 262144 }
+    ensures responds { (before : List Line) → Stands before stage → Responds before stage line.now (K.held sink.old) (K.held sink.new) result }
+    ensures write { result ≡ Err Halt.Write → Rose (K.faults sink.old) (K.faults sink.new) }
+    ensures later { K.faults sink.old ≤ K.faults sink.new }
+{
+    let count = stage.journal().len();
+    match stage.take(alloc, line) {
+        Err(Refusal::Bad(kind)) => Err(Halt::Bad(kind)),
+        Err(Refusal::NoMemory) => Err(Halt::NoMemory),
+        Ok(next) => match put_gained(sink, next.journal(), count) {
+            Ok(()) => Ok(next),
+            Err(_) => Err(Halt::Write),
+        },
+    }
+}
+
+// Reads the lines of a script, answers its events, and says what it comes to.
+fn replay_lines<S: Source, K: Sink>(
+    alloc: Global,
+    source: &mut S,
+    sink: &mut K,
+) -> Result<Ending, Stop>
+    ensures verdict { IfOk result (λ ending. IfSome (S.left source.old) (λ bytes. TellsVerdict ending (verdict today bytes))) }
+    ensures written { OnOk result (Writes (S.left source.old) (K.held sink.old) (K.held sink.new) (entries_text today)) }
+    ensures front { OnErr result (WritesFront (S.left source.old) (K.held sink.old) (K.held sink.new) (entries_text today)) }
+    ensures ended { IfOk result (λ ending. is_whole ending ≡ true → IsAtEnd (S.left source.new)) }
+    ensures short { result ≡ Err Stop.Read → StopsShort today (S.left source.old) (S.left source.new) (K.held sink.old) (K.held sink.new) }
+    ensures memory { result ≡ Err Stop.NoMemory → Appends (K.held sink.old) (K.held sink.new) [] }
+    ensures read { result ≡ Err Stop.Read → Rose (S.faults source.old) (S.faults source.new) }
+    ensures write { result ≡ Err Stop.Write → Rose (K.faults sink.old) (K.faults sink.new) }
+    ensures source { S.faults source.old ≤ S.faults source.new }
+    ensures sink { K.faults sink.old ≤ K.faults sink.new }
+{
+    let mut reader = LineReader::new();
+    let mut stage = Stage::Version;
+    let mut number = 0u32;
+    'lines: loop {
+        match reader.advance(source) {
+            Err(LineFault::Read) => return Err(Stop::Read),
+            Err(LineFault::Long(line)) => return Ok(Ending::Bad(line, Kind::Long)),
+            Err(LineFault::Bytes) => return Ok(Ending::Limit(Limit::Bytes)),
+            Err(LineFault::Lines) => return Ok(Ending::Limit(Limit::Lines)),
+            Ok(false) => return Ok(stage.at_end(number)),
+            Ok(true) => {
+                number += 1;
+                match answer_line(alloc, stage, sink, reader.line()) {
+                    Ok(next) => stage = next,
+                    Err(Halt::Bad(kind)) => return Ok(Ending::Bad(number, kind)),
+                    Err(Halt::Write) => return Err(Stop::Write),
+                    Err(Halt::NoMemory) => return Err(Stop::NoMemory),
+                }
+            }
+        }
+    }
+}
+
+// Writes the last line.
+fn put_ending<K: Sink>(sink: &mut K, ending: Ending) -> Result<(), Failed>
+    ensures ok { OnOk result (Appends (K.held sink.old) (K.held sink.new) (printed (spaced (ending_words ending)))) }
+    ensures err { OnErr result (AppendsFront (K.held sink.old) (K.held sink.new) (printed (spaced (ending_words ending)))) }
+    ensures cause { HasCause (K.faults sink.old) (K.faults sink.new) result }
+{
+    let mut line = [0; 400];
+    let len = last_line(ending, &mut line);
+    put_all(sink, &line[..len])?;
+    Ok(())
+}
+
+// Replays a script, and says what it comes to.
+fn replay_script<S: Source, K: Sink>(
+    alloc: Global,
+    source: &mut S,
+    sink: &mut K,
+) -> Result<Ending, Stop>
+    ensures verdict { IfOk result (λ ending. IfSome (S.left source.old) (λ bytes. TellsVerdict ending (verdict today bytes))) }
+    ensures written { OnOk result (Writes (S.left source.old) (K.held sink.old) (K.held sink.new) (replay_text today None)) }
+    ensures front { OnErr result (WritesFront (S.left source.old) (K.held sink.old) (K.held sink.new) (replay_text today None)) }
+    ensures ended { IfOk result (λ ending. is_whole ending ≡ true → IsAtEnd (S.left source.new)) }
+    ensures short { result ≡ Err Stop.Read → StopsShort today (S.left source.old) (S.left source.new) (K.held sink.old) (K.held sink.new) }
+    ensures memory { result ≡ Err Stop.NoMemory → Appends (K.held sink.old) (K.held sink.new) [] }
+    ensures read { result ≡ Err Stop.Read → Rose (S.faults source.old) (S.faults source.new) }
+    ensures write { result ≡ Err Stop.Write → Rose (K.faults sink.old) (K.faults sink.new) }
+    ensures source { S.faults source.old ≤ S.faults source.new }
+    ensures sink { K.faults sink.old ≤ K.faults sink.new }
+{
+    match replay_lines(alloc, source, sink) {
+        Err(stop) => Err(stop),
+        Ok(ending) => match put_ending(sink, ending) {
+            Err(_) => Err(Stop::Write),
+            Ok(()) => Ok(ending),
+        },
+    }
+}
+
+/// Replays a script: reads its lines, writes the line of each event's entry before it takes the
+/// next line, and last what the script comes to. The status is 0 for a whole script, 3 for a line
+/// at fault, 4 where the source fails, 5 where the sink fails, 6 for a limit, and 7 where memory
+/// runs out, which is before the first event. Always returns.
+pub fn replay<S: Source, K: Sink>(alloc: Global, source: &mut S, sink: &mut K) -> u8
+    // With status 0, 3 or 6 the whole text of the bytes is written, and the status is theirs.
+    ensures whole { (result ≡ 0) ⊎ ((result ≡ 3) ⊎ (result ≡ 6)) → IfSome (S.left source.old)
+        (λ bytes. Replays today None bytes (K.held sink.old) (K.held sink.new) result) }
+    ensures ended { result ≡ 0 → IsAtEnd (S.left source.new) }
+
+    // With another status what is written is a front of that text.
+    ensures front { (result ≡ 4) ⊎ ((result ≡ 5) ⊎ (result ≡ 7)) → WritesFront (S.left source.old) (K.held sink.old) (K.held sink.new) (replay_text today None) }
+    ensures short { result ≡ 4 → StopsShort today (S.left source.old) (S.left source.new) (K.held sink.old) (K.held sink.new) }
+    ensures memory { result ≡ 7 → Appends (K.held sink.old) (K.held sink.new) [] }
+
+    // Each status has its cause.
+    ensures read { result ≡ 4 → Rose (S.faults source.old) (S.faults source.new) }
+    ensures write { result ≡ 5 → Rose (K.faults sink.old) (K.faults sink.new) }
+    ensures source { S.faults source.old ≤ S.faults source.new }
+    ensures sink { K.faults sink.old ≤ K.faults sink.new }
+    ensures statuses { (result ≡ 0) ⊎ ((result ≡ 3) ⊎ ((result ≡ 4) ⊎ ((result ≡ 5) ⊎ ((result ≡ 6) ⊎ (result ≡ 7))))) }
+{
+    match replay_script(alloc, source, sink) {
+        Ok(Ending::Whole(_)) => 0,
+        Ok(Ending::Bad(..)) => 3,
+        Ok(Ending::Limit(_)) => 6,
+        Err(Stop::Read) => 4,
+        Err(Stop::Write) => 5,
+        Err(Stop::NoMemory) => 7,
+    }
+}

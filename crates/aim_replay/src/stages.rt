@@ -1,0 +1,449 @@
+//! How far a script has come, line by line.
+
+ghost use Rattle.std.specs.Prelude.{◌≡◌, ◌≤◌, ◌||◌, ◌==◌, not, List, [], length, Ok, Err, IfOk, option_map};
+ghost use Rattle.aim_msg.specs.declared.script.Line.{Line};
+ghost use Rattle.aim_msg.specs.declared.script.Name.{Name};
+ghost use Rattle.aim_book.specs.Serving.{IsPlain};
+ghost use Rattle.aim_replay.specs.Said.{grid_of as grid_from, times_of as times_from, shape_of as shape_from};
+ghost use Rattle.aim_replay.specs.Endings.{Tells, kind_text};
+ghost use Rattle.aim_replay.specs.Verdicts.{at_end};
+ghost use Rattle.aim_replay.specs.Stages.{Grows, Judged, MayTake, Opens, Stands, Takes, is_missing_request, journal_at, move_kind_of, request_kind};
+
+use crate::endings::{Ending, Kind};
+use aim_book::{Book, Full, OpenFault, bad_field, has_called};
+use aim_geometry::{Grid, Ground, GroundFault, Times};
+use aim_msg::{Body, Entry, Grid6, Line, Message, MoveShape, Params, Times5, Turn, read_line};
+use aim_paths::builders::{Builder, LayoutFault};
+use aim_paths::{Kind as PolicyKind, Layout, Shape};
+use std::alloc::Global;
+
+/// How far a script has come, and what is kept of the lines so far.
+#[derive(Drop)]
+pub enum Stage {
+    /// The line of the version comes next.
+    Version,
+    /// The line of the grid comes next.
+    Grid,
+    /// The line of the times comes next.
+    Times(Grid),
+    /// The line of the lanes comes next.
+    Lanes(Ground),
+    /// Moves come, or the first policy.
+    Moves(Builder),
+    /// Policies come, or the line of the vehicles.
+    Policies(Builder),
+    /// `begin` comes next. There are so many vehicles.
+    Begin(Book, u32),
+    /// Events come, or `end`. There are so many vehicles.
+    Body(Book, u32),
+    /// Nothing comes any more.
+    Over(Book),
+}
+
+/// Why a line isn't taken.
+#[derive(Clone, Copy, Debug, PartialEq, Eq)]
+pub enum Refusal {
+    /// It is at fault.
+    Bad(Kind),
+    /// Memory has run out.
+    NoMemory,
+}
+
+// Times with which any grid makes a ground that makes one with others.
+const SHORTEST: Times = Times {
+    horizon: 1,
+    longest: 1,
+    clearance: 0,
+    early: 0,
+    late: 0,
+    edge: 0,
+};
+
+// The room of a journal: one entry for every line of the longest script.
+const ROOM: u32 = 262_144;
+
+// The most vehicles, for now.
+const MOST_VEHICLES: u32 = 64;
+
+// The greatest moment.
+const LATEST: u32 = 1_073_741_824;
+
+// The grid of a line.
+fn grid_of(grid: &Grid6) -> Grid
+    ensures { result ≡ grid_from grid.now }
+{
+    Grid {
+        side: grid.side,
+        n: grid.n,
+        spacing: grid.spacing,
+        fixed: grid.fixed,
+        half: grid.half,
+        spans: grid.spans,
+    }
+}
+
+// The times of a line.
+fn times_of(times: &Times5) -> Times
+    ensures { result ≡ times_from times.now }
+{
+    Times {
+        horizon: times.horizon,
+        longest: times.longest,
+        clearance: times.clearance,
+        early: times.internal,
+        late: times.internal,
+        edge: times.edge,
+    }
+}
+
+// Whether a line of times asks for buffers.
+fn has_buffers(times: &Times5) -> bool
+    ensures { result ≡ (not (times.now.internal == 0) || not (times.now.edge == 0)) }
+{
+    times.internal != 0 || times.edge != 0
+}
+
+// The shape of a line.
+fn shape_of(shape: &MoveShape) -> Shape
+    ensures { result ≡ shape_from shape.now }
+{
+    match *shape {
+        MoveShape::Line { x0, y0, x1, y1, m } => Shape::Line { x0, y0, x1, y1, m },
+        MoveShape::Curve {
+            x0,
+            y0,
+            x1,
+            y1,
+            x2,
+            y2,
+            m,
+        } => Shape::Curve {
+            x0,
+            y0,
+            x1,
+            y1,
+            x2,
+            y2,
+            m,
+        },
+    }
+}
+
+// Whether the request accelerates, or couldn't be granted on any history.
+fn is_missing(book: &Book, params: &Params) -> bool
+    requires { IsPlain book.now.layout }
+    ensures { result ≡ is_missing_request book.now.layout params.now }
+{
+    if params.accel != 0 || params.speed != params.max_speed {
+        return true;
+    }
+    bad_field(book.layout(), params).is_some()
+}
+
+// What is wrong with a request of a vehicle, one of so many.
+fn request_fault(
+    book: &Book,
+    vehicles: u32,
+    vehicle: u32,
+    moment: u32,
+    params: &Params,
+) -> Option<Kind>
+    requires { IsPlain book.now.layout }
+    ensures { option_map kind_text result ≡ request_kind book.now vehicles vehicle moment params.now }
+{
+    let is_second = has_called(book.journal(), vehicle);
+    let is_missing = is_missing(book, params);
+    if is_second || is_missing {
+        Some(Kind::Unsupported)
+    } else if vehicle >= vehicles {
+        Some(Kind::Vehicle)
+    } else if moment > LATEST {
+        Some(Kind::Moment)
+    } else {
+        None
+    }
+}
+
+// Opens the book of a layout for so many vehicles.
+fn opened(alloc: Global, layout: Layout, vehicles: u32) -> Result<Stage, Refusal>
+    requires { vehicles ≤ 64 }
+    ensures { Opens layout vehicles result }
+{
+    match Book::open(alloc, layout, vehicles, ROOM) {
+        Ok(book) => Ok(Stage::Begin(book, vehicles)),
+        Err(OpenFault::NoMemory) => Err(Refusal::NoMemory),
+        Err(_) => Err(Refusal::Bad(Kind::Vehicle)),
+    }
+}
+
+// Ends a layout, and opens its book for so many vehicles.
+fn closed(alloc: Global, builder: Builder, vehicles: u32) -> Result<Stage, Refusal>
+    ensures takes { (before : List Line) → Stands before (Stage.Policies builder) → Takes before (Line.Vehicles vehicles) result }
+    ensures grows { IfOk result (λ next. journal_at next ≡ []) }
+{
+    if vehicles > MOST_VEHICLES {
+        return Err(Refusal::Bad(Kind::Unsupported));
+    }
+    match builder.finish() {
+        Ok(layout) => opened(alloc, layout, vehicles),
+        Err(_) => Err(Refusal::Bad(Kind::Phase)),
+    }
+}
+
+// The kind of a line whose move is refused.
+fn move_kind(fault: LayoutFault) -> Kind
+    ensures { kind_text result ≡ move_kind_of fault }
+{
+    match fault {
+        LayoutFault::Spacing { .. } => Kind::Spacing,
+        _ => Kind::Move,
+    }
+}
+
+impl Stage {
+    // Takes the line of the version.
+    fn version(&self, version: u32) -> Result<Stage, Refusal>
+        ensures takes { (before : List Line) → Stands before self.now → Takes before (Line.Version version) result }
+        ensures grows { IfOk result (λ next. Grows (journal_at self.now) (journal_at next)) }
+        ensures memory { result ≡ Err Refusal.NoMemory → ⊥ }
+    {
+        match self {
+            Stage::Version => match version {
+                1 => Ok(Stage::Grid),
+                2 | 3 => Err(Refusal::Bad(Kind::Unsupported)),
+                _ => Err(Refusal::Bad(Kind::Version)),
+            },
+            _ => Err(Refusal::Bad(Kind::Order)),
+        }
+    }
+
+    // Takes the line of the grid.
+    fn grid(&self, grid: &Grid6) -> Result<Stage, Refusal>
+        ensures takes { (before : List Line) → Stands before self.now → Takes before (Line.Grid grid.now) result }
+        ensures grows { IfOk result (λ next. Grows (journal_at self.now) (journal_at next)) }
+        ensures memory { result ≡ Err Refusal.NoMemory → ⊥ }
+    {
+        match self {
+            Stage::Grid if grid.fixed != 0 => Err(Refusal::Bad(Kind::Unsupported)),
+            Stage::Grid => match Ground::build(grid_of(grid), SHORTEST) {
+                Ok(ground) => Ok(Stage::Times(ground.grid())),
+                Err(_) => Err(Refusal::Bad(Kind::Grid)),
+            },
+            _ => Err(Refusal::Bad(Kind::Order)),
+        }
+    }
+
+    // Takes the line of the times.
+    fn times(&self, times: &Times5) -> Result<Stage, Refusal>
+        ensures takes { (before : List Line) → Stands before self.now → Takes before (Line.Times times.now) result }
+        ensures grows { IfOk result (λ next. Grows (journal_at self.now) (journal_at next)) }
+        ensures memory { result ≡ Err Refusal.NoMemory → ⊥ }
+    {
+        match self {
+            Stage::Times(_) if has_buffers(times) => Err(Refusal::Bad(Kind::Unsupported)),
+            Stage::Times(grid) => match Ground::build(*grid, times_of(times)) {
+                Ok(ground) => Ok(Stage::Lanes(ground)),
+                Err(GroundFault::Grid) => Err(Refusal::Bad(Kind::Grid)),
+                Err(GroundFault::Buffers) => Err(Refusal::Bad(Kind::Buffers)),
+                Err(GroundFault::Times) => Err(Refusal::Bad(Kind::Times)),
+            },
+            _ => Err(Refusal::Bad(Kind::Order)),
+        }
+    }
+
+    // Takes the line of the lanes.
+    fn lanes(&self, alloc: Global, lanes: u32) -> Result<Stage, Refusal>
+        ensures takes { (before : List Line) → Stands before self.now → Takes before (Line.Lanes lanes) result }
+        ensures grows { IfOk result (λ next. Grows (journal_at self.now) (journal_at next)) }
+        ensures memory { result ≡ Err Refusal.NoMemory → journal_at self.now ≡ [] }
+    {
+        match self {
+            Stage::Lanes(ground) => match Builder::new(alloc, *ground, lanes) {
+                Ok(builder) => Ok(Stage::Moves(builder)),
+                Err(LayoutFault::NoMemory) => Err(Refusal::NoMemory),
+                Err(_) => Err(Refusal::Bad(Kind::Lane)),
+            },
+            _ => Err(Refusal::Bad(Kind::Order)),
+        }
+    }
+
+    // Takes the line of a move.
+    fn turn(self, lane: u8, turn: Turn, shape: &MoveShape) -> Result<Stage, Refusal>
+        ensures takes { (before : List Line) → Stands before self → Takes before (Line.Move lane turn shape.now) result }
+        ensures grows { IfOk result (λ next. Grows (journal_at self) (journal_at next)) }
+        ensures memory { result ≡ Err Refusal.NoMemory → ⊥ }
+    {
+        match self {
+            Stage::Moves(mut builder) => {
+                match builder.add_move(u32::from(lane), turn, shape_of(shape)) {
+                    Ok(()) => Ok(Stage::Moves(builder)),
+                    Err(fault) => Err(Refusal::Bad(move_kind(fault))),
+                }
+            }
+            _other => Err(Refusal::Bad(Kind::Order)),
+        }
+    }
+
+    // Takes the line of a policy.
+    fn policy(self, kind: u8) -> Result<Stage, Refusal>
+        ensures takes { (before : List Line) (name : Name) → Stands before self → Takes before (Line.Policy name kind) result }
+        ensures grows { IfOk result (λ next. Grows (journal_at self) (journal_at next)) }
+        ensures memory { result ≡ Err Refusal.NoMemory → ⊥ }
+    {
+        match self {
+            Stage::Moves(_builder) if kind != 0 => Err(Refusal::Bad(Kind::Unsupported)),
+            Stage::Moves(mut builder) => match builder.add_policy(PolicyKind::Fcfs) {
+                Ok(()) => Ok(Stage::Policies(builder)),
+                Err(_) => Err(Refusal::Bad(Kind::Phase)),
+            },
+            Stage::Policies(_builder) => Err(Refusal::Bad(Kind::Unsupported)),
+            _other => Err(Refusal::Bad(Kind::Order)),
+        }
+    }
+
+    // Takes the line of the vehicles.
+    fn vehicles(self, alloc: Global, vehicles: u32) -> Result<Stage, Refusal>
+        ensures takes { (before : List Line) → Stands before self → Takes before (Line.Vehicles vehicles) result }
+        ensures grows { IfOk result (λ next. Grows (journal_at self) (journal_at next)) }
+        ensures memory { result ≡ Err Refusal.NoMemory → journal_at self ≡ [] }
+    {
+        match self {
+            Stage::Moves(_builder) if vehicles > MOST_VEHICLES => {
+                Err(Refusal::Bad(Kind::Unsupported))
+            }
+            Stage::Moves(_builder) => Err(Refusal::Bad(Kind::Phase)),
+            Stage::Policies(builder) => closed(alloc, builder, vehicles),
+            _other => Err(Refusal::Bad(Kind::Order)),
+        }
+    }
+
+    // Takes `begin`.
+    fn begin(self) -> Result<Stage, Refusal>
+        ensures takes { (before : List Line) → Stands before self → Takes before Line.Begin result }
+        ensures grows { IfOk result (λ next. Grows (journal_at self) (journal_at next)) }
+        ensures memory { result ≡ Err Refusal.NoMemory → ⊥ }
+    {
+        match self {
+            Stage::Begin(book, vehicles) => Ok(Stage::Body(book, vehicles)),
+            _other => Err(Refusal::Bad(Kind::Order)),
+        }
+    }
+
+    // Takes a request of a vehicle, and answers it.
+    fn request(
+        self,
+        vehicle: u32,
+        moment: u32,
+        seq: u32,
+        params: Params,
+    ) -> Result<Stage, Refusal>
+        requires { MayTake self }
+        ensures takes { (before : List Line) → Stands before self → Takes before (Line.Event vehicle moment (record { seq = seq; body = Body.Request params })) result }
+        ensures grows { IfOk result (λ next. Grows (journal_at self) (journal_at next)) }
+        ensures memory { result ≡ Err Refusal.NoMemory → ⊥ }
+    {
+        match self {
+            Stage::Body(mut book, vehicles) => {
+                match request_fault(&book, vehicles, vehicle, moment, &params) {
+                    Some(kind) => Err(Refusal::Bad(kind)),
+                    None => {
+                        let body = Body::Request(params);
+                        match book.serve(vehicle, moment, Message { seq, body }) {
+                            Ok(_) => Ok(Stage::Body(book, vehicles)),
+                            Err(Full) => unreachable!(),
+                        }
+                    }
+                }
+            }
+            _other => Err(Refusal::Bad(Kind::Order)),
+        }
+    }
+
+    // Takes a message of a vehicle.
+    fn event(self, vehicle: u32, moment: u32, message: &Message) -> Result<Stage, Refusal>
+        requires { MayTake self }
+        ensures takes { (before : List Line) → Stands before self → Takes before (Line.Event vehicle moment message.now) result }
+        ensures grows { IfOk result (λ next. Grows (journal_at self) (journal_at next)) }
+        ensures memory { result ≡ Err Refusal.NoMemory → ⊥ }
+    {
+        match message.body {
+            Body::Request(params) => self.request(vehicle, moment, message.seq, params),
+            _ => Err(Refusal::Bad(Kind::Unsupported)),
+        }
+    }
+
+    // Takes `end`.
+    fn end(self) -> Result<Stage, Refusal>
+        ensures takes { (before : List Line) → Stands before self → Takes before Line.End result }
+        ensures grows { IfOk result (λ next. Grows (journal_at self) (journal_at next)) }
+        ensures memory { result ≡ Err Refusal.NoMemory → ⊥ }
+    {
+        match self {
+            Stage::Body(book, _) => Ok(Stage::Over(book)),
+            _other => Err(Refusal::Bad(Kind::Order)),
+        }
+    }
+
+    // Takes a line.
+    fn after(self, alloc: Global, line: &Line) -> Result<Stage, Refusal>
+        requires { MayTake self }
+        ensures takes { (before : List Line) → Stands before self → Takes before line.now result }
+        ensures grows { IfOk result (λ next. Grows (journal_at self) (journal_at next)) }
+        ensures memory { result ≡ Err Refusal.NoMemory → journal_at self ≡ [] }
+    {
+        match line {
+            Line::Version(version) => self.version(*version),
+            Line::Grid(grid) => self.grid(grid),
+            Line::Times(times) => self.times(times),
+            Line::Lanes(lanes) => self.lanes(alloc, *lanes),
+            Line::Move { lane, turn, shape } => self.turn(*lane, *turn, shape),
+            Line::Policy { kind, .. } => self.policy(*kind),
+            Line::Vehicles(vehicles) => self.vehicles(alloc, *vehicles),
+            Line::Begin => self.begin(),
+            Line::Event {
+                vehicle,
+                moment,
+                message,
+            } => self.event(*vehicle, *moment, message),
+            Line::End => self.end(),
+            _ => Err(Refusal::Bad(Kind::Unsupported)),
+        }
+    }
+
+    /// Takes the next line of a script, without its byte 10, and answers its event, if it is one.
+    pub fn take(self, alloc: Global, bytes: &[u8]) -> Result<Stage, Refusal>
+        requires { MayTake self }
+        ensures judged { (before : List Line) → Stands before self → Judged before bytes.now result }
+        ensures grows { IfOk result (λ next. Grows (journal_at self) (journal_at next)) }
+
+        // Memory is taken before the first event alone.
+        ensures memory { result ≡ Err Refusal.NoMemory → journal_at self ≡ [] }
+    {
+        match read_line(bytes, 1) {
+            Ok(line) => self.after(alloc, &line),
+            Err(kind) => Err(Refusal::Bad(Kind::Spelling(kind))),
+        }
+    }
+
+    /// What the script comes to if its input ends here, behind so many lines.
+    pub fn at_end(&self, lines: u32) -> Ending
+        requires lines { lines ≤ 262144 }
+        requires entries { length (journal_at self.now) ≤ 262144 }
+        ensures { (before : List Line) → Stands before self.now → length before ≡ lines → Tells (at_end before) (length (journal_at self.now)) result }
+    {
+        match self {
+            Stage::Over(book) => Ending::Whole(book.journal().len() as u32),
+            _ => Ending::Bad(lines + 1, Kind::End),
+        }
+    }
+
+    /// The entries of the events so far.
+    pub fn journal(&self) -> &[Entry]
+        ensures { result.now ≡ journal_at self.now }
+    {
+        match self {
+            Stage::Begin(book, _) | Stage::Body(book, _) | Stage::Over(book) => book.journal(),
+            _ => &[],
+        }
+    }
+}
