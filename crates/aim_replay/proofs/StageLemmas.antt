@@ -116,7 +116,7 @@ times_taken before s g t site at unbuffered buffers times same st =
     let taken : Takes before l (Ok (stage.Lanes all)) = (
       goes before l (times_kind before t st.part ∙ rw (unbuffered, buffers, times) refl) refl,
       stands_after before l (stage.Lanes all) refl refl
-      (header_more before i l st.says.0 (record { version = refl; vehicles = refl; call = λ _. refl; event = λ _. refl }) st.says.0.spans refl, record { early = internal; late = internal; edge = edge }),
+          (header_more before i l st.says.0 (record { version = refl; vehicles = refl; call = λ _. refl; event = λ _. refl }) st.says.0.spans refl, record { early = internal; late = internal; edge = edge }),
     ) in
     subst (λ x. Takes before l (Ok (stage.Lanes x))) (sym same) taken
 
@@ -128,7 +128,7 @@ lanes_taken before s site n b at inside same st =
     let taken : Takes before l (Ok (stage.Moves (bare site n))) = (
       goes before l (lanes_kind before n st.part ∙ rw inside refl) refl,
       stands_after before l (stage.Moves (bare site n)) refl refl
-      (header_more before i l st.says.0 (record { version = refl; vehicles = refl; call = λ _. refl; event = λ _. refl }) st.says.0.spans refl, st.says.1, refl),
+          (header_more before i l st.says.0 (record { version = refl; vehicles = refl; call = λ _. refl; event = λ _. refl }) st.says.0.spans refl, st.says.1, refl),
     ) in
     subst (λ x. Takes before l (Ok (stage.Moves x))) (sym same) taken
 
@@ -154,7 +154,7 @@ move_taken before s b new lane turn shape at fault same st =
     let taken : Takes before l (Ok (stage.Moves next)) = (
       goes before l (move_kind before lane turn shape st.part ∙ rw (st.says.0.layout, good.0, near) refl) refl,
       stands_after before l (stage.Moves next) refl refl
-      (header_more before b l st.says.0 (record { version = refl; vehicles = refl; call = λ _. refl; event = λ _. refl }) st.says.0.spans (omega arith), st.says.1, st.says.2),
+          (header_more before b l st.says.0 (record { version = refl; vehicles = refl; call = λ _. refl; event = λ _. refl }) st.says.0.spans (omega arith), st.says.1, st.says.2),
     ) in
     subst (λ x. Takes before l (Ok (stage.Moves x))) (sym same) taken
 
@@ -169,7 +169,7 @@ policy_taken before s b new name k at zero same st =
     let taken : Takes before l (Ok (stage.Policies next)) = (
       goes before l (policy_kind before name 0 st.part none (rw st.says.0.layout fault)) refl,
       stands_after before l (stage.Policies next) refl refl
-      (header_more before b l st.says.0 (record { version = refl; vehicles = refl; call = λ _. refl; event = λ _. refl }) st.says.0.spans (sym (length-append b.policies (record { kind = kind.Fcfs; phases = [] } ∷ []))), only b st.says.1 st.says.2),
+          (header_more before b l st.says.0 (record { version = refl; vehicles = refl; call = λ _. refl; event = λ _. refl }) st.says.0.spans (sym (length-append b.policies (record { kind = kind.Fcfs; phases = [] } ∷ []))), only b st.says.1 st.says.2),
     ) in
     subst (λ k. Takes before (line.Policy name k) (Ok (stage.Policies new))) (sym zero) (subst (λ x. Takes before l (Ok (stage.Policies x))) (sym same) taken)
   where
@@ -182,19 +182,17 @@ policy_taken before s b new name k at zero same st =
 pub begin_taken : (before : List Line) (s : Stage) (k : State) (n : ℕ) → s ≡ stage.Begin k n → Stands before s → Takes before line.Begin (Ok (stage.Body k n))
 begin_taken before s k n at st =
     let st : Stands before (stage.Begin k n) = subst (Stands before) at st in
-    let l = line.Begin in
-    (
+    let l = line.Begin in (
       goes before l (begin_kind before st.part) refl,
       stands_after before l (stage.Body k n) refl refl
-      (body_same before k.layout n k.journal l st.says.0 (record { version = refl; vehicles = refl; call = λ _. refl; event = λ _. refl }) refl refl, st.says.1),
+          (body_same before k.layout n k.journal l st.says.0 (record { version = refl; vehicles = refl; call = λ _. refl; event = λ _. refl }) refl refl, st.says.1),
     )
 
 pub end_taken : (before : List Line) (s : Stage) (k : State) (n : ℕ) → s ≡ stage.Body k n → Stands before s → Takes before line.End (Ok (stage.Over k))
 end_taken before s k n at st =
     let st : Stands before (stage.Body k n) = subst (Stands before) at st in
     let l = line.End in
-    let says = body_same before k.layout n k.journal l st.says.0 (record { version = refl; vehicles = refl; call = λ _. refl; event = λ _. refl }) refl refl in
-    (
+    let says = body_same before k.layout n k.journal l st.says.0 (record { version = refl; vehicles = refl; call = λ _. refl; event = λ _. refl }) refl refl in (
       goes before l (end_kind before st.part) refl,
       stands_after before l (stage.Over k) refl refl (subst (λ m. IsBody (before ++ l ∷ []) k.layout m k.journal) (sym st.says.1.vehicles) says),
     )
