@@ -1,0 +1,27 @@
+//! An intersection manager: replays what vehicles asked, and prints what it answers.
+#![tactic(auto)]
+
+mod program;
+mod words;
+
+use aim_io::{StdSink, StdSource};
+use std::env;
+use std::io;
+use std::process::ExitCode;
+
+fn main(rt: HostRuntime) -> ExitCode {
+    let alloc = rt.alloc();
+    let mut source = StdSource::new(rt.reader());
+    let mut sink = StdSink::new(io::writer(&rt));
+    let status = match env::args(&rt) {
+        // The first word is the program's name.
+        Ok(words) => match words.skip(1).collect::<Vec<String>>(alloc) {
+            Ok(words) => program::run(alloc, &words, &mut source, &mut sink),
+            Err(_) => 7,
+        },
+        Err(error) if error.kind() == io::ErrorKind::OutOfMemory => 7,
+        // A word that is no text is in no table.
+        Err(_) => program::run(alloc, &[], &mut source, &mut sink),
+    };
+    ExitCode::from(status)
+}

@@ -1,0 +1,68 @@
+//! The program, over any source and sink.
+
+ghost use Rattle.std.specs.Prelude.{◌≡◌, ◌⊎◌, ◌≤◌, ◌↔◌, [], None, Some, map, length, IfSome, codes};
+ghost use Rattle.std.specs.String.{string_bytes};
+ghost use Rattle.std.specs.Io.KnownBytes.{Appends, IsAtEnd};
+ghost use Rattle.aim_io.specs.Causes.{Rose};
+ghost use Rattle.aim_io.specs.Known.{AppendsFront};
+ghost use Rattle.aim_replay.specs.Replays.{Replays, StopsShort, WritesFront};
+ghost use Rattle.aim_replay.specs.Texts.{replay_text};
+ghost use Rattle.aim_replay.specs.Today.{today};
+ghost use Rattle.aim.specs.Commands.{command_of as command_in};
+ghost use Rattle.aim.specs.Runs.{Completes, TellsUsage};
+
+use crate::words::{Command, command_of};
+use aim_io::{Sink, Source, put_all};
+use aim_replay::replay;
+use std::alloc::Global;
+
+// Says which words the program takes.
+fn tell_usage<K: Sink>(sink: &mut K) -> u8
+    ensures usage { TellsUsage (K.held sink.old) (K.held sink.new) result }
+    ensures write { result ≡ 5 → Rose (K.faults sink.old) (K.faults sink.new) }
+    ensures sink { K.faults sink.old ≤ K.faults sink.new }
+{
+    match put_all(sink, b"usage\n") {
+        Ok(()) => 2,
+        Err(_) => 5,
+    }
+}
+
+/// Does what the words after the program's name ask for, and answers the status to end with. It is
+/// 0 where a script was whole, 2 for words outside the table, 3 for a line at fault, 4 where the
+/// source fails, 5 where the sink fails, 6 for a limit, and 7 where memory runs out.
+pub fn run<S: Source, K: Sink>(
+    alloc: Global,
+    words: &[String],
+    source: &mut S,
+    sink: &mut K,
+) -> u8
+    // Words outside the table: nothing is read, and the usage is all that is written.
+    ensures outside { command_in (map string_bytes words.now) ≡ None → (source.new ≡ source.old) × TellsUsage (K.held sink.old) (K.held sink.new) result }
+    ensures inside { result ≡ 2 → command_in (map string_bytes words.now) ≡ None }
+
+    // With status 0, 3 or 6 the whole text of the source's bytes is written, and the status is theirs.
+    ensures whole { (result ≡ 0) ⊎ ((result ≡ 3) ⊎ (result ≡ 6)) → IfSome (S.left source.old)
+        (λ bytes. Replays today None bytes (K.held sink.old) (K.held sink.new) result) }
+    ensures ended { result ≡ 0 → IsAtEnd (S.left source.new) }
+
+    // With status 4, 5 or 7 what is written is a front of that text.
+    ensures front { command_in (map string_bytes words.now) ≡ Some Command.Replay → (result ≡ 4) ⊎ ((result ≡ 5) ⊎ (result ≡ 7))
+        → WritesFront (S.left source.old) (K.held sink.old) (K.held sink.new) (replay_text today None) }
+    ensures short { result ≡ 4 → StopsShort today (S.left source.old) (S.left source.new) (K.held sink.old) (K.held sink.new) }
+    ensures memory { result ≡ 7 → Appends (K.held sink.old) (K.held sink.new) [] }
+
+    // Each status has its cause.
+    ensures read { result ≡ 4 → Rose (S.faults source.old) (S.faults source.new) }
+    ensures write { result ≡ 5 → Rose (K.faults sink.old) (K.faults sink.new) }
+    ensures source { S.faults source.old ≤ S.faults source.new }
+    ensures sink { K.faults sink.old ≤ K.faults sink.new }
+    ensures statuses { (result ≡ 0) ⊎ ((result ≡ 2) ⊎ ((result ≡ 3) ⊎ ((result ≡ 4) ⊎ ((result ≡ 5) ⊎ ((result ≡ 6) ⊎ (result ≡ 7)))))) }
+    ensures complete { command_in (map string_bytes words.now) ≡ Some Command.Replay → IfSome (S.left source.old)
+        (λ bytes. Completes today bytes (S.faults source.old) (S.faults source.new) (K.faults sink.old) (K.faults sink.new) result) }
+{
+    match command_of(words) {
+        None => tell_usage(sink),
+        Some(Command::Replay) => replay(alloc, source, sink),
+    }
+}
