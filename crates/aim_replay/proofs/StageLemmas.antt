@@ -1,5 +1,5 @@
 -- What a line comes to at the stage where it belongs.
-use Rattle.std.proofs.Common.{◌≡◌, ◌≢◌, ◌⊎◌, inl, inr, ℕ, ◌*◌, ◌+◌, ◌<◌, ◌≤◌, ◌==◌, Bool, true, false, ◌||◌, not, nat_lt, nat_le, is_some, List, [], ◌∷◌, ◌++◌, length, map, Option, Some, None, option_map, Result, Ok, Err, refl, sym, ap, ◌∙◌, subst, cond, arith, codes, length-append, if◌then◌else◌}
+use Rattle.std.proofs.Common.{◌≡◌, inl, inr, ℕ, ◌*◌, ◌<◌, ◌≤◌, ◌==◌, Bool, true, false, ◌||◌, not, nat_lt, nat_le, is_some, List, [], ◌∷◌, ◌++◌, length, Option, Some, None, option_map, Result, Ok, Err, refl, sym, ap, ◌∙◌, subst, arith, codes, length-append, if◌then◌else◌}
 use Rattle.std.specs.List.{list_any}
 use Rattle.std.proofs.lemmas.Bool.{cases_Bool, eq-eqb, eqb-true, ltb-false, leb-false, le-ltb}
 use Rattle.std.specs.Bool.{IsTrue}
@@ -10,12 +10,10 @@ use Rattle.aim_msg.specs.Reading.{line_at}
 use Rattle.aim_paths.specs.Bad.{bad as bad_field}
 use Rattle.std.proofs.Math.Nat.{mul-le-mul}
 use Rattle.aim_paths.specs.declared.policies.Kind.TheVariants as kind
-use Rattle.std.specs.Option.{option_to_list}
 use Rattle.aim_msg.specs.declared.messages.Message.{Message}
 use Rattle.aim_msg.specs.declared.messages.Turn.{Turn}
 use Rattle.aim_msg.specs.declared.messages.Params.{Params}
 use Rattle.aim_msg.specs.declared.messages.Body.TheVariants as body
-use Rattle.aim_msg.specs.declared.entries.Act.TheVariants as act
 use Rattle.aim_msg.specs.declared.entries.Entry.{Entry}
 use Rattle.aim_msg.specs.declared.script.Grid6.{Grid6}
 use Rattle.aim_msg.specs.declared.script.Times5.{Times5}
@@ -40,16 +38,16 @@ use Rattle.aim_replay.specs.declared.stages.Stage.{Stage}
 use Rattle.aim_replay.specs.declared.stages.Stage.TheVariants as stage
 use Rattle.aim_replay.specs.declared.stages.Refusal.{Refusal}
 use Rattle.aim_replay.specs.declared.stages.Refusal.TheVariants as refusal
-use Rattle.aim_replay.specs.Order.{Part, part_after, belongs, is_end}
-use Rattle.aim_replay.specs.Said.{version_after, nowhere, last_of, with_line, layout_of, grid_of, times_of, name_in, names_of, kind_of, shape_of}
-use Rattle.aim_replay.specs.Kinds.{kind_of_fault, limit_of, is_no_move, is_wide}
+use Rattle.aim_replay.specs.Order.{part_after, belongs, is_end}
+use Rattle.aim_replay.specs.Said.{version_after, nowhere, grid_of, times_of, names_of, shape_of}
+use Rattle.aim_replay.specs.Kinds.{kind_of_fault, limit_of}
 use Rattle.aim_replay.specs.Verdicts.{judge, of_read, goes_on, decides, bad, number_after, kind_word}
 use Rattle.aim_replay.specs.Endings.{kind_text}
 use Rattle.aim_replay.specs.Today.{today, is_missing_form}
-use Rattle.aim_replay.specs.Stands.{IsHeader, IsBody}
+use Rattle.aim_replay.specs.Stands.{IsBody}
 use Rattle.aim_replay.specs.Stages.{Stands, Says, Takes, Judged, MayTake, Opens, move_kind_of, part_of, is_over, IsUnbuffered, IsDesk, is_missing_request, request_kind}
-use Rattle.aim_replay.proofs.AppendLemmas.{last_of_more, Describes, header_more, body_same, body_event, body_first, event_call}
-use Rattle.aim_replay.proofs.KindLemmas.{out_of_order, version_kind, grid_kind, times_kind, lanes_kind, move_kind, policy_kind, second_policy_kind, vehicles_kind, begin_kind, end_kind, event_kind}
+use Rattle.aim_replay.proofs.AppendLemmas.{last_of_more, header_more, body_same, body_event, body_first, event_call}
+use Rattle.aim_replay.proofs.KindLemmas.{out_of_order, version_kind, grid_kind, times_kind, lanes_kind, move_kind, policy_kind, vehicles_kind, begin_kind, end_kind, event_kind}
 
 -- a line without a kind and a limit goes on
 goes : (before : List Line) (l : Line) → kind_of_fault today before l ≡ None → limit_of before l ≡ None → of_read today before (Ok l) ≡ goes_on l
@@ -116,7 +114,7 @@ times_taken before s g t site at unbuffered buffers times same st =
     let taken : Takes before l (Ok (stage.Lanes all)) = (
       goes before l (times_kind before t st.part ∙ rw (unbuffered, buffers, times) refl) refl,
       stands_after before l (stage.Lanes all) refl refl
-      (header_more before i l st.says.0 (record { version = refl; vehicles = refl; call = λ _. refl; event = λ _. refl }) st.says.0.spans refl, record { early = internal; late = internal; edge = edge }),
+          (header_more before i l st.says.0 (record { version = refl; vehicles = refl; call = λ _. refl; event = λ _. refl }) st.says.0.spans refl, record { early = internal; late = internal; edge = edge }),
     ) in
     subst (λ x. Takes before l (Ok (stage.Lanes x))) (sym same) taken
 
@@ -128,7 +126,7 @@ lanes_taken before s site n b at inside same st =
     let taken : Takes before l (Ok (stage.Moves (bare site n))) = (
       goes before l (lanes_kind before n st.part ∙ rw inside refl) refl,
       stands_after before l (stage.Moves (bare site n)) refl refl
-      (header_more before i l st.says.0 (record { version = refl; vehicles = refl; call = λ _. refl; event = λ _. refl }) st.says.0.spans refl, st.says.1, refl),
+          (header_more before i l st.says.0 (record { version = refl; vehicles = refl; call = λ _. refl; event = λ _. refl }) st.says.0.spans refl, st.says.1, refl),
     ) in
     subst (λ x. Takes before l (Ok (stage.Moves x))) (sym same) taken
 
@@ -154,7 +152,7 @@ move_taken before s b new lane turn shape at fault same st =
     let taken : Takes before l (Ok (stage.Moves next)) = (
       goes before l (move_kind before lane turn shape st.part ∙ rw (st.says.0.layout, good.0, near) refl) refl,
       stands_after before l (stage.Moves next) refl refl
-      (header_more before b l st.says.0 (record { version = refl; vehicles = refl; call = λ _. refl; event = λ _. refl }) st.says.0.spans (omega arith), st.says.1, st.says.2),
+          (header_more before b l st.says.0 (record { version = refl; vehicles = refl; call = λ _. refl; event = λ _. refl }) st.says.0.spans (omega arith), st.says.1, st.says.2),
     ) in
     subst (λ x. Takes before l (Ok (stage.Moves x))) (sym same) taken
 
@@ -169,7 +167,7 @@ policy_taken before s b new name k at zero same st =
     let taken : Takes before l (Ok (stage.Policies next)) = (
       goes before l (policy_kind before name 0 st.part none (rw st.says.0.layout fault)) refl,
       stands_after before l (stage.Policies next) refl refl
-      (header_more before b l st.says.0 (record { version = refl; vehicles = refl; call = λ _. refl; event = λ _. refl }) st.says.0.spans (sym (length-append b.policies (record { kind = kind.Fcfs; phases = [] } ∷ []))), only b st.says.1 st.says.2),
+          (header_more before b l st.says.0 (record { version = refl; vehicles = refl; call = λ _. refl; event = λ _. refl }) st.says.0.spans (sym (length-append b.policies (record { kind = kind.Fcfs; phases = [] } ∷ []))), only b st.says.1 st.says.2),
     ) in
     subst (λ k. Takes before (line.Policy name k) (Ok (stage.Policies new))) (sym zero) (subst (λ x. Takes before l (Ok (stage.Policies x))) (sym same) taken)
   where
@@ -182,19 +180,17 @@ policy_taken before s b new name k at zero same st =
 pub begin_taken : (before : List Line) (s : Stage) (k : State) (n : ℕ) → s ≡ stage.Begin k n → Stands before s → Takes before line.Begin (Ok (stage.Body k n))
 begin_taken before s k n at st =
     let st : Stands before (stage.Begin k n) = subst (Stands before) at st in
-    let l = line.Begin in
-    (
+    let l = line.Begin in (
       goes before l (begin_kind before st.part) refl,
       stands_after before l (stage.Body k n) refl refl
-      (body_same before k.layout n k.journal l st.says.0 (record { version = refl; vehicles = refl; call = λ _. refl; event = λ _. refl }) refl refl, st.says.1),
+          (body_same before k.layout n k.journal l st.says.0 (record { version = refl; vehicles = refl; call = λ _. refl; event = λ _. refl }) refl refl, st.says.1),
     )
 
 pub end_taken : (before : List Line) (s : Stage) (k : State) (n : ℕ) → s ≡ stage.Body k n → Stands before s → Takes before line.End (Ok (stage.Over k))
 end_taken before s k n at st =
     let st : Stands before (stage.Body k n) = subst (Stands before) at st in
     let l = line.End in
-    let says = body_same before k.layout n k.journal l st.says.0 (record { version = refl; vehicles = refl; call = λ _. refl; event = λ _. refl }) refl refl in
-    (
+    let says = body_same before k.layout n k.journal l st.says.0 (record { version = refl; vehicles = refl; call = λ _. refl; event = λ _. refl }) refl refl in (
       goes before l (end_kind before st.part) refl,
       stands_after before l (stage.Over k) refl refl (subst (λ m. IsBody (before ++ l ∷ []) k.layout m k.journal) (sym st.says.1.vehicles) says),
     )

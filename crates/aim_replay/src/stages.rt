@@ -330,13 +330,7 @@ impl Stage {
     }
 
     // Takes a request of a vehicle, and answers it.
-    fn request(
-        self,
-        vehicle: u32,
-        moment: u32,
-        seq: u32,
-        params: Params,
-    ) -> Result<Stage, Refusal>
+    fn request(self, vehicle: u32, moment: u32, seq: u32, params: Params) -> Result<Stage, Refusal>
         requires { MayTake self }
         ensures takes { (before : List Line) → Stands before self → Takes before (Line.Event vehicle moment (record { seq = seq; body = Body.Request params })) result }
         ensures grows { IfOk result (λ next. Grows (journal_at self) (journal_at next)) }
