@@ -2,12 +2,13 @@
 #![tactic(auto)]
 
 mod program;
+#[cfg(test)]
+mod tests;
 mod words;
 
 use aim_io::{StdSink, StdSource};
-use std::env;
-use std::io;
 use std::process::ExitCode;
+use std::{env, io};
 
 fn main(rt: HostRuntime) -> ExitCode {
     let alloc = rt.alloc();

@@ -31,12 +31,7 @@ fn tell_usage<K: Sink>(sink: &mut K) -> u8
 /// Does what the words after the program's name ask for, and answers the status to end with. It is
 /// 0 where a script was whole, 2 for words outside the table, 3 for a line at fault, 4 where the
 /// source fails, 5 where the sink fails, 6 for a limit, and 7 where memory runs out.
-pub fn run<S: Source, K: Sink>(
-    alloc: Global,
-    words: &[String],
-    source: &mut S,
-    sink: &mut K,
-) -> u8
+pub fn run<S: Source, K: Sink>(alloc: Global, words: &[String], source: &mut S, sink: &mut K) -> u8
     // Words outside the table: nothing is read, and the usage is all that is written.
     ensures outside { command_in (map string_bytes words.now) ≡ None → (source.new ≡ source.old) × TellsUsage (K.held sink.old) (K.held sink.new) result }
     ensures inside { result ≡ 2 → command_in (map string_bytes words.now) ≡ None }

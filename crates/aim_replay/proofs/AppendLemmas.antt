@@ -1,8 +1,8 @@
 -- How the questions about the lines of a script change with one more line.
-use Rattle.std.proofs.Common.{◌≡◌, ℕ, ◌+◌, ◌≤◌, ◌==◌, Bool, true, false, ◌||◌, List, [], ◌∷◌, ◌++◌, length, reverse, fold, filter_map, Option, Some, None, refl, sym, ap, ◌∙◌, arith, length-append}
+use Rattle.std.proofs.Common.{◌≡◌, ℕ, ◌+◌, ◌≤◌, ◌==◌, Bool, true, false, ◌||◌, List, [], ◌∷◌, ◌++◌, length, filter_map, Option, Some, None, refl, sym, ap, ◌∙◌, arith, length-append}
 use Rattle.std.specs.Option.{option_or, unwrap_or, option_to_list}
 use Rattle.std.specs.List.{list_any}
-use Rattle.std.proofs.lemmas.List.{reverse-append, append-nil, append_assoc}
+use Rattle.std.proofs.lemmas.List.{reverse-append, append-nil}
 use Rattle.std.proofs.lemmas.List.Sums.{fold-append}
 use Rattle.std.proofs.lemmas.List.Folds.{list_any-append}
 use Rattle.std.proofs.lemmas.List.Elements.{filter_map-append}
@@ -16,7 +16,6 @@ use Rattle.aim_paths.specs.Intersection.{Intersection}
 use Rattle.aim_paths.specs.Legal.{Call, journal, entry_of}
 use Rattle.aim_replay.specs.Said.{version_in, version_after, with_line, layout_of, nowhere, name_in, names_of, vehicles_in, vehicles_of, call_in, calls_of, last_of}
 use Rattle.aim_replay.specs.Today.{is_event_of}
-use Rattle.aim_replay.specs.Texts.{entry_lines, printed}
 use Rattle.aim_replay.specs.Stands.{IsHeader, IsBody}
 
 pub last_of_more : (before : List Line) (l : Line) → last_of (before ++ l ∷ []) ≡ Some l

@@ -1,6 +1,6 @@
 -- The calls of the lines before a verdict may be made on the layout of these lines.
-use Rattle.std.proofs.Common.{◌≡◌, ℕ, zero, suc, ◌+◌, ◌-◌, ◌<◌, ◌≤◌, Bool, true, false, cond, not, nat_lt, nat_le, List, [], ◌∷◌, ◌++◌, length, take, drop, slice_get, Option, Some, None, arith, refl, sym, subst, ◌∙◌, unwrap_or, length-append, fold, position}
-use Rattle.std.specs.Prelude.{filter_map, option_map, bytes_eq}
+use Rattle.std.proofs.Common.{◌≡◌, ℕ, suc, ◌+◌, ◌-◌, ◌<◌, ◌≤◌, Bool, true, false, cond, not, nat_lt, nat_le, List, [], ◌∷◌, ◌++◌, length, take, drop, slice_get, Option, Some, None, arith, refl, sym, subst, ◌∙◌, unwrap_or, length-append, fold}
+use Rattle.std.specs.Prelude.{filter_map, bytes_eq}
 use Rattle.std.specs.List.{AllByRecursion, list_any, position_or_len, cons_option}
 use Rattle.std.specs.Option.{option_or}
 use Rattle.std.proofs.lemmas.List.{take-append-drop, length-set}
@@ -13,7 +13,7 @@ use Rattle.aim_msg.specs.Lines.{name_word}
 use Rattle.aim_geometry.specs.Bounded.{find_map}
 use Rattle.aim_paths.specs.declared.policies.Phase.{Phase}
 use Rattle.aim_paths.specs.Intersection.{Intersection, Policy}
-use Rattle.aim_paths.specs.Building.{last_policy, with_phase, with_phase_of}
+use Rattle.aim_paths.specs.Building.{last_policy, with_phase_of}
 use Rattle.aim_paths.specs.Legal.{Call, IsLegal, MayAct, MayCall}
 use Rattle.aim_paths.proofs.LegalLemmas.{IsLegal-journal}
 use Rattle.aim_replay.specs.Said.{with_line, nowhere, layout_of, name_in, names_of, is_named, number_of, vehicles_in, vehicles_of, call_in, calls_of}

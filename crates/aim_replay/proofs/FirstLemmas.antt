@@ -1,5 +1,5 @@
 -- A verdict is of the first line that decides.
-use Rattle.std.proofs.Common.{◌≡◌, ◌⊎◌, inl, inr, ℕ, zero, suc, List, [], ◌∷◌, ◌++◌, length, take, slice_get, Option, Some, refl, sym, subst, append-nil}
+use Rattle.std.proofs.Common.{◌≡◌, ◌⊎◌, inl, inr, ℕ, zero, suc, List, [], ◌∷◌, ◌++◌, length, take, slice_get, Some, refl, sym, subst, append-nil}
 use Rattle.std.proofs.Math.Seq.{append_snoc}
 use Rattle.aim_io.specs.Lines.{Outcome}
 use Rattle.aim_msg.specs.declared.script.Line.{Line}

@@ -1,5 +1,5 @@
 -- The kinds that each form of line can have, today.
-use Rattle.std.proofs.Common.{◌≡◌, ◌≢◌, ◌⊎◌, inl, inr, ℕ, ◌*◌, ◌≤◌, ◌<◌, ◌==◌, Bool, true, false, ◌&&◌, ◌||◌, not, nat_lt, nat_le, is_some, List, [], ◌∷◌, ◌++◌, length, find, Option, Some, None, option_map, Result, Ok, Err, refl, sym, ap, ◌∙◌, cond, arith, codes, if◌then◌else◌}
+use Rattle.std.proofs.Common.{◌≡◌, ◌⊎◌, inl, inr, ℕ, ◌<◌, ◌==◌, Bool, true, false, ◌||◌, not, nat_lt, nat_le, is_some, List, [], ◌∷◌, length, find, Option, Some, None, option_map, refl, ◌∙◌, arith, codes, if◌then◌else◌}
 use Rattle.std.specs.List.{list_any}
 use Rattle.std.proofs.lemmas.Bool.{cases_Bool, lt-ltb}
 use Rattle.std.specs.Str.{bytes_eq}
@@ -15,12 +15,11 @@ use Rattle.aim_msg.specs.declared.script.Name.{Name}
 use Rattle.aim_msg.specs.declared.script.Line.{Line}
 use Rattle.aim_msg.specs.declared.script.Line.TheVariants as line
 use Rattle.aim_geometry.specs.Bounded.{is_outside}
-use Rattle.aim_paths.specs.Intersection.{Intersection}
 use Rattle.aim_geometry.specs.Sites.{has_bad_numbers, has_bad_buffers, has_bad_times}
 use Rattle.aim_paths.specs.Building.{policy_fault, finish_fault}
-use Rattle.aim_replay.specs.Order.{Part, part_after, belongs, to_version, to_ground, to_times, to_lanes, in_moves, in_policies, to_begin, in_body, nothing}
+use Rattle.aim_replay.specs.Order.{Part, part_after, belongs, to_version, to_ground, to_times, to_lanes, in_moves, in_policies, to_begin, in_body}
 use Rattle.aim_replay.specs.Said.{last_of, layout_of, grid_of, times_of, names_of, vehicles_of}
-use Rattle.aim_replay.specs.Kinds.{Test, Missing, kinds, kind_of_fault, is_wide, is_no_move}
+use Rattle.aim_replay.specs.Kinds.{Test, kinds, kind_of_fault, is_wide, is_no_move}
 use Rattle.aim_replay.specs.Today.{today, is_missing_form, is_event_of, is_missing_body}
 
 -- the kind of the first row whose test holds

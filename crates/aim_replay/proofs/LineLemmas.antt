@@ -8,9 +8,8 @@ use Rattle.aim_msg.specs.Reading.{line_at}
 use Rattle.aim_replay.specs.Order.{may_follow}
 use Rattle.aim_replay.specs.Said.{version_after, last_of}
 use Rattle.aim_replay.specs.Kinds.{Missing, Test, kinds, kind_of_fault, limit_of}
-use Rattle.aim_replay.specs.Verdicts.{Judgement, Verdict, judge, goes_on, decides, of_read, unless_bad, unless_limited}
+use Rattle.aim_replay.specs.Verdicts.{Verdict, judge, goes_on, of_read, unless_bad, unless_limited}
 use Rattle.aim_replay.specs.First.{IsOfTheFirst}
-use Rattle.aim_replay.proofs.FirstLemmas.{first_that_decides}
 
 -- the line was read, has no fault, and goes past no limit
 pub record GoesOn (missing : Missing) (before : List ScriptLine) (l : ScriptLine) : Type 0 where

@@ -1,6 +1,6 @@
 -- How a replay goes on with one more line, and how it ends.
-use Rattle.std.proofs.Common.{◌≡◌, ◌≢◌, ◌⊎◌, inl, inr, ℕ, ◌+◌, ◌<◌, ◌≤◌, Bool, true, false, List, [], ◌∷◌, ◌++◌, length, take, drop, Option, Some, None, IfSome, Result, Ok, Err, refl, sym, ap, ◌∙◌, subst, arith, append_assoc, append-nil, length-append, codes, decimal, if◌then◌else◌}
-use Rattle.std.specs.List.{AllByRecursion, slice_index_or}
+use Rattle.std.proofs.Common.{◌≡◌, inl, inr, ℕ, ◌+◌, ◌<◌, ◌≤◌, Bool, true, false, List, [], ◌∷◌, ◌++◌, length, Option, Some, None, IfSome, Ok, Err, refl, sym, ap, ◌∙◌, subst, arith, append_assoc, append-nil, length-append, codes, decimal}
+use Rattle.std.specs.List.{AllByRecursion}
 use Rattle.std.specs.Bool.{OnTrue, OnFalse}
 use Rattle.std.specs.Io.KnownBytes.{Appends, Consumes, Keeps, IsAtEnd, prepend_known}
 use Rattle.std.proofs.KnownBytes.{Appends-nil, Appends-trans, Consumes-trans}
@@ -10,24 +10,24 @@ use Rattle.aim_io.specs.declared.lines.LineFault.TheVariants as line_fault
 use Rattle.aim_io.specs.Known.{AppendsFront}
 use Rattle.aim_io.specs.Lines.{Outcome, Line as LineOf, Stop, outcomes_from, IsOpen, ShowsNothing, with_end}
 use Rattle.aim_io.specs.Reader.{Reader, fresh, input, coming, Answers, Stops, KnowsEnd, IsSound, after_call}
-use Rattle.aim_msg.specs.Texts.{Words, entry_text, spaced}
+use Rattle.aim_msg.specs.Texts.{Words, spaced}
 use Rattle.aim_msg.specs.declared.entries.Entry.{Entry}
 use Rattle.aim_msg.specs.declared.script.Line.{Line}
 use Rattle.aim_paths.specs.Intersection.{Intersection}
-use Rattle.aim_paths.specs.Legal.{Call, journal}
+use Rattle.aim_paths.specs.Legal.{journal}
 use Rattle.aim_replay.specs.declared.endings.Ending.{Ending}
 use Rattle.aim_replay.specs.declared.endings.Ending.TheVariants as ending
 use Rattle.aim_replay.specs.declared.endings.Kind.{Kind}
 use Rattle.aim_replay.specs.declared.stages.Stage.{Stage}
 use Rattle.aim_replay.specs.declared.stages.Stage.TheVariants as stage
 use Rattle.aim_replay.specs.Said.{layout_of, calls_of, names_of}
-use Rattle.aim_replay.specs.Verdicts.{Decision, Verdict, Judgement, bad, number_after, judge, decides, goes_on, of_fault, at_end, verdict_from, verdict}
+use Rattle.aim_replay.specs.Verdicts.{Decision, Judgement, bad, number_after, judge, decides, goes_on, of_fault, at_end, verdict_from, verdict}
 use Rattle.aim_replay.specs.Texts.{entry_lines, printed, journal_of, last_words, replay_text, status_of}
 use Rattle.aim_replay.specs.Today.{today}
 use Rattle.aim_replay.specs.Endings.{Tells, kind_text, ending_words}
 use Rattle.aim_replay.specs.Stands.{IsHeader}
 use Rattle.aim_replay.specs.Stages.{Stands, Says, Judged, Grows, MayTake, journal_at}
-use Rattle.aim_replay.specs.Replays.{Replays, AreWhole, StopsShort, Writes, WritesFront, ended, script_after, unless_decided, entries_text, gained}
+use Rattle.aim_replay.specs.Replays.{Replays, StopsShort, Writes, WritesFront, ended, script_after, unless_decided, entries_text, gained}
 use Rattle.aim_replay.specs.Sessions.{Decides, Took, Reached, Responds, TellsVerdict}
 use Rattle.aim_replay.proofs.TextLemmas.{entry_lines-append, Begins, journal_of_begins, nothing_begins}
 

@@ -1,5 +1,5 @@
 -- What a line comes to at the stage where it belongs.
-use Rattle.std.proofs.Common.{◌≡◌, ◌≢◌, ◌⊎◌, inl, inr, ℕ, ◌*◌, ◌+◌, ◌<◌, ◌≤◌, ◌==◌, Bool, true, false, ◌||◌, not, nat_lt, nat_le, is_some, List, [], ◌∷◌, ◌++◌, length, map, Option, Some, None, option_map, Result, Ok, Err, refl, sym, ap, ◌∙◌, subst, cond, arith, codes, length-append, if◌then◌else◌}
+use Rattle.std.proofs.Common.{◌≡◌, inl, inr, ℕ, ◌*◌, ◌<◌, ◌≤◌, ◌==◌, Bool, true, false, ◌||◌, not, nat_lt, nat_le, is_some, List, [], ◌∷◌, ◌++◌, length, Option, Some, None, option_map, Result, Ok, Err, refl, sym, ap, ◌∙◌, subst, arith, codes, length-append, if◌then◌else◌}
 use Rattle.std.specs.List.{list_any}
 use Rattle.std.proofs.lemmas.Bool.{cases_Bool, eq-eqb, eqb-true, ltb-false, leb-false, le-ltb}
 use Rattle.std.specs.Bool.{IsTrue}
@@ -10,12 +10,10 @@ use Rattle.aim_msg.specs.Reading.{line_at}
 use Rattle.aim_paths.specs.Bad.{bad as bad_field}
 use Rattle.std.proofs.Math.Nat.{mul-le-mul}
 use Rattle.aim_paths.specs.declared.policies.Kind.TheVariants as kind
-use Rattle.std.specs.Option.{option_to_list}
 use Rattle.aim_msg.specs.declared.messages.Message.{Message}
 use Rattle.aim_msg.specs.declared.messages.Turn.{Turn}
 use Rattle.aim_msg.specs.declared.messages.Params.{Params}
 use Rattle.aim_msg.specs.declared.messages.Body.TheVariants as body
-use Rattle.aim_msg.specs.declared.entries.Act.TheVariants as act
 use Rattle.aim_msg.specs.declared.entries.Entry.{Entry}
 use Rattle.aim_msg.specs.declared.script.Grid6.{Grid6}
 use Rattle.aim_msg.specs.declared.script.Times5.{Times5}
@@ -40,16 +38,16 @@ use Rattle.aim_replay.specs.declared.stages.Stage.{Stage}
 use Rattle.aim_replay.specs.declared.stages.Stage.TheVariants as stage
 use Rattle.aim_replay.specs.declared.stages.Refusal.{Refusal}
 use Rattle.aim_replay.specs.declared.stages.Refusal.TheVariants as refusal
-use Rattle.aim_replay.specs.Order.{Part, part_after, belongs, is_end}
-use Rattle.aim_replay.specs.Said.{version_after, nowhere, last_of, with_line, layout_of, grid_of, times_of, name_in, names_of, kind_of, shape_of}
-use Rattle.aim_replay.specs.Kinds.{kind_of_fault, limit_of, is_no_move, is_wide}
+use Rattle.aim_replay.specs.Order.{part_after, belongs, is_end}
+use Rattle.aim_replay.specs.Said.{version_after, nowhere, grid_of, times_of, names_of, shape_of}
+use Rattle.aim_replay.specs.Kinds.{kind_of_fault, limit_of}
 use Rattle.aim_replay.specs.Verdicts.{judge, of_read, goes_on, decides, bad, number_after, kind_word}
 use Rattle.aim_replay.specs.Endings.{kind_text}
 use Rattle.aim_replay.specs.Today.{today, is_missing_form}
-use Rattle.aim_replay.specs.Stands.{IsHeader, IsBody}
+use Rattle.aim_replay.specs.Stands.{IsBody}
 use Rattle.aim_replay.specs.Stages.{Stands, Says, Takes, Judged, MayTake, Opens, move_kind_of, part_of, is_over, IsUnbuffered, IsDesk, is_missing_request, request_kind}
-use Rattle.aim_replay.proofs.AppendLemmas.{last_of_more, Describes, header_more, body_same, body_event, body_first, event_call}
-use Rattle.aim_replay.proofs.KindLemmas.{out_of_order, version_kind, grid_kind, times_kind, lanes_kind, move_kind, policy_kind, second_policy_kind, vehicles_kind, begin_kind, end_kind, event_kind}
+use Rattle.aim_replay.proofs.AppendLemmas.{last_of_more, header_more, body_same, body_event, body_first, event_call}
+use Rattle.aim_replay.proofs.KindLemmas.{out_of_order, version_kind, grid_kind, times_kind, lanes_kind, move_kind, policy_kind, vehicles_kind, begin_kind, end_kind, event_kind}
 
 -- a line without a kind and a limit goes on
 goes : (before : List Line) (l : Line) → kind_of_fault today before l ≡ None → limit_of before l ≡ None → of_read today before (Ok l) ≡ goes_on l

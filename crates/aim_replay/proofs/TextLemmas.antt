@@ -1,6 +1,6 @@
 -- What was printed so far is the first of all.
-use Rattle.std.proofs.Common.{◌≡◌, ◌⊎◌, inl, inr, ℕ, ◌+◌, Bool, true, false, List, [], ◌∷◌, ◌++◌, length, drop, fold, Option, Some, None, refl, sym, ap, ◌∙◌, subst, arith}
-use Rattle.std.proofs.lemmas.List.{append-nil, append_assoc, drop_at, drop_all}
+use Rattle.std.proofs.Common.{◌≡◌, ℕ, ◌+◌, Bool, true, false, List, [], ◌∷◌, ◌++◌, length, fold, Some, None, refl, sym, ap, ◌∙◌, arith}
+use Rattle.std.proofs.lemmas.List.{append-nil, append_assoc}
 use Rattle.std.proofs.lemmas.List.Sums.{fold-append}
 use Rattle.aim_io.specs.Lines.{Outcome}
 use Rattle.aim_msg.specs.Texts.{entry_text}
@@ -9,7 +9,7 @@ use Rattle.aim_msg.specs.declared.script.Line.TheVariants as line
 use Rattle.aim_msg.specs.declared.entries.Entry.{Entry}
 use Rattle.aim_paths.specs.Intersection.{Intersection}
 use Rattle.aim_paths.specs.Legal.{Call, journal, entry_of}
-use Rattle.aim_replay.specs.Order.{Part, part_after, belongs, may_follow, to_begin, in_body, nothing, to_version, to_ground, to_times, to_lanes, in_moves, in_policies}
+use Rattle.aim_replay.specs.Order.{Part, part_after, belongs, to_begin, in_body, nothing}
 use Rattle.aim_replay.specs.Said.{layout_of, calls_of, names_of, last_of, with_line, name_in, call_in}
 use Rattle.aim_replay.specs.Kinds.{Missing}
 use Rattle.aim_replay.specs.Verdicts.{Verdict, Judgement, judge, goes_on, decides, then_on, verdict_from}

@@ -1,9 +1,9 @@
 -- What it means that a verdict is of the first line that decides.
-use Rattle.std.specs.Prelude.{◌≡◌, ◌⊎◌, ℕ, List, length, take, slice_get, Option, Some}
+use Rattle.std.specs.Prelude.{◌≡◌, ◌⊎◌, ℕ, List, length, take, slice_get, Some}
 use Rattle.aim_io.specs.Lines.{Outcome}
 use Rattle.aim_msg.specs.declared.script.Line.{Line}
 use Rattle.aim_replay.specs.Kinds.{Missing}
-use Rattle.aim_replay.specs.Verdicts.{Decision, Verdict, judge, goes_on, decides, at_end}
+use Rattle.aim_replay.specs.Verdicts.{Verdict, judge, goes_on, decides, at_end}
 
 -- Each line of the verdict goes on behind the lines before it, and what stands behind them all decides: the end of the
 -- input, or else the next line.

@@ -1,6 +1,6 @@
 -- Why a line that reads may not stand where it stands: the table of the kinds of bad lines, in their order, and the
 -- limits on a script.
-use Rattle.std.specs.Prelude.{ℕ, ◌*◌, ◌==◌, Bool, true, false, ◌&&◌, ◌||◌, not, nat_lt, nat_le, List, [], ◌∷◌, Option, Some, None, option_map, find, is_some, codes, if◌then◌else◌}
+use Rattle.std.specs.Prelude.{ℕ, ◌*◌, ◌==◌, Bool, false, not, nat_lt, nat_le, List, [], ◌∷◌, Option, Some, None, option_map, find, is_some, codes, if◌then◌else◌}
 use Rattle.aim_msg.specs.declared.script.Line.{Line}
 use Rattle.aim_msg.specs.declared.script.Line.TheVariants as line
 use Rattle.aim_msg.specs.Lines.{name_word}

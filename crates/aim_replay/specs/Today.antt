@@ -1,7 +1,6 @@
 -- What this program doesn't replay yet.
 use Rattle.std.specs.Prelude.{ℕ, ◌==◌, Bool, true, false, ◌||◌, not, nat_lt, List, is_some, length}
 use Rattle.std.specs.List.{list_any}
-use Rattle.aim_msg.specs.declared.messages.Message.{Message}
 use Rattle.aim_msg.specs.declared.messages.Body.{Body}
 use Rattle.aim_msg.specs.declared.messages.Body.TheVariants as body
 use Rattle.aim_msg.specs.declared.script.Line.{Line}

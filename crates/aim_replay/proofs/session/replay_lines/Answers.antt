@@ -1,4 +1,4 @@
-use Rattle.std.proofs.Common.{rules, arith, ◌≡◌, ◌+◌, ap, sym, ◌∙◌, refl, Err}
+use Rattle.std.proofs.Common.{arith, ◌+◌, ap, sym, ◌∙◌, refl, Err}
 use Rattle.aim_io.specs.declared.lines.LineFault.TheVariants as line_fault
 use Rattle.aim_io.specs.Reader.{Reader}
 use Rattle.aim_replay.specs.declared.endings.Ending.TheVariants as ending

@@ -1,4 +1,4 @@
-use Rattle.std.proofs.Common.{rules, ap, ◌∙◌, arith}
+use Rattle.std.proofs.Common.{ap, ◌∙◌, arith}
 use Rattle.aim_replay.specs.declared.stages.TheConstants.{SHORTEST}
 use Rattle.aim_replay.proofs.StageLemmas.{grid_taken, ground_good}
 use Rattle.aim_replay.proofs.stages.Stage.grid.Goals as goal

@@ -1,4 +1,4 @@
-use Rattle.std.proofs.Common.{rules, ap, ◌∙◌, sym}
+use Rattle.std.proofs.Common.{◌∙◌, sym}
 use Rattle.aim_replay.proofs.StageLemmas.{times_taken, ground_good}
 use Rattle.aim_replay.proofs.stages.Stage.times.Goals as goal
 
