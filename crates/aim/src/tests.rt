@@ -117,6 +117,9 @@ const UNSUPPORTED: [&[u8]; 6] = [
     b"until 40\n",
 ];
 
+// Words that are outside the table.
+const OUTSIDE: [&[&str]; 3] = [&["replay", "now"], &[], &["Replay"]];
+
 // A sink that has got what the program writes, and its status.
 fn answer(
     alloc: Global,
@@ -145,11 +148,7 @@ fn with_header(alloc: Global, body: &[u8]) -> Result<Vec<u8>, AllocError> {
 #[test]
 fn words_outside_the_table(rt: HostRuntime) -> Result<(), Fail> {
     let alloc = rt.alloc();
-    for words in [
-        &["replay", "now"].as_slice(),
-        &[].as_slice(),
-        &["Replay"].as_slice(),
-    ] {
+    for words in OUTSIDE {
         let (status, sink) = answer(alloc, words, Vec::new(alloc), &[], &[])?;
         assert_eq!(rt; status, 2);
         assert_eq!(rt; sink.bytes(), b"usage\n".as_slice());
