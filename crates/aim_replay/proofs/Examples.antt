@@ -225,3 +225,41 @@ unsupported_buffer = refl
 pub unsupported_order : replay_text today None (codes "operator 0 stop\n") ≡ codes "bad line 1 unsupported\n"
 unfolding digits outcomes_from
 unsupported_order = refl
+
+-- of two refusals the later one says when the vehicle may ask again
+pub the_last_refusal_counts : replayed (codes "0 0 request 1 0 straight 10 500 500 0 1000 700 car\n1 3 request 1 1 straight 10 500 500 0 1000 700 car\n1 6 request 2 1 straight 13 500 500 0 1000 700 car\n1 8 request 3 1 straight 18 500 500 0 1000 700 car\nend") ≡ codes "0 0 0 request 1 0 straight 10 500 500 0 1000 700 car -> confirm 0 10 0 0 steady 20\n1 1 3 request 1 1 straight 10 500 500 0 1000 700 car -> reject taken 1 2 13 0 next 6 held none\n2 1 6 request 2 1 straight 13 500 500 0 1000 700 car -> reject taken 1 2 14 0 next 9 held none\n3 1 8 request 3 1 straight 18 500 500 0 1000 700 car -> reject too-soon 9 next 9 held none\nend 4\n"
+unfolding digits outcomes_from
+the_last_refusal_counts = refl
+
+-- at the greatest moment holding is judged, and marked
+pub chart_at_the_greatest_moment : replay_text none_missing (Some 12) (small ++ codes "0 0 request 1 0 straight 10 500 500 0 1000 700 car\n1 12 cancel 1 0\nend") ≡ codes "0 0 0 request 1 0 straight 10 500 500 0 1000 700 car -> confirm 0 10 0 0 steady 20\n1 1 12 cancel 1 0 -> ack 0\n....\n....\n##..\n....\nend 2\n"
+unfolding digits outcomes_from
+chart_at_the_greatest_moment = refl
+
+pub chart_of_a_step_that_is_past : replay_text none_missing (Some 11) (small ++ codes "0 0 request 1 0 straight 10 500 500 0 1000 700 car\n1 12 cancel 1 0\nend") ≡ codes "0 0 0 request 1 0 straight 10 500 500 0 1000 700 car -> confirm 0 10 0 0 steady 20\n1 1 12 cancel 1 0 -> ack 0\n....\n....\n....\n....\nend 2\n"
+unfolding digits outcomes_from
+chart_of_a_step_that_is_past = refl
+
+pub as_many_vehicles_as_allowed : replay_text none_missing None (fleet (codes "65536")) ≡ codes "limit sheets\n"
+unfolding digits outcomes_from
+as_many_vehicles_as_allowed = refl
+
+-- a vehicle at its greatest speed has no fast trial
+pub no_fast_trial_at_the_greatest_speed : replayed (codes "0 0 request 1 0 straight 10 500 500 100 1000 700 car\nend") ≡ codes "0 0 0 request 1 0 straight 10 500 500 100 1000 700 car -> confirm 0 10 0 0 steady 20\nend 1\n"
+unfolding digits outcomes_from
+no_fast_trial_at_the_greatest_speed = refl
+
+-- a lane claims its tiles from its first green step on
+pub the_first_green_step : replayed (codes "operator 5 switch lights\n1 100 request 1 1 straight 1519 500 500 0 1000 700 car\n2 100 request 1 1 straight 1518 500 500 0 1000 700 car\nend") ≡ codes "0 operator 5 switch 1 -> switched 1505\n1 1 100 request 1 1 straight 1519 500 500 0 1000 700 car -> reject green 1 2 1525 0 next 125 held none\n2 2 100 request 1 1 straight 1518 500 500 0 1000 700 car -> confirm 2 1518 0 0 steady 1528\nend 3\n"
+unfolding digits outcomes_from
+the_first_green_step = refl
+
+-- an emergency makes its own lane approached, with the call at hand
+pub an_emergency_beside_another : replay_text none_missing None (codes "aim 1\ngrid 4000 4 100 0 450 4096\ntimes 1500 25 20 0 0\nlanes 2\nmove 0 straight line 0 1500 4000 1500 40\nmove 1 straight line 2500 0 2500 4000 40\npolicy siren emerg\nvehicles 8\nbegin\n1 0 request 1 1 straight 10 500 500 0 1000 700 emergency\n2 0 request 1 0 straight 40 500 500 0 1000 700 emergency\nend") ≡ codes "0 1 0 request 1 1 straight 10 500 500 0 1000 700 emergency -> confirm 0 10 0 0 steady 20\n1 2 0 request 1 0 straight 40 500 500 0 1000 700 emergency -> confirm 1 40 0 0 steady 50\nend 2\n"
+unfolding digits outcomes_from
+an_emergency_beside_another = refl
+
+-- a number used again is told with the standing time, which is 0 where nothing was refused
+pub a_number_used_again_later : replayed (codes "0 0 request 1 0 straight 10 500 500 0 1000 700 car\n0 3 request 1 0 straight 12 500 500 0 1000 700 car\nend") ≡ codes "0 0 0 request 1 0 straight 10 500 500 0 1000 700 car -> confirm 0 10 0 0 steady 20\n1 0 3 request 1 0 straight 12 500 500 0 1000 700 car -> reject reused 1 next 0 held 0\nend 2\n"
+unfolding digits outcomes_from
+a_number_used_again_later = refl
