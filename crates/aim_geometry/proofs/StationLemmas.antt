@@ -1,6 +1,6 @@
 -- Bounds on stations.
-use Rattle.std.proofs.Common.{◌≡◌, ℕ, ◌+◌, ◌-◌, ◌*◌, ◌/◌, ◌^◌, ◌<◌, ◌≤◌, arith, ◌∙◌}
-use Rattle.std.proofs.Math.Nat.{mul-le-mul, mul-le-mul_left, add-mul-div_left, div-le_of_le-mul}
+use Rattle.std.proofs.Common.{◌≡◌, ℕ, ◌+◌, ◌-◌, ◌*◌, ◌/◌, ◌^◌, ◌<◌, ◌≤◌, ap, arith, ◌∙◌}
+use Rattle.std.proofs.Math.Nat.{mul-le-mul, mul-le-mul_left, add-mul-div_left, div-eq_of_eq-mul_left, div-le_of_le-mul}
 use Rattle.std.proofs.Math.Decide.{dec_lt}
 use Rattle.std.proofs.Math.Nat.{pow-suc, pow-zero}
 use Rattle.aim_geometry.specs.Bounded.{ceil_div}
@@ -65,3 +65,29 @@ on_line-down x0 x1 m j h l u =
         | no g ↦ omega arith
       ]
     ]
+
+-- a curve's station is the mean of the means of its lines
+pub on_curve-between : (x0 x1 x2 m j : ℕ) → on_curve x0 x1 x2 m j ≡ ((m - j) * ((m - j) * x0 + j * x1) + j * ((m - j) * x1 + j * x2)) / (m * m)
+on_curve-between x0 x1 x2 m j = rw (square (m - j), square j, square m) (ap (λ n. n / (m * m)) (weights (m - j)))
+  where
+    weights : (d : ℕ) → d * d * x0 + 2 * j * d * x1 + j * j * x2 ≡ d * (d * x0 + j * x1) + j * (d * x1 + j * x2)
+    weights d = omega arith
+
+-- lines and curves have their ends
+pub on_line-start : (x0 x1 m : ℕ) → 0 < m → on_line x0 x1 m 0 ≡ x0
+on_line-start x0 x1 m h = div-eq_of_eq-mul_left h (let e : m - 0 ≡ m = omega arith in rw e (omega arith))
+
+pub on_line-end : (x0 x1 m : ℕ) → 0 < m → on_line x0 x1 m m ≡ x1
+on_line-end x0 x1 m h = div-eq_of_eq-mul_left h (let e : m - m ≡ 0 = omega arith in rw e (omega arith))
+
+pub on_curve-start : (x0 x1 x2 m : ℕ) → 0 < m → on_curve x0 x1 x2 m 0 ≡ x0
+on_curve-start x0 x1 x2 m h =
+    let some : 0 < m * m = mul-le-mul h h in
+    let e : m - 0 ≡ m = omega arith in
+    on_curve-between x0 x1 x2 m 0 ∙ div-eq_of_eq-mul_left some (rw e (omega arith))
+
+pub on_curve-end : (x0 x1 x2 m : ℕ) → 0 < m → on_curve x0 x1 x2 m m ≡ x2
+on_curve-end x0 x1 x2 m h =
+    let some : 0 < m * m = mul-le-mul h h in
+    let e : m - m ≡ 0 = omega arith in
+    on_curve-between x0 x1 x2 m m ∙ div-eq_of_eq-mul_left some (rw e (omega arith))

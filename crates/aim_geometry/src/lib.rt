@@ -3,6 +3,7 @@
 #![tactic(auto)]
 
 pub mod ground;
+pub mod laws;
 pub mod masks;
 pub mod stations;
 pub mod tiles;

@@ -60,12 +60,11 @@ pub record Describes (l : Line) : Type 0 where
   pub event : (v : ℕ) → is_event_of v l ≡ false
 
 pub header_more : (before : List Line) (i : Intersection) (l : Line) → IsHeader before i → Describes l
-    → (with_line i l).grid.spans ≤ 131072 → length i.policies + length (option_to_list (name_in l)) ≡ length (with_line i l).policies
+    → length i.policies + length (option_to_list (name_in l)) ≡ length (with_line i l).policies
     → IsHeader (before ++ l ∷ []) (with_line i l)
-header_more before i l h d spans names = record {
+header_more before i l h d names = record {
   version = version_more before l h.version d.version;
   layout = layout_more before l ∙ ap (λ (j : Intersection). with_line j l) h.layout;
-  spans = spans;
   names = ap length (filter_map-one name_in before l) ∙ length-append (names_of before) (option_to_list (name_in l)) ∙ ap (λ n. n + length (option_to_list (name_in l))) h.names ∙ names;
   no_vehicles = rw (find_map-append vehicles_in before (l ∷ []), h.no_vehicles, d.vehicles) refl;
   no_calls = λ some. rw (filter_map-one (call_in some) before l, h.no_calls some, d.call some) refl;

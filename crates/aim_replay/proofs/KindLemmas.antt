@@ -89,7 +89,7 @@ pub second_policy_kind : (before : List Line) (name : Name) (k : ℕ) → part_a
 second_policy_kind before name k part some = kind_is before (line.Policy name k) ∙ rw (part, lt-ltb 0 (length (names_of before)) some, or_true (not (k == 0))) refl
 
 pub vehicles_kind : (before : List Line) (n : ℕ) → (part_after (last_of before) ≡ in_moves) ⊎ (part_after (last_of before) ≡ in_policies)
-    → kind_of_fault today before (line.Vehicles n) ≡ (if nat_lt 64 n then Some (codes "unsupported") else if is_some (finish_fault (layout_of before)) then Some (codes "phase") else if n == 0 then Some (codes "vehicle") else None)
+    → kind_of_fault today before (line.Vehicles n) ≡ (if is_some (finish_fault (layout_of before)) then Some (codes "phase") else if n == 0 then Some (codes "vehicle") else None)
 vehicles_kind before n (inl part) = kind_is before (line.Vehicles n) ∙ rw part refl
 vehicles_kind before n (inr part) = kind_is before (line.Vehicles n) ∙ rw part refl
 

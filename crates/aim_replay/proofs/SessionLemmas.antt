@@ -18,13 +18,14 @@ use Rattle.aim_paths.specs.Legal.{journal}
 use Rattle.aim_replay.specs.declared.endings.Ending.{Ending}
 use Rattle.aim_replay.specs.declared.endings.Ending.TheVariants as ending
 use Rattle.aim_replay.specs.declared.endings.Kind.{Kind}
+use Rattle.aim_replay.specs.declared.endings.Limit.{Limit}
 use Rattle.aim_replay.specs.declared.stages.Stage.{Stage}
 use Rattle.aim_replay.specs.declared.stages.Stage.TheVariants as stage
 use Rattle.aim_replay.specs.Said.{layout_of, calls_of, names_of}
-use Rattle.aim_replay.specs.Verdicts.{Decision, Judgement, bad, number_after, judge, decides, goes_on, of_fault, at_end, verdict_from, verdict}
+use Rattle.aim_replay.specs.Verdicts.{Decision, Judgement, bad, limit, number_after, judge, decides, goes_on, of_fault, at_end, verdict_from, verdict}
 use Rattle.aim_replay.specs.Texts.{entry_lines, printed, journal_of, last_words, replay_text, status_of}
 use Rattle.aim_replay.specs.Today.{today}
-use Rattle.aim_replay.specs.Endings.{Tells, kind_text, ending_words}
+use Rattle.aim_replay.specs.Endings.{Tells, kind_text, limit_text, ending_words}
 use Rattle.aim_replay.specs.Stands.{IsHeader}
 use Rattle.aim_replay.specs.Stages.{Stands, Says, Judged, Grows, MayTake, journal_at}
 use Rattle.aim_replay.specs.Replays.{Replays, StopsShort, Writes, WritesFront, ended, script_after, unless_decided, entries_text, gained}
@@ -225,7 +226,7 @@ pub reached_start : (bytes held : Option (List ℕ)) → Reached bytes (input fr
 unfolding outcomes_from
 reached_start bytes held = record {
   before = [];
-  stands = record { part = refl; over = refl; says = record { version = refl; layout = refl; spans = omega arith; names = refl; no_vehicles = refl; no_calls = λ names. refl; no_events = λ v. refl } };
+  stands = record { part = refl; over = refl; says = record { version = refl; layout = refl; names = refl; no_vehicles = refl; no_calls = λ names. refl; no_events = λ v. refl } };
   count = refl;
   decides = decides_start bytes;
   took = λ going. took_start bytes;
@@ -347,6 +348,12 @@ bad_told bytes rest left start now old new s number kind r step is same =
     let d = bad (number_after r.before) (kind_text kind) in
     let count : number_after r.before ≡ number = omega (arith, r.count, same) in
     told r.before s d (ending.Bad number kind) bytes r.stands.says (ends_line r.before d old new bytes rest left is r.decides step) (ap (λ n. bad n (kind_text kind)) count)
+
+pub limit_told : (bytes rest left start now : Option (List ℕ)) (old new : Reader) (s : Stage) (which : Limit) (r : Reached bytes rest start now old s) → Answers old new rest left (Ok true) → judge today r.before (LineOf new.line) ≡ decides (limit (limit_text which))
+    → IfSome bytes (λ bs. TellsVerdict (ending.Limit which) (verdict today bs))
+limit_told bytes rest left start now old new s which r step is =
+    let d = limit (limit_text which) in
+    told r.before s d (ending.Limit which) bytes r.stands.says (ends_line r.before d old new bytes rest left is r.decides step) refl
 
 pub bad_written : (bytes rest left start mid now : Option (List ℕ)) (old new : Reader) (s : Stage) (d : Decision) (r : Reached bytes rest start mid old s) → Answers old new rest left (Ok true) → judge today r.before (LineOf new.line) ≡ decides d → Appends mid now []
     → Writes bytes start now (entries_text today)

@@ -8,7 +8,6 @@ use Rattle.aim_io.specs.Lines.{Line as LineOf}
 use Rattle.aim_msg.specs.declared.script.LineKind.{LineKind}
 use Rattle.aim_msg.specs.Reading.{line_at}
 use Rattle.aim_paths.specs.Bad.{bad as bad_field}
-use Rattle.std.proofs.Math.Nat.{mul-le-mul}
 use Rattle.aim_paths.specs.declared.policies.Kind.TheVariants as kind
 use Rattle.aim_msg.specs.declared.messages.Message.{Message}
 use Rattle.aim_msg.specs.declared.messages.Turn.{Turn}
@@ -40,9 +39,9 @@ use Rattle.aim_replay.specs.declared.stages.Refusal.{Refusal}
 use Rattle.aim_replay.specs.declared.stages.Refusal.TheVariants as refusal
 use Rattle.aim_replay.specs.Order.{part_after, belongs, is_end}
 use Rattle.aim_replay.specs.Said.{version_after, nowhere, grid_of, times_of, names_of, shape_of}
-use Rattle.aim_replay.specs.Kinds.{kind_of_fault, limit_of}
-use Rattle.aim_replay.specs.Verdicts.{judge, of_read, goes_on, decides, bad, number_after, kind_word}
-use Rattle.aim_replay.specs.Endings.{kind_text}
+use Rattle.aim_replay.specs.Kinds.{kind_of_fault, limit_of, vehicles_limit}
+use Rattle.aim_replay.specs.Verdicts.{judge, of_read, goes_on, decides, bad, limit, number_after, kind_word}
+use Rattle.aim_replay.specs.Endings.{kind_text, limit_text}
 use Rattle.aim_replay.specs.Today.{today, is_missing_form}
 use Rattle.aim_replay.specs.Stands.{IsBody}
 use Rattle.aim_replay.specs.Stages.{Stands, Says, Takes, Judged, MayTake, Opens, move_kind_of, part_of, is_over, IsUnbuffered, IsDesk, is_missing_request, request_kind}
@@ -77,16 +76,13 @@ not_true : (b : Bool) → not b ≡ false → b ≡ true
 not_true true is = refl
 not_true false is = absurd (cc)
 
-spans_of : (g : Grid) → has_bad_numbers g ≡ false → g.spans ≤ 131072
-spans_of g is = ltb-false 131072 g.spans (or_parts (g.spans == 0) (nat_lt 131072 g.spans) (or_parts _ (is_outside g.spans 131072) is).1).1
-
 pub version_taken : (before : List Line) (s : Stage) (n : ℕ) → s ≡ stage.Version → n ≡ 1 → Stands before s → Takes before (line.Version n) (Ok stage.Grid)
 version_taken before s n at one st =
     let st : Stands before stage.Version = subst (Stands before) at st in
     let l = line.Version 1 in
     let taken : Takes before l (Ok stage.Grid) = (
       goes before l (version_kind before 1 st.part) refl,
-      stands_after before l stage.Grid refl refl (header_more before nowhere l st.says (record { version = refl; vehicles = refl; call = λ _. refl; event = λ _. refl }) st.says.spans refl),
+      stands_after before l stage.Grid refl refl (header_more before nowhere l st.says (record { version = refl; vehicles = refl; call = λ _. refl; event = λ _. refl }) refl),
     ) in
     subst (λ n. Takes before (line.Version n) (Ok stage.Grid)) (sym one) taken
 
@@ -97,7 +93,7 @@ grid_taken before s g h at fixed good same st =
     let l = line.Grid g in
     let taken : Takes before l (Ok (stage.Times (grid_of g))) = (
       goes before l (grid_kind before g st.part ∙ rw (eq-eqb g.fixed 0 fixed, good) refl) refl,
-      stands_after before l (stage.Times (grid_of g)) refl refl (header_more before nowhere l st.says (record { version = refl; vehicles = refl; call = λ _. refl; event = λ _. refl }) (spans_of (grid_of g) good) refl, good),
+      stands_after before l (stage.Times (grid_of g)) refl refl (header_more before nowhere l st.says (record { version = refl; vehicles = refl; call = λ _. refl; event = λ _. refl }) refl, good),
     ) in
     subst (λ h. Takes before l (Ok (stage.Times h))) (sym same) taken
 
@@ -114,7 +110,7 @@ times_taken before s g t site at unbuffered buffers times same st =
     let taken : Takes before l (Ok (stage.Lanes all)) = (
       goes before l (times_kind before t st.part ∙ rw (unbuffered, buffers, times) refl) refl,
       stands_after before l (stage.Lanes all) refl refl
-          (header_more before i l st.says.0 (record { version = refl; vehicles = refl; call = λ _. refl; event = λ _. refl }) st.says.0.spans refl, record { early = internal; late = internal; edge = edge }),
+          (header_more before i l st.says.0 (record { version = refl; vehicles = refl; call = λ _. refl; event = λ _. refl }) refl, record { early = internal; late = internal; edge = edge }),
     ) in
     subst (λ x. Takes before l (Ok (stage.Lanes x))) (sym same) taken
 
@@ -126,7 +122,7 @@ lanes_taken before s site n b at inside same st =
     let taken : Takes before l (Ok (stage.Moves (bare site n))) = (
       goes before l (lanes_kind before n st.part ∙ rw inside refl) refl,
       stands_after before l (stage.Moves (bare site n)) refl refl
-          (header_more before i l st.says.0 (record { version = refl; vehicles = refl; call = λ _. refl; event = λ _. refl }) st.says.0.spans refl, st.says.1, refl),
+          (header_more before i l st.says.0 (record { version = refl; vehicles = refl; call = λ _. refl; event = λ _. refl }) refl, st.says.1, refl),
     ) in
     subst (λ x. Takes before l (Ok (stage.Moves x))) (sym same) taken
 
@@ -152,7 +148,7 @@ move_taken before s b new lane turn shape at fault same st =
     let taken : Takes before l (Ok (stage.Moves next)) = (
       goes before l (move_kind before lane turn shape st.part ∙ rw (st.says.0.layout, good.0, near) refl) refl,
       stands_after before l (stage.Moves next) refl refl
-          (header_more before b l st.says.0 (record { version = refl; vehicles = refl; call = λ _. refl; event = λ _. refl }) st.says.0.spans (omega arith), st.says.1, st.says.2),
+          (header_more before b l st.says.0 (record { version = refl; vehicles = refl; call = λ _. refl; event = λ _. refl }) (omega arith), st.says.1, st.says.2),
     ) in
     subst (λ x. Takes before l (Ok (stage.Moves x))) (sym same) taken
 
@@ -167,7 +163,7 @@ policy_taken before s b new name k at zero same st =
     let taken : Takes before l (Ok (stage.Policies next)) = (
       goes before l (policy_kind before name 0 st.part none (rw st.says.0.layout fault)) refl,
       stands_after before l (stage.Policies next) refl refl
-          (header_more before b l st.says.0 (record { version = refl; vehicles = refl; call = λ _. refl; event = λ _. refl }) st.says.0.spans (sym (length-append b.policies (record { kind = kind.Fcfs; phases = [] } ∷ []))), only b st.says.1 st.says.2),
+          (header_more before b l st.says.0 (record { version = refl; vehicles = refl; call = λ _. refl; event = λ _. refl }) (sym (length-append b.policies (record { kind = kind.Fcfs; phases = [] } ∷ []))), only b st.says.1 st.says.2),
     ) in
     subst (λ k. Takes before (line.Policy name k) (Ok (stage.Policies new))) (sym zero) (subst (λ x. Takes before l (Ok (stage.Policies x))) (sym same) taken)
   where
@@ -219,8 +215,7 @@ request_taken before s k new n v at m p is asks good same st =
     subst (λ x. Takes before l (Ok (stage.Body x n))) (sym same) taken
 
 -- the vehicles of a header that lacks a policy
-pub vehicles_kind_in_moves : (before : List Line) (b : Intersection) (n : ℕ) → Stands before (stage.Moves b)
-    → kind_of_fault today before (line.Vehicles n) ≡ (if nat_lt 64 n then Some (codes "unsupported") else Some (codes "phase"))
+pub vehicles_kind_in_moves : (before : List Line) (b : Intersection) (n : ℕ) → Stands before (stage.Moves b) → kind_of_fault today before (line.Vehicles n) ≡ Some (codes "phase")
 vehicles_kind_in_moves before b n st = vehicles_kind before n (inl st.part) ∙ rw (st.says.0.layout, unfinished b st.says.2) refl
   where
     unfinished : (b : Intersection) → b.policies ≡ [] → is_some (finish_fault b) ≡ true
@@ -228,25 +223,30 @@ vehicles_kind_in_moves before b n st = vehicles_kind before n (inl st.part) ∙ 
 
 -- the vehicles of a header that has one
 pub vehicles_kind_in_policies : (before : List Line) (b : Intersection) (n : ℕ) → Stands before (stage.Policies b)
-    → kind_of_fault today before (line.Vehicles n) ≡ (if nat_lt 64 n then Some (codes "unsupported") else if is_some (finish_fault b) then Some (codes "phase") else if n == 0 then Some (codes "vehicle") else None)
+    → kind_of_fault today before (line.Vehicles n) ≡ (if is_some (finish_fault b) then Some (codes "phase") else if n == 0 then Some (codes "vehicle") else None)
 vehicles_kind_in_policies before b n st = vehicles_kind before n (inr st.part) ∙ rw st.says.0.layout refl
 
-few_sheets : (n spans : ℕ) → n ≤ 64 → spans ≤ 131072 → nat_lt 16777216 (n * spans) ≡ false
-few_sheets n spans few most = le-ltb 16777216 (n * spans) (omega (arith, mul-le-mul few most))
+-- a number of vehicles, of which the layout allows as many as there are
+vehicles_fit : (before : List Line) (b : Intersection) (n : ℕ) → None ≡ finish_fault b → (n == 0) ≡ false → Stands before (stage.Policies b) → kind_of_fault today before (line.Vehicles n) ≡ None
+vehicles_fit before b n fault some st =
+    let whole : is_some (finish_fault b) ≡ false = rw (sym fault) refl in
+    vehicles_kind_in_policies before b n st ∙ rw (whole, some) refl
 
-pub vehicles_taken : (before : List Line) (s : Stage) (b : Intersection) (k : State) (n : ℕ) → s ≡ stage.Policies b → n ≤ 64 → (n == 0) ≡ false → None ≡ finish_fault b
+pub vehicles_taken : (before : List Line) (s : Stage) (b : Intersection) (k : State) (n : ℕ) → s ≡ stage.Policies b → vehicles_limit b.grid.spans n ≡ None → (n == 0) ≡ false → None ≡ finish_fault b
     → k ≡ record { layout = b; vehicles = n; room = 262144; journal = [] } → Stands before s → Takes before (line.Vehicles n) (Ok (stage.Begin k n))
-vehicles_taken before s b k n at few some fault same st =
+vehicles_taken before s b k n at within some fault same st =
     let st : Stands before (stage.Policies b) = subst (Stands before) at st in
     let l = line.Vehicles n in
     let book : State = record { layout = b; vehicles = n; room = 262144; journal = [] } in
-    let whole : is_some (finish_fault b) ≡ false = rw (sym fault) refl in
-    let unlimited : limit_of before l ≡ None = rw (le-ltb 65536 n (omega arith), st.says.0.layout, few_sheets n b.grid.spans few st.says.0.spans) refl in
     let taken : Takes before l (Ok (stage.Begin book n)) = (
-      goes before l (vehicles_kind_in_policies before b n st ∙ rw (le-ltb 64 n few, whole, some) refl) unlimited,
+      goes before l (vehicles_fit before b n fault some st) (rw st.says.0.layout within),
       stands_after before l (stage.Begin book n) refl refl (body_first before b n st.says.0, record { plain = st.says.1; vehicles = refl; room = refl }, refl),
     ) in
     subst (λ x. Takes before l (Ok (stage.Begin x n))) (sym same) taken
+
+-- a line without a kind that goes past a limit
+passes : (before : List Line) (l : Line) (which : List ℕ) → kind_of_fault today before l ≡ None → limit_of before l ≡ Some which → of_read today before (Ok l) ≡ decides (limit which)
+passes before l which no_kind past = rw (no_kind, past) refl
 
 -- a move that the builder refuses
 pub move_falls : (before : List Line) (s : Stage) (b : Intersection) (lane : ℕ) (turn : Turn) (shape : MoveShape) (f : LayoutFault) → s ≡ stage.Moves b
@@ -319,18 +319,24 @@ may_serve_at s k n v at seq p is may kind =
     let may : MayTake (stage.Body k n) = subst MayTake is may in
     may_serve k n v at seq p may.0 kind
 
--- the book is opened, or there is no vehicle
-pub vehicles_opened : (before : List Line) (s : Stage) (b i : Intersection) (n : ℕ) (r : Result Stage Refusal) → s ≡ stage.Policies b → n ≤ 64 → None ≡ finish_fault b → i ≡ b → Opens i n r → Stands before s
+-- the book is opened, or there is no vehicle, or there are too many
+pub vehicles_opened : (before : List Line) (s : Stage) (b i : Intersection) (n : ℕ) (r : Result Stage Refusal) → s ≡ stage.Policies b → None ≡ finish_fault b → i ≡ b → Opens i n r → Stands before s
     → Takes before (line.Vehicles n) r
-vehicles_opened before s b i n (Ok next) at few fault same opens st =
-    let book : State = record { layout = b; vehicles = n; room = 262144; journal = [] } in
-    let taken = vehicles_taken before s b book n at few opens.0 fault refl st in
-    subst (λ x. Takes before (line.Vehicles n) (Ok x)) (sym (opens.1 ∙ ap (λ (i : Intersection). stage.Begin (record { layout = i; vehicles = n; room = 262144; journal = [] }) n) same)) taken
-vehicles_opened before s b i n (Err (refusal.Bad kind)) at few fault same opens st =
+vehicles_opened before s b i n r at fault same opens st =
+    let opens : Opens b n r = subst (λ i. Opens i n r) same opens in
     let st : Stands before (stage.Policies b) = subst (Stands before) at st in
-    let whole : is_some (finish_fault b) ≡ false = rw (sym fault) refl in
-    falls before (line.Vehicles n) (kind_text kind) (vehicles_kind_in_policies before b n st ∙ rw (le-ltb 64 n few, whole, opens.0, opens.1) refl)
-vehicles_opened before s b i n (Err refusal.NoMemory) at few fault same opens st = tt
+    go r opens st
+  where
+    go : (r : Result Stage Refusal) → Opens b n r → Stands before (stage.Policies b) → Takes before (line.Vehicles n) r
+    go (Ok next) opens st =
+        let book : State = record { layout = b; vehicles = n; room = 262144; journal = [] } in
+        subst (λ x. Takes before (line.Vehicles n) (Ok x)) (sym opens.2) (vehicles_taken before (stage.Policies b) b book n refl opens.1 opens.0 fault refl st)
+    go (Err (refusal.Bad kind)) opens st =
+        let whole : is_some (finish_fault b) ≡ false = rw (sym fault) refl in
+        falls before (line.Vehicles n) (kind_text kind) (vehicles_kind_in_policies before b n st ∙ rw (whole, opens.0, opens.1) refl)
+    go (Err (refusal.Limit which)) opens st =
+        passes before (line.Vehicles n) (limit_text which) (vehicles_fit before b n fault opens.0 st) (rw st.says.0.layout opens.1)
+    go (Err refusal.NoMemory) opens st = tt
 
 -- the lines so far are of version 1
 pub version_at : (before : List Line) (s : Stage) → Says before s → version_after before ≡ 1
@@ -348,6 +354,7 @@ version_at before (stage.Over k) says = says.version
 pub judged : (before : List Line) (s : Stage) (bytes : List ℕ) (l : Line) (r : Result Stage Refusal) → Stands before s → Ok l ≡ line_at 1 bytes → Takes before l r → Judged before bytes r
 judged before s bytes l (Ok next) st is takes = (l, rw (version_at before s st.says, sym is) takes.0, takes.1)
 judged before s bytes l (Err (refusal.Bad kind)) st is takes = rw (version_at before s st.says, sym is) takes
+judged before s bytes l (Err (refusal.Limit which)) st is takes = rw (version_at before s st.says, sym is) takes
 judged before s bytes l (Err refusal.NoMemory) st is takes = tt
 
 -- bytes that spell no line

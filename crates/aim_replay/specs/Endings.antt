@@ -29,6 +29,8 @@ kind_text kind.Moment = codes "moment"
 abbrev pub limit_text : Limit → List ℕ
 limit_text limit.Bytes = codes "bytes"
 limit_text limit.Lines = codes "lines"
+limit_text limit.Vehicles = codes "vehicles"
+limit_text limit.Sheets = codes "sheets"
 
 -- the words of the last line
 abbrev pub ending_words : Ending → Words

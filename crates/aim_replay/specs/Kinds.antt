@@ -103,9 +103,11 @@ kinds missing =
 abbrev pub kind_of_fault : Missing → List Line → Line → Option (List ℕ)
 kind_of_fault missing before l = option_map (λ row. row.0) (find (λ row. row.1 before l) (kinds missing))
 
+-- the limit that so many vehicles go past, where a vehicle's sheet has so many spans
+abbrev pub vehicles_limit : ℕ → ℕ → Option (List ℕ)
+vehicles_limit spans n = if nat_lt 65536 n then Some (codes "vehicles") else if nat_lt 16777216 (n * spans) then Some (codes "sheets") else None
+
 -- the limit that a line without a fault goes past
 abbrev pub limit_of : List Line → Line → Option (List ℕ)
-limit_of before (line.Vehicles n) =
-    let i = layout_of before in
-    if nat_lt 65536 n then Some (codes "vehicles") else if nat_lt 16777216 (n * i.grid.spans) then Some (codes "sheets") else None
+limit_of before (line.Vehicles n) = let i = layout_of before in vehicles_limit i.grid.spans n
 limit_of before _ = None

@@ -44,6 +44,7 @@ pub record Reached (bytes rest old now : Option (List ℕ)) (reader : Reader) (s
 abbrev pub Responds : List Line → Stage → List ℕ → Option (List ℕ) → Option (List ℕ) → Result Stage Halt → Type 0
 Responds before s line old new (Ok next) = Judged before line (Ok next) × Grows (journal_at s) (journal_at next) × Appends old new (gained (journal_at s) (journal_at next))
 Responds before s line old new (Err (halt.Bad kind)) = Judged before line (Err (refusal.Bad kind)) × Appends old new []
+Responds before s line old new (Err (halt.Limit which)) = Judged before line (Err (refusal.Limit which)) × Appends old new []
 Responds before s line old new (Err halt.Write) = (next : Stage) × Judged before line (Ok next) × Grows (journal_at s) (journal_at next) × AppendsFront old new (gained (journal_at s) (journal_at next))
 Responds before s line old new (Err halt.NoMemory) = (journal_at s ≡ []) × Appends old new []
 

@@ -19,9 +19,10 @@ use Rattle.aim_replay.specs.declared.stages.Refusal.TheVariants as refusal
 use Rattle.aim_io.specs.Lines.{Line as LineOf}
 use Rattle.aim_replay.specs.Order.{Part, part_after, is_end, to_version, to_ground, to_times, to_lanes, in_moves, in_policies, to_begin, in_body, nothing}
 use Rattle.aim_replay.specs.Said.{nowhere, last_of}
-use Rattle.aim_replay.specs.Verdicts.{judge, of_read, goes_on, decides, bad, number_after}
+use Rattle.aim_replay.specs.Verdicts.{judge, of_read, goes_on, decides, bad, limit, number_after}
 use Rattle.aim_replay.specs.Today.{today}
-use Rattle.aim_replay.specs.Endings.{kind_text}
+use Rattle.aim_replay.specs.Endings.{kind_text, limit_text}
+use Rattle.aim_replay.specs.Kinds.{vehicles_limit}
 use Rattle.aim_replay.specs.Stands.{IsHeader, IsBody}
 
 -- the part of the script that goes on at the stage
@@ -103,20 +104,23 @@ MayTake _ = Unit {0}
 abbrev pub Takes : List Line → Line → Result Stage Refusal → Type 0
 Takes before l (Ok next) = (of_read today before (Ok l) ≡ goes_on l) × Stands (before ++ l ∷ []) next
 Takes before l (Err (refusal.Bad kind)) = of_read today before (Ok l) ≡ decides (bad (number_after before) (kind_text kind))
+Takes before l (Err (refusal.Limit which)) = of_read today before (Ok l) ≡ decides (limit (limit_text which))
 Takes before l (Err refusal.NoMemory) = Unit {0}
 
 -- what further bytes come to
 abbrev pub Judged : List Line → List ℕ → Result Stage Refusal → Type 0
 Judged before bytes (Ok next) = (l : Line) × (judge today before (LineOf bytes) ≡ goes_on l) × Stands (before ++ l ∷ []) next
 Judged before bytes (Err (refusal.Bad kind)) = judge today before (LineOf bytes) ≡ decides (bad (number_after before) (kind_text kind))
+Judged before bytes (Err (refusal.Limit which)) = judge today before (LineOf bytes) ≡ decides (limit (limit_text which))
 Judged before bytes (Err refusal.NoMemory) = Unit {0}
 
 -- the journal stays, or gets one more entry
 abbrev pub Grows : List Entry → List Entry → Type 0
 Grows old new = (new ≡ old) ⊎ ((e : Entry) × (new ≡ old ++ e ∷ []))
 
--- a book is opened, if there is a vehicle and memory
+-- a book is opened, if there is a vehicle, no limit is passed, and there is memory
 abbrev pub Opens : Intersection → ℕ → Result Stage Refusal → Type 0
-Opens i n (Ok next) = (n == 0 ≡ false) × (next ≡ stage.Begin (record { layout = i; vehicles = n; room = 262144; journal = [] }) n)
+Opens i n (Ok next) = (n == 0 ≡ false) × (vehicles_limit i.grid.spans n ≡ None) × (next ≡ stage.Begin (record { layout = i; vehicles = n; room = 262144; journal = [] }) n)
 Opens i n (Err (refusal.Bad kind)) = (n == 0 ≡ true) × (kind_text kind ≡ codes "vehicle")
+Opens i n (Err (refusal.Limit which)) = (n == 0 ≡ false) × (vehicles_limit i.grid.spans n ≡ Some (limit_text which))
 Opens i n (Err refusal.NoMemory) = Unit {0}

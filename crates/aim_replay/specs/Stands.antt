@@ -13,7 +13,6 @@ use Rattle.aim_replay.specs.Today.{is_event_of}
 pub record IsHeader (before : List Line) (i : Intersection) : Type 0 where
   pub version : version_after before ≡ 1
   pub layout : layout_of before ≡ i
-  pub spans : i.grid.spans ≤ 131072
   pub names : length (names_of before) ≡ length i.policies
   pub no_vehicles : find_map vehicles_in before ≡ None
   pub no_calls : (names : List (List ℕ)) → filter_map (call_in names) before ≡ []

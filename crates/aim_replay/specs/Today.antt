@@ -38,13 +38,12 @@ is_missing_body before (body.Request p) = not (p.accel == 0) || not (p.speed == 
 is_missing_body before _ = false
 
 -- a line whose fields ask for what isn't replayed yet: versions 2 and 3, buffers, more than one policy or another one
--- than plain FCFS, more than 64 vehicles, a second event of a vehicle, and some requests
+-- than plain FCFS, a second event of a vehicle, and some requests
 abbrev pub has_missing_field : List Line → Line → Bool
 has_missing_field before (line.Version n) = n == 2 || n == 3
 has_missing_field before (line.Grid g) = not (g.fixed == 0)
 has_missing_field before (line.Times t) = not (t.internal == 0) || not (t.edge == 0)
 has_missing_field before (line.Policy name k) = not (k == 0) || nat_lt 0 (length (names_of before))
-has_missing_field before (line.Vehicles n) = nat_lt 64 n
 has_missing_field before (line.Event vehicle moment message) = list_any (is_event_of vehicle) before || is_missing_body before message.body
 has_missing_field before _ = false
 

@@ -50,6 +50,10 @@ pub enum Limit {
     Bytes,
     /// So many lines.
     Lines,
+    /// So many vehicles.
+    Vehicles,
+    /// So many spans in the sheets of all vehicles.
+    Sheets,
 }
 
 /// What a script comes to.
@@ -108,6 +112,8 @@ fn limit_text(limit: Limit) -> &'static [u8]
     match limit {
         Limit::Bytes => b"bytes",
         Limit::Lines => b"lines",
+        Limit::Vehicles => b"vehicles",
+        Limit::Sheets => b"sheets",
     }
 }
 

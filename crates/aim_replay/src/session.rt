@@ -26,6 +26,8 @@ use std::alloc::Global;
 enum Halt {
     /// It is at fault.
     Bad(Kind),
+    /// It goes past a limit.
+    Limit(Limit),
     /// The sink has failed.
     Write,
     /// Memory has run out.
@@ -85,6 +87,7 @@ fn answer_line<K: Sink>(
     let count = stage.journal().len();
     match stage.take(alloc, line) {
         Err(Refusal::Bad(kind)) => Err(Halt::Bad(kind)),
+        Err(Refusal::Limit(limit)) => Err(Halt::Limit(limit)),
         Err(Refusal::NoMemory) => Err(Halt::NoMemory),
         Ok(next) => match put_gained(sink, next.journal(), count) {
             Ok(()) => Ok(next),
@@ -125,6 +128,7 @@ fn replay_lines<S: Source, K: Sink>(
                 match answer_line(alloc, stage, sink, reader.line()) {
                     Ok(next) => stage = next,
                     Err(Halt::Bad(kind)) => return Ok(Ending::Bad(number, kind)),
+                    Err(Halt::Limit(limit)) => return Ok(Ending::Limit(limit)),
                     Err(Halt::Write) => return Err(Stop::Write),
                     Err(Halt::NoMemory) => return Err(Stop::NoMemory),
                 }

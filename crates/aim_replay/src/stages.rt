@@ -5,11 +5,12 @@ ghost use Rattle.aim_msg.specs.declared.script.Line.{Line};
 ghost use Rattle.aim_msg.specs.declared.script.Name.{Name};
 ghost use Rattle.aim_book.specs.Serving.{IsPlain};
 ghost use Rattle.aim_replay.specs.Said.{grid_of as grid_from, times_of as times_from, shape_of as shape_from};
-ghost use Rattle.aim_replay.specs.Endings.{Tells, kind_text};
+ghost use Rattle.aim_replay.specs.Endings.{Tells, kind_text, limit_text};
+ghost use Rattle.aim_replay.specs.Kinds.{vehicles_limit as limit_on};
 ghost use Rattle.aim_replay.specs.Verdicts.{at_end};
 ghost use Rattle.aim_replay.specs.Stages.{Grows, Judged, MayTake, Opens, Stands, Takes, is_missing_request, journal_at, move_kind_of, request_kind};
 
-use crate::endings::{Ending, Kind};
+use crate::endings::{Ending, Kind, Limit};
 use aim_book::{Book, Full, OpenFault, bad_field, has_called};
 use aim_geometry::{Grid, Ground, GroundFault, Times};
 use aim_msg::{Body, Entry, Grid6, Line, Message, MoveShape, Params, Times5, Turn, read_line};
@@ -45,6 +46,8 @@ pub enum Stage {
 pub enum Refusal {
     /// It is at fault.
     Bad(Kind),
+    /// It goes past a limit.
+    Limit(Limit),
     /// Memory has run out.
     NoMemory,
 }
@@ -62,8 +65,11 @@ const SHORTEST: Times = Times {
 // The room of a journal: one entry for every line of the longest script.
 const ROOM: u32 = 262_144;
 
-// The most vehicles, for now.
-const MOST_VEHICLES: u32 = 64;
+// The most vehicles.
+const MOST_VEHICLES: u32 = 65_536;
+
+// The most spans in the sheets of all vehicles, one sheet for each.
+const MOST_SPANS: u64 = 16_777_216;
 
 // The greatest moment.
 const LATEST: u32 = 1_073_741_824;
@@ -164,11 +170,26 @@ fn request_fault(
     }
 }
 
+// The limit that so many vehicles go past, where a vehicle's sheet has so many spans.
+fn vehicles_limit(spans: u32, vehicles: u32) -> Option<Limit>
+    ensures { option_map limit_text result ≡ limit_on spans vehicles }
+{
+    if vehicles > MOST_VEHICLES {
+        Some(Limit::Vehicles)
+    } else if u64::from(vehicles) * u64::from(spans) > MOST_SPANS {
+        Some(Limit::Sheets)
+    } else {
+        None
+    }
+}
+
 // Opens the book of a layout for so many vehicles.
 fn opened(alloc: Global, layout: Layout, vehicles: u32) -> Result<Stage, Refusal>
-    requires { vehicles ≤ 64 }
     ensures { Opens layout vehicles result }
 {
+    if let Some(limit) = vehicles_limit(layout.ground().grid().spans, vehicles) {
+        return Err(Refusal::Limit(limit));
+    }
     match Book::open(alloc, layout, vehicles, ROOM) {
         Ok(book) => Ok(Stage::Begin(book, vehicles)),
         Err(OpenFault::NoMemory) => Err(Refusal::NoMemory),
@@ -181,9 +202,6 @@ fn closed(alloc: Global, builder: Builder, vehicles: u32) -> Result<Stage, Refus
     ensures takes { (before : List Line) → Stands before (Stage.Policies builder) → Takes before (Line.Vehicles vehicles) result }
     ensures grows { IfOk result (λ next. journal_at next ≡ []) }
 {
-    if vehicles > MOST_VEHICLES {
-        return Err(Refusal::Bad(Kind::Unsupported));
-    }
     match builder.finish() {
         Ok(layout) => opened(alloc, layout, vehicles),
         Err(_) => Err(Refusal::Bad(Kind::Phase)),
@@ -308,9 +326,6 @@ impl Stage {
         ensures memory { result ≡ Err Refusal.NoMemory → journal_at self ≡ [] }
     {
         match self {
-            Stage::Moves(_builder) if vehicles > MOST_VEHICLES => {
-                Err(Refusal::Bad(Kind::Unsupported))
-            }
             Stage::Moves(_builder) => Err(Refusal::Bad(Kind::Phase)),
             Stage::Policies(builder) => closed(alloc, builder, vehicles),
             _other => Err(Refusal::Bad(Kind::Order)),

@@ -3,7 +3,7 @@ use Rattle.aim_io.specs.declared.lines.LineFault.TheVariants as line_fault
 use Rattle.aim_io.specs.Reader.{Reader}
 use Rattle.aim_replay.specs.declared.endings.Ending.TheVariants as ending
 use Rattle.aim_replay.specs.declared.endings.Kind.TheVariants as kind
-use Rattle.aim_replay.proofs.SessionLemmas.{Gives, on_true, sound_start, knows_start, reached_start, reached_more, front_reached, short_reached, fault_told, fault_written, end_told, end_written, bad_told, bad_written, stops_inside, memory_front}
+use Rattle.aim_replay.proofs.SessionLemmas.{Gives, on_true, sound_start, knows_start, reached_start, reached_more, front_reached, short_reached, fault_told, fault_written, end_told, end_written, bad_told, bad_written, limit_told, stops_inside, memory_front}
 use Rattle.aim_replay.proofs.session.replay_lines.Goals as goal
 
 pub lines-init : goal.lines-init
@@ -74,6 +74,20 @@ returns-in-Err-Bad-clause-written g c =
     let i = c.lines.invariant in
     let step = rw c.in-Ok-true.field-0-test at (c.in-Ok-true.ensures.step i.knows i.no_fault) in
     let responds = rw (c.in-Err-Bad.field-0-is, c.line.ensures) at (c.in-Err-Bad.ensures.responds i.reached.before i.reached.stands) in
+    bad_written _ _ _ _ _ _ _ c.advance.new.self _ _ i.reached step responds.0 responds.1
+
+pub returns-in-Err-Limit-clause-verdict : goal.returns-in-Err-Limit-clause-verdict
+returns-in-Err-Limit-clause-verdict g c =
+    let i = c.lines.invariant in
+    let step = rw c.in-Ok-true.field-0-test at (c.in-Ok-true.ensures.step i.knows i.no_fault) in
+    let responds = rw (c.in-Err-Limit.field-0-is, c.line.ensures) at (c.in-Err-Limit.ensures.responds i.reached.before i.reached.stands) in
+    rw c.in-Err-Limit.limit-is (limit_told _ _ _ _ _ _ c.advance.new.self _ c.in-Err-Limit.limit i.reached step responds.0)
+
+pub returns-in-Err-Limit-clause-written : goal.returns-in-Err-Limit-clause-written
+returns-in-Err-Limit-clause-written g c =
+    let i = c.lines.invariant in
+    let step = rw c.in-Ok-true.field-0-test at (c.in-Ok-true.ensures.step i.knows i.no_fault) in
+    let responds = rw (c.in-Err-Limit.field-0-is, c.line.ensures) at (c.in-Err-Limit.ensures.responds i.reached.before i.reached.stands) in
     bad_written _ _ _ _ _ _ _ c.advance.new.self _ _ i.reached step responds.0 responds.1
 
 pub returns-in-Err-Write-clause-front : goal.returns-in-Err-Write-clause-front

@@ -1,0 +1,28 @@
+//! Laws of the stations, each the contract of a function that does nothing.
+
+ghost use Rattle.std.specs.Prelude.{◌≡◌, ℕ, ◌+◌, ◌-◌, ◌*◌, ◌/◌, ◌<◌, ◌≤◌};
+ghost use Rattle.aim_geometry.specs.Bounded.{ceil_div};
+ghost use Rattle.aim_geometry.specs.Stations.{on_curve, on_line};
+
+/// On the way up a station of a line is its start and the whole part of its share of the way.
+pub fn line_goes_up_by_its_share()
+    ensures { (x0 x1 m j : ℕ) → 0 < m → j ≤ m → x0 ≤ x1 → on_line x0 x1 m j ≡ x0 + j * (x1 - x0) / m }
+{}
+
+/// On the way down it is its start less that share, rounded up: so it is rounded towards minus infinity there too.
+pub fn line_goes_down_by_its_share()
+    ensures { (x0 x1 m j : ℕ) → 0 < m → j ≤ m → x1 ≤ x0 → on_line x0 x1 m j + ceil_div (j * (x0 - x1)) m ≡ x0 }
+{}
+
+/// A station of a curve stands on the way between the stations of its two lines, rounded once, at the end.
+pub fn curve_stands_between_its_lines()
+    ensures { (x0 x1 x2 m j : ℕ) → on_curve x0 x1 x2 m j ≡ ((m - j) * ((m - j) * x0 + j * x1) + j * ((m - j) * x1 + j * x2)) / (m * m) }
+{}
+
+/// Lines and curves begin at their first place and end at their last.
+pub fn paths_have_their_ends()
+    ensures line_start { (x0 x1 m : ℕ) → 0 < m → on_line x0 x1 m 0 ≡ x0 }
+    ensures line_end { (x0 x1 m : ℕ) → 0 < m → on_line x0 x1 m m ≡ x1 }
+    ensures curve_start { (x0 x1 x2 m : ℕ) → 0 < m → on_curve x0 x1 x2 m 0 ≡ x0 }
+    ensures curve_end { (x0 x1 x2 m : ℕ) → 0 < m → on_curve x0 x1 x2 m m ≡ x2 }
+{}
