@@ -117,6 +117,18 @@ const UNSUPPORTED: [&[u8]; 6] = [
     b"until 40\n",
 ];
 
+// A layout of one lane whose sheets have 4,096 spans.
+const LAYOUT: &[u8] =
+    b"aim 1\ngrid 4000 4 100 0 450 4096\ntimes 1500 25 20 0 0\nlanes 1\nmove 0 straight line 0 1500 4000 1500 40\npolicy plain fcfs\n";
+
+// Lines behind that layout, the status, and what is written.
+const FLEETS: [(&[u8], u8, &[u8]); 4] = [
+    (b"vehicles 65537\n", 6, b"limit vehicles\n"),
+    (b"vehicles 4097\n", 6, b"limit sheets\n"),
+    (b"vehicles 0\n", 3, b"bad line 7 vehicle\n"),
+    (b"vehicles 4096\nbegin\nend\n", 0, b"end 0\n"),
+];
+
 // Words that are outside the table.
 const OUTSIDE: [&[&str]; 3] = [&["replay", "now"], &[], &["Replay"]];
 
@@ -138,10 +150,10 @@ fn answer(
     Ok((status, sink))
 }
 
-// The header with these lines behind it.
-fn with_header(alloc: Global, body: &[u8]) -> Result<Vec<u8>, AllocError> {
-    let mut script = HEADER.to_vec(alloc)?;
-    script.extend_from_slice(body)?;
+// A script's first lines with others behind them.
+fn behind(alloc: Global, first: &[u8], others: &[u8]) -> Result<Vec<u8>, AllocError> {
+    let mut script = first.to_vec(alloc)?;
+    script.extend_from_slice(others)?;
     Ok(script)
 }
 
@@ -160,7 +172,7 @@ fn words_outside_the_table(rt: HostRuntime) -> Result<(), Fail> {
 fn faults_of_the_source_and_the_sink(rt: HostRuntime) -> Result<(), Fail> {
     let alloc = rt.alloc();
     for (reads, writes, status, text) in FAULTS {
-        let mut script = with_header(alloc, FIRST)?;
+        let mut script = behind(alloc, HEADER, FIRST)?;
         script.extend_from_slice(b"end\n")?;
         let (answered, sink) = answer(alloc, &["replay"], script, reads, writes)?;
         assert_eq!(rt; answered, status);
@@ -173,7 +185,18 @@ fn faults_of_the_source_and_the_sink(rt: HostRuntime) -> Result<(), Fail> {
 fn requests_and_cut_scripts(rt: HostRuntime) -> Result<(), Fail> {
     let alloc = rt.alloc();
     for (body, status, text) in BODIES {
-        let (answered, sink) = answer(alloc, &["replay"], with_header(alloc, body)?, &[], &[])?;
+        let (answered, sink) = answer(alloc, &["replay"], behind(alloc, HEADER, body)?, &[], &[])?;
+        assert_eq!(rt; answered, status);
+        assert_eq!(rt; sink.bytes(), text);
+    }
+    Ok(())
+}
+
+#[test]
+fn limits_on_vehicles(rt: HostRuntime) -> Result<(), Fail> {
+    let alloc = rt.alloc();
+    for (lines, status, text) in FLEETS {
+        let (answered, sink) = answer(alloc, &["replay"], behind(alloc, LAYOUT, lines)?, &[], &[])?;
         assert_eq!(rt; answered, status);
         assert_eq!(rt; sink.bytes(), text);
     }
@@ -195,7 +218,7 @@ fn bad_headers(rt: HostRuntime) -> Result<(), Fail> {
 fn lines_not_replayed_yet(rt: HostRuntime) -> Result<(), Fail> {
     let alloc = rt.alloc();
     for body in UNSUPPORTED {
-        let (status, sink) = answer(alloc, &["replay"], with_header(alloc, body)?, &[], &[])?;
+        let (status, sink) = answer(alloc, &["replay"], behind(alloc, HEADER, body)?, &[], &[])?;
         assert_eq!(rt; status, 3);
         assert_eq!(rt; sink.bytes(), b"bad line 10 unsupported\n".as_slice());
     }
@@ -205,7 +228,7 @@ fn lines_not_replayed_yet(rt: HostRuntime) -> Result<(), Fail> {
 #[test]
 fn a_line_of_401_bytes(rt: HostRuntime) -> Result<(), Fail> {
     let alloc = rt.alloc();
-    let mut script = with_header(alloc, FIRST)?;
+    let mut script = behind(alloc, HEADER, FIRST)?;
     script.extend_from_slice(&[b'a'; 401])?;
     let (status, sink) = answer(alloc, &["replay"], script, &[], &[])?;
     assert_eq!(rt; status, 3);

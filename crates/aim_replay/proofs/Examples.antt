@@ -240,6 +240,18 @@ pub chart_of_a_step_that_is_past : replay_text none_missing (Some 11) (small ++ 
 unfolding digits outcomes_from
 chart_of_a_step_that_is_past = refl
 
+pub too_many_vehicles_today : replay_text today None (fleet (codes "65537")) ≡ codes "limit vehicles\n"
+unfolding digits outcomes_from
+too_many_vehicles_today = refl
+
+pub as_many_sheets_as_allowed_today : replay_text today None (fleet (codes "4096" ++ codes "\nbegin\nend")) ≡ codes "end 0\n"
+unfolding digits outcomes_from
+as_many_sheets_as_allowed_today = refl
+
+pub too_many_sheets_today : replay_text today None (fleet (codes "4097")) ≡ codes "limit sheets\n"
+unfolding digits outcomes_from
+too_many_sheets_today = refl
+
 pub as_many_vehicles_as_allowed : replay_text none_missing None (fleet (codes "65536")) ≡ codes "limit sheets\n"
 unfolding digits outcomes_from
 as_many_vehicles_as_allowed = refl

@@ -11,11 +11,15 @@ use Rattle.aim_replay.specs.declared.session.Halt.TheVariants as halt
 use Rattle.aim_replay.specs.declared.stages.Stage.{Stage}
 use Rattle.aim_replay.specs.declared.stages.Refusal.TheVariants as refusal
 use Rattle.aim_replay.specs.Verdicts.{Verdict, verdict_from, verdict}
-use Rattle.aim_replay.specs.Texts.{entry_lines, journal_of}
+use Rattle.aim_replay.specs.Texts.{entry_lines, journal_of, printed}
 use Rattle.aim_replay.specs.Today.{today}
 use Rattle.aim_replay.specs.Endings.{Tells}
 use Rattle.aim_replay.specs.Stages.{Stands, Judged, Grows, journal_at}
 use Rattle.aim_replay.specs.Replays.{AreWhole, ended, gained}
+
+-- the bytes are those of a line, its byte 10 included
+abbrev pub IsWholeLine : List ℕ → Type 0
+IsWholeLine bytes = (words : List ℕ) × (bytes ≡ printed words)
 
 -- what is still to come decides the same as all
 abbrev pub Decides : List Line → Reader → Option (List ℕ) → Option (List ℕ) → Type 0

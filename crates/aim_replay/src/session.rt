@@ -13,7 +13,7 @@ ghost use Rattle.aim_replay.specs.Verdicts.{verdict};
 ghost use Rattle.aim_replay.specs.Stages.{Grows, MayTake, Stands, journal_at};
 ghost use Rattle.aim_replay.specs.Replays.{Replays, StopsShort, Writes, WritesFront, entries_text, gained};
 ghost use Rattle.aim_replay.specs.Endings.{ending_words};
-ghost use Rattle.aim_replay.specs.Sessions.{Responds, TellsVerdict, is_whole};
+ghost use Rattle.aim_replay.specs.Sessions.{IsWholeLine, Responds, TellsVerdict, is_whole};
 
 use crate::endings::{Ending, Kind, Limit, last_line};
 use crate::stages::{Refusal, Stage};
@@ -45,6 +45,16 @@ enum Stop {
     NoMemory,
 }
 
+// Writes a whole line. This is the only place that writes.
+fn put_line<K: Sink>(sink: &mut K, line: &[u8]) -> Result<(), Failed>
+    requires whole { IsWholeLine line.now }
+    ensures ok { OnOk result (Appends (K.held sink.old) (K.held sink.new) line.now) }
+    ensures err { OnErr result (AppendsFront (K.held sink.old) (K.held sink.new) line.now) }
+    ensures cause { HasCause (K.faults sink.old) (K.faults sink.new) result }
+{
+    put_all(sink, line)
+}
+
 // Writes the line of an entry.
 fn put_entry<K: Sink>(sink: &mut K, position: u32, entry: &Entry) -> Result<(), Failed>
     ensures ok { OnOk result (Appends (K.held sink.old) (K.held sink.new) (printed (text_of position entry.now))) }
@@ -54,8 +64,7 @@ fn put_entry<K: Sink>(sink: &mut K, position: u32, entry: &Entry) -> Result<(), 
     let mut line = [0; 400];
     let len = entry_text(position, entry, &mut line);
     line[len] = b'\n';
-    put_all(sink, &line[..len + 1])?;
-    Ok(())
+    put_line(sink, &line[..len + 1])
 }
 
 // Writes the line of the entry that a journal has gained, if it has.
@@ -145,8 +154,7 @@ fn put_ending<K: Sink>(sink: &mut K, ending: Ending) -> Result<(), Failed>
 {
     let mut line = [0; 400];
     let len = last_line(ending, &mut line);
-    put_all(sink, &line[..len])?;
-    Ok(())
+    put_line(sink, &line[..len])
 }
 
 // Replays a script, and says what it comes to.

@@ -1,0 +1,58 @@
+#!/usr/bin/env bash
+# Runs the program that ./aim built, as a user does. Ends with a status other than 0 where anything differs.
+set -uo pipefail
+cd "$(dirname "${BASH_SOURCE[0]}")/.."
+passed=0 failed=0
+
+judge() { # judge WHAT WANTED GOT
+  if [ "$2" = "$3" ]; then
+    passed=$((passed + 1))
+  else
+    failed=$((failed + 1))
+    printf 'replays: %s\n  wanted: %s\n  got:    %s\n' "$1" "$2" "$3" >&2
+  fi
+}
+
+# The text and the status of a run, the text's last newline included.
+run() { # run WORD .. < INPUT
+  ./aim "$@" 2> /dev/null
+  printf 'status %s' $?
+}
+
+# Each example that is replayed today prints what stands beside it.
+for text in examples/*.out; do
+  judge "$text" "$(cat "$text"; printf 'status 0')" "$(run replay < "${text%.out}.aim")"
+done
+
+# Words that the program doesn't know, an input that can't be read, an output that can't be written.
+judge 'words' "$(printf 'usage\nstatus 2')" "$(run replay now < /dev/null)"
+judge 'a folder as input' 'status 4' "$(run replay < examples)"
+judge 'a full output' 'status 5' "$(./aim replay < examples/first.aim 2> /dev/null > /dev/full; printf 'status %s' $?)"
+
+# Memory isn't refused where it is there: the most vehicles that the spans allow, and limits past them.
+fleet() { # fleet VEHICLES SPANS
+  sed -e "s/^vehicles .*/vehicles $1/" -e "s/ 4096\$/ $2/" examples/first.aim
+}
+confirmed=$(cat examples/first.out; printf 'status 0')
+judge 'as many sheets as allowed' "$confirmed" "$(fleet 4096 4096 | run replay)"
+judge 'as many vehicles as allowed' "$confirmed" "$(fleet 65536 256 | run replay)"
+judge 'too many sheets' "$(printf 'limit sheets\nstatus 6')" "$(fleet 4097 4096 | run replay)"
+judge 'too many vehicles' "$(printf 'limit vehicles\nstatus 6')" "$(fleet 65537 1 | run replay)"
+
+# An event is answered before the next line comes: the answer to each is awaited before the next is given.
+coproc AIM { exec ./aim replay 2> /dev/null; }
+exec {to}>&"${AIM[1]}" {from}<&"${AIM[0]}"
+eval "exec ${AIM[1]}>&-"
+grep -v ' request \|^end$' examples/refusal.aim >&"$to"
+place=0
+while read -r event; do
+  place=$((place + 1))
+  printf '%s\n' "$event" >&"$to"
+  answer=
+  IFS= read -r -t 60 answer <&"$from"
+  judge "the answer to event $place, at once" "$(sed -n "${place}p" examples/refusal.out)" "$answer"
+done < <(grep ' request ' examples/refusal.aim)
+exec {to}>&-
+
+printf 'replays: %s passed, %s failed\n' "$passed" "$failed"
+[ "$failed" -eq 0 ]
