@@ -1,6 +1,6 @@
 -- Worked scripts, from bytes to bytes.
 use Rattle.std.proofs.Common.{◌≡◌, ℕ, [], ◌++◌, List, refl, None, Some}
-use Rattle.std.specs.Prelude.{codes}
+use Rattle.std.specs.Prelude.{codes, replicate}
 use Rattle.std.specs.Fmt.{digits}
 use Rattle.aim_io.specs.Lines.{outcomes_from}
 use Rattle.aim_replay.specs.Kinds.{none_missing}
@@ -112,6 +112,14 @@ a_line_behind_the_end = refl
 pub no_line_behind_the_end : replayed (codes "end\nnothing\n") ≡ codes "bad line 15 unknown\n"
 unfolding digits outcomes_from
 no_line_behind_the_end = refl
+
+pub an_arrival_too_late : replayed (codes "0 0 request 1 0 straight 1073741825 500 500 0 1000 700 car\nend") ≡ codes "0 0 0 request 1 0 straight 1073741825 500 500 0 1000 700 car -> reject bad arrive next 25 held none\nend 1\n"
+unfolding digits outcomes_from
+an_arrival_too_late = refl
+
+pub a_line_too_long : replayed (codes "0 0 request 1 0 straight 10 500 500 0 1000 700 car\n" ++ replicate 401 97) ≡ codes "0 0 0 request 1 0 straight 10 500 500 0 1000 700 car -> confirm 0 10 0 0 steady 20\nbad line 15 long\n"
+unfolding digits outcomes_from
+a_line_too_long = refl
 
 pub a_second_begin : replayed (codes "begin\n") ≡ codes "bad line 14 order\n"
 unfolding digits outcomes_from

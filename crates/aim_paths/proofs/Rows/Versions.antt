@@ -20,6 +20,9 @@ taken_in_the_late_window = refl
 pub free_behind_the_late_window : replies v2 (ask 0 0 1 0 10 ∷ ask 1 0 1 1 22 ∷ []) ≡ wide 0 10 20 ∷ wide 1 22 32 ∷ []
 free_behind_the_late_window = refl
 
+pub journal_of_a_drive_with_windows : replies v2 (ask 0 0 1 0 10 ∷ finish 0 20 2 0 ∷ []) ≡ wide 0 10 20 ∷ Ack 0 ∷ []
+journal_of_a_drive_with_windows = refl
+
 abbrev v3 : Intersection
 v3 = crossing (record { horizon = 1500; longest = 25; clearance = 20; early = 0; late = 0; edge = 0 }) (record { kind = LightEmerg; phases = record { red = 20; green = 80; lanes = 1 } ∷ record { red = 20; green = 80; lanes = 2 } ∷ [] } ∷ [])
 
