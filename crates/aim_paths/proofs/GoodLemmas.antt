@@ -2,7 +2,6 @@
 use Rattle.std.proofs.Common.{◌≡◌, ℕ, ◌<◌, ◌≤◌, Bool, true, false, ◌&&◌, ◌||◌, nat_lt, nat_le, length, Option, Some, None, is_none, arith, refl, if◌then◌else◌}
 use Rattle.std.proofs.lemmas.Bool.Decides.{nat_tests}
 use Rattle.aim_msg.specs.declared.messages.Params.{Params}
-use Rattle.aim_msg.specs.declared.replies.Field.{Field}
 use Rattle.aim_msg.specs.declared.replies.Field.TheVariants as field
 use Rattle.aim_geometry.specs.Bounded.{is_outside}
 use Rattle.aim_paths.specs.Intersection.{Intersection, path}

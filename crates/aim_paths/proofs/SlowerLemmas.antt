@@ -1,20 +1,18 @@
 -- A tile is needed in the steady trial as long as in the fast one.
-use Rattle.std.proofs.Common.{◌≡◌, ℕ, zero, suc, ◌+◌, ◌-◌, ◌*◌, ◌/◌, ◌<◌, ◌≤◌, Bool, true, false, ◌&&◌, ◌||◌, nat_lt, nat_le, List, [], ◌∷◌, length, get_or, slice_range, Option, Some, None, is_none, arith, refl, if◌then◌else◌, min, length-take, length-drop, get_or-take, get_or-drop, add-one}
+use Rattle.std.proofs.Common.{◌≡◌, ℕ, zero, suc, ◌+◌, ◌-◌, ◌*◌, ◌/◌, ◌<◌, ◌≤◌, Bool, true, false, ◌&&◌, ◌||◌, nat_le, List, [], ◌∷◌, length, get_or, slice_range, None, arith, refl, if◌then◌else◌, min, length-take, length-drop, get_or-take, get_or-drop, add-one}
 use Rattle.std.specs.List.{list_any}
 use Rattle.std.proofs.lemmas.Nat.{le-div}
 use Rattle.std.proofs.Math.Nat.{div-mul-le_self, mul-le-mul_right}
 use Rattle.std.proofs.Math.Decide.{dec_lt}
-use Rattle.std.proofs.lemmas.Bool.Decides.{nat_tests}
 use Rattle.aim_msg.specs.declared.messages.Params.{Params}
-use Rattle.aim_msg.specs.declared.replies.Field.TheVariants as field
-use Rattle.aim_geometry.specs.Bounded.{ceil_div, is_outside}
+use Rattle.aim_geometry.specs.Bounded.{ceil_div}
 use Rattle.aim_geometry.specs.declared.stations.Station.{Station}
 use Rattle.aim_geometry.specs.Ground.{is_touched, is_edge}
-use Rattle.aim_paths.specs.Intersection.{Intersection, stations, path}
+use Rattle.aim_paths.specs.Intersection.{Intersection, stations}
 use Rattle.aim_paths.specs.Motion.{front}
 use Rattle.aim_paths.specs.Foot.{path_length, crossing_steps, in_foot}
 use Rattle.aim_paths.specs.Cells.{Cell, is_kept, in_cells}
-use Rattle.aim_paths.specs.Bad.{bad, needs_too_many_spans}
+use Rattle.aim_paths.specs.Bad.{bad}
 use Rattle.aim_geometry.proofs.BoundedLemmas.{some_below_at, some_below_found}
 use Rattle.aim_paths.proofs.MotionLemmas.{front_zero, front_more, crossing_steps-least}
 use Rattle.aim_paths.proofs.GoodLemmas.{good_speed}

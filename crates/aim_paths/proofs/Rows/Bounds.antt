@@ -1,23 +1,21 @@
 -- At the bounds of numbers, and what decides between neighbouring lines of the answer table.
-use Rattle.std.proofs.Common.{◌≡◌, ℕ, [], ◌∷◌, List, Option, Some, None, refl, true, false}
+use Rattle.std.proofs.Common.{◌≡◌, ℕ, [], ◌∷◌, List, Some, None, refl, true, false}
 use Rattle.std.specs.Prelude.{map, if◌then◌else◌}
 use Rattle.aim_msg.specs.declared.messages.Params.{Params}
-use Rattle.aim_msg.specs.declared.messages.Body.TheVariants.{Request, Change}
-use Rattle.aim_msg.specs.declared.messages.Turn.TheVariants.{Left, Straight, Right}
+use Rattle.aim_msg.specs.declared.messages.Body.TheVariants.{Request}
+use Rattle.aim_msg.specs.declared.messages.Turn.TheVariants.{Straight, Right}
 use Rattle.aim_msg.specs.declared.replies.Field.TheVariants as field
-use Rattle.aim_msg.specs.declared.replies.Reason.TheVariants.{Late, Far, Taken, Holds, Bad, TooSoon, Distance, Begun, NoReservation, Emergency, Reused}
-use Rattle.aim_msg.specs.declared.replies.Reply.TheVariants.{Stale, Ack, Stopped, EmergencyStop, Confirm}
-use Rattle.aim_geometry.specs.declared.stations.Station.{Station}
+use Rattle.aim_msg.specs.declared.replies.Reason.TheVariants.{Late, Taken, Holds, TooSoon, Distance, NoReservation, Emergency}
+use Rattle.aim_msg.specs.declared.replies.Reply.TheVariants.{Stale, Ack}
 use Rattle.aim_geometry.specs.Stations.{line, curve, on_line, on_curve}
-use Rattle.aim_geometry.specs.Ground.{is_touched, is_edge, meets}
-use Rattle.aim_paths.specs.Intersection.{Intersection, path}
+use Rattle.aim_geometry.specs.Ground.{is_edge, meets}
+use Rattle.aim_paths.specs.Intersection.{Intersection}
 use Rattle.aim_paths.specs.Motion.{front}
-use Rattle.aim_paths.specs.Foot.{crossing_steps, in_foot}
-use Rattle.aim_paths.specs.Cells.{in_cells, is_kept}
+use Rattle.aim_paths.specs.Foot.{crossing_steps}
 use Rattle.aim_paths.specs.Bad.{bad, span_count}
 use Rattle.aim_paths.specs.Lights.{in_lane_tiles, lit}
 use Rattle.aim_paths.specs.Priority.{next_allowed}
-use Rattle.aim_paths.proofs.Rows.{small, buffered_small, siren_small, plain, crossing, send, ask, change, cancel, stop, finish, steady, reject, replies, car, ambulance}
+use Rattle.aim_paths.proofs.Rows.{small, siren_small, send, ask, change, cancel, steady, reject, replies, car, ambulance}
 
 -- stations, with the whole part towards minus infinity
 pub station_down : on_line 1000 0 3 1 ≡ 666
