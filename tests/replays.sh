@@ -29,7 +29,10 @@ judge 'words' "$(printf 'usage\nstatus 2')" "$(run replay now < /dev/null)"
 judge 'a folder as input' 'status 4' "$(run replay < examples)"
 judge 'a full output' 'status 5' "$(./aim replay < examples/first.aim 2> /dev/null > /dev/full; printf 'status %s' $?)"
 
-# Memory isn't refused where it is there: the most vehicles that the spans allow, and limits past them.
+# Memory is refused: nothing was written.
+judge 'too little memory' 'status 7' "$(ulimit -v 10000 && crates/aim/out/aim replay < examples/first.aim; printf 'status %s' $?)"
+
+# And it isn't where it is there: the most vehicles that the spans allow, and limits past them.
 fleet() { # fleet VEHICLES SPANS
   sed -e "s/^vehicles .*/vehicles $1/" -e "s/ 4096\$/ $2/" examples/first.aim
 }
