@@ -203,3 +203,12 @@ too_soon_before_a_wrong_field = refl
 pub a_repeat_after_a_stop : replay_text none_missing None (small ++ codes "0 0 request 2 0 straight 10 500 500 0 1000 700 car\noperator 3 stop\n0 4 request 2 0 straight 10 500 500 0 1000 700 car\n0 4 request 1 0 straight 10 500 500 0 1000 700 car\n0 4 request 2 0 straight 11 500 500 0 1000 700 car\nend") ≡ codes "0 0 0 request 2 0 straight 10 500 500 0 1000 700 car -> confirm 0 10 0 0 steady 20\n1 operator 3 stop -> stopped\n2 0 4 request 2 0 straight 10 500 500 0 1000 700 car -> confirm 0 10 0 0 steady 20\n3 0 4 request 1 0 straight 10 500 500 0 1000 700 car -> stale 2\n4 0 4 request 2 0 straight 11 500 500 0 1000 700 car -> reject reused 2 next 0 held 0\nend 5\n"
 unfolding digits outcomes_from
 a_repeat_after_a_stop = refl
+
+-- a fixed buffer takes in the tiles beside the path
+pub a_fixed_buffer : replay_text none_missing (Some 15) (codes "aim 1\ngrid 4000 4 100 50 450 4096\ntimes 1500 25 20 0 0\nlanes 2\nmove 0 straight line 0 1500 4000 1500 40\nmove 1 straight line 2500 0 2500 4000 40\npolicy plain fcfs\nvehicles 8\nbegin\n0 0 request 1 0 straight 10 500 500 0 1000 700 car\nend") ≡ codes "0 0 0 request 1 0 straight 10 500 500 0 1000 700 car -> confirm 0 10 0 0 steady 20\n....\n####\n####\n####\nend 1\n"
+unfolding digits outcomes_from
+a_fixed_buffer = refl
+
+pub without_a_fixed_buffer : replay_text none_missing (Some 15) (codes "aim 1\ngrid 4000 4 100 0 450 4096\ntimes 1500 25 20 0 0\nlanes 2\nmove 0 straight line 0 1500 4000 1500 40\nmove 1 straight line 2500 0 2500 4000 40\npolicy plain fcfs\nvehicles 8\nbegin\n0 0 request 1 0 straight 10 500 500 0 1000 700 car\nend") ≡ codes "0 0 0 request 1 0 straight 10 500 500 0 1000 700 car -> confirm 0 10 0 0 steady 20\n....\n....\n.###\n....\nend 1\n"
+unfolding digits outcomes_from
+without_a_fixed_buffer = refl
