@@ -6,6 +6,7 @@ pub mod Versions
 pub mod Drive
 pub mod Large
 pub mod Bounds
+pub mod Acts
 use Rattle.std.proofs.Common.{◌≡◌, ℕ, ◌+◌, Bool, true, false, List, [], ◌∷◌, map, Option, Some, None}
 use Rattle.aim_msg.specs.declared.messages.Params.{Params}
 use Rattle.aim_msg.specs.declared.entries.TheConstants.{OPERATOR}

@@ -1,4 +1,5 @@
 pub mod Examples
+pub mod MoreExamples
 pub mod FirstLemmas
 pub mod LineLemmas
 pub mod AppendLemmas
