@@ -18,3 +18,4 @@ pub mod Spelled
 pub mod LineSpelled
 pub mod EntryAgain
 pub mod EntrySpelled
+pub mod SameLemmas

@@ -1,6 +1,8 @@
 //! Laws of the texts: what is spelled is read again, what is read is spelled so, and no two values have one spelling.
-//! Each is the contract of a function that does nothing.
-ghost use Rattle.std.specs.Prelude.{◌≡◌, ℕ, List, Ok};
+//! And one of messages: which are the same. Each is the contract of a function that does nothing.
+ghost use Rattle.std.specs.Prelude.{◌≡◌, ◌↔◌, ℕ, true, List, Ok};
+ghost use Rattle.aim_msg.specs.declared.messages.Message.{Message};
+ghost use Rattle.aim_msg.specs.Same.{same_message};
 ghost use Rattle.aim_msg.specs.declared.script.Line.{Line};
 ghost use Rattle.aim_msg.specs.Lines.{line_text, KeepsRanges};
 ghost use Rattle.aim_msg.specs.declared.replies.Reply.{Reply};
@@ -44,4 +46,9 @@ pub fn entry_is_spelled_so()
 /// No two entries have one text.
 pub fn entry_has_one_text()
     ensures { (i j : ℕ) (a b : Entry) → Is32 i → Is32 j → IsEntry a → IsEntry b → IsCallerOf a.caller a.act → IsCallerOf b.caller b.act → entry_text i a ≡ entry_text j b → (i ≡ j) × (a ≡ b) }
+{}
+
+/// Two messages are the same exactly where the test of the definitions says so.
+pub fn same_messages_are_equal()
+    ensures { (m n : Message) → (same_message m n ≡ true ↔ m ≡ n) }
 {}

@@ -26,10 +26,10 @@ a_policy_too_many h = let l : 3 < 3 = h.1 in omega arith
 
 -- a vehicle gives no orders
 pub a_switch_of_a_vehicle : MayAct small 8 0 (act.Order (order.Switch 1)) → ⊥
-a_switch_of_a_vehicle h = let e : 0 ≡ 65536 = h.0 in omega arith
+a_switch_of_a_vehicle h = let e : ◌≡◌ {A = ℕ} 0 65536 = h.0 in omega arith
 
 pub a_stop_of_a_vehicle : MayAct small 8 0 (act.Order order.Stop) → ⊥
-a_stop_of_a_vehicle h = let e : 0 ≡ 65536 = h in omega arith
+a_stop_of_a_vehicle h = let e : ◌≡◌ {A = ℕ} 0 65536 = h in omega arith
 
 abbrev at : ℕ → Entry
 at moment = record { caller = 0; moment = moment; act = nothing_held; reply = Ack 7 }
