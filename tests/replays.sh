@@ -24,7 +24,8 @@ for text in examples/*.out; do
   judge "$text" "$(cat "$text"; printf 'status 0')" "$(run replay < "${text%.out}.aim")"
 done
 
-# Words that the program doesn't know, an input that can't be read, an output that can't be written.
+# No script, words that the program doesn't know, an input that can't be read, an output that can't be written.
+judge 'no script' "$(printf 'bad line 1 end\nstatus 3')" "$(run replay < /dev/null)"
 judge 'words' "$(printf 'usage\nstatus 2')" "$(run replay now < /dev/null)"
 judge 'a folder as input' 'status 4' "$(run replay < examples)"
 judge 'a full output' 'status 5' "$(./aim replay < examples/first.aim 2> /dev/null > /dev/full; printf 'status %s' $?)"
