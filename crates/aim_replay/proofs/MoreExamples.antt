@@ -5,6 +5,7 @@ use Rattle.std.specs.Fmt.{digits}
 use Rattle.aim_io.specs.Lines.{outcomes_from}
 use Rattle.aim_replay.specs.Kinds.{none_missing}
 use Rattle.aim_replay.specs.Texts.{replay_text}
+use Rattle.aim_replay.specs.Today.{today}
 
 abbrev small : List ℕ
 small = codes "aim 1\ngrid 4000 4 100 0 450 4096\ntimes 1500 25 20 0 0\nlanes 2\nmove 0 straight line 0 1500 4000 1500 40\nmove 1 straight line 2500 0 2500 4000 40\npolicy plain fcfs\npolicy lights light\nphase 20 80 0\nphase 20 80 1\npolicy siren emerg\nvehicles 8\nbegin\n"
@@ -212,3 +213,43 @@ a_fixed_buffer = refl
 pub without_a_fixed_buffer : replay_text none_missing (Some 15) (codes "aim 1\ngrid 4000 4 100 0 450 4096\ntimes 1500 25 20 0 0\nlanes 2\nmove 0 straight line 0 1500 4000 1500 40\nmove 1 straight line 2500 0 2500 4000 40\npolicy plain fcfs\nvehicles 8\nbegin\n0 0 request 1 0 straight 10 500 500 0 1000 700 car\nend") ≡ codes "0 0 0 request 1 0 straight 10 500 500 0 1000 700 car -> confirm 0 10 0 0 steady 20\n....\n....\n.###\n....\nend 1\n"
 unfolding digits outcomes_from
 without_a_fixed_buffer = refl
+
+-- of several wrong fields the first is told
+pub neighbouring_wrong_fields : replay_text none_missing None (small ++ codes "0 0 request 1 0 left 1073741825 500 500 0 1000 700 car\n1 0 request 1 0 straight 1073741825 500 4001 0 1000 700 car\n2 0 request 1 0 straight 10 0 0 0 1000 700 car\n3 0 request 1 0 straight 10 600 500 1001 1000 700 car\n4 0 request 1 0 straight 10 500 500 1001 0 700 car\n5 0 request 1 0 straight 10 500 500 0 0 0 car\n6 0 request 1 0 straight 10 1 1 0 1000 0 car\n7 0 request 1 1 straight 10 2 2 0 1000 700 car\nend") ≡ codes "0 0 0 request 1 0 left 1073741825 500 500 0 1000 700 car -> reject bad turn next 25 held none\n1 1 0 request 1 0 straight 1073741825 500 4001 0 1000 700 car -> reject bad arrive next 25 held none\n2 2 0 request 1 0 straight 10 0 0 0 1000 700 car -> reject bad max next 5 held none\n3 3 0 request 1 0 straight 10 600 500 1001 1000 700 car -> reject bad speed next 5 held none\n4 4 0 request 1 0 straight 10 500 500 1001 0 700 car -> reject bad accel next 5 held none\n5 5 0 request 1 0 straight 10 500 500 0 0 0 car -> reject bad length next 5 held none\n6 6 0 request 1 0 straight 10 1 1 0 1000 0 car -> reject bad width next 5 held none\n7 7 0 request 1 1 straight 10 2 2 0 1000 700 car -> reject bad steps next 5 held none\nend 8\n"
+unfolding digits outcomes_from
+neighbouring_wrong_fields = refl
+
+-- half of an odd width is rounded up: this square just touches the neighbouring rows
+pub half_of_a_width_is_rounded_up : replay_text none_missing (Some 15) (small ++ codes "0 0 request 1 0 straight 10 500 500 0 1000 799 car\nend") ≡ codes "0 0 0 request 1 0 straight 10 500 500 0 1000 799 car -> confirm 0 10 0 0 steady 20\n....\n####\n####\n####\nend 1\n"
+unfolding digits outcomes_from
+half_of_a_width_is_rounded_up = refl
+
+-- the last station that the front reaches in a step is covered
+pub the_last_station_of_a_step : replay_text none_missing (Some 10) (small ++ codes "0 0 request 1 0 straight 10 600 600 0 1000 700 car\nend") ≡ codes "0 0 0 request 1 0 straight 10 600 600 0 1000 700 car -> confirm 0 10 0 0 steady 18\n....\n....\n##..\n....\nend 1\n"
+unfolding digits outcomes_from
+the_last_station_of_a_step = refl
+
+-- the fast trial may need more spans than the steady one, and both are counted
+pub spans_of_the_fast_trial : replay_text none_missing None (codes "aim 1\ngrid 4000 4 100 0 450 27\ntimes 1500 25 20 0 0\nlanes 2\nmove 0 straight line 0 1500 4000 1500 40\nmove 1 straight line 2500 0 2500 4000 40\npolicy plain fcfs\npolicy lights light\nphase 20 80 0\nphase 20 80 1\npolicy siren emerg\nvehicles 8\nbegin\n0 0 request 1 1 straight 10 496 521 29 1351 700 car\nend") ≡ codes "0 0 0 request 1 1 straight 10 496 521 29 1351 700 car -> reject bad spans next 5 held none\nend 1\n"
+unfolding digits outcomes_from
+spans_of_the_fast_trial = refl
+
+-- of two taken cells of one step that of the lesser row is told, though its column is greater
+pub the_first_cell_by_row : replay_text none_missing None (codes "aim 1\ngrid 4000 4 100 0 450 4096\ntimes 1500 25 20 0 0\nlanes 3\nmove 0 straight line 4000 1500 0 1500 40\nmove 1 straight line 2500 0 2500 4000 40\nmove 2 straight line 0 2500 4000 2500 40\npolicy plain fcfs\nvehicles 8\nbegin\n0 0 request 1 0 straight 16 500 500 0 1000 700 car\n1 0 request 1 2 straight 12 500 500 0 1000 700 car\n2 0 request 1 1 straight 14 500 500 0 4000 799 car\nend") ≡ codes "0 0 0 request 1 0 straight 16 500 500 0 1000 700 car -> confirm 0 16 0 0 steady 26\n1 1 0 request 1 2 straight 12 500 500 0 1000 700 car -> confirm 1 12 0 0 steady 22\n2 2 0 request 1 1 straight 14 500 500 0 4000 799 car -> reject taken 1 3 16 0 next 7 held none\nend 3\n"
+unfolding digits outcomes_from
+the_first_cell_by_row = refl
+
+-- of times that are wrong in two ways the buffers are told
+pub buffers_before_times : replay_text none_missing None (codes "aim 1\ngrid 4000 4 100 0 450 4096\ntimes 8193 25 20 3 2\n") ≡ codes "bad line 3 buffers\n"
+unfolding digits outcomes_from
+buffers_before_times = refl
+
+-- of a move that is wrong in two ways its lane is told
+pub a_wrong_move_before_its_spacing : replay_text none_missing None (codes "aim 1\ngrid 4000 4 100 0 450 4096\ntimes 1500 25 20 0 0\nlanes 2\nmove 0 straight line 0 1500 4000 1500 40\nmove 1 straight line 2500 0 2500 4000 40\nmove 2 straight line 0 1500 4000 1500 39\n") ≡ codes "bad line 7 move\n"
+unfolding digits outcomes_from
+a_wrong_move_before_its_spacing = refl
+
+-- the order of lines is told before what isn't replayed yet
+pub order_before_what_is_left_out : replay_text today None (codes "aim 1\ntimes 1500 25 20 1 2\n") ≡ codes "bad line 2 order\n"
+unfolding digits outcomes_from
+order_before_what_is_left_out = refl
