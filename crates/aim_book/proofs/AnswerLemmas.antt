@@ -15,18 +15,23 @@ use Rattle.aim_msg.specs.declared.replies.Reply.{Reply}
 use Rattle.aim_paths.specs.declared.policies.Kind.TheVariants as kind
 use Rattle.aim_geometry.proofs.BoundedLemmas.{least_below_none}
 use Rattle.aim_paths.specs.Intersection.{Intersection, Policy}
-use Rattle.aim_paths.specs.Bad.{bad}
-use Rattle.aim_paths.specs.Cells.{Cell, cells}
-use Rattle.aim_paths.specs.History.{fresh, now_of, is_new}
-use Rattle.aim_paths.specs.Reservations.{holds, held, taken_by}
-use Rattle.aim_paths.specs.Lights.{green_at, green_lanes, green, is_claimed, in_lane_tiles, has_lane}
-use Rattle.aim_paths.specs.Priority.{standing_next, asked_from, distance, approached}
-use Rattle.aim_paths.specs.Answer.{Asked, answer, answer_message, answer_fresh, answer_request, answer_asking, answer_params, answer_good, answer_free, answer_unless_emergency, is_stopped, is_giving_way, first_blocked, blocked_by, granted_or, refusal, exceeds}
+use Rattle.aim_rules.specs.Bad.{bad}
+use Rattle.aim_rules.specs.Cells.{Cell, cells}
+use Rattle.aim_rules.specs.History.{fresh, now_of, is_fresh_seq}
+use Rattle.aim_rules.specs.Holds.{holds, reservations, taken_by}
+use Rattle.aim_rules.specs.Lights.{green_at, green_lanes}
+use Rattle.aim_rules.specs.Claims.{green, is_claimed}
+use Rattle.aim_paths.specs.LaneTiles.{in_lane_tiles}
+use Rattle.aim_paths.specs.Policies.{has_lane}
+use Rattle.aim_rules.specs.Asking.{standing_next}
+use Rattle.aim_rules.specs.Distance.{asked_from, reservation_distance}
+use Rattle.aim_rules.specs.Approach.{approached}
+use Rattle.aim_rules.specs.Answer.{Asked, answer, answer_message, answer_fresh, answer_request, answer_asking, answer_params, answer_good, answer_free, answer_unless_emergency, is_stopped, is_giving_way, first_blocked, blocked_by, granted_or, refusal, exceeds}
 use Rattle.aim_book.specs.Serving.{IsPlain, IsSteady, AreServed, has_called}
-use Rattle.aim_book.proofs.ServedLemmas.{is_new-first, fresh-served, of_vehicle-none, is_stopped-served, policy_at-served}
+use Rattle.aim_book.proofs.ServedLemmas.{is_fresh_seq-first, fresh-served, of_vehicle-none, is_stopped-served, policy_at-served}
 
 -- a message with a new number
-message_new : (a : Asked) (m : Message) (p : Params) → is_new a.history a.vehicle m.seq ≡ true → m.body ≡ body.Request p → answer_message a m ≡ answer_fresh a (body.Request p)
+message_new : (a : Asked) (m : Message) (p : Params) → is_fresh_seq a.history a.vehicle m.seq ≡ true → m.body ≡ body.Request p → answer_message a m ≡ answer_fresh a (body.Request p)
 message_new a m p new b = rw (new, b) refl
 
 not_before_0 : (n : ℕ) → nat_lt n 0 ≡ false
@@ -48,7 +53,7 @@ abbrev pub answer_steady : Asked → Params → Reply
 answer_steady a p =
     if nat_le p.arrive (a.now + a.layout.times.edge) then refusal a p.arrive (reason.Late a.now)
     else if list_any (λ c. nat_le (a.now + a.layout.times.horizon) c.step) (cells a.layout p false) then refusal a p.arrive (reason.Far (a.now + a.layout.times.horizon))
-    else if exceeds (asked_from a.now p) (distance a.served p.lane) then refusal a p.arrive (reason.Distance (unwrap_or (distance a.served p.lane) 0))
+    else if exceeds (asked_from a.now p) (reservation_distance a.served p.lane) then refusal a p.arrive (reason.Distance (unwrap_or (reservation_distance a.served p.lane) 0))
     else granted_or a p (first_blocked a p false)
 
 free_steady : (a : Asked) (p : Params) → p.accel ≡ 0 → answer_free a p ≡ granted_or a p (first_blocked a p false)
@@ -95,7 +100,7 @@ green-plain i h c except plain s =
 
 -- only a vehicle blocks a cell
 pub blocked_by-plain : (a : Asked) (p : Params) (c : Cell) → IsPlain a.layout → AreServed a.layout [] a.history →
-    blocked_by a (held a.layout a.served a.now) p c ≡ option_map (λ by. reason.Taken c.row c.col c.step by) (taken_by (held a.layout a.served a.now) a.layout a.vehicle c)
+    blocked_by a (reservations a.layout a.served a.now) p c ≡ option_map (λ by. reason.Taken c.row c.col c.step by) (taken_by (reservations a.layout a.served a.now) a.layout a.vehicle c)
 blocked_by-plain a p c plain s = rw (green-plain a.layout a.history c p.lane plain s) refl
 
 -- a vehicle without an entry holds nothing
@@ -113,6 +118,6 @@ asked i h v moment = record { layout = i; history = h; served = fresh h; vehicle
 pub answer-served : (i : Intersection) (h : List Entry) (v moment : ℕ) (m : Message) (p : Params) → IsPlain i → AreServed i [] h → has_called v h ≡ false → m.body ≡ body.Request p → IsSteady i p →
     answer i h v moment (act.Message m) ≡ answer_steady (asked i h v moment) p
 answer-served i h v moment m p plain s first b steady =
-    message_new (asked i h v moment) m p (is_new-first h v m.seq first) b
+    message_new (asked i h v moment) m p (is_fresh_seq-first h v m.seq first) b
     ∙ request_good (asked i h v moment) p (is_stopped-served i [] h s) (holds-none i h v (now_of h moment) s first) (standing_next-none i h v s first) steady.good
     ∙ good_steady (asked i h v moment) p (way_plain (asked i h v moment) p.arrive plain s) steady.accel

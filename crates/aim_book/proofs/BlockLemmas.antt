@@ -7,12 +7,12 @@ use Rattle.aim_msg.specs.declared.messages.Params.{Params}
 use Rattle.aim_msg.specs.declared.entries.Entry.{Entry}
 use Rattle.aim_msg.specs.declared.replies.Reason.TheVariants as reason
 use Rattle.aim_paths.specs.Intersection.{Intersection}
-use Rattle.aim_paths.specs.Foot.{crossing_steps, in_foot}
-use Rattle.aim_paths.specs.Cells.{Cell, in_cells, cells}
-use Rattle.aim_paths.specs.History.{fresh, now_of}
-use Rattle.aim_paths.specs.Reservations.{held}
-use Rattle.aim_paths.specs.Answer.{first_blocked, blocked_by}
-use Rattle.aim_paths.proofs.CellLemmas.{Before, find_map-cells, find_map-none, cells_needed}
+use Rattle.aim_rules.specs.Footprint.{crossing_steps, in_footprint}
+use Rattle.aim_rules.specs.Cells.{Cell, in_cells, cells}
+use Rattle.aim_rules.specs.History.{fresh, now_of}
+use Rattle.aim_rules.specs.Holds.{reservations}
+use Rattle.aim_rules.specs.Answer.{first_blocked, blocked_by}
+use Rattle.aim_rules.proofs.CellLemmas.{Before, find_map-cells, find_map-none, cells_needed}
 use Rattle.aim_book.specs.Serving.{IsPlain, AreServed, has_called}
 use Rattle.aim_book.specs.Takings.{takes, cell_at, is_shared, SharesNone, IsFirstShared}
 use Rattle.aim_book.proofs.TestLemmas.{and_true, or_false}
@@ -33,7 +33,7 @@ find-none test (x ∷ xs) none = let n = or_false (test x) (list_any test xs) no
 
 -- why a cell of the crossing can't be had
 blocked_at : (i : Intersection) (h : List Entry) (v moment : ℕ) (p : Params) (c : Cell) → MayAsk i h v moment p → c.row < i.grid.n → c.col < i.grid.n → p.arrive ≤ c.step →
-    blocked_by (asked i h v moment) (held i (fresh h) (now_of h moment)) p c ≡ option_map (λ by. reason.Taken c.row c.col c.step by) (option_map (λ e. e.caller) (find (takes i c) h))
+    blocked_by (asked i h v moment) (reservations i (fresh h) (now_of h moment)) p c ≡ option_map (λ by. reason.Taken c.row c.col c.step by) (option_map (λ e. e.caller) (find (takes i c) h))
 blocked_at i h v moment p c may row col from =
     blocked_by-plain (asked i h v moment) p c may.plain may.served
     ∙ ap (option_map (λ by. reason.Taken c.row c.col c.step by)) (taken_by-served i h v (now_of h moment) c may.plain may.served may.first (let l = may.later in omega arith) row col)
@@ -50,13 +50,13 @@ in_step i p c plain needed = elim (dec_lt c.step p.arrive) [
 
 -- a tile that isn't shared in its step isn't blocked
 free_at : (i : Intersection) (h : List Entry) (v moment : ℕ) (p : Params) (c : Cell) → MayAsk i h v moment p → c.row < i.grid.n → c.col < i.grid.n → in_cells i p false c ≡ true → is_shared i h p (c.step - p.arrive) c.row c.col ≡ false →
-    blocked_by (asked i h v moment) (held i (fresh h) (now_of h moment)) p c ≡ None
+    blocked_by (asked i h v moment) (reservations i (fresh h) (now_of h moment)) p c ≡ None
 free_at i h v moment p c may row col needed free =
     let w = in_step i p c may.plain needed in
     let e : p.arrive + (c.step - p.arrive) ≡ c.step = omega arith in
     let same : cell_at p (c.step - p.arrive) c.row c.col ≡ c = (λ j. record { row = c.row; col = c.col; step = e j }) in
-    let under : in_foot i p false i.grid.fixed (c.step - p.arrive) c.row c.col ≡ true = sym (in_cells-at i p (c.step - p.arrive) c.row c.col may.plain (omega arith)) ∙ ap (in_cells i p false) same ∙ needed in
-    let none : list_any (takes i c) h ≡ false = ap (λ d. list_any (takes i d) h) (sym same) ∙ second (in_foot i p false i.grid.fixed (c.step - p.arrive) c.row c.col) (list_any (takes i (cell_at p (c.step - p.arrive) c.row c.col)) h) under free in
+    let under : in_footprint i p false i.grid.fixed (c.step - p.arrive) c.row c.col ≡ true = sym (in_cells-at i p (c.step - p.arrive) c.row c.col may.plain (omega arith)) ∙ ap (in_cells i p false) same ∙ needed in
+    let none : list_any (takes i c) h ≡ false = ap (λ d. list_any (takes i d) h) (sym same) ∙ second (in_footprint i p false i.grid.fixed (c.step - p.arrive) c.row c.col) (list_any (takes i (cell_at p (c.step - p.arrive) c.row c.col)) h) under free in
     blocked_at i h v moment p c may row col w.0 ∙ rw (find-none (takes i c) h none) refl
   where
     second : (a b : Bool) → a ≡ true → (a && b) ≡ false → b ≡ false
@@ -66,7 +66,7 @@ free_at i h v moment p c may row col needed free =
 -- where no step shares a tile the crossing is free
 pub first_blocked-none : (i : Intersection) (h : List Entry) (v moment : ℕ) (p : Params) → MayAsk i h v moment p → ((k : ℕ) → k < crossing_steps i p false → SharesNone i h p k) → first_blocked (asked i h v moment) p false ≡ None
 first_blocked-none i h v moment p may none =
-    find_map-none (blocked_by (asked i h v moment) (held i (fresh h) (now_of h moment)) p) (cells i p false)
+    find_map-none (blocked_by (asked i h v moment) (reservations i (fresh h) (now_of h moment)) p) (cells i p false)
     (λ c m. let n = cells_needed i p false c m in let w = in_step i p c may.plain n.0 in free_at i h v moment p c may n.1 n.2 n.0 (none (c.step - p.arrive) (omega arith) c.row c.col n.1 n.2))
 
 find-any : {X : Type 0} (test : X → Bool) (xs : List X) → list_any test xs ≡ true → (x : X) × (find test xs ≡ Some x)
@@ -83,8 +83,8 @@ pub first_blocked-some : (i : Intersection) (h : List Entry) (v moment : ℕ) (p
     first_blocked (asked i h v moment) p false ≡ Some (reason.Taken row col (p.arrive + k) by)
 first_blocked-some i h v moment p k row col by may l none at holder =
     let c = cell_at p k row col in
-    let both = and_true (in_foot i p false i.grid.fixed k row col) (list_any (takes i c) h) at.shared in
-    find_map-cells i p false (blocked_by (asked i h v moment) (held i (fresh h) (now_of h moment)) p) c (reason.Taken row col (p.arrive + k) by)
+    let both = and_true (in_footprint i p false i.grid.fixed k row col) (list_any (takes i c) h) at.shared in
+    find_map-cells i p false (blocked_by (asked i h v moment) (reservations i (fresh h) (now_of h moment)) p) c (reason.Taken row col (p.arrive + k) by)
     (let x = may.plain.early in let y = may.plain.edge in omega arith) (let x = may.plain.late in let y = may.plain.edge in omega arith) at.row_in at.column_in
     (in_cells-at i p k row col may.plain l ∙ both.0)
     (blocked_at i h v moment p c may at.row_in at.column_in (omega arith) ∙ rw holder refl)

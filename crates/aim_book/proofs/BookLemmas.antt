@@ -5,10 +5,10 @@ use Rattle.aim_msg.specs.declared.entries.Act.TheVariants as act
 use Rattle.aim_msg.specs.declared.entries.Entry.{Entry}
 use Rattle.aim_msg.specs.declared.replies.Reply.{Reply}
 use Rattle.aim_paths.specs.Intersection.{Intersection}
-use Rattle.aim_paths.specs.History.{now_of}
-use Rattle.aim_paths.specs.Answer.{answer}
-use Rattle.aim_paths.specs.Legal.{IsLegal}
-use Rattle.aim_paths.proofs.LegalLemmas.{IsLegal-append}
+use Rattle.aim_rules.specs.History.{now_of}
+use Rattle.aim_rules.specs.Answer.{answer}
+use Rattle.aim_rules.specs.Legal.{IsLegal}
+use Rattle.aim_rules.proofs.LegalLemmas.{IsLegal-append}
 use Rattle.aim_book.specs.Serving.{AreServed, MayServe}
 use Rattle.aim_book.proofs.ServedLemmas.{AreServed-append}
 

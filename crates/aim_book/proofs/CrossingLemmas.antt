@@ -15,11 +15,11 @@ use Rattle.aim_geometry.specs.Ground.{tile_of, meets, is_touched, is_edge}
 use Rattle.aim_geometry.specs.Sites.{IsGrid}
 use Rattle.aim_geometry.proofs.BoundedLemmas.{some_below_at, some_below_none, least_below_at}
 use Rattle.aim_paths.specs.Intersection.{Intersection, stations}
-use Rattle.aim_paths.specs.Motion.{front}
-use Rattle.aim_paths.specs.Foot.{crossing_steps, path_length, in_foot}
-use Rattle.aim_paths.specs.Cells.{Cell, IsIn, is_kept, in_cells, cells}
-use Rattle.aim_paths.proofs.Ranges.{list_any-slice_range_at}
-use Rattle.aim_paths.proofs.CellLemmas.{cells_has, cells_needed}
+use Rattle.aim_rules.specs.Motion.{front}
+use Rattle.aim_rules.specs.Footprint.{crossing_steps, path_length, in_footprint}
+use Rattle.aim_rules.specs.Cells.{Cell, IsIn, is_buffered, in_cells, cells}
+use Rattle.aim_rules.proofs.Ranges.{list_any-slice_range_at}
+use Rattle.aim_rules.proofs.CellLemmas.{cells_has, cells_needed}
 use Rattle.aim_book.specs.Serving.{IsPlain}
 use Rattle.aim_book.proofs.TestLemmas.{decided, or_right}
 
@@ -62,8 +62,8 @@ kept false edge early late at s x y z = rw (y, z) (once at s)
     once : (at s : ℕ) → (nat_le at (s + 0) && nat_le s (at + 0)) ≡ (at == s)
     once at s = grind (arith, nat_tests)
 
-is_kept-plain : (i : Intersection) (row col at s : ℕ) → IsPlain i → is_kept i row col at s ≡ (at == s)
-is_kept-plain i row col at s plain = kept (is_edge i.grid row col) i.times.edge i.times.early i.times.late at s plain.edge plain.early plain.late
+is_buffered-plain : (i : Intersection) (row col at s : ℕ) → IsPlain i → is_buffered i row col at s ≡ (at == s)
+is_buffered-plain i row col at s plain = kept (is_edge i.grid row col) i.times.edge i.times.early i.times.late at s plain.edge plain.early plain.late
 
 and_no : (a b : Bool) → a ≡ false → (a && b) ≡ false
 and_no a b h = rw h refl
@@ -74,30 +74,30 @@ and_no_right false b h = refl
 
 -- the cells of a crossing step are its foot
 pub in_cells-at : (i : Intersection) (p : Params) (k row col : ℕ) → IsPlain i → k < crossing_steps i p false →
-    in_cells i p false (record { row = row; col = col; step = p.arrive + k }) ≡ in_foot i p false i.grid.fixed k row col
-in_cells-at i p k row col plain l = go (decided (in_foot i p false i.grid.fixed k row col))
+    in_cells i p false (record { row = row; col = col; step = p.arrive + k }) ≡ in_footprint i p false i.grid.fixed k row col
+in_cells-at i p k row col plain l = go (decided (in_footprint i p false i.grid.fixed k row col))
   where
-    go : (in_foot i p false i.grid.fixed k row col ≡ true) ⊎ (in_foot i p false i.grid.fixed k row col ≡ false) →
-        some_below (crossing_steps i p false) (λ j. is_kept i row col (p.arrive + j) (p.arrive + k) && in_foot i p false i.grid.fixed j row col) ≡ in_foot i p false i.grid.fixed k row col
+    go : (in_footprint i p false i.grid.fixed k row col ≡ true) ⊎ (in_footprint i p false i.grid.fixed k row col ≡ false) →
+        some_below (crossing_steps i p false) (λ j. is_buffered i row col (p.arrive + j) (p.arrive + k) && in_footprint i p false i.grid.fixed j row col) ≡ in_footprint i p false i.grid.fixed k row col
     go (inl t) =
-        some_below_at (crossing_steps i p false) (λ j. is_kept i row col (p.arrive + j) (p.arrive + k) && in_foot i p false i.grid.fixed j row col) k l
-        (rw (is_kept-plain i row col (p.arrive + k) (p.arrive + k) plain, eq-eqb (p.arrive + k) (p.arrive + k) refl) t)
+        some_below_at (crossing_steps i p false) (λ j. is_buffered i row col (p.arrive + j) (p.arrive + k) && in_footprint i p false i.grid.fixed j row col) k l
+        (rw (is_buffered-plain i row col (p.arrive + k) (p.arrive + k) plain, eq-eqb (p.arrive + k) (p.arrive + k) refl) t)
         ∙ sym t
     go (inr f) =
-        some_below_none (crossing_steps i p false) (λ j. is_kept i row col (p.arrive + j) (p.arrive + k) && in_foot i p false i.grid.fixed j row col) (λ j m. each j)
+        some_below_none (crossing_steps i p false) (λ j. is_buffered i row col (p.arrive + j) (p.arrive + k) && in_footprint i p false i.grid.fixed j row col) (λ j m. each j)
         ∙ sym f
       where
-        each : (j : ℕ) → (is_kept i row col (p.arrive + j) (p.arrive + k) && in_foot i p false i.grid.fixed j row col) ≡ false
+        each : (j : ℕ) → (is_buffered i row col (p.arrive + j) (p.arrive + k) && in_footprint i p false i.grid.fixed j row col) ≡ false
         each j = elim (decided (p.arrive + j == p.arrive + k)) [
-          | inl e ↦ (let same : j ≡ k = (let q : p.arrive + j ≡ p.arrive + k = eqb-true (p.arrive + j) (p.arrive + k) e in omega arith) in and_no_right (is_kept i row col (p.arrive + j) (p.arrive + k)) (in_foot i p false i.grid.fixed j row col) (rw same f))
-          | inr n ↦ and_no (is_kept i row col (p.arrive + j) (p.arrive + k)) (in_foot i p false i.grid.fixed j row col) (is_kept-plain i row col (p.arrive + j) (p.arrive + k) plain ∙ n)
+          | inl e ↦ (let same : j ≡ k = (let q : p.arrive + j ≡ p.arrive + k = eqb-true (p.arrive + j) (p.arrive + k) e in omega arith) in and_no_right (is_buffered i row col (p.arrive + j) (p.arrive + k)) (in_footprint i p false i.grid.fixed j row col) (rw same f))
+          | inr n ↦ and_no (is_buffered i row col (p.arrive + j) (p.arrive + k)) (in_footprint i p false i.grid.fixed j row col) (is_buffered-plain i row col (p.arrive + j) (p.arrive + k) plain ∙ n)
         ]
 
 -- and there are none in other steps
 pub in_cells-none : (i : Intersection) (p : Params) (c : Cell) → IsPlain i → ((k : ℕ) → k < crossing_steps i p false → c.step ≡ p.arrive + k → ⊥) → in_cells i p false c ≡ false
 in_cells-none i p c plain out =
-    some_below_none (crossing_steps i p false) (λ k. is_kept i c.row c.col (p.arrive + k) c.step && in_foot i p false i.grid.fixed k c.row c.col)
-    (λ k l. and_no (is_kept i c.row c.col (p.arrive + k) c.step) (in_foot i p false i.grid.fixed k c.row c.col) (is_kept-plain i c.row c.col (p.arrive + k) c.step plain ∙ ne_eqb (p.arrive + k) c.step (λ e. out k l (sym e))))
+    some_below_none (crossing_steps i p false) (λ k. is_buffered i c.row c.col (p.arrive + k) c.step && in_footprint i p false i.grid.fixed k c.row c.col)
+    (λ k l. and_no (is_buffered i c.row c.col (p.arrive + k) c.step) (in_footprint i p false i.grid.fixed k c.row c.col) (is_buffered-plain i c.row c.col (p.arrive + k) c.step plain ∙ ne_eqb (p.arrive + k) c.step (λ e. out k l (sym e))))
 
 -- each place of the side lies in one of its tiles
 pub tile_there : (n tile half x : ℕ) → 0 < n → 0 < tile → x ≤ n * tile → (t : ℕ) × (t < n) × (meets tile half t x ≡ true)
@@ -144,7 +144,7 @@ low_high a b spacing h l = le-div (a / spacing) (b + (spacing - 1)) spacing h (l
 
 -- in each crossing step the vehicle has a tile
 pub foot_there : (i : Intersection) (p : Params) (k : ℕ) → IsGrid i.grid → 0 < length (stations i p.lane p.turn) → AreWithin i.grid.side (stations i p.lane p.turn) → 0 < p.speed → p.speed ≡ p.max_speed → k < crossing_steps i p false →
-    (row : ℕ) × (col : ℕ) × (row < i.grid.n) × (col < i.grid.n) × (in_foot i p false i.grid.fixed k row col ≡ true)
+    (row : ℕ) × (col : ℕ) × (row < i.grid.n) × (col < i.grid.n) × (in_footprint i p false i.grid.fixed k row col ≡ true)
 foot_there i p k grid some within h e l =
     let xs = stations i p.lane p.turn in
     let low = (front p false k - p.length) / i.grid.spacing in

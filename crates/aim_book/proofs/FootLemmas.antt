@@ -8,12 +8,12 @@ use Rattle.std.proofs.Math.Decide.{dec_lt}
 use Rattle.aim_geometry.specs.declared.ground.Grid.{Grid}
 use Rattle.aim_geometry.specs.declared.stations.Station.{Station}
 use Rattle.aim_geometry.specs.Ground.{is_touched}
-use Rattle.aim_paths.proofs.Ranges.{list_any-slice_range_more}
+use Rattle.aim_rules.proofs.Ranges.{list_any-slice_range_more}
 use Rattle.aim_msg.specs.declared.messages.Params.{Params}
 use Rattle.aim_geometry.specs.Bounded.{ceil_div}
 use Rattle.aim_paths.specs.Intersection.{Intersection, path}
-use Rattle.aim_paths.specs.Motion.{front}
-use Rattle.aim_paths.specs.Foot.{crossing_steps, path_length}
+use Rattle.aim_rules.specs.Motion.{front}
+use Rattle.aim_rules.specs.Footprint.{crossing_steps, path_length}
 use Rattle.aim_book.specs.Feet.{is_under, is_under_some, is_footed}
 use Rattle.aim_book.specs.Moving.{IsMoving}
 use Rattle.aim_book.proofs.CrossingLemmas.{front-steady, rear_on_path}

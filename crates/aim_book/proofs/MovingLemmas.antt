@@ -2,7 +2,7 @@
 use Rattle.std.proofs.Common.{arith}
 use Rattle.aim_msg.specs.declared.messages.Params.{Params}
 use Rattle.aim_paths.specs.Intersection.{Intersection}
-use Rattle.aim_paths.proofs.GoodLemmas.{good_params}
+use Rattle.aim_rules.proofs.GoodLemmas.{good_params}
 use Rattle.aim_book.specs.Moving.{IsMoving}
 use Rattle.aim_book.specs.Serving.{IsSteady}
 

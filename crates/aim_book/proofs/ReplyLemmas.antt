@@ -19,13 +19,13 @@ use Rattle.aim_book.specs.declared.conflicts.Conflict.{Conflict}
 use Rattle.aim_book.specs.Conflicts.{IsFirstConflict}
 use Rattle.aim_book.specs.Takings.{SharesNone}
 use Rattle.aim_book.proofs.BlockLemmas.{MayAsk, first_blocked-none, first_blocked-some}
-use Rattle.aim_paths.proofs.GoodLemmas.{good_params}
+use Rattle.aim_rules.proofs.GoodLemmas.{good_params}
 use Rattle.aim_book.proofs.MovingLemmas.{steady_moves}
-use Rattle.aim_paths.specs.Foot.{crossing_steps}
-use Rattle.aim_paths.specs.History.{fresh, now_of}
-use Rattle.aim_paths.specs.Reservations.{holds}
-use Rattle.aim_paths.specs.Priority.{asked_from, distance}
-use Rattle.aim_paths.specs.Answer.{Asked, answer, exceeds, first_blocked, granted_or, refusal}
+use Rattle.aim_rules.specs.Footprint.{crossing_steps}
+use Rattle.aim_rules.specs.History.{fresh, now_of}
+use Rattle.aim_rules.specs.Holds.{holds}
+use Rattle.aim_rules.specs.Distance.{asked_from, reservation_distance}
+use Rattle.aim_rules.specs.Answer.{Asked, answer, exceeds, first_blocked, granted_or, refusal}
 use Rattle.aim_book.specs.Serving.{IsPlain, IsSteady, AreServed, has_called}
 use Rattle.aim_book.specs.Replies.{early_reason, settled, refused, confirmed}
 use Rattle.aim_book.proofs.AnswerLemmas.{asked, answer-served, holds-none}
@@ -84,7 +84,7 @@ answer_settled i h v moment m p o a blocked =
     let zero : now + i.times.edge ≡ now = (let e = a.plain.edge in omega arith) in
     answer-served i h v moment m p a.plain a.served a.first a.body a.steady
     ∙ rw (zero, cells-from i p (now + i.times.horizon) a.plain a.valid.sound.grid ss.0 ss.1 moves.moves a.steady.speed)
-    (by_tests (nat_le p.arrive now) (nat_le (now + i.times.horizon) (p.arrive + crossing_steps i p false - 1)) (exceeds (asked_from now p) (distance (fresh h) p.lane)) (reason.Late now) (reason.Far (now + i.times.horizon)) (reason.Distance (unwrap_or (distance (fresh h) p.lane) 0)) (asked i h v moment) p i h now (first_blocked (asked i h v moment) p false) (taken o)
+    (by_tests (nat_le p.arrive now) (nat_le (now + i.times.horizon) (p.arrive + crossing_steps i p false - 1)) (exceeds (asked_from now p) (reservation_distance (fresh h) p.lane)) (reason.Late now) (reason.Far (now + i.times.horizon)) (reason.Distance (unwrap_or (reservation_distance (fresh h) p.lane) 0)) (asked i h v moment) p i h now (first_blocked (asked i h v moment) p false) (taken o)
     (rw none refl) (rw none refl) (rw none refl) (λ e. ap (granted_or (asked i h v moment) p) (blocked e) ∙ granted_settled i h v moment p o none))
 
 -- what is refused early

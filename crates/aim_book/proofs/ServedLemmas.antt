@@ -10,24 +10,24 @@ use Rattle.aim_msg.specs.declared.entries.Act.TheVariants as act
 use Rattle.aim_msg.specs.declared.entries.Entry.{Entry}
 use Rattle.aim_geometry.specs.Bounded.{last}
 use Rattle.aim_paths.specs.Intersection.{Intersection}
-use Rattle.aim_paths.specs.History.{Fresh, fresh, fresh_after, is_fresh, is_fresh_with, is_new, message_of, of_vehicle, is_stop}
-use Rattle.aim_paths.specs.Lights.{policy_at, is_from_at, change_with}
-use Rattle.aim_paths.specs.Answer.{is_stopped}
-use Rattle.aim_paths.proofs.HistoryLemmas.{served, last-append}
+use Rattle.aim_rules.specs.History.{Fresh, fresh, fresh_after, is_fresh, is_fresh_message, is_fresh_seq, message_of, of_vehicle, is_stop}
+use Rattle.aim_rules.specs.Timeline.{policy_at, is_from_at, change_with}
+use Rattle.aim_rules.specs.Answer.{is_stopped}
+use Rattle.aim_rules.proofs.HistoryLemmas.{served, last-append}
 use Rattle.aim_book.specs.Serving.{has_called, AreServed, IsServed, ActsSteady}
 use Rattle.aim_book.proofs.TestLemmas.{or_false, or_left, or_right, decided}
 
 -- a caller without an entry has used no sequence number
-pub is_new-first : (h : List Entry) (v seq : ℕ) → has_called v h ≡ false → is_new h v seq ≡ true
-is_new-first [] v seq none = refl
-is_new-first (e ∷ h) v seq none = let n = or_false (e.caller == v) (has_called v h) none in rw (n.0, is_new-first h v seq n.1) refl
+pub is_fresh_seq-first : (h : List Entry) (v seq : ℕ) → has_called v h ≡ false → is_fresh_seq h v seq ≡ true
+is_fresh_seq-first [] v seq none = refl
+is_fresh_seq-first (e ∷ h) v seq none = let n = or_false (e.caller == v) (has_called v h) none in rw (n.0, is_fresh_seq-first h v seq n.1) refl
 
 -- a served message is fresh
 pub is_fresh-served : (i : Intersection) (before : List Entry) (e : Entry) → IsServed i before e → is_fresh before e ≡ true
 is_fresh-served i before e s = go e.act s.request
   where
-    go : (a : Act) → ActsSteady i a → is_fresh_with before e.caller (message_of a) ≡ true
-    go (act.Message m) r = is_new-first before e.caller m.seq s.first
+    go : (a : Act) → ActsSteady i a → is_fresh_message before e.caller (message_of a) ≡ true
+    go (act.Message m) r = is_fresh_seq-first before e.caller m.seq s.first
     go (act.Order o) r = absurd r
 
 -- the fresh messages, where each entry is one

@@ -16,8 +16,8 @@ use Rattle.aim_msg.specs.declared.entries.Act.TheVariants as act
 use Rattle.aim_msg.specs.declared.entries.Entry.{Entry}
 use Rattle.aim_geometry.specs.Rects.{tile_at}
 use Rattle.aim_paths.specs.Intersection.{Intersection}
-use Rattle.aim_paths.specs.Foot.{crossing_steps, in_foot}
-use Rattle.aim_paths.specs.History.{is_confirm, params_of}
+use Rattle.aim_rules.specs.Footprint.{crossing_steps, in_footprint}
+use Rattle.aim_rules.specs.History.{is_confirm, params_of}
 use Rattle.aim_book.specs.Feet.{is_footed}
 use Rattle.aim_book.specs.Moving.{IsMoving}
 use Rattle.aim_book.specs.Serving.{ActsSteady, AreServed, AsksSteady, IsPlain, IsSteady}
@@ -115,7 +115,7 @@ shared_bits false b t s = refl
 common_is : (i : Intersection) (h : List Entry) (p : Params) (k r c : ℕ) (own taken : List ℕ) → r < 64 → tile_at own r c ≡ (tile_at (replicate 64 0) r c || is_footed i p k r c) → tile_at taken r c ≡ is_taken_by_some i h (p.arrive + k) r c →
     (tile_at own r c && tile_at taken r c) ≡ (nat_lt r i.grid.n && nat_lt c i.grid.n && is_shared i h p k r c)
 common_is i h p k r c own taken l a b =
-    rw (a, empty_rows r c l, b) (shared_bits (nat_lt r i.grid.n) (nat_lt c i.grid.n) (in_foot i p false i.grid.fixed k r c) (list_any (takes i (cell_at p k r c)) h))
+    rw (a, empty_rows r c l, b) (shared_bits (nat_lt r i.grid.n) (nat_lt c i.grid.n) (in_footprint i p false i.grid.fixed k r c) (list_any (takes i (cell_at p k r c)) h))
 
 -- the rows show a foot, and what is taken in its step
 pub record ShowStep (i : Intersection) (h : List Entry) (p : Params) (k : ℕ) (left right : List ℕ) : Type 0 where

@@ -13,11 +13,11 @@ use Rattle.aim_msg.specs.declared.entries.Entry.{Entry}
 use Rattle.aim_msg.specs.declared.replies.Reply.{Reply}
 use Rattle.aim_geometry.specs.Bounded.{last, since_last}
 use Rattle.aim_paths.specs.Intersection.{Intersection}
-use Rattle.aim_paths.specs.Cells.{Cell, in_cells, cells}
-use Rattle.aim_paths.specs.History.{Fresh, fresh, is_confirm, given_up_at, params_of}
-use Rattle.aim_paths.specs.Reservations.{holds, held, taken_by, granted, granted_with, is_granted, is_granted_with, is_fast, is_number}
-use Rattle.aim_paths.proofs.HistoryLemmas.{served}
-use Rattle.aim_paths.proofs.CellLemmas.{cells_has}
+use Rattle.aim_rules.specs.Cells.{Cell, in_cells, cells}
+use Rattle.aim_rules.specs.History.{Fresh, fresh, is_confirm, given_up_at, params_of}
+use Rattle.aim_rules.specs.Holds.{holds, reservations, taken_by, granted, granted_with, is_granted, is_granted_with, is_fast, is_number}
+use Rattle.aim_rules.proofs.HistoryLemmas.{served}
+use Rattle.aim_rules.proofs.CellLemmas.{cells_has}
 use Rattle.aim_book.specs.Serving.{IsPlain, AreServed, ActsSteady, AsksSteady, has_called}
 use Rattle.aim_book.specs.Takings.{params_in, crosses, takes}
 use Rattle.aim_book.proofs.TestLemmas.{decided, or_false}
@@ -111,8 +111,8 @@ find_has i h before (e ∷ es) v now c is plain s first later row col =
 
 -- the vehicle that holds a cell is the first whose granted crossing needs it
 pub taken_by-served : (i : Intersection) (h : List Entry) (v now : ℕ) (c : Cell) → IsPlain i → AreServed i [] h → has_called v h ≡ false → now ≤ c.step → c.row < i.grid.n → c.col < i.grid.n →
-    taken_by (held i (fresh h) now) i v c ≡ option_map (λ e. e.caller) (find (takes i c) h)
+    taken_by (reservations i (fresh h) now) i v c ≡ option_map (λ e. e.caller) (find (takes i c) h)
 taken_by-served i h v now c plain s first later row col =
-    ap (λ xs. taken_by (held i xs now) i v c) (fresh-served i h s)
+    ap (λ xs. taken_by (reservations i xs now) i v c) (fresh-served i h s)
     ∙ ap (λ o. option_map (λ x. x.entry.caller) o) (find-filter (λ x. is_number (holds i (placed [] h) x.entry.caller now) x.place) (λ x. not (x.entry.caller == v) && is_granted i x c) (placed [] h))
     ∙ find_has i h [] h v now c refl plain s first later row col

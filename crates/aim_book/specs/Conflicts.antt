@@ -3,7 +3,7 @@ use Rattle.std.specs.Prelude.{◌≡◌, ℕ, ◌+◌, ◌<◌, false, List, Som
 use Rattle.aim_msg.specs.declared.messages.Params.{Params}
 use Rattle.aim_msg.specs.declared.entries.Entry.{Entry}
 use Rattle.aim_paths.specs.Intersection.{Intersection}
-use Rattle.aim_paths.specs.Foot.{crossing_steps}
+use Rattle.aim_rules.specs.Footprint.{crossing_steps}
 use Rattle.aim_book.specs.declared.conflicts.Conflict.{Conflict}
 use Rattle.aim_book.specs.Takings.{takes, cell_at, SharesNone, IsFirstShared}
 

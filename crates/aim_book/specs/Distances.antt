@@ -4,8 +4,8 @@ use Rattle.aim_msg.specs.declared.messages.Params.{Params}
 use Rattle.aim_msg.specs.declared.entries.Entry.{Entry}
 use Rattle.aim_msg.specs.declared.replies.Reply.{Reply}
 use Rattle.aim_geometry.specs.Bounded.{min_with}
-use Rattle.aim_paths.specs.History.{is_fresh, is_confirm}
-use Rattle.aim_paths.specs.Priority.{is_lane, is_blocked_reply, asked_from}
+use Rattle.aim_rules.specs.History.{is_fresh, is_confirm}
+use Rattle.aim_rules.specs.Distance.{is_lane, is_blocked_reply, asked_from}
 
 -- a Confirm in the lane frees it, and a refusal for a cell brings its distance down
 abbrev pub distance_with : Option ℕ → ℕ → Reply → Params → Option ℕ

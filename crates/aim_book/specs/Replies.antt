@@ -7,17 +7,18 @@ use Rattle.aim_msg.specs.declared.replies.Reason.TheVariants as reason
 use Rattle.aim_msg.specs.declared.replies.Reply.{Reply}
 use Rattle.aim_msg.specs.declared.replies.Reply.TheVariants as reply
 use Rattle.aim_paths.specs.Intersection.{Intersection}
-use Rattle.aim_paths.specs.Foot.{crossing_steps}
-use Rattle.aim_paths.specs.History.{fresh}
-use Rattle.aim_paths.specs.Priority.{next_allowed, asked_from, distance}
-use Rattle.aim_paths.specs.Answer.{exceeds}
+use Rattle.aim_rules.specs.Footprint.{crossing_steps}
+use Rattle.aim_rules.specs.History.{fresh}
+use Rattle.aim_rules.specs.Asking.{next_allowed}
+use Rattle.aim_rules.specs.Distance.{asked_from, reservation_distance}
+use Rattle.aim_rules.specs.Answer.{exceeds}
 
 -- why the request is refused before its cells are looked at
 abbrev pub early_reason : Intersection → List Entry → ℕ → Params → Option Reason
 early_reason i h now p =
     if nat_le p.arrive now then Some (reason.Late now)
     else if nat_le (now + i.times.horizon) (p.arrive + crossing_steps i p false - 1) then Some (reason.Far (now + i.times.horizon))
-    else if exceeds (asked_from now p) (distance (fresh h) p.lane) then Some (reason.Distance (unwrap_or (distance (fresh h) p.lane) 0))
+    else if exceeds (asked_from now p) (reservation_distance (fresh h) p.lane) then Some (reason.Distance (unwrap_or (reservation_distance (fresh h) p.lane) 0))
     else None
 
 abbrev pub refused : Intersection → ℕ → Params → Reason → Reply

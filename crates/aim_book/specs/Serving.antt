@@ -10,7 +10,7 @@ use Rattle.aim_msg.specs.declared.entries.Act.TheVariants as act
 use Rattle.aim_msg.specs.declared.entries.Entry.{Entry}
 use Rattle.aim_paths.specs.declared.policies.Kind.TheVariants as kind
 use Rattle.aim_paths.specs.Intersection.{Intersection}
-use Rattle.aim_paths.specs.Bad.{bad}
+use Rattle.aim_rules.specs.Bad.{bad}
 
 -- one policy, FCFS, and no buffers in time
 pub record IsPlain (i : Intersection) : Type 0 where

@@ -5,9 +5,9 @@ use Rattle.aim_msg.specs.declared.messages.Params.{Params}
 use Rattle.aim_msg.specs.declared.entries.Act.{Act}
 use Rattle.aim_msg.specs.declared.entries.Entry.{Entry}
 use Rattle.aim_paths.specs.Intersection.{Intersection}
-use Rattle.aim_paths.specs.Foot.{in_foot}
-use Rattle.aim_paths.specs.Cells.{Cell, in_cells}
-use Rattle.aim_paths.specs.History.{message_of, params_of, is_confirm}
+use Rattle.aim_rules.specs.Footprint.{in_footprint}
+use Rattle.aim_rules.specs.Cells.{Cell, in_cells}
+use Rattle.aim_rules.specs.History.{message_of, params_of, is_confirm}
 
 -- the params that an act asks with
 abbrev pub params_in : Act → Option Params
@@ -44,7 +44,7 @@ cell_at p k row col = record { row = row; col = col; step = p.arrive + k }
 
 -- whether the steady crossing needs the tile in its step, and an entry has it
 abbrev pub is_shared : Intersection → List Entry → Params → ℕ → ℕ → ℕ → Bool
-is_shared i h p k row col = in_foot i p false i.grid.fixed k row col && list_any (takes i (cell_at p k row col)) h
+is_shared i h p k row col = in_footprint i p false i.grid.fixed k row col && list_any (takes i (cell_at p k row col)) h
 
 -- no tile is shared in the step
 abbrev pub SharesNone : Intersection → List Entry → Params → ℕ → Type 0

@@ -2,9 +2,9 @@
 
 ghost use Rattle.std.specs.Prelude.{◌≡◌, ℕ, ◌≤◌, ◌<◌, ◌^◌, false, [], length};
 ghost use Rattle.aim_msg.specs.declared.messages.Message.{Message};
-ghost use Rattle.aim_paths.specs.Answer.{answer};
-ghost use Rattle.aim_paths.specs.Foot.{crossing_steps};
-ghost use Rattle.aim_paths.specs.History.{now_of};
+ghost use Rattle.aim_rules.specs.Answer.{answer};
+ghost use Rattle.aim_rules.specs.Footprint.{crossing_steps};
+ghost use Rattle.aim_rules.specs.History.{now_of};
 ghost use Rattle.aim_book.specs.Distances.{AreFresh};
 ghost use Rattle.aim_book.specs.Moving.{IsMoving};
 ghost use Rattle.aim_book.specs.Replies.{confirmed, early_reason, refused};

@@ -36,7 +36,7 @@ impl Model for Book {
 
     ghost Value = { State };
 
-    ghost use Rattle.aim_paths.specs.Legal.{IsLegal};
+    ghost use Rattle.aim_rules.specs.Legal.{IsLegal};
     ghost use Rattle.aim_book.specs.Serving.{AreServed};
 
     ghost view = { λ b. record { layout = b.layout; vehicles = b.vehicles; room = b.room; journal = b.journal.items } };
@@ -46,8 +46,8 @@ impl Model for Book {
 
 impl Book {
     ghost use Rattle.std.specs.Prelude.{◌≡◌, ◌<◌, ◌≤◌, ◌⊎◌, ◌++◌, ◌∷◌, [], ◌↔◌, length, IfOk, OnErr, IsErr, Err};
-    ghost use Rattle.aim_paths.specs.Answer.{answer};
-    ghost use Rattle.aim_paths.specs.Legal.{IsLegal};
+    ghost use Rattle.aim_rules.specs.Answer.{answer};
+    ghost use Rattle.aim_rules.specs.Legal.{IsLegal};
     ghost use Rattle.aim_book.specs.Serving.{MayServe};
 
     /// A book with an empty journal, for that many vehicles and that many entries. It takes all its memory here.

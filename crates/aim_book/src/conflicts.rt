@@ -1,7 +1,7 @@
 //! The first cell of a crossing that another one has.
 
 ghost use Rattle.std.specs.Prelude.{◌≡◌, ℕ, ◌<◌, ◌≤◌, false, [], IfSome, IfNone};
-ghost use Rattle.aim_paths.specs.Foot.{crossing_steps};
+ghost use Rattle.aim_rules.specs.Footprint.{crossing_steps};
 ghost use Rattle.aim_book.specs.Conflicts.{IsFirstConflict};
 ghost use Rattle.aim_book.specs.Moving.{IsMoving};
 ghost use Rattle.aim_book.specs.Serving.{AreServed, IsPlain};

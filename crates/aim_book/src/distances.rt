@@ -1,8 +1,8 @@
 //! How far from the stop line a lane's vehicles may ask.
 
 ghost use Rattle.std.specs.Prelude.{◌≡◌, [], option_and_then};
-ghost use Rattle.aim_paths.specs.History.{fresh, is_confirm as is_confirm_of};
-ghost use Rattle.aim_paths.specs.Priority.{asked_from as asked_from_of, distance, is_blocked_reply};
+ghost use Rattle.aim_rules.specs.History.{fresh, is_confirm as is_confirm_of};
+ghost use Rattle.aim_rules.specs.Distance.{asked_from as asked_from_of, reservation_distance, is_blocked_reply};
 ghost use Rattle.aim_book.specs.Takings.{params_in};
 ghost use Rattle.aim_book.specs.Distances.{distance_next, distance_with, AreFresh};
 
@@ -48,7 +48,7 @@ fn distance_then(before: Option<u64>, lane: u8, now: u32, entry: &Entry) -> Opti
 /// The least distance that was refused for a cell since the lane's last Confirm.
 pub fn lane_distance(entries: &[Entry], lane: u8) -> Option<u64>
     requires { AreFresh [] entries.now }
-    ensures { result ≡ distance (fresh entries.now) lane }
+    ensures { result ≡ reservation_distance (fresh entries.now) lane }
 {
     let mut now = 0;
     let mut least = None;

@@ -5,9 +5,9 @@ ghost use Rattle.std.specs.List.{list_any, slice_range};
 ghost use Rattle.aim_geometry.specs.declared.stations.Station.{Station};
 ghost use Rattle.aim_geometry.specs.Bounded.{ceil_div};
 ghost use Rattle.aim_geometry.specs.Rects.{tile_at};
-ghost use Rattle.aim_paths.specs.Foot.{crossing_steps};
+ghost use Rattle.aim_rules.specs.Footprint.{crossing_steps};
 ghost use Rattle.aim_paths.specs.Intersection.{stations};
-ghost use Rattle.aim_paths.specs.Motion.{front};
+ghost use Rattle.aim_rules.specs.Motion.{front};
 ghost use Rattle.aim_book.specs.Feet.{is_footed, is_under, is_under_some};
 ghost use Rattle.aim_book.specs.Moving.{IsMoving};
 

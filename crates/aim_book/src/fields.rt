@@ -1,8 +1,8 @@
 //! Which field of a request is wrong.
 
 ghost use Rattle.std.specs.Prelude.{◌≡◌, ℕ, ◌≤◌, ◌<◌, ◌^◌, false, count_by, slice_index};
-ghost use Rattle.aim_paths.specs.Bad.{bad, span_count as span_count_of};
-ghost use Rattle.aim_paths.specs.Foot.{crossing_steps};
+ghost use Rattle.aim_rules.specs.Bad.{bad, span_count as span_count_of};
+ghost use Rattle.aim_rules.specs.Footprint.{crossing_steps};
 ghost use Rattle.aim_book.specs.Feet.{is_filled};
 ghost use Rattle.aim_book.specs.Moving.{IsMoving};
 ghost use Rattle.aim_book.specs.Serving.{IsPlain};

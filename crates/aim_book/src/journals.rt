@@ -1,7 +1,7 @@
 //! Questions about the entries of a journal.
 
 ghost use Rattle.std.specs.Prelude.{◌≡◌, None, if◌then◌else◌};
-ghost use Rattle.aim_paths.specs.History.{is_confirm as is_confirm_of};
+ghost use Rattle.aim_rules.specs.History.{is_confirm as is_confirm_of};
 ghost use Rattle.aim_book.specs.Serving.{has_called as has_called_of};
 ghost use Rattle.aim_book.specs.Takings.{granted_to, params_in};
 

@@ -3,7 +3,7 @@
 ghost use Rattle.std.specs.Prelude.{◌≡◌, ℕ, ◌+◌, ◌<◌, ◌||◌, true, false, [], find, option_map, IfSome, IfNone, Some};
 ghost use Rattle.std.specs.List.{list_any};
 ghost use Rattle.aim_geometry.specs.Rects.{tile_at};
-ghost use Rattle.aim_paths.specs.Foot.{crossing_steps};
+ghost use Rattle.aim_rules.specs.Footprint.{crossing_steps};
 ghost use Rattle.aim_book.specs.Moving.{IsMoving};
 ghost use Rattle.aim_book.specs.Serving.{ActsSteady, AreServed, IsPlain};
 ghost use Rattle.aim_book.specs.Takings.{is_crossed, is_taken, is_taken_by_some, takes};

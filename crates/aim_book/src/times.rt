@@ -1,8 +1,8 @@
 //! The time, and when to ask again.
 
 ghost use Rattle.std.specs.Prelude.{◌≡◌, ◌≤◌};
-ghost use Rattle.aim_paths.specs.History.{now_of};
-ghost use Rattle.aim_paths.specs.Priority.{next_allowed as next_allowed_of};
+ghost use Rattle.aim_rules.specs.History.{now_of};
+ghost use Rattle.aim_rules.specs.Asking.{next_allowed as next_allowed_of};
 
 use aim_msg::Entry;
 

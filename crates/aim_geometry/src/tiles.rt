@@ -39,7 +39,7 @@ pub fn tile_rect(ground: &Ground, x: u32, y: u32, half: u32) -> TileRect
     requires x { x ≤ ground.now.grid.side }
     requires y { y ≤ ground.now.grid.side }
     ensures rect { IsRect ground.now.grid.n result }
-    ensures exact { (row col : ℕ) → row < ground.now.grid.n → col < ground.now.grid.n → in_rect result row col ≡ is_touched ground.now.grid half (record { x = x; y = y }) row col }
+    ensures exact { (row col : ℕ) → in_rect result row col ≡ is_touched ground.now.grid half (record { x = x; y = y }) row col }
 {
     let grid = ground.grid();
     let tile = grid.side / grid.n;

@@ -1,28 +1,29 @@
 -- The tiles of a lane, as paths are added to a layout.
-use Rattle.std.proofs.Common.{◌≡◌, ℕ, ◌<◌, inl, inr, Bool, true, false, ◌&&◌, ◌||◌, List, [], length, slice_get, get_or, set, replicate, Option, Some, None, arith, refl, sym, ◌∙◌, ap, nat_lt}
+use Rattle.std.proofs.Common.{◌≡◌, ℕ, ◌<◌, inl, inr, ◌⊎◌, ◌∷◌, Bool, true, false, ◌&&◌, ◌||◌, List, [], length, slice_get, get_or, set, replicate, Option, Some, None, arith, refl, sym, ◌∙◌, ap, nat_lt}
 use Rattle.std.specs.List.{list_any}
-use Rattle.std.proofs.lemmas.Bool.{cases_eq}
+use Rattle.std.proofs.lemmas.Bool.{cases_eq, and_parts, ltb-true}
 use Rattle.std.proofs.lemmas.List.{length-set, length-replicate, get_or-set_same, get_or-set_other, get_or-replicate}
 use Rattle.std.proofs.lemmas.Option.{slice_get-get_or}
 use Rattle.std.proofs.lemmas.Nat.Bits.{bit_at-zero}
 use Rattle.aim_msg.specs.declared.messages.Turn.{Turn}
 use Rattle.aim_msg.specs.declared.messages.Turn.TheVariants.{Left, Straight, Right}
 use Rattle.aim_geometry.specs.declared.stations.Station.{Station}
-use Rattle.aim_geometry.specs.Ground.{is_touched}
+use Rattle.aim_geometry.specs.declared.ground.Grid.{Grid}
+use Rattle.aim_geometry.specs.Ground.{is_touched, meets, tile_of}
 use Rattle.aim_geometry.specs.Rects.{tile_at}
 use Rattle.aim_geometry.specs.Sites.{Site}
 use Rattle.aim_paths.specs.declared.shapes.Shape.{Shape}
 use Rattle.aim_paths.specs.Shapes.{stations_of}
 use Rattle.aim_paths.specs.Intersection.{Intersection, Lane, path_of, path}
-use Rattle.aim_paths.specs.Lights.{is_on_path, is_on_lane, in_lane_tiles}
-use Rattle.aim_paths.specs.LaneTiles.{is_met, is_lane_tile, HasTiles}
+use Rattle.aim_paths.specs.LaneTiles.{is_met, is_on_path, is_on_lane, in_lane_tiles}
+use Rattle.aim_paths.specs.LaneRows.{HasTiles}
 use Rattle.aim_paths.specs.Building.{with_path, with_move, no_paths, bare}
 use Rattle.aim_paths.proofs.Elements.{slice_get-set_same, slice_get-set_other}
 
 -- what is on a path or a lane depends on the grid alone
 on_path_same : (i j : Intersection) (o : Option (List Station)) (row col : ℕ) → i.grid ≡ j.grid → is_on_path i o row col ≡ is_on_path j o row col
 on_path_same i j None row col e = refl
-on_path_same i j (Some ss) row col e = ap (λ g. list_any (λ s. is_touched g g.half s row col) ss) e
+on_path_same i j (Some ss) row col e = ap (λ g. is_met g ss row col) e
 
 on_lane_same : (i j : Intersection) (o : Option Lane) (row col : ℕ) → i.grid ≡ j.grid → is_on_lane i o row col ≡ is_on_lane j o row col
 on_lane_same i j None row col e = refl
@@ -33,17 +34,13 @@ pub in_lane_same : (i j : Intersection) (lane row col : ℕ) → i.grid ≡ j.gr
 in_lane_same i j lane row col e f =
     on_lane_same i j (slice_get i.lanes lane) row col e ∙ ap (λ ls. is_on_lane j (slice_get ls lane) row col) f
 
-lane_tile_same : (i j : Intersection) (lane row col : ℕ) → i.grid ≡ j.grid → in_lane_tiles i lane row col ≡ in_lane_tiles j lane row col → is_lane_tile i lane row col ≡ is_lane_tile j lane row col
-lane_tile_same i j lane row col e f =
-    ap (λ b. nat_lt row i.grid.n && nat_lt col i.grid.n && b) f ∙ ap (λ g. nat_lt row g.n && nat_lt col g.n && in_lane_tiles j lane row col) e
-
 -- the rows stay right while lanes and grid stay
 pub HasTiles-same : (i j : Intersection) (tiles : List (List ℕ)) → i.grid ≡ j.grid → i.lanes ≡ j.lanes → HasTiles i tiles → HasTiles j tiles
 HasTiles-same i j tiles e f h = record {
   count = h.count ∙ ap length f;
   rows = λ lane l row col r c.
       let m : lane < length i.lanes = omega (arith, ap length f) in
-      h.rows lane m row col r c ∙ lane_tile_same i j lane row col e (in_lane_same i j lane row col e f);
+      h.rows lane m row col r c ∙ in_lane_same i j lane row col e f;
 }
 
 or_left : (a b c : Bool) → (a || b || c) ≡ ((false || b || c) || a)
@@ -83,10 +80,6 @@ on_lane_more i l Left ss row col h = rw h (or_left (is_on_path i (Some ss) row c
 on_lane_more i l Straight ss row col h = rw h (or_middle (is_on_path i l.left row col) (is_on_path i (Some ss) row col) (is_on_path i l.right row col))
 on_lane_more i l Right ss row col h = rw h (or_right (is_on_path i l.left row col) (is_on_path i l.straight row col) (is_on_path i (Some ss) row col))
 
-and_or : (a x y : Bool) → (a && (x || y)) ≡ ((a && x) || (a && y))
-and_or true x y = refl
-and_or false x y = refl
-
 -- the lane that is there
 pub lane_there : (i : Intersection) (lane : ℕ) → lane < length i.lanes → slice_get i.lanes lane ≡ Some (get_or i.lanes lane no_paths)
 lane_there i lane h = slice_get-get_or i.lanes lane no_paths h
@@ -95,7 +88,7 @@ pub path_there : (i : Intersection) (lane : ℕ) (turn : Turn) → lane < length
 path_there i lane turn h = rw (lane_there i lane h) refl
 
 moved_lane : (i : Intersection) (lane : ℕ) (turn : Turn) (s : Shape) (row col : ℕ) → lane < length i.lanes → path i lane turn ≡ None →
-    is_lane_tile (with_move i lane turn s) lane row col ≡ (is_lane_tile i lane row col || is_met i.grid (stations_of s) row col)
+    in_lane_tiles (with_move i lane turn s) lane row col ≡ (in_lane_tiles i lane row col || is_met i.grid (stations_of s) row col)
 moved_lane i lane turn s row col h none =
     let l = get_or i.lanes lane no_paths in
     let j = with_move i lane turn s in
@@ -103,17 +96,13 @@ moved_lane i lane turn s row col h none =
     let old : in_lane_tiles i lane row col ≡ is_on_lane i (Some l) row col = ap (λ o. is_on_lane i o row col) (lane_there i lane h) in
     let new : in_lane_tiles j lane row col ≡ is_on_lane j (Some (with_path l turn (stations_of s))) row col =
     ap (λ o. is_on_lane j o row col) (slice_get-set_same i.lanes lane (with_path l turn (stations_of s)) h) in
-    let both : in_lane_tiles j lane row col ≡ (in_lane_tiles i lane row col || is_on_path i (Some (stations_of s)) row col) =
-    new ∙ on_lane_same j i (Some (with_path l turn (stations_of s))) row col refl ∙ on_lane_more i l turn (stations_of s) row col free ∙ ap (λ b. b || is_on_path i (Some (stations_of s)) row col) (sym old) in
-    ap (λ b. nat_lt row i.grid.n && nat_lt col i.grid.n && b) both
-    ∙ and_or (nat_lt row i.grid.n && nat_lt col i.grid.n) (in_lane_tiles i lane row col) (is_on_path i (Some (stations_of s)) row col)
+    new ∙ on_lane_same j i (Some (with_path l turn (stations_of s))) row col refl ∙ on_lane_more i l turn (stations_of s) row col free ∙ ap (λ b. b || is_on_path i (Some (stations_of s)) row col) (sym old)
 
-other_lane : (i : Intersection) (lane k : ℕ) (turn : Turn) (s : Shape) (row col : ℕ) → (k ≡ lane → ⊥) → is_lane_tile (with_move i lane turn s) k row col ≡ is_lane_tile i k row col
+other_lane : (i : Intersection) (lane k : ℕ) (turn : Turn) (s : Shape) (row col : ℕ) → (k ≡ lane → ⊥) → in_lane_tiles (with_move i lane turn s) k row col ≡ in_lane_tiles i k row col
 other_lane i lane k turn s row col n =
     let j = with_move i lane turn s in
     let l = with_path (get_or i.lanes lane no_paths) turn (stations_of s) in
-    lane_tile_same j i k row col refl
-    (ap (λ o. is_on_lane j o row col) (slice_get-set_other i.lanes lane k l n) ∙ on_lane_same j i (slice_get i.lanes k) row col refl)
+    ap (λ o. is_on_lane j o row col) (slice_get-set_other i.lanes lane k l n) ∙ on_lane_same j i (slice_get i.lanes k) row col refl
 
 -- the rows after a move
 pub HasTiles-move : (i : Intersection) (lane : ℕ) (turn : Turn) (s : Shape) (tiles : List (List ℕ)) (rows : List ℕ) → lane < length i.lanes → path i lane turn ≡ None → HasTiles i tiles →
@@ -140,9 +129,42 @@ HasTiles-bare s lanes =
           let m : k < lanes = omega (arith, length-replicate lanes no_paths) in
           let there : slice_get (replicate lanes no_paths) k ≡ Some no_paths = slice_get-get_or (replicate lanes no_paths) k no_paths l ∙ ap Some (get_or-replicate lanes k no_paths no_paths m) in
           let none : in_lane_tiles (bare s lanes) k row col ≡ false = ap (λ o. is_on_lane (bare s lanes) o row col) there in
-          rw (get_or-replicate lanes k blank [] m, get_or-replicate {A = ℕ} 64 row 0 0 r, bit_at-zero col, none) (no_and (nat_lt row s.grid.n && nat_lt col s.grid.n));
+          rw (get_or-replicate lanes k blank [] m, get_or-replicate {A = ℕ} 64 row 0 0 r, bit_at-zero col, none) refl;
     }
-  where
-    no_and : (a : Bool) → false ≡ (a && false)
-    no_and true = refl
-    no_and false = refl
+
+-- tiles that meet a square, and so a lane's, are the grid's
+either : (x y : Bool) → (x || y) ≡ true → (x ≡ true) ⊎ (y ≡ true)
+either true y h = inl refl
+either false y h = inr h
+
+touched_inside : (g : Grid) (half : ℕ) (s : Station) (row col : ℕ) → is_touched g half s row col ≡ true → (row < g.n) × (col < g.n)
+touched_inside g half s row col h =
+    let p = and_parts (nat_lt row g.n && nat_lt col g.n && meets (tile_of g) half col s.x) (meets (tile_of g) half row s.y) h in
+    let q = and_parts (nat_lt row g.n && nat_lt col g.n) (meets (tile_of g) half col s.x) p.0 in
+    let r = and_parts (nat_lt row g.n) (nat_lt col g.n) q.0 in
+    (ltb-true row g.n r.0, ltb-true col g.n r.1)
+
+met_inside : (g : Grid) (ss : List Station) (row col : ℕ) → is_met g ss row col ≡ true → (row < g.n) × (col < g.n)
+met_inside g [] row col h = absurd (cc)
+met_inside g (s ∷ ss) row col h = elim (either (is_touched g g.half s row col) (is_met g ss row col) h) [
+  | inl e ↦ touched_inside g g.half s row col e
+  | inr e ↦ met_inside g ss row col e
+]
+
+path_inside : (i : Intersection) (o : Option (List Station)) (row col : ℕ) → is_on_path i o row col ≡ true → (row < i.grid.n) × (col < i.grid.n)
+path_inside i None row col h = absurd (cc)
+path_inside i (Some ss) row col h = met_inside i.grid ss row col h
+
+lane_inside : (i : Intersection) (o : Option Lane) (row col : ℕ) → is_on_lane i o row col ≡ true → (row < i.grid.n) × (col < i.grid.n)
+lane_inside i None row col h = absurd (cc)
+lane_inside i (Some l) row col h = elim (either (is_on_path i l.left row col || is_on_path i l.straight row col) (is_on_path i l.right row col) h) [
+  | inl e ↦ elim (either (is_on_path i l.left row col) (is_on_path i l.straight row col) e) [
+      | inl f ↦ path_inside i l.left row col f
+      | inr f ↦ path_inside i l.straight row col f
+    ]
+  | inr e ↦ path_inside i l.right row col e
+]
+
+-- a tile of a lane is a tile of the grid
+pub tile_inside : (i : Intersection) (lane row col : ℕ) → in_lane_tiles i lane row col ≡ true → (row < i.grid.n) × (col < i.grid.n)
+tile_inside i lane row col h = lane_inside i (slice_get i.lanes lane) row col h

@@ -1,15 +1,3 @@
-pub mod Rows
-pub mod TestLemmas
-pub mod MotionLemmas
-pub mod Ranges
-pub mod HistoryLemmas
-pub mod LegalLemmas
-pub mod CellLemmas
-pub mod GrantLemmas
-pub mod AnswerLemmas
-pub mod GoodLemmas
-pub mod SlowerLemmas
-pub mod AheadLemmas
 pub mod ShapeLemmas
 pub mod ValidLemmas
 pub mod LaneLemmas

@@ -12,8 +12,9 @@ use Rattle.aim_geometry.specs.Rects.{has_bit}
 use Rattle.aim_geometry.proofs.BoundedLemmas.{some_below_at, some_below_none}
 use Rattle.aim_geometry.proofs.Bits.{has_bit_and}
 use Rattle.aim_paths.specs.Intersection.{Intersection}
-use Rattle.aim_paths.specs.Lights.{in_lane_tiles}
-use Rattle.aim_paths.specs.LaneTiles.{is_lane_tile, HasTilesOf}
+use Rattle.aim_paths.specs.LaneTiles.{in_lane_tiles}
+use Rattle.aim_paths.proofs.LaneTileLemmas.{tile_inside}
+use Rattle.aim_paths.specs.LaneRows.{HasTilesOf}
 use Rattle.aim_paths.specs.Building.{share_tile}
 
 -- whether a number reaches a power of two
@@ -25,24 +26,6 @@ reaches x p h = elim (dec_lt x p) [
       rw (ne_eqb (x / p) 0 n, le-leb p x (omega arith)) refl)
 ]
 
--- a tile of the grid is the lane's where its bit is set
-lane_tile_in : (i : Intersection) (lane row col : ℕ) → row < i.grid.n → col < i.grid.n → is_lane_tile i lane row col ≡ in_lane_tiles i lane row col
-lane_tile_in i lane row col r c = rw (lt-ltb row i.grid.n r, lt-ltb col i.grid.n c) refl
-
--- the tile of a bit that two lanes share
-pub record IsShared (i : Intersection) (a b row col : ℕ) : Type 0 where
-  pub row_in : row < i.grid.n
-  pub col_in : col < i.grid.n
-  pub one : in_lane_tiles i a row col ≡ true
-  pub other : in_lane_tiles i b row col ≡ true
-
-shared_tile : (i : Intersection) (a b row col : ℕ) → is_lane_tile i a row col ≡ true → is_lane_tile i b row col ≡ true → IsShared i a b row col
-shared_tile i a b row col h k =
-    let p = and_parts (nat_lt row i.grid.n && nat_lt col i.grid.n) (in_lane_tiles i a row col) h in
-    let q = and_parts (nat_lt row i.grid.n && nat_lt col i.grid.n) (in_lane_tiles i b row col) k in
-    let r = and_parts (nat_lt row i.grid.n) (nat_lt col i.grid.n) p.0 in
-    record { row_in = ltb-true row i.grid.n r.0; col_in = ltb-true col i.grid.n r.1; one = p.1; other = q.1 }
-
 -- words of two lanes' rows that have a common part show a tile that both have
 pub share_tile-some : (i : Intersection) (a b : ℕ) (x y : List ℕ) (row : ℕ) → HasTilesOf i a x → HasTilesOf i b y → row < 64 → slice_index x row < 2 ^ 64 →
     0 < bit_and (slice_index x row) (slice_index y row) → share_tile i a b ≡ true
@@ -53,9 +36,11 @@ share_tile-some i a b x y row h k r wide some =
     let col = trailing_zeros w64 z in
     let set : has_bit z col ≡ true = rw t.1 refl in
     let p = and_parts (has_bit (slice_index x row) col) (has_bit (slice_index y row) col) (sym (has_bit_and (slice_index x row) (slice_index y row) col) ∙ set) in
-    let s = shared_tile i a b row col (sym (h row col r t.0) ∙ p.0) (sym (k row col r t.0) ∙ p.1) in
-    some_below_at i.grid.n (λ r. some_below i.grid.n (λ c. in_lane_tiles i a r c && in_lane_tiles i b r c)) row s.row_in
-    (some_below_at i.grid.n (λ c. in_lane_tiles i a row c && in_lane_tiles i b row c) col s.col_in (rw (s.one, s.other) refl))
+    let one = sym (h row col r t.0) ∙ p.0 in
+    let other = sym (k row col r t.0) ∙ p.1 in
+    let inside = tile_inside i a row col one in
+    some_below_at i.grid.n (λ r. some_below i.grid.n (λ c. in_lane_tiles i a r c && in_lane_tiles i b r c)) row inside.0
+    (some_below_at i.grid.n (λ c. in_lane_tiles i a row c && in_lane_tiles i b row c) col inside.1 (rw (one, other) refl))
 
 -- where no words have a common part, no tile is shared
 pub share_tile-none : (i : Intersection) (a b : ℕ) (x y : List ℕ) → HasTilesOf i a x → HasTilesOf i b y → i.grid.n ≤ 64 →
@@ -64,5 +49,5 @@ share_tile-none i a b x y h k few none =
     some_below_none i.grid.n (λ r. some_below i.grid.n (λ c. in_lane_tiles i a r c && in_lane_tiles i b r c)) (λ r l.
     some_below_none i.grid.n (λ c. in_lane_tiles i a r c && in_lane_tiles i b r c) (λ c m.
     let e = has_bit_and (slice_index x r) (slice_index y r) c in
-    rw (← lane_tile_in i a r c l m, ← lane_tile_in i b r c l m, ← h r c (omega arith) (omega arith), ← k r c (omega arith) (omega arith))
+    rw (← h r c (omega arith) (omega arith), ← k r c (omega arith) (omega arith))
     (sym e ∙ rw (none r (omega arith), bit_at-zero c) refl)))

@@ -20,13 +20,14 @@ use Rattle.aim_paths.specs.declared.policies.Phase.{Phase}
 use Rattle.aim_paths.specs.declared.shapes.Shape.{Shape}
 use Rattle.aim_paths.specs.Shapes.{stations_of, is_bad_shape, are_wide, wide_step, origin}
 use Rattle.aim_paths.specs.Intersection.{Intersection, Lane, Policy, path_of, path}
-use Rattle.aim_paths.specs.Lights.{has_lights, has_lane, in_lane_tiles}
+use Rattle.aim_paths.specs.Policies.{has_lights, has_lane}
+use Rattle.aim_paths.specs.LaneTiles.{in_lane_tiles}
 use Rattle.aim_paths.specs.Building.{no_paths, bare, with_path, is_bad_move, move_fault, with_move, last_policy, lacks_phase, with_policy, share_tile, has_bad_lanes, is_bad_phase_of, phase_count, phase_fault, with_phase_of}
 use Rattle.aim_paths.specs.Valid.{IsPath, IsPhase, IsPolicy, IsSound, IsValid}
 use Rattle.aim_paths.proofs.Elements.{slice_get-set_same, slice_get-set_other, set_cases, append_cases, replicate_all}
 use Rattle.aim_paths.proofs.ShapeLemmas.{length-stations_of, parts_most}
 use Rattle.aim_paths.proofs.LaneLemmas.{stations_inside}
-use Rattle.aim_paths.proofs.LaneTileLemmas.{in_lane_same, path_there}
+use Rattle.aim_paths.proofs.LaneTileLemmas.{in_lane_same, path_there, tile_inside}
 
 -- what a fault that isn't there says of its two causes
 pub no_fault : {F : Type 0} (b : Bool) (f : F) (o : Option F) → (if b then Some f else o) ≡ None → (b ≡ false) × (o ≡ None)
@@ -59,7 +60,7 @@ IsPath-shape g s h w =
           let x = get_or_from_slice_get (stations_of s) j a origin e in
           let y = get_or_from_slice_get (stations_of s) (j + 1) b origin f in
           rw (x, y) at (least_below_absent (length (stations_of s) - 1) (λ k. are_wide g.spacing (get_or (stations_of s) k origin) (get_or (stations_of s) (k + 1) origin)) j w (omega arith));
-      formed = (s, refl);
+      formed = (s, h, refl);
     }
 
 -- a path of a lane to which one was added is that one or one of the lane's own
@@ -141,10 +142,9 @@ IsPhase-same i j f g t l h = record {
   green = h.green;
   some_lanes = h.some_lanes;
   lanes = λ a e. let m = h.lanes a e in omega (arith, ap length l);
-  apart = λ a b row col x ha hb r c e.
-      let n : i.grid.n ≡ j.grid.n = ap (λ x. x.n) g in
+  apart = λ a b row col x ha hb e.
       sym (in_lane_same i j b row col g l)
-      ∙ h.apart a b row col x ha hb (omega arith) (omega arith) (in_lane_same i j a row col g l ∙ e);
+      ∙ h.apart a b row col x ha hb (in_lane_same i j a row col g l ∙ e);
 }
 
 IsPolicy-same : (i j : Intersection) (p : Policy) → i.grid ≡ j.grid → i.times ≡ j.times → i.lanes ≡ j.lanes → IsPolicy i p → IsPolicy j p
@@ -248,7 +248,9 @@ IsPhaseOf-tests i f q h =
         green = ltb-false 65536 f.green o.1;
         some_lanes = omega arith;
         lanes = λ x t. lane_above f.lanes x (length i.lanes) small t;
-        apart = λ x y row col m t u r c s. lane_apart i f.lanes x y row col p.1 (lane_above f.lanes x (length i.lanes) small t) t m u r c s;
+        apart = λ x y row col m t u s.
+            let inside = tile_inside i x row col s in
+            lane_apart i f.lanes x y row col p.1 (lane_above f.lanes x (length i.lanes) small t) t m u inside.0 inside.1 s;
       };
     }
 

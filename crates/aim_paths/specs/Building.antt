@@ -13,7 +13,8 @@ use Rattle.aim_paths.specs.declared.policies.Phase.{Phase}
 use Rattle.aim_paths.specs.declared.shapes.Shape.{Shape}
 use Rattle.aim_paths.specs.Shapes.{stations_of, is_bad_shape, wide_step}
 use Rattle.aim_paths.specs.Intersection.{Intersection, Lane, Policy, path}
-use Rattle.aim_paths.specs.Lights.{has_lights, has_lane, in_lane_tiles}
+use Rattle.aim_paths.specs.Policies.{has_lights, has_lane}
+use Rattle.aim_paths.specs.LaneTiles.{in_lane_tiles}
 
 abbrev pub no_paths : Lane
 no_paths = record { left = None; straight = None; right = None }

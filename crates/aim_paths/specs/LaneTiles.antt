@@ -1,26 +1,24 @@
--- The tiles of a lane, and rows of their bits.
-use Rattle.std.specs.Prelude.{◌≡◌, ℕ, ◌<◌, Bool, ◌&&◌, nat_lt, List, [], length}
-use Rattle.std.specs.List.{list_any, slice_index_or}
+-- The tiles of a lane: those that meet a square round a station of one of its moves.
+use Rattle.std.specs.Prelude.{ℕ, Bool, false, ◌||◌, List, Option, Some, None, slice_get}
+use Rattle.std.specs.List.{list_any}
 use Rattle.aim_geometry.specs.declared.ground.Grid.{Grid}
 use Rattle.aim_geometry.specs.declared.stations.Station.{Station}
 use Rattle.aim_geometry.specs.Ground.{is_touched}
-use Rattle.aim_geometry.specs.Rects.{tile_at}
-use Rattle.aim_paths.specs.Intersection.{Intersection}
-use Rattle.aim_paths.specs.Lights.{in_lane_tiles}
+use Rattle.aim_paths.specs.Intersection.{Intersection, Lane}
 
--- whether the tile is one of the grid's, and meets the square of the lane tile sets round one of the stations
+-- whether the tile meets the square of the lane tile sets round one of the stations
 abbrev pub is_met : Grid → List Station → ℕ → ℕ → Bool
-is_met g ss row col = nat_lt row g.n && nat_lt col g.n && list_any (λ s. is_touched g g.half s row col) ss
+is_met g ss row col = list_any (λ s. is_touched g g.half s row col) ss
 
--- whether the tile is one of the grid's, and one of the lane's
-abbrev pub is_lane_tile : Intersection → ℕ → ℕ → ℕ → Bool
-is_lane_tile i lane row col = nat_lt row i.grid.n && nat_lt col i.grid.n && in_lane_tiles i lane row col
+-- whether it does so for a path of the lane, where that is offered
+abbrev pub is_on_path : Intersection → Option (List Station) → ℕ → ℕ → Bool
+is_on_path i None row col = false
+is_on_path i (Some ss) row col = is_met i.grid ss row col
 
--- the rows have the bits of the lane's tiles
-abbrev pub HasTilesOf : Intersection → ℕ → List ℕ → Type 0
-HasTilesOf i lane rows = (row col : ℕ) → row < 64 → col < 64 → tile_at rows row col ≡ is_lane_tile i lane row col
+abbrev pub is_on_lane : Intersection → Option Lane → ℕ → ℕ → Bool
+is_on_lane i None row col = false
+is_on_lane i (Some l) row col = is_on_path i l.left row col || is_on_path i l.straight row col || is_on_path i l.right row col
 
--- each lane has its rows
-pub record HasTiles (i : Intersection) (tiles : List (List ℕ)) : Type 0 where
-  pub count : length tiles ≡ length i.lanes
-  pub rows : (lane : ℕ) → lane < length i.lanes → HasTilesOf i lane (slice_index_or tiles lane [])
+-- whether the tile is one of the lane's
+abbrev pub in_lane_tiles : Intersection → ℕ → ℕ → ℕ → Bool
+in_lane_tiles i lane row col = is_on_lane i (slice_get i.lanes lane) row col

@@ -6,18 +6,19 @@ use Rattle.aim_geometry.specs.declared.stations.Station.{Station}
 use Rattle.aim_geometry.specs.Sites.{IsGrid, IsTimes}
 use Rattle.aim_paths.specs.declared.policies.Phase.{Phase}
 use Rattle.aim_paths.specs.declared.shapes.Shape.{Shape}
-use Rattle.aim_paths.specs.Shapes.{stations_of, are_wide}
+use Rattle.aim_paths.specs.Shapes.{stations_of, is_bad_shape, are_wide}
 use Rattle.aim_paths.specs.Intersection.{Intersection, Policy, path}
-use Rattle.aim_paths.specs.Lights.{has_lights, has_lane, in_lane_tiles}
+use Rattle.aim_paths.specs.Policies.{has_lights, has_lane}
+use Rattle.aim_paths.specs.LaneTiles.{in_lane_tiles}
 use Rattle.aim_paths.specs.Building.{lacks_phase}
 
--- the stations are those of a line or a curve, 2 to 4097, on the ground, and each near the next
+-- The stations are those of a shape within its ranges, a line or a curve: 2 to 4097, on the ground, and each near the next.
 pub record IsPath (g : Grid) (ss : List Station) : Type 0 where
   pub some : 1 < length ss
   pub most : length ss ≤ 4097
   pub inside : (j : ℕ) (s : Station) → slice_get ss j ≡ Some s → (s.x ≤ g.side) × (s.y ≤ g.side)
   pub near : (j : ℕ) (a b : Station) → slice_get ss j ≡ Some a → slice_get ss (j + 1) ≡ Some b → are_wide g.spacing a b ≡ false
-  pub formed : (s : Shape) × (ss ≡ stations_of s)
+  pub formed : (s : Shape) × (is_bad_shape g.side s ≡ false) × (ss ≡ stations_of s)
 
 -- the phase's numbers are in their ranges, its lanes are there, and no two of them share a tile
 pub record IsPhase (i : Intersection) (p : Phase) : Type 0 where
@@ -28,7 +29,7 @@ pub record IsPhase (i : Intersection) (p : Phase) : Type 0 where
   pub some_lanes : 0 < p.lanes
   pub lanes : (a : ℕ) → has_lane p.lanes a ≡ true → a < length i.lanes
   pub apart : (a b row col : ℕ) → b < a → has_lane p.lanes a ≡ true → has_lane p.lanes b ≡ true →
-      row < i.grid.n → col < i.grid.n → in_lane_tiles i a row col ≡ true → in_lane_tiles i b row col ≡ false
+      in_lane_tiles i a row col ≡ true → in_lane_tiles i b row col ≡ false
 
 -- only a light policy has phases, at most 16
 pub record IsPolicy (i : Intersection) (p : Policy) : Type 0 where

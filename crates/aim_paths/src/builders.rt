@@ -9,7 +9,7 @@ ghost use Rattle.aim_geometry.specs.Sites.{Site};
 ghost use Rattle.aim_paths.specs.Added.{Added, AreTaken, added, layout_of};
 ghost use Rattle.aim_paths.specs.Building.{bare, finish_fault, has_bad_lanes as has_bad_lanes_of, is_bad_move, is_bad_phase_of, lacks_phase as lacks_phase_of, last_policy, move_fault, no_paths, phase_count as phase_count_of, phase_fault, policy_fault, share_tile as share_tile_of, with_move, with_phase, with_policy};
 ghost use Rattle.aim_paths.specs.Intersection.{path};
-ghost use Rattle.aim_paths.specs.Lights.{has_lane as has_lane_of};
+ghost use Rattle.aim_paths.specs.Policies.{has_lane as has_lane_of};
 ghost use Rattle.aim_paths.specs.Valid.{IsValid};
 
 use crate::lanes::{LanePaths, add_path};
@@ -51,7 +51,7 @@ impl Model for Builder {
     ghost Value = { Intersection };
 
     ghost use Rattle.std.specs.Prelude.{◌≤◌, vec_capacity};
-    ghost use Rattle.aim_paths.specs.LaneTiles.{HasTiles};
+    ghost use Rattle.aim_paths.specs.LaneRows.{HasTiles};
     ghost use Rattle.aim_paths.specs.Valid.{IsSound};
 
     ghost view = { λ b. record { grid = b.ground.grid; times = b.ground.times; lanes = b.lanes.items; policies = b.policies.items } };

@@ -4,7 +4,7 @@ ghost use Rattle.std.specs.Prelude.{◌≡◌, ℕ, ◌+◌, ◌<◌, ◌≤◌,
 ghost use Rattle.aim_geometry.specs.Rects.{tile_at};
 ghost use Rattle.aim_paths.specs.Intersection.{path};
 ghost use Rattle.aim_paths.specs.LaneRooms.{offered};
-ghost use Rattle.aim_paths.specs.LaneTiles.{HasTiles, HasTilesOf};
+ghost use Rattle.aim_paths.specs.LaneRows.{HasTiles, HasTilesOf};
 ghost use Rattle.aim_paths.specs.Valid.{IsValid};
 
 use crate::lanes::LanePaths;
@@ -30,7 +30,7 @@ impl Model for Layout {
 
     ghost Value = { Intersection };
 
-    ghost use Rattle.aim_paths.specs.LaneTiles.{HasTiles};
+    ghost use Rattle.aim_paths.specs.LaneRows.{HasTiles};
     ghost use Rattle.aim_paths.specs.Valid.{IsValid};
 
     ghost view = { λ l. record { grid = l.ground.grid; times = l.ground.times; lanes = l.lanes.items; policies = l.policies.items } };

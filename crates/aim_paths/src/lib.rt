@@ -1,9 +1,8 @@
-//! Layouts of intersections, and the definitions of what a manager over such a layout answers.
+//! Layouts of intersections: lanes with their paths, policies with their phases, lane tile sets.
 #![tactic(auto)]
 
 pub mod builders;
 mod lanes;
-pub mod laws;
 pub mod layouts;
 pub mod paths;
 pub mod policies;

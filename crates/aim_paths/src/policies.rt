@@ -3,7 +3,7 @@
 ghost use Rattle.std.specs.Prelude.{◌≡◌, ◌<◌, ◌≤◌, ◌==◌, ◌||◌, not, nat_le, nat_lt, [], ◌∷◌, ◌++◌, length, slice_get, Some};
 ghost use Rattle.aim_geometry.specs.Bounded.{is_outside};
 ghost use Rattle.aim_paths.specs.Building.{lacks_phase as lacks_phase_of};
-ghost use Rattle.aim_paths.specs.Lights.{has_lights as has_lights_of};
+ghost use Rattle.aim_paths.specs.Policies.{has_lights as has_lights_of};
 
 use std::marker::Model;
 

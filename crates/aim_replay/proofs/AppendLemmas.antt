@@ -13,7 +13,7 @@ use Rattle.aim_msg.specs.declared.entries.Act.TheVariants as act
 use Rattle.aim_msg.specs.declared.entries.Entry.{Entry}
 use Rattle.aim_geometry.specs.Bounded.{find_map}
 use Rattle.aim_paths.specs.Intersection.{Intersection}
-use Rattle.aim_paths.specs.Legal.{Call, journal, entry_of}
+use Rattle.aim_rules.specs.Journals.{Call, journal, entry_of}
 use Rattle.aim_replay.specs.Said.{version_in, version_after, with_line, layout_of, nowhere, name_in, names_of, vehicles_in, vehicles_of, call_in, calls_of, last_of}
 use Rattle.aim_replay.specs.Today.{is_event_of}
 use Rattle.aim_replay.specs.Stands.{IsHeader, IsBody}

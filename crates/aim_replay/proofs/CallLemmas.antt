@@ -14,8 +14,9 @@ use Rattle.aim_geometry.specs.Bounded.{find_map}
 use Rattle.aim_paths.specs.declared.policies.Phase.{Phase}
 use Rattle.aim_paths.specs.Intersection.{Intersection, Policy}
 use Rattle.aim_paths.specs.Building.{last_policy, with_phase_of}
-use Rattle.aim_paths.specs.Legal.{Call, IsLegal, MayAct, MayCall}
-use Rattle.aim_paths.proofs.LegalLemmas.{IsLegal-journal}
+use Rattle.aim_rules.specs.Journals.{Call, MayCall}
+use Rattle.aim_rules.specs.Legal.{IsLegal, MayAct}
+use Rattle.aim_rules.proofs.LegalLemmas.{IsLegal-journal}
 use Rattle.aim_replay.specs.Said.{with_line, nowhere, layout_of, name_in, names_of, is_named, number_of, vehicles_in, vehicles_of, call_in, calls_of}
 use Rattle.aim_replay.specs.Kinds.{Missing}
 use Rattle.aim_replay.specs.Verdicts.{Verdict}

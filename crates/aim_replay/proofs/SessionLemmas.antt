@@ -14,7 +14,7 @@ use Rattle.aim_msg.specs.Texts.{Words, spaced}
 use Rattle.aim_msg.specs.declared.entries.Entry.{Entry}
 use Rattle.aim_msg.specs.declared.script.Line.{Line}
 use Rattle.aim_paths.specs.Intersection.{Intersection}
-use Rattle.aim_paths.specs.Legal.{journal}
+use Rattle.aim_rules.specs.Journals.{journal}
 use Rattle.aim_replay.specs.declared.endings.Ending.{Ending}
 use Rattle.aim_replay.specs.declared.endings.Ending.TheVariants as ending
 use Rattle.aim_replay.specs.declared.endings.Kind.{Kind}

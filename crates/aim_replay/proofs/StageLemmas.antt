@@ -7,7 +7,7 @@ use Rattle.std.specs.Prelude.{◌↔◌}
 use Rattle.aim_io.specs.Lines.{Line as LineOf}
 use Rattle.aim_msg.specs.declared.script.LineKind.{LineKind}
 use Rattle.aim_msg.specs.Reading.{line_at}
-use Rattle.aim_paths.specs.Bad.{bad as bad_field}
+use Rattle.aim_rules.specs.Bad.{bad as bad_field}
 use Rattle.aim_paths.specs.declared.policies.Kind.TheVariants as kind
 use Rattle.aim_msg.specs.declared.messages.Message.{Message}
 use Rattle.aim_msg.specs.declared.messages.Turn.{Turn}
@@ -30,7 +30,7 @@ use Rattle.aim_paths.specs.declared.builders.LayoutFault.{LayoutFault}
 use Rattle.aim_paths.specs.declared.builders.LayoutFault.TheVariants as layout_fault
 use Rattle.aim_paths.specs.Shapes.{stations_of, wide_step}
 use Rattle.aim_paths.specs.Building.{bare, is_bad_move, move_fault, with_move, policy_fault, finish_fault, with_policy}
-use Rattle.aim_paths.specs.Legal.{entry_of}
+use Rattle.aim_rules.specs.Journals.{entry_of}
 use Rattle.aim_book.specs.State.{State}
 use Rattle.aim_book.specs.Serving.{IsPlain, MayServe}
 use Rattle.aim_replay.specs.declared.stages.Stage.{Stage}

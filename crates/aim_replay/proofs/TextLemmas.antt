@@ -8,7 +8,7 @@ use Rattle.aim_msg.specs.declared.script.Line.{Line}
 use Rattle.aim_msg.specs.declared.script.Line.TheVariants as line
 use Rattle.aim_msg.specs.declared.entries.Entry.{Entry}
 use Rattle.aim_paths.specs.Intersection.{Intersection}
-use Rattle.aim_paths.specs.Legal.{Call, journal, entry_of}
+use Rattle.aim_rules.specs.Journals.{Call, journal, entry_of}
 use Rattle.aim_replay.specs.Order.{Part, part_after, belongs, to_begin, in_body, nothing}
 use Rattle.aim_replay.specs.Said.{layout_of, calls_of, names_of, last_of, with_line, name_in, call_in}
 use Rattle.aim_replay.specs.Kinds.{Missing}

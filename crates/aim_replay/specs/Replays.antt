@@ -6,7 +6,7 @@ use Rattle.aim_io.specs.Known.{AppendsFront}
 use Rattle.aim_io.specs.Lines.{Line as LineOf, IsOpen}
 use Rattle.aim_msg.specs.declared.entries.Entry.{Entry}
 use Rattle.aim_msg.specs.declared.script.Line.{Line}
-use Rattle.aim_paths.specs.Legal.{journal}
+use Rattle.aim_rules.specs.Journals.{journal}
 use Rattle.aim_replay.specs.Said.{layout_of, calls_of}
 use Rattle.aim_replay.specs.Kinds.{Missing}
 use Rattle.aim_replay.specs.Verdicts.{Judgement, decides, goes_on, judge, verdict}

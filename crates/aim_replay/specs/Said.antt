@@ -20,7 +20,7 @@ use Rattle.aim_paths.specs.Intersection.{Intersection}
 use Rattle.aim_paths.specs.declared.shapes.Shape.{Shape}
 use Rattle.aim_paths.specs.declared.shapes.Shape.TheVariants as path
 use Rattle.aim_paths.specs.Building.{no_paths, with_move, with_policy, with_phase}
-use Rattle.aim_paths.specs.Legal.{Call}
+use Rattle.aim_rules.specs.Journals.{Call}
 use Rattle.aim_geometry.specs.Bounded.{last, find_map}
 
 abbrev pub version_in : Line → Option ℕ

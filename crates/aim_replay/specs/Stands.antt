@@ -5,7 +5,7 @@ use Rattle.aim_msg.specs.declared.entries.Entry.{Entry}
 use Rattle.aim_msg.specs.declared.script.Line.{Line}
 use Rattle.aim_geometry.specs.Bounded.{find_map}
 use Rattle.aim_paths.specs.Intersection.{Intersection}
-use Rattle.aim_paths.specs.Legal.{journal}
+use Rattle.aim_rules.specs.Journals.{journal}
 use Rattle.aim_replay.specs.Said.{version_after, layout_of, vehicles_in, vehicles_of, names_of, call_in, calls_of}
 use Rattle.aim_replay.specs.Today.{is_event_of}
 

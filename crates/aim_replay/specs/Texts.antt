@@ -3,8 +3,8 @@ use Rattle.std.specs.Prelude.{ℕ, ◌+◌, List, [], ◌∷◌, ◌++◌, lengt
 use Rattle.aim_msg.specs.declared.entries.Entry.{Entry}
 use Rattle.aim_msg.specs.Texts.{Words, spaced, entry_text}
 use Rattle.aim_paths.specs.Intersection.{Intersection}
-use Rattle.aim_paths.specs.Legal.{journal}
-use Rattle.aim_paths.specs.Charts.{chart}
+use Rattle.aim_rules.specs.Journals.{journal}
+use Rattle.aim_rules.specs.Charts.{chart}
 use Rattle.aim_replay.specs.Said.{layout_of, calls_of}
 use Rattle.aim_replay.specs.Kinds.{Missing}
 use Rattle.aim_replay.specs.Verdicts.{Decision, bad, limit, whole, Verdict, verdict}

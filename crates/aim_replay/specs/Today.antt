@@ -5,7 +5,7 @@ use Rattle.aim_msg.specs.declared.messages.Body.{Body}
 use Rattle.aim_msg.specs.declared.messages.Body.TheVariants as body
 use Rattle.aim_msg.specs.declared.script.Line.{Line}
 use Rattle.aim_msg.specs.declared.script.Line.TheVariants as line
-use Rattle.aim_paths.specs.Bad.{bad}
+use Rattle.aim_rules.specs.Bad.{bad}
 use Rattle.aim_replay.specs.Said.{layout_of, names_of}
 use Rattle.aim_replay.specs.Kinds.{Missing}
 

@@ -3,7 +3,7 @@
 ghost use Rattle.std.specs.Prelude.{◌≡◌, ℕ, List, take, slice_get, Some, true};
 ghost use Rattle.aim_msg.specs.declared.script.Line.{Line};
 ghost use Rattle.aim_replay.specs.Order.{may_follow};
-ghost use Rattle.aim_paths.specs.Legal.{IsLegal};
+ghost use Rattle.aim_rules.specs.Legal.{IsLegal};
 ghost use Rattle.aim_replay.specs.Said.{last_of, layout_of, vehicles_of};
 ghost use Rattle.aim_replay.specs.Texts.{journal_of};
 ghost use Rattle.aim_io.specs.Lines.{outcomes_of};

@@ -1,5 +1,5 @@
 use Rattle.std.proofs.Common.{arith}
-use Rattle.aim_paths.proofs.HistoryLemmas.{blank}
+use Rattle.aim_rules.proofs.HistoryLemmas.{blank}
 use Rattle.aim_book.proofs.DistanceLemmas.{distance_walk, now_of_more}
 use Rattle.aim_book.proofs.distances.lane_distance.Goals as goal
 

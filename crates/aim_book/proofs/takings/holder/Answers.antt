@@ -1,5 +1,5 @@
 use Rattle.std.proofs.Common.{refl, sym}
-use Rattle.aim_paths.proofs.HistoryLemmas.{blank}
+use Rattle.aim_rules.proofs.HistoryLemmas.{blank}
 use Rattle.aim_book.specs.Takings.{takes}
 use Rattle.aim_book.proofs.TakenLemmas.{steady_at, find_first}
 use Rattle.aim_book.proofs.takings.holder.Goals as goal

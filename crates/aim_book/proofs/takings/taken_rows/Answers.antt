@@ -1,4 +1,4 @@
-use Rattle.aim_paths.proofs.HistoryLemmas.{blank}
+use Rattle.aim_rules.proofs.HistoryLemmas.{blank}
 use Rattle.aim_geometry.specs.Rects.{tile_at}
 use Rattle.aim_book.proofs.TakenLemmas.{steady_at, taken_more, nothing_taken}
 use Rattle.aim_book.proofs.takings.taken_rows.Goals as goal

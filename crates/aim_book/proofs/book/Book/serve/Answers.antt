@@ -1,7 +1,7 @@
 use Rattle.std.proofs.Common.{◌≡◌, ◌<◌, ◌∷◌, [], arith, length-append}
 use Rattle.std.specs.Vec.{vec_len, vec_capacity}
 use Rattle.aim_msg.specs.declared.entries.Act.TheVariants as act
-use Rattle.aim_paths.specs.Answer.{answer}
+use Rattle.aim_rules.specs.Answer.{answer}
 use Rattle.aim_book.proofs.BookLemmas.{entry_with, legal_now, legal_more, served_more}
 use Rattle.aim_book.proofs.book.Book.serve.Goals as goal
 

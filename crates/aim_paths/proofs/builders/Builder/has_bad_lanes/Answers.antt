@@ -3,7 +3,7 @@ use Rattle.std.specs.Prelude.{nat_le}
 use Rattle.std.proofs.Math.Bool.{or-true}
 use Rattle.aim_geometry.specs.Bounded.{some_below}
 use Rattle.aim_geometry.proofs.BoundedLemmas.{some_below_at, some_below_none}
-use Rattle.aim_paths.specs.Lights.{has_lane}
+use Rattle.aim_paths.specs.Policies.{has_lane}
 use Rattle.aim_paths.specs.Building.{share_tile}
 use Rattle.aim_paths.proofs.builders.Builder.has_bad_lanes.Goals as goal
 

@@ -1,6 +1,6 @@
 use Rattle.std.proofs.Common.{◌≡◌, ℕ, ◌<◌, ◌&&◌, false}
 use Rattle.aim_geometry.specs.Bounded.{some_below}
-use Rattle.aim_paths.specs.Lights.{has_lane}
+use Rattle.aim_paths.specs.Policies.{has_lane}
 use Rattle.aim_paths.specs.Building.{share_tile}
 use Rattle.aim_paths.proofs.builders.Builder.has_bad_lanes.Given as goal
 

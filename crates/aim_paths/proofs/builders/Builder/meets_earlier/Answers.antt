@@ -1,6 +1,6 @@
 use Rattle.std.proofs.Common.{◌≡◌, ◌&&◌, true, arith, refl, sym, ◌∙◌}
 use Rattle.aim_geometry.proofs.BoundedLemmas.{some_below_at, some_below_none}
-use Rattle.aim_paths.specs.Lights.{has_lane}
+use Rattle.aim_paths.specs.Policies.{has_lane}
 use Rattle.aim_paths.specs.Building.{share_tile}
 use Rattle.aim_paths.proofs.builders.Builder.meets_earlier.Goals as goal
 

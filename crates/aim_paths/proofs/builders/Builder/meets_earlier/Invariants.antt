@@ -1,5 +1,5 @@
 use Rattle.std.proofs.Common.{◌≡◌, ℕ, ◌<◌, ◌&&◌, false}
-use Rattle.aim_paths.specs.Lights.{has_lane}
+use Rattle.aim_paths.specs.Policies.{has_lane}
 use Rattle.aim_paths.specs.Building.{share_tile}
 use Rattle.aim_paths.proofs.builders.Builder.meets_earlier.Given as goal
 

@@ -2,7 +2,7 @@ use Rattle.std.proofs.Common.{◌≡◌, ◌^◌, ◌<◌, ◌≤◌, Bool, true
 use Rattle.std.specs.Prelude.{bit_and, slice_index}
 use Rattle.std.specs.Bool.{OnFalse, OnTrue}
 use Rattle.aim_paths.specs.Intersection.{Intersection}
-use Rattle.aim_paths.specs.LaneTiles.{HasTilesOf}
+use Rattle.aim_paths.specs.LaneRows.{HasTilesOf}
 use Rattle.aim_paths.specs.Building.{share_tile}
 use Rattle.aim_paths.proofs.Elements.{get_or-read}
 use Rattle.aim_paths.proofs.ShareLemmas.{share_tile-none, share_tile-some}

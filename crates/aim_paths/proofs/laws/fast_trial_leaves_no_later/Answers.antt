@@ -1,5 +1,0 @@
-use Rattle.aim_paths.proofs.SlowerLemmas.{slower}
-use Rattle.aim_paths.proofs.laws.fast_trial_leaves_no_later.Goals as goal
-
-pub returns : goal.returns
-returns c = slower

@@ -1,5 +1,0 @@
-use Rattle.aim_paths.proofs.MotionLemmas.{front_sum}
-use Rattle.aim_paths.proofs.laws.front_is_the_sum_of_speeds.Goals as goal
-
-pub returns : goal.returns
-returns c = front_sum

@@ -1,5 +1,0 @@
-use Rattle.aim_paths.proofs.AheadLemmas.{granted_free}
-use Rattle.aim_paths.proofs.laws.granted_cells_are_free.Goals as goal
-
-pub returns : goal.returns
-returns c = granted_free

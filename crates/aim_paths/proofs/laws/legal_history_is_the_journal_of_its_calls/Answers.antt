@@ -1,5 +1,0 @@
-use Rattle.aim_paths.proofs.LegalLemmas.{legal_journal}
-use Rattle.aim_paths.proofs.laws.legal_history_is_the_journal_of_its_calls.Goals as goal
-
-pub returns : goal.returns
-returns c = legal_journal

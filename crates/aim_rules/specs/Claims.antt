@@ -1,0 +1,20 @@
+-- The cells that lanes claim by their greens.
+use Rattle.std.specs.Prelude.{ℕ, ◌+◌, ◌-◌, Bool, ◌&&◌, ◌==◌, not, List, length, Option}
+use Rattle.std.specs.List.{list_any, range_with_len}
+use Rattle.aim_msg.specs.declared.entries.Entry.{Entry}
+use Rattle.aim_geometry.specs.Bounded.{least_below}
+use Rattle.aim_paths.specs.Intersection.{Intersection}
+use Rattle.aim_paths.specs.Policies.{has_lane}
+use Rattle.aim_paths.specs.LaneTiles.{in_lane_tiles}
+use Rattle.aim_rules.specs.Cells.{Cell}
+use Rattle.aim_rules.specs.Lights.{green_at}
+
+-- whether the lane claims the cell: its tile is the lane's, and the lane is green then or was so at most the clearance before
+abbrev pub is_claimed : Intersection → List Entry → ℕ → Cell → Bool
+is_claimed i h lane c =
+    in_lane_tiles i lane c.row c.col
+    && list_any (λ s. has_lane (green_at i h s) lane) (range_with_len (c.step - i.times.clearance) (c.step + 1 - (c.step - i.times.clearance)))
+
+-- the least lane, other than one, that claims the cell
+abbrev pub green : Intersection → List Entry → Cell → ℕ → Option ℕ
+green i h c except = least_below (length i.lanes) (λ lane. not (lane == except) && is_claimed i h lane c)

@@ -1,0 +1,28 @@
+-- Which histories the manager can have.
+use Rattle.std.specs.Prelude.{◌≡◌, ℕ, ◌<◌, ◌≤◌, List, length, take, slice_index_or}
+use Rattle.aim_msg.specs.declared.entries.Act.{Act}
+use Rattle.aim_msg.specs.declared.entries.Act.TheVariants as act
+use Rattle.aim_msg.specs.declared.entries.Order.TheVariants as order
+use Rattle.aim_msg.specs.declared.entries.Entry.{Entry}
+use Rattle.aim_msg.specs.declared.entries.TheConstants.{OPERATOR}
+use Rattle.aim_paths.specs.Intersection.{Intersection}
+use Rattle.aim_rules.specs.Answer.{answer}
+
+-- whether the caller may act so: an order is the operator's, a message is a vehicle's, and a switch names a policy
+abbrev pub MayAct : Intersection → ℕ → ℕ → Act → Type 0
+MayAct i vehicles caller (act.Message m) = caller < vehicles
+MayAct i vehicles caller (act.Order (order.Switch policy)) = (caller ≡ OPERATOR) × (policy < length i.policies)
+MayAct i vehicles caller (act.Order order.Stop) = caller ≡ OPERATOR
+
+pub record IsWellFormed (i : Intersection) (vehicles : ℕ) (e : Entry) : Type 0 where
+  pub moment : e.moment ≤ 1073741824
+  pub caller : MayAct i vehicles e.caller e.act
+
+-- whether the entry's reply is the answer after the entries before it
+abbrev pub IsAnswered : Intersection → List Entry → Entry → Type 0
+IsAnswered i before e = e.reply ≡ answer i before e.caller e.moment e.act
+
+-- each entry is well formed, and its reply is the answer after the entries before it
+pub record IsLegal (i : Intersection) (vehicles : ℕ) (h : List Entry) : Type 0 where
+  pub well_formed : (k : ℕ) (d : Entry) → k < length h → IsWellFormed i vehicles (slice_index_or h k d)
+  pub answered : (k : ℕ) (d : Entry) → k < length h → IsAnswered i (take k h) (slice_index_or h k d)

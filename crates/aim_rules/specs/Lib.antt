@@ -1,0 +1,16 @@
+pub mod Motion
+pub mod Footprint
+pub mod Cells
+pub mod Bad
+pub mod History
+pub mod Holds
+pub mod Timeline
+pub mod Lights
+pub mod Claims
+pub mod Asking
+pub mod Distance
+pub mod Approach
+pub mod Answer
+pub mod Legal
+pub mod Journals
+pub mod Charts

@@ -1,0 +1,83 @@
+//! Laws of the definitions, each the contract of a function that does nothing. They say what the definitions mean in
+//! the subject's words, and make a wrong definition visible.
+
+ghost use Rattle.std.specs.Prelude.{◌≡◌, ◌↔◌, ◌==◌, ℕ, ◌+◌, ◌-◌, ◌<◌, ◌≤◌, Bool, true, false, List, ◌++◌, Some, None};
+ghost use Rattle.aim_msg.specs.declared.messages.Params.{Params};
+ghost use Rattle.aim_msg.specs.declared.messages.Message.{Message};
+ghost use Rattle.aim_msg.specs.declared.entries.Entry.{Entry};
+ghost use Rattle.aim_msg.specs.declared.entries.Act.{Act};
+ghost use Rattle.aim_paths.specs.Intersection.{Intersection};
+ghost use Rattle.aim_rules.specs.Motion.{front, speed_in, sum_below};
+ghost use Rattle.aim_rules.specs.Footprint.{crossing_steps, path_length};
+ghost use Rattle.aim_rules.specs.Cells.{Cell, IsIn, cells, in_cells};
+ghost use Rattle.aim_rules.specs.Bad.{IsGood, bad};
+ghost use Rattle.aim_rules.specs.History.{Fresh, fresh, is_confirm, is_fresh_seq, now_of, params_of};
+ghost use Rattle.aim_rules.specs.Holds.{reservations, is_fast, is_granted};
+ghost use Rattle.aim_rules.specs.Answer.{answer};
+ghost use Rattle.aim_rules.specs.Journals.{Call, MayCall, call_of, journal};
+ghost use Rattle.aim_rules.specs.Legal.{IsLegal};
+ghost use Rattle.std.specs.Prelude.{map};
+
+/// A vehicle's way in k steps is the sum of its speeds in them.
+pub fn front_is_the_sum_of_speeds()
+    ensures { (p : Params) (fast : Bool) (k : ℕ) → p.speed ≤ p.max_speed → front p fast k ≡ sum_below k (speed_in p fast) }
+{}
+
+/// The number of crossing steps is the least k at which the rear is past the end of the path.
+pub fn crossing_steps_are_least()
+    ensures past { (i : Intersection) (p : Params) (fast : Bool) → 0 < p.speed → p.speed ≤ p.max_speed →
+        path_length i p + p.length < front p fast (crossing_steps i p fast) }
+    ensures before { (i : Intersection) (p : Params) (fast : Bool) (k : ℕ) → 0 < p.speed → p.speed ≤ p.max_speed →
+        k < crossing_steps i p fast → front p fast k ≤ path_length i p + p.length }
+{}
+
+/// No field of params is bad exactly where they are within all bounds.
+pub fn good_params_are_within_all_bounds()
+    ensures { (i : Intersection) (p : Params) → (bad i p ≡ None ↔ IsGood i p) }
+{}
+
+/// The list of a crossing's cells has exactly those that the crossing needs.
+pub fn cells_are_those_needed()
+    ensures { (i : Intersection) (p : Params) (fast : Bool) (c : Cell) → i.times.early ≤ i.times.edge → i.times.late ≤ i.times.edge →
+        (IsIn c (cells i p fast) ↔ ((in_cells i p fast c ≡ true) × (c.row < i.grid.n) × (c.col < i.grid.n))) }
+{}
+
+/// Where the fast trial needs a tile in a step, the steady one needs it in that step or a later one. So the last step
+/// of each tile in the fast trial is at most that in the steady one.
+pub fn fast_trial_leaves_no_later()
+    ensures { (i : Intersection) (p : Params) (c : Cell) → 0 < i.grid.spacing → bad i p ≡ None → in_cells i p true c ≡ true →
+        (s : ℕ) × (c.step ≤ s) × (in_cells i p false (record c { step = s }) ≡ true) }
+{}
+
+/// A cell that a Confirm to a new message grants lies above now and below now + horizon.
+pub fn granted_cells_are_within_the_horizon()
+    ensures { (i : Intersection) (h : List Entry) (v moment : ℕ) (m : Message) (p : Params) (c : Cell) →
+        0 < i.grid.spacing → i.times.early ≤ i.times.edge → i.times.late ≤ i.times.edge →
+        is_fresh_seq h v m.seq ≡ true → params_of m.body ≡ Some p → is_confirm (answer i h v moment (Act.Message m)) ≡ true →
+        c.row < i.grid.n → c.col < i.grid.n → in_cells i p (is_fast (answer i h v moment (Act.Message m))) c ≡ true →
+        (now_of h moment < c.step) × (c.step < now_of h moment + i.times.horizon) }
+{}
+
+/// No cell that a Confirm to a new message grants is in a reservation that another vehicle holds then.
+pub fn granted_cells_are_free()
+    ensures { (i : Intersection) (h : List Entry) (v moment : ℕ) (m : Message) (p : Params) (c : Cell) (x : Fresh) →
+        i.times.early ≤ i.times.edge → i.times.late ≤ i.times.edge →
+        is_fresh_seq h v m.seq ≡ true → params_of m.body ≡ Some p → is_confirm (answer i h v moment (Act.Message m)) ≡ true →
+        c.row < i.grid.n → c.col < i.grid.n → in_cells i p (is_fast (answer i h v moment (Act.Message m))) c ≡ true →
+        IsIn x (reservations i (fresh h) (now_of h moment)) → (x.entry.caller == v) ≡ false → is_granted i x c ≡ false }
+{}
+
+/// The journal of calls that may be made is legal.
+pub fn journal_is_legal()
+    ensures { (i : Intersection) (vehicles : ℕ) (calls : List Call) → MayCall i vehicles calls → IsLegal i vehicles (journal i calls) }
+{}
+
+/// A legal history is the journal of its calls, so there is one legal history of a list of calls.
+pub fn legal_history_is_the_journal_of_its_calls()
+    ensures { (i : Intersection) (vehicles : ℕ) (h : List Entry) → IsLegal i vehicles h → journal i (map call_of h) ≡ h }
+{}
+
+/// What a legal history begins with is legal.
+pub fn beginning_of_a_legal_history_is_legal()
+    ensures { (i : Intersection) (vehicles : ℕ) (h more : List Entry) → IsLegal i vehicles (h ++ more) → IsLegal i vehicles h }
+{}
