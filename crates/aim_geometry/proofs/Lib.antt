@@ -3,3 +3,4 @@ pub mod StationLemmas
 pub mod Quotients
 pub mod SiteLemmas
 pub mod Bits
+pub mod TouchLemmas

@@ -1,17 +1,16 @@
 -- The tiles of a lane, as paths are added to a layout.
 use Rattle.std.proofs.Common.{◌≡◌, ℕ, ◌<◌, inl, inr, ◌⊎◌, ◌∷◌, Bool, true, false, ◌&&◌, ◌||◌, List, [], length, slice_get, get_or, set, replicate, Option, Some, None, arith, refl, sym, ◌∙◌, ap, nat_lt}
 use Rattle.std.specs.List.{list_any}
-use Rattle.std.proofs.lemmas.Bool.{cases_eq, and_parts, ltb-true}
+use Rattle.std.proofs.lemmas.Bool.{cases_eq}
 use Rattle.std.proofs.lemmas.List.{length-set, length-replicate, get_or-set_same, get_or-set_other, get_or-replicate}
 use Rattle.std.proofs.lemmas.Option.{slice_get-get_or}
 use Rattle.std.proofs.lemmas.Nat.Bits.{bit_at-zero}
 use Rattle.aim_msg.specs.declared.messages.Turn.{Turn}
 use Rattle.aim_msg.specs.declared.messages.Turn.TheVariants.{Left, Straight, Right}
 use Rattle.aim_geometry.specs.declared.stations.Station.{Station}
-use Rattle.aim_geometry.specs.declared.ground.Grid.{Grid}
-use Rattle.aim_geometry.specs.Ground.{is_touched, meets, tile_of}
 use Rattle.aim_geometry.specs.Rects.{tile_at}
 use Rattle.aim_geometry.specs.Sites.{Site}
+use Rattle.aim_geometry.proofs.TouchLemmas.{either, any_touched_inside}
 use Rattle.aim_paths.specs.declared.shapes.Shape.{Shape}
 use Rattle.aim_paths.specs.Shapes.{stations_of}
 use Rattle.aim_paths.specs.Intersection.{Intersection, Lane, path_of, path}
@@ -132,28 +131,9 @@ HasTiles-bare s lanes =
           rw (get_or-replicate lanes k blank [] m, get_or-replicate {A = ℕ} 64 row 0 0 r, bit_at-zero col, none) refl;
     }
 
--- tiles that meet a square, and so a lane's, are the grid's
-either : (x y : Bool) → (x || y) ≡ true → (x ≡ true) ⊎ (y ≡ true)
-either true y h = inl refl
-either false y h = inr h
-
-touched_inside : (g : Grid) (half : ℕ) (s : Station) (row col : ℕ) → is_touched g half s row col ≡ true → (row < g.n) × (col < g.n)
-touched_inside g half s row col h =
-    let p = and_parts (nat_lt row g.n && nat_lt col g.n && meets (tile_of g) half col s.x) (meets (tile_of g) half row s.y) h in
-    let q = and_parts (nat_lt row g.n && nat_lt col g.n) (meets (tile_of g) half col s.x) p.0 in
-    let r = and_parts (nat_lt row g.n) (nat_lt col g.n) q.0 in
-    (ltb-true row g.n r.0, ltb-true col g.n r.1)
-
-met_inside : (g : Grid) (ss : List Station) (row col : ℕ) → is_met g ss row col ≡ true → (row < g.n) × (col < g.n)
-met_inside g [] row col h = absurd (cc)
-met_inside g (s ∷ ss) row col h = elim (either (is_touched g g.half s row col) (is_met g ss row col) h) [
-  | inl e ↦ touched_inside g g.half s row col e
-  | inr e ↦ met_inside g ss row col e
-]
-
 path_inside : (i : Intersection) (o : Option (List Station)) (row col : ℕ) → is_on_path i o row col ≡ true → (row < i.grid.n) × (col < i.grid.n)
 path_inside i None row col h = absurd (cc)
-path_inside i (Some ss) row col h = met_inside i.grid ss row col h
+path_inside i (Some ss) row col h = any_touched_inside i.grid i.grid.half ss row col h
 
 lane_inside : (i : Intersection) (o : Option Lane) (row col : ℕ) → is_on_lane i o row col ≡ true → (row < i.grid.n) × (col < i.grid.n)
 lane_inside i None row col h = absurd (cc)

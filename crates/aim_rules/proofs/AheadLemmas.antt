@@ -16,8 +16,8 @@ use Rattle.aim_rules.specs.Answer.{answer, answer_fresh}
 use Rattle.aim_geometry.proofs.BoundedLemmas.{some_below_found}
 use Rattle.aim_rules.proofs.TestLemmas.{and_left, more_than}
 use Rattle.aim_rules.proofs.CellLemmas.{cells_has, kept_within}
-use Rattle.aim_rules.proofs.GrantLemmas.{IsGranted, free-disjoint}
-use Rattle.aim_rules.proofs.AnswerLemmas.{fresh_grants}
+use Rattle.aim_rules.proofs.GrantLemmas.{IsGranted, fresh_grants}
+use Rattle.aim_rules.proofs.FreeLemmas.{free-disjoint}
 use Rattle.aim_rules.proofs.SlowerLemmas.{slower}
 use Rattle.std.specs.Prelude.{◌==◌}
 use Rattle.aim_rules.specs.History.{Fresh}
@@ -47,18 +47,18 @@ none_passes q (y ∷ xs) x h (inr m) = none_passes q xs x (rest (q y) (list_any 
     rest false b h = h
 
 -- a cell of the steady trial lies below the reach
-steady_below : (i : Intersection) (p : Params) (reach : ℕ) (c : Cell) → i.times.early ≤ i.times.edge → i.times.late ≤ i.times.edge → c.row < i.grid.n → c.col < i.grid.n →
+steady_below : (i : Intersection) (p : Params) (reach : ℕ) (c : Cell) → i.times.early ≤ i.times.edge → i.times.late ≤ i.times.edge →
     list_any (λ c. nat_le reach c.step) (cells i p false) ≡ false → in_cells i p false c ≡ true → c.step < reach
-steady_below i p reach c before after row col near needed =
-    more_than reach c.step (none_passes (λ c. nat_le reach c.step) (cells i p false) c near (cells_has i p false c before after row col needed))
+steady_below i p reach c before after near needed =
+    more_than reach c.step (none_passes (λ c. nat_le reach c.step) (cells i p false) c near (cells_has i p false c before after needed))
 
 -- and so does one of either trial
-needed_below : (i : Intersection) (p : Params) (fast : Bool) (reach : ℕ) (c : Cell) → 0 < i.grid.spacing → i.times.early ≤ i.times.edge → i.times.late ≤ i.times.edge → c.row < i.grid.n → c.col < i.grid.n →
+needed_below : (i : Intersection) (p : Params) (fast : Bool) (reach : ℕ) (c : Cell) → 0 < i.grid.spacing → i.times.early ≤ i.times.edge → i.times.late ≤ i.times.edge →
     bad i p ≡ None → list_any (λ c. nat_le reach c.step) (cells i p false) ≡ false → in_cells i p fast c ≡ true → c.step < reach
-needed_below i p false reach c spaced before after row col good near needed = steady_below i p reach c before after row col near needed
-needed_below i p true reach c spaced before after row col good near needed =
+needed_below i p false reach c spaced before after good near needed = steady_below i p reach c before after near needed
+needed_below i p true reach c spaced before after good near needed =
     let s = slower i p c spaced good needed in
-    let r = steady_below i p reach (record c { step = s.0 }) before after row col near s.2 in
+    let r = steady_below i p reach (record c { step = s.0 }) before after near s.2 in
     let l = s.1 in
     omega arith
 
@@ -67,31 +67,27 @@ fresh_answer : (i : Intersection) (h : List Entry) (v moment : ℕ) (m : Message
     answer i h v moment (act.Message m) ≡ answer_fresh (record { layout = i; history = h; served = fresh h; vehicle = v; now = now_of h moment }) m.body
 fresh_answer i h v moment m new = rw new refl
 
-some_same : {X : Type 0} (a b : X) → Some a ≡ Some b → a ≡ b
-some_same a b p = cc
-
 -- what a Confirm to a fresh message rests on, with the params that it carries
 grants_of : (i : Intersection) (h : List Entry) (v moment : ℕ) (m : Message) (p : Params) → is_fresh_seq h v m.seq ≡ true → params_of m.body ≡ Some p →
     is_confirm (answer i h v moment (act.Message m)) ≡ true →
-    (bad i p ≡ None) × IsGranted (record { layout = i; history = h; served = fresh h; vehicle = v; now = now_of h moment }) p (answer i h v moment (act.Message m))
+    IsGranted (record { layout = i; history = h; served = fresh h; vehicle = v; now = now_of h moment }) p (answer i h v moment (act.Message m))
 grants_of i h v moment m p new asks confirmed =
-    let g = fresh_grants (record { layout = i; history = h; served = fresh h; vehicle = v; now = now_of h moment }) m.body (rw (fresh_answer i h v moment m new) at confirmed) in
-    let e : g.params ≡ p = some_same g.params p (sym g.asks ∙ asks) in
-    rw (fresh_answer i h v moment m new, ← e) (g.good, g.granted)
+    rw (fresh_answer i h v moment m new)
+    (fresh_grants (record { layout = i; history = h; served = fresh h; vehicle = v; now = now_of h moment }) m.body p asks (rw (fresh_answer i h v moment m new) at confirmed))
 
 pub granted_ahead : (i : Intersection) (h : List Entry) (v moment : ℕ) (m : Message) (p : Params) (c : Cell) → 0 < i.grid.spacing → i.times.early ≤ i.times.edge → i.times.late ≤ i.times.edge →
-    is_fresh_seq h v m.seq ≡ true → params_of m.body ≡ Some p → is_confirm (answer i h v moment (act.Message m)) ≡ true → c.row < i.grid.n → c.col < i.grid.n →
+    is_fresh_seq h v m.seq ≡ true → params_of m.body ≡ Some p → is_confirm (answer i h v moment (act.Message m)) ≡ true →
     in_cells i p (is_fast (answer i h v moment (act.Message m))) c ≡ true → (now_of h moment < c.step) × (c.step < now_of h moment + i.times.horizon)
-granted_ahead i h v moment m p c spaced before after new asks confirmed row col needed =
+granted_ahead i h v moment m p c spaced before after new asks confirmed needed =
     let g = grants_of i h v moment m p new asks confirmed in (
-      needed_after i p (is_fast (answer i h v moment (act.Message m))) (now_of h moment) c before after g.1.later needed,
-      needed_below i p (is_fast (answer i h v moment (act.Message m))) (now_of h moment + i.times.horizon) c spaced before after row col g.0 g.1.near needed,
+      needed_after i p (is_fast (answer i h v moment (act.Message m))) (now_of h moment) c before after g.later needed,
+      needed_below i p (is_fast (answer i h v moment (act.Message m))) (now_of h moment + i.times.horizon) c spaced before after g.good g.near needed,
     )
 
 pub granted_free : (i : Intersection) (h : List Entry) (v moment : ℕ) (m : Message) (p : Params) (c : Cell) (x : Fresh) → i.times.early ≤ i.times.edge → i.times.late ≤ i.times.edge →
-    is_fresh_seq h v m.seq ≡ true → params_of m.body ≡ Some p → is_confirm (answer i h v moment (act.Message m)) ≡ true → c.row < i.grid.n → c.col < i.grid.n →
+    is_fresh_seq h v m.seq ≡ true → params_of m.body ≡ Some p → is_confirm (answer i h v moment (act.Message m)) ≡ true →
     in_cells i p (is_fast (answer i h v moment (act.Message m))) c ≡ true → IsIn x (reservations i (fresh h) (now_of h moment)) → ((x.entry.caller == v) ≡ false) → is_granted i x c ≡ false
-granted_free i h v moment m p c x before after new asks confirmed row col needed holds other =
+granted_free i h v moment m p c x before after new asks confirmed needed holds other =
     let g = grants_of i h v moment m p new asks confirmed in
-    free-disjoint (record { layout = i; history = h; served = fresh h; vehicle = v; now = now_of h moment }) p (is_fast (answer i h v moment (act.Message m))) c x g.1.free
-    (cells_has i p (is_fast (answer i h v moment (act.Message m))) c before after row col needed) holds other
+    free-disjoint (record { layout = i; history = h; served = fresh h; vehicle = v; now = now_of h moment }) p (is_fast (answer i h v moment (act.Message m))) c x g.free
+    (cells_has i p (is_fast (answer i h v moment (act.Message m))) c before after needed) holds other

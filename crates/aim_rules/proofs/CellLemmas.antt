@@ -1,4 +1,8 @@
 -- The least cell that can't be had.
+use Rattle.std.proofs.lemmas.Bool.{and_parts}
+use Rattle.aim_geometry.specs.Bounded.{ceil_div}
+use Rattle.aim_geometry.proofs.TouchLemmas.{any_touched_inside}
+use Rattle.aim_rules.specs.Footprint.{covered}
 use Rattle.std.proofs.Common.{◌≡◌, ℕ, zero, suc, ◌+◌, ◌*◌, ◌-◌, ◌<◌, ◌≤◌, Bool, true, false, cond, ◌&&◌, nat_le, List, [], ◌∷◌, ◌++◌, map, filter, Option, Some, None, arith, refl, sym, ◌∙◌, ◌⊎◌, inl, inr}
 use Rattle.std.specs.Prelude.{flat_map}
 use Rattle.std.proofs.Math.Decide.{dec_lt}
@@ -166,25 +170,30 @@ kept_within i r c at s before after h = go (is_edge i.grid r c) refl
     go true e = both_le at (s + i.times.edge) s (at + i.times.edge) (rw e at h)
     go false e = let k = both_le at (s + i.times.early) s (at + i.times.late) (rw e at h) in (omega arith, omega arith)
 
+-- a needed cell's tile is one of the grid's
+pub cells_inside : (i : Intersection) (p : Params) (fast : Bool) (c : Cell) → in_cells i p fast c ≡ true → (c.row < i.grid.n) × (c.col < i.grid.n)
+cells_inside i p fast c h =
+    let f = some_below_found (crossing_steps i p fast) (λ k. is_buffered i c.row c.col (p.arrive + k) c.step && in_footprint i p fast i.grid.fixed k c.row c.col) h in
+    let under = (and_parts (is_buffered i c.row c.col (p.arrive + f.0) c.step) (in_footprint i p fast i.grid.fixed f.0 c.row c.col) f.2).1 in
+    any_touched_inside i.grid (ceil_div p.width 2 + i.grid.spacing + i.grid.fixed) (covered i p fast f.0) c.row c.col under
+
 -- what the crossing needs is in its list of cells
-pub cells_has : (i : Intersection) (p : Params) (fast : Bool) (c : Cell) → i.times.early ≤ i.times.edge → i.times.late ≤ i.times.edge → c.row < i.grid.n → c.col < i.grid.n → in_cells i p fast c ≡ true → IsIn c (cells i p fast)
-cells_has i p fast c before after r l h =
+pub cells_has : (i : Intersection) (p : Params) (fast : Bool) (c : Cell) → i.times.early ≤ i.times.edge → i.times.late ≤ i.times.edge → in_cells i p fast c ≡ true → IsIn c (cells i p fast)
+cells_has i p fast c before after h =
     let f = some_below_found (crossing_steps i p fast) (λ k. is_buffered i c.row c.col (p.arrive + k) c.step && in_footprint i p fast i.grid.fixed k c.row c.col) h in
     let w = kept_within i c.row c.col (p.arrive + f.0) c.step before after (and_left (is_buffered i c.row c.col (p.arrive + f.0) c.step) (in_footprint i p fast i.grid.fixed f.0 c.row c.col) f.2) in
-    IsIn-filter (in_cells i p fast) (block i.grid.n (steps_of i p fast)) c (IsIn-block i.grid.n (p.arrive - i.times.edge) (crossing_steps i p fast + 2 * i.times.edge) c (omega arith) (omega arith) r l) h
+    let inside = cells_inside i p fast c h in
+    IsIn-filter (in_cells i p fast) (block i.grid.n (steps_of i p fast)) c (IsIn-block i.grid.n (p.arrive - i.times.edge) (crossing_steps i p fast + 2 * i.times.edge) c (omega arith) (omega arith) inside.0 inside.1) h
 
 -- and what is in the list is needed
-pub cells_needed : (i : Intersection) (p : Params) (fast : Bool) (c : Cell) → IsIn c (cells i p fast) → (in_cells i p fast c ≡ true) × (c.row < i.grid.n) × (c.col < i.grid.n)
-cells_needed i p fast c m =
-    let a = IsIn-from_filter (in_cells i p fast) (block i.grid.n (steps_of i p fast)) c m in
-    let b = in_block i.grid.n (p.arrive - i.times.edge) (crossing_steps i p fast + 2 * i.times.edge) c a.0 in
-    (a.1, b.2, b.3)
+pub cells_needed : (i : Intersection) (p : Params) (fast : Bool) (c : Cell) → IsIn c (cells i p fast) → in_cells i p fast c ≡ true
+cells_needed i p fast c m = (IsIn-from_filter (in_cells i p fast) (block i.grid.n (steps_of i p fast)) c m).1
 
 -- What is found over the cells of a crossing is at the least of them where there is anything.
 pub find_map-cells : {Y : Type 0} (i : Intersection) (p : Params) (fast : Bool) (f : Cell → Option Y) (c : Cell) (y : Y) → i.times.early ≤ i.times.edge → i.times.late ≤ i.times.edge →
-    c.row < i.grid.n → c.col < i.grid.n → in_cells i p fast c ≡ true → f c ≡ Some y →
-    ((d : Cell) → d.row < i.grid.n → d.col < i.grid.n → in_cells i p fast d ≡ true → Before d c → f d ≡ None) →
+    in_cells i p fast c ≡ true → f c ≡ Some y →
+    ((d : Cell) → in_cells i p fast d ≡ true → Before d c → f d ≡ None) →
     find_map f (cells i p fast) ≡ Some y
-find_map-cells i p fast f c y before after r l h here none =
+find_map-cells i p fast f c y before after h here none =
     find_map-least f (cells i p fast) c y (Ascending-filter (in_cells i p fast) (block i.grid.n (steps_of i p fast)) (Ascending-block i.grid.n (p.arrive - i.times.edge) (crossing_steps i p fast + 2 * i.times.edge)))
-    (cells_has i p fast c before after r l h) (λ d m b. let n = cells_needed i p fast d m in none d n.1 n.2 n.0 b) here
+    (cells_has i p fast c before after h) (λ d m b. none d (cells_needed i p fast d m) b) here

@@ -1,115 +1,95 @@
--- What a Confirm says of its cells.
-use Rattle.std.proofs.Common.{◌≡◌, ℕ, ◌+◌, Bool, true, false, cond, ◌&&◌, not, nat_le, List, [], ◌∷◌, Option, Some, None, is_none, refl, ap, ◌∙◌, if◌then◌else◌, unwrap_or}
+-- What a Confirm rests on, whichever message it answers.
+use Rattle.std.proofs.Common.{◌≡◌, ℕ, ◌+◌, Bool, true, false, ◌&&◌, nat_le, List, [], ◌∷◌, Option, Some, None, is_none, refl, sym, ap, subst, ◌∙◌, if◌then◌else◌}
 use Rattle.std.specs.List.{list_any}
+use Rattle.std.specs.Option.{option_or}
 use Rattle.aim_msg.specs.declared.messages.Params.{Params}
+use Rattle.aim_msg.specs.declared.messages.Body.{Body}
+use Rattle.aim_msg.specs.declared.messages.Body.TheVariants as body
 use Rattle.aim_msg.specs.declared.replies.Reason.{Reason}
 use Rattle.aim_msg.specs.declared.replies.Reason.TheVariants as reason
 use Rattle.aim_msg.specs.declared.replies.Reply.{Reply}
-use Rattle.std.specs.Prelude.{find, option_map, ◌==◌}
-use Rattle.std.proofs.Common.{inl, inr}
-use Rattle.std.specs.Option.{option_or}
+use Rattle.aim_msg.specs.declared.replies.Reply.TheVariants as reply
 use Rattle.aim_geometry.specs.Bounded.{find_map}
-use Rattle.aim_rules.specs.Cells.{Cell, IsIn}
-use Rattle.aim_rules.specs.Claims.{green}
-use Rattle.aim_rules.specs.Holds.{reservations, taken_by, is_granted}
-use Rattle.aim_rules.specs.Answer.{blocked_by}
-use Rattle.aim_rules.specs.Bad.{is_fast_made}
 use Rattle.aim_rules.specs.Cells.{cells}
+use Rattle.aim_rules.specs.Bad.{bad, is_fast_made}
+use Rattle.aim_rules.specs.History.{is_confirm, params_of}
 use Rattle.aim_rules.specs.Holds.{is_fast}
-use Rattle.aim_rules.specs.History.{is_confirm, Fresh}
-use Rattle.aim_rules.specs.Answer.{Asked, answer_free, answer_good, answer_unless_emergency, first_blocked, granted_or, refusal, confirmation, is_giving_way, exceeds}
-use Rattle.aim_rules.specs.Approach.{is_approached, approached}
-use Rattle.aim_rules.specs.Distance.{asked_from, reservation_distance}
+use Rattle.aim_rules.specs.Answer.{Asked, answer_fresh, answer_asking, answer_free, refused_or, confirmation, first_blocked, first_reason, own_refusal, where_so, is_stopped, too_soon, bad_field, too_late, too_far, too_distant, in_the_way}
+use Rattle.aim_rules.proofs.FreeLemmas.{first_none, map_none}
 
--- the trial that a Confirm grants has no blocked cell
-pub granted_or-confirm : (a : Asked) (p : Params) (o : Option Reason) → is_confirm (granted_or a p o) ≡ true → (o ≡ None) × (is_fast (granted_or a p o) ≡ false)
-granted_or-confirm a p None h = (refl, refl)
-granted_or-confirm a p (Some why) h = absurd (cc)
-
--- the same of the choice between the trials, whatever is found of them
-free_cases : (a : Asked) (p : Params) (made : Bool) (found : Bool → Option Reason) →
-    is_confirm (if made && is_none (found true) then confirmation a p true else granted_or a p (found false)) ≡ true →
-    found (is_fast (if made && is_none (found true) then confirmation a p true else granted_or a p (found false))) ≡ None
-free_cases a p made found h = go made (found true) (found false) refl refl h
-  where
-    go : (m : Bool) (x y : Option Reason) → found true ≡ x → found false ≡ y →
-        is_confirm (if m && is_none x then confirmation a p true else granted_or a p y) ≡ true →
-        found (is_fast (if m && is_none x then confirmation a p true else granted_or a p y)) ≡ None
-    go true None y e f h = e
-    go true (Some w) None e f h = f
-    go true (Some w) (Some v) e f h = absurd (cc)
-    go false x None e f h = f
-    go false x (Some v) e f h = absurd (cc)
-
-pub answer_free-confirm : (a : Asked) (p : Params) → is_confirm (answer_free a p) ≡ true → first_blocked a p (is_fast (answer_free a p)) ≡ None
-answer_free-confirm a p h = free_cases a p (is_fast_made p) (first_blocked a p) h
-
--- a choice that refuses where a test holds
-pub refused_or : (a : Asked) (arrive : ℕ) (why : Reason) (b : Bool) (r : Reply) → is_confirm (if b then refusal a arrive why else r) ≡ true → (b ≡ false) × (is_confirm r ≡ true) × ((if b then refusal a arrive why else r) ≡ r)
-refused_or a arrive why true r h = absurd (cc)
-refused_or a arrive why false r h = (refl, h, refl)
-
--- what lets a good request through to its cells
+-- what a Confirm rests on: the params are good, their cells are late and near enough, and none of those granted is blocked
 pub record IsGranted (a : Asked) (p : Params) (r : Reply) : Type 0 where
+  pub good : bad a.layout p ≡ None
   pub later : nat_le p.arrive (a.now + a.layout.times.edge) ≡ false
   pub near : list_any (λ c. nat_le (a.now + a.layout.times.horizon) c.step) (cells a.layout p false) ≡ false
   pub free : first_blocked a p (is_fast r) ≡ None
+  pub form : r ≡ confirmation a p (is_fast r)
 
-pub unless_emergency : (a : Asked) (p : Params) (o : Option ℕ) → is_confirm (answer_unless_emergency a p o) ≡ true → (is_confirm (answer_free a p) ≡ true) × (answer_unless_emergency a p o ≡ answer_free a p)
-unless_emergency a p None h = (h, refl)
-unless_emergency a p (Some lane) h = let r = refused_or a p.arrive (reason.Emergency lane) (is_giving_way a p.arrive && not (is_approached a.layout a.served a.vehicle p a.now p.lane)) (answer_free a p) h in (r.1, r.2)
+-- a Confirm comes where there is no reason
+refused_or-confirm : (a : Asked) (p : Params) (o : Option Reason) (r : Reply) → is_confirm (refused_or a p o r) ≡ true → (o ≡ None) × (is_confirm r ≡ true) × (refused_or a p o r ≡ r)
+refused_or-confirm a p None r h = (refl, h, refl)
+refused_or-confirm a p (Some why) r h = absurd (cc)
 
--- the parts of a good request's answer, from the last on
-abbrev pub by_distance : Asked → Params → Reply
-by_distance a p =
-    if exceeds (asked_from a.now p) (reservation_distance a.served p.lane) then refusal a p.arrive (reason.Distance (unwrap_or (reservation_distance a.served p.lane) 0))
-    else answer_unless_emergency a p (approached a.layout a.served a.vehicle p a.now)
-
-abbrev pub by_reach : Asked → Params → Reply
-by_reach a p =
-    if list_any (λ c. nat_le (a.now + a.layout.times.horizon) c.step) (cells a.layout p false) then refusal a p.arrive (reason.Far (a.now + a.layout.times.horizon))
-    else by_distance a p
-
-pub answer_good-confirm : (a : Asked) (p : Params) → is_confirm (answer_good a p) ≡ true → IsGranted a p (answer_good a p)
-answer_good-confirm a p h =
-    let late = refused_or a p.arrive (reason.Late a.now) (nat_le p.arrive (a.now + a.layout.times.edge)) (by_reach a p) h in
-    let far = refused_or a p.arrive (reason.Far (a.now + a.layout.times.horizon)) (list_any (λ c. nat_le (a.now + a.layout.times.horizon) c.step) (cells a.layout p false)) (by_distance a p) late.1 in
-    let near = refused_or a p.arrive (reason.Distance (unwrap_or (reservation_distance a.served p.lane) 0)) (exceeds (asked_from a.now p) (reservation_distance a.served p.lane)) (answer_unless_emergency a p (approached a.layout a.served a.vehicle p a.now)) far.1 in
-    let calm = unless_emergency a p (approached a.layout a.served a.vehicle p a.now) near.1 in
-    let same : answer_good a p ≡ answer_free a p = late.2 ∙ far.2 ∙ near.2 ∙ calm.1 in
-    record { later = late.0; near = far.0; free = ap (λ r. first_blocked a p (is_fast r)) same ∙ answer_free-confirm a p calm.0 }
-
-pub first_none : {Y : Type 0} (a b : Option Y) → option_or a b ≡ None → (a ≡ None) × (b ≡ None)
-first_none None b h = (refl, h)
-first_none (Some y) b h = absurd (cc)
-
-pub map_none : {X Y : Type 0} (f : X → Y) (o : Option X) → option_map f o ≡ None → o ≡ None
-map_none f None h = refl
-map_none f (Some x) h = absurd (cc)
-
-pub find_none : {X : Type 0} (p : X → Bool) (x : X) (xs : List X) → find p (x ∷ xs) ≡ None → (p x ≡ false) × (find p xs ≡ None)
-find_none p x xs h = go (p x) refl h
+-- the trial that is granted has no blocked cell, whatever is found of the two
+free_cases : (a : Asked) (p : Params) (made : Bool) (found : Bool → Option Reason) →
+    is_confirm (if made && is_none (found true) then confirmation a p true else refused_or a p (found false) (confirmation a p false)) ≡ true →
+    (fast : Bool) × (found fast ≡ None)
+    × ((if made && is_none (found true) then confirmation a p true else refused_or a p (found false) (confirmation a p false)) ≡ confirmation a p fast)
+free_cases a p made found h = go made (found true) (found false) refl refl h
   where
-    go : (b : Bool) → p x ≡ b → cond b (Some x) (find p xs) ≡ None → (p x ≡ false) × (find p xs ≡ None)
-    go true e h = absurd (cc)
-    go false e h = (e, h)
+    go : (m : Bool) (x y : Option Reason) → found true ≡ x → found false ≡ y →
+        is_confirm (if m && is_none x then confirmation a p true else refused_or a p y (confirmation a p false)) ≡ true →
+        (fast : Bool) × (found fast ≡ None) × ((if m && is_none x then confirmation a p true else refused_or a p y (confirmation a p false)) ≡ confirmation a p fast)
+    go true None y e f h = (true, e, refl)
+    go true (Some w) None e f h = (false, f, refl)
+    go true (Some w) (Some v) e f h = absurd (cc)
+    go false x None e f h = (false, f, refl)
+    go false x (Some v) e f h = absurd (cc)
 
-pub find_map-each : {X Y : Type 0} (f : X → Option Y) (xs : List X) (x : X) → find_map f xs ≡ None → IsIn x xs → f x ≡ None
-find_map-each f [] x h m = absurd m
-find_map-each f (y ∷ xs) x h (inl e) = rw e (first_none (f y) (find_map f xs) h).0
-find_map-each f (y ∷ xs) x h (inr m) = find_map-each f xs x (first_none (f y) (find_map f xs) h).1 m
+-- a test that gives no reason fails
+not_so : (b : Bool) (why : Reason) → where_so b why ≡ None → b ≡ false
+not_so true why h = absurd (cc)
+not_so false why h = refl
 
-pub find-each : {X : Type 0} (p : X → Bool) (xs : List X) (x : X) → find p xs ≡ None → IsIn x xs → p x ≡ false
-find-each p [] x h m = absurd m
-find-each p (y ∷ xs) x h (inl e) = rw e (find_none p y xs h).0
-find-each p (y ∷ xs) x h (inr m) = find-each p xs x (find_none p y xs h).1 m
+-- what it says that none of the tests gives a reason
+tests_passed : (a : Asked) (p : Params) → first_reason a p ≡ None →
+    (bad a.layout p ≡ None) × (nat_le p.arrive (a.now + a.layout.times.edge) ≡ false)
+    × (list_any (λ c. nat_le (a.now + a.layout.times.horizon) c.step) (cells a.layout p false) ≡ false)
+tests_passed a p h =
+    let rest = λ (ts : List (Asked → Params → Option Reason)). find_map (λ test. test a p) ts in
+    let soon = first_none (too_soon a p) (rest (bad_field ∷ too_late ∷ too_far ∷ too_distant ∷ in_the_way ∷ [])) h in
+    let field = first_none (bad_field a p) (rest (too_late ∷ too_far ∷ too_distant ∷ in_the_way ∷ [])) soon.1 in
+    let late = first_none (too_late a p) (rest (too_far ∷ too_distant ∷ in_the_way ∷ [])) field.1 in
+    let far = first_none (too_far a p) (rest (too_distant ∷ in_the_way ∷ [])) late.1 in (
+      map_none (λ f. reason.Bad f) (bad a.layout p) field.0,
+      not_so (nat_le p.arrive (a.now + a.layout.times.edge)) (reason.Late a.now) late.0,
+      not_so (list_any (λ c. nat_le (a.now + a.layout.times.horizon) c.step) (cells a.layout p false)) (reason.Far (a.now + a.layout.times.horizon)) far.0,
+    )
 
--- Where a crossing is granted, no other vehicle holds a cell of it.
-pub free-disjoint : (a : Asked) (p : Params) (fast : Bool) (c : Cell) (x : Fresh) → first_blocked a p fast ≡ None → IsIn c (cells a.layout p fast) → IsIn x (reservations a.layout a.served a.now) →
-    ((x.entry.caller == a.vehicle) ≡ false) → is_granted a.layout x c ≡ false
-free-disjoint a p fast c x h m n other =
-    let b = find_map-each (blocked_by a (reservations a.layout a.served a.now) p) (cells a.layout p fast) c h m in
-    let t = (first_none (option_map (λ lane. reason.Green c.row c.col c.step lane) (green a.layout a.history c p.lane)) (option_map (λ by. reason.Taken c.row c.col c.step by) (taken_by (reservations a.layout a.served a.now) a.layout a.vehicle c)) b).1 in
-    let f = map_none (λ x. x.entry.caller) (find (λ x. not (x.entry.caller == a.vehicle) && is_granted a.layout x c) (reservations a.layout a.served a.now)) (map_none (λ by. reason.Taken c.row c.col c.step by) (taken_by (reservations a.layout a.served a.now) a.layout a.vehicle c) t) in
-    let e = find-each (λ x. not (x.entry.caller == a.vehicle) && is_granted a.layout x c) (reservations a.layout a.served a.now) x f n in
-    rw other at e
+asking_grants : (a : Asked) (b : Body) (p : Params) → is_confirm (answer_asking a b p) ≡ true → IsGranted a p (answer_asking a b p)
+asking_grants a b p h =
+    let o = refused_or-confirm a p (option_or (own_refusal a b) (first_reason a p)) (answer_free a p) h in
+    let t = tests_passed a p (first_none (own_refusal a b) (first_reason a p) o.0).1 in
+    let f = free_cases a p (is_fast_made p) (first_blocked a p) o.1 in
+    let form : answer_asking a b p ≡ confirmation a p f.0 = o.2 ∙ f.2 in
+    let fast : is_fast (answer_asking a b p) ≡ f.0 = ap is_fast form in
+    record { good = t.0; later = t.1; near = t.2; free = rw fast f.1; form = rw fast form }
+
+stopped_or : (b : Bool) (r : Reply) → is_confirm (if b then reply.EmergencyStop else r) ≡ true → (is_confirm r ≡ true) × ((if b then reply.EmergencyStop else r) ≡ r)
+stopped_or true r h = absurd (cc)
+stopped_or false r h = (h, refl)
+
+some_same : (p q : Params) → Some p ≡ Some q → p ≡ q
+some_same p q h = cc
+
+pub fresh_grants : (a : Asked) (b : Body) (p : Params) → params_of b ≡ Some p → is_confirm (answer_fresh a b) ≡ true → IsGranted a p (answer_fresh a b)
+fresh_grants a (body.Cancel id) p e h = absurd (cc)
+fresh_grants a (body.Done id) p e h = absurd (cc)
+fresh_grants a (body.Request q) p e h =
+    let s = stopped_or (is_stopped a.history) (answer_asking a (body.Request q) q) h in
+    subst (λ x. IsGranted a x (answer_fresh a (body.Request q))) (some_same q p e)
+    (subst (IsGranted a q) (sym s.1) (asking_grants a (body.Request q) q s.0))
+fresh_grants a (body.Change id q) p e h =
+    let s = stopped_or (is_stopped a.history) (answer_asking a (body.Change id q) q) h in
+    subst (λ x. IsGranted a x (answer_fresh a (body.Change id q))) (some_same q p e)
+    (subst (IsGranted a q) (sym s.1) (asking_grants a (body.Change id q) q s.0))

@@ -6,7 +6,7 @@ pub mod HistoryLemmas
 pub mod LegalLemmas
 pub mod CellLemmas
 pub mod GrantLemmas
-pub mod AnswerLemmas
+pub mod FreeLemmas
 pub mod GoodLemmas
 pub mod SlowerLemmas
 pub mod AheadLemmas

@@ -39,7 +39,7 @@ pub fn good_params_are_within_all_bounds()
 /// The list of a crossing's cells has exactly those that the crossing needs.
 pub fn cells_are_those_needed()
     ensures { (i : Intersection) (p : Params) (fast : Bool) (c : Cell) → i.times.early ≤ i.times.edge → i.times.late ≤ i.times.edge →
-        (IsIn c (cells i p fast) ↔ ((in_cells i p fast c ≡ true) × (c.row < i.grid.n) × (c.col < i.grid.n))) }
+        (IsIn c (cells i p fast) ↔ (in_cells i p fast c ≡ true)) }
 {}
 
 /// Where the fast trial needs a tile in a step, the steady one needs it in that step or a later one. So the last step
@@ -49,21 +49,21 @@ pub fn fast_trial_leaves_no_later()
         (s : ℕ) × (c.step ≤ s) × (in_cells i p false (record c { step = s }) ≡ true) }
 {}
 
-/// A cell that a Confirm to a new message grants lies above now and below now + horizon.
+/// A cell that a Confirm to a fresh message grants lies above now and below now + horizon.
 pub fn granted_cells_are_within_the_horizon()
     ensures { (i : Intersection) (h : List Entry) (v moment : ℕ) (m : Message) (p : Params) (c : Cell) →
         0 < i.grid.spacing → i.times.early ≤ i.times.edge → i.times.late ≤ i.times.edge →
         is_fresh_seq h v m.seq ≡ true → params_of m.body ≡ Some p → is_confirm (answer i h v moment (Act.Message m)) ≡ true →
-        c.row < i.grid.n → c.col < i.grid.n → in_cells i p (is_fast (answer i h v moment (Act.Message m))) c ≡ true →
+        in_cells i p (is_fast (answer i h v moment (Act.Message m))) c ≡ true →
         (now_of h moment < c.step) × (c.step < now_of h moment + i.times.horizon) }
 {}
 
-/// No cell that a Confirm to a new message grants is in a reservation that another vehicle holds then.
+/// No cell that a Confirm to a fresh message grants is in a reservation that another vehicle holds then.
 pub fn granted_cells_are_free()
     ensures { (i : Intersection) (h : List Entry) (v moment : ℕ) (m : Message) (p : Params) (c : Cell) (x : Fresh) →
         i.times.early ≤ i.times.edge → i.times.late ≤ i.times.edge →
         is_fresh_seq h v m.seq ≡ true → params_of m.body ≡ Some p → is_confirm (answer i h v moment (Act.Message m)) ≡ true →
-        c.row < i.grid.n → c.col < i.grid.n → in_cells i p (is_fast (answer i h v moment (Act.Message m))) c ≡ true →
+        in_cells i p (is_fast (answer i h v moment (Act.Message m))) c ≡ true →
         IsIn x (reservations i (fresh h) (now_of h moment)) → (x.entry.caller == v) ≡ false → is_granted i x c ≡ false }
 {}
 

@@ -1,0 +1,47 @@
+-- Where a crossing is granted, no other vehicle holds a cell of it.
+use Rattle.std.proofs.Common.{◌≡◌, ℕ, Bool, true, false, cond, ◌&&◌, not, List, [], ◌∷◌, Option, Some, None, refl, inl, inr}
+use Rattle.std.specs.Prelude.{find, option_map, ◌==◌}
+use Rattle.std.specs.Option.{option_or}
+use Rattle.aim_msg.specs.declared.messages.Params.{Params}
+use Rattle.aim_msg.specs.declared.replies.Reason.TheVariants as reason
+use Rattle.aim_geometry.specs.Bounded.{find_map}
+use Rattle.aim_rules.specs.Cells.{Cell, IsIn, cells}
+use Rattle.aim_rules.specs.Claims.{green}
+use Rattle.aim_rules.specs.History.{Fresh}
+use Rattle.aim_rules.specs.Holds.{reservations, taken_by, is_granted}
+use Rattle.aim_rules.specs.Answer.{Asked, blocked_by, first_blocked}
+
+pub first_none : {Y : Type 0} (a b : Option Y) → option_or a b ≡ None → (a ≡ None) × (b ≡ None)
+first_none None b h = (refl, h)
+first_none (Some y) b h = absurd (cc)
+
+pub map_none : {X Y : Type 0} (f : X → Y) (o : Option X) → option_map f o ≡ None → o ≡ None
+map_none f None h = refl
+map_none f (Some x) h = absurd (cc)
+
+pub find_none : {X : Type 0} (p : X → Bool) (x : X) (xs : List X) → find p (x ∷ xs) ≡ None → (p x ≡ false) × (find p xs ≡ None)
+find_none p x xs h = go (p x) refl h
+  where
+    go : (b : Bool) → p x ≡ b → cond b (Some x) (find p xs) ≡ None → (p x ≡ false) × (find p xs ≡ None)
+    go true e h = absurd (cc)
+    go false e h = (e, h)
+
+pub find_map-each : {X Y : Type 0} (f : X → Option Y) (xs : List X) (x : X) → find_map f xs ≡ None → IsIn x xs → f x ≡ None
+find_map-each f [] x h m = absurd m
+find_map-each f (y ∷ xs) x h (inl e) = rw e (first_none (f y) (find_map f xs) h).0
+find_map-each f (y ∷ xs) x h (inr m) = find_map-each f xs x (first_none (f y) (find_map f xs) h).1 m
+
+pub find-each : {X : Type 0} (p : X → Bool) (xs : List X) (x : X) → find p xs ≡ None → IsIn x xs → p x ≡ false
+find-each p [] x h m = absurd m
+find-each p (y ∷ xs) x h (inl e) = rw e (find_none p y xs h).0
+find-each p (y ∷ xs) x h (inr m) = find-each p xs x (find_none p y xs h).1 m
+
+-- Where a crossing is granted, no other vehicle holds a cell of it.
+pub free-disjoint : (a : Asked) (p : Params) (fast : Bool) (c : Cell) (x : Fresh) → first_blocked a p fast ≡ None → IsIn c (cells a.layout p fast) → IsIn x (reservations a.layout a.served a.now) →
+    ((x.entry.caller == a.vehicle) ≡ false) → is_granted a.layout x c ≡ false
+free-disjoint a p fast c x h m n other =
+    let b = find_map-each (blocked_by a (reservations a.layout a.served a.now) p) (cells a.layout p fast) c h m in
+    let t = (first_none (option_map (λ lane. reason.Green c.row c.col c.step lane) (green a.layout a.history c p.lane)) (option_map (λ by. reason.Taken c.row c.col c.step by) (taken_by (reservations a.layout a.served a.now) a.layout a.vehicle c)) b).1 in
+    let f = map_none (λ x. x.entry.caller) (find (λ x. not (x.entry.caller == a.vehicle) && is_granted a.layout x c) (reservations a.layout a.served a.now)) (map_none (λ by. reason.Taken c.row c.col c.step by) (taken_by (reservations a.layout a.served a.now) a.layout a.vehicle c) t) in
+    let e = find-each (λ x. not (x.entry.caller == a.vehicle) && is_granted a.layout x c) (reservations a.layout a.served a.now) x f n in
+    rw other at e
