@@ -139,9 +139,9 @@ lane_inside : (i : Intersection) (o : Option Lane) (row col : ℕ) → is_on_lan
 lane_inside i None row col h = absurd (cc)
 lane_inside i (Some l) row col h = elim (either (is_on_path i l.left row col || is_on_path i l.straight row col) (is_on_path i l.right row col) h) [
   | inl e ↦ elim (either (is_on_path i l.left row col) (is_on_path i l.straight row col) e) [
-      | inl f ↦ path_inside i l.left row col f
-      | inr f ↦ path_inside i l.straight row col f
-    ]
+    | inl f ↦ path_inside i l.left row col f
+    | inr f ↦ path_inside i l.straight row col f
+  ]
   | inr e ↦ path_inside i l.right row col e
 ]
 
