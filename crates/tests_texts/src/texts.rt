@@ -1,9 +1,35 @@
-use super::*;
-use crate::entries::{Act, OPERATOR, Order};
-use crate::messages::{Body, Params, Turn};
-use crate::replies::Reason;
-use crate::script::Name;
+//! Entries that come back, and texts that are appended to what stands there.
+use aim_msg::{
+    Act, Body, Entry, Line, LineKind, Message, Name, OPERATOR, Order, Params, Reason, Reply, Turn, entry_text,
+    put_number, read_entry, write_entry, write_line, write_message, write_reply,
+};
 use std::test::Fail;
+
+const ENTRIES: [&[u8]; 4] = [
+    b"0 0 0 request 1 0 straight 10 500 500 0 1000 700 car -> confirm 0 10 2 3 fast 20",
+    b"1 operator 2 switch 255 -> switched 1502",
+    b"2 65535 3 cancel 1 2 -> reject taken 1 2 14 300 next 6 held none",
+    b"4294967295 1 3 done 1 6 -> reject distance 18446744073709551615 next 6 held 9",
+];
+
+#[test]
+fn entries_come_back(rt: HostRuntime) -> Result<(), Fail> {
+    for text in ENTRIES {
+        let mut out = Vec::new(rt.alloc());
+        if let Ok((position, entry)) = read_entry(text) {
+            write_entry(position, &entry, &mut out)?;
+        }
+        assert_eq!(rt; out.as_slice(), text);
+    }
+    assert!(rt;
+        matches!(
+            read_entry(b"1 65536 2 stop -> stopped"),
+            Err(LineKind::Range)
+        )
+    );
+    assert!(rt; matches!(read_entry(b"1 1 2 stop -> stopped"), Err(LineKind::Words)));
+    Ok(())
+}
 
 const CHANGE: Message = Message {
     seq: 2,

@@ -1,7 +1,8 @@
-ghost use Rattle.std.specs.Prelude.{◌≤◌, ◌<◌};
+//! Lines of scripts that come back, and the first fault of those that are none.
+ghost use Rattle.std.specs.Prelude.{◌<◌, ◌≤◌};
 
-use super::*;
-use crate::writing::{write_entry, write_line};
+use aim_msg::laws::line_is_spelled_so;
+use aim_msg::{LineKind, read_line, write_line};
 use std::alloc::Global;
 use std::test::Fail;
 
@@ -44,6 +45,7 @@ fn comes_back(alloc: Global, text: &[u8], version: u8) -> Result<bool, Fail>
     let Ok(line) = read_line(text, version) else {
         return Ok(false);
     };
+    line_is_spelled_so();
     let mut out = Vec::new(alloc);
     write_line(&line, version, &mut out)?;
     Ok(out.as_slice() == text)
@@ -107,31 +109,5 @@ fn line_that_is_cut_is_refused(rt: HostRuntime) -> Result<(), Fail> {
     for i in 1..line.len() {
         assert!(rt; matches!(read_line(&line[..i], 1), Err(LineKind::Words)));
     }
-    Ok(())
-}
-
-const ENTRIES: [&[u8]; 4] = [
-    b"0 0 0 request 1 0 straight 10 500 500 0 1000 700 car -> confirm 0 10 2 3 fast 20",
-    b"1 operator 2 switch 255 -> switched 1502",
-    b"2 65535 3 cancel 1 2 -> reject taken 1 2 14 300 next 6 held none",
-    b"4294967295 1 3 done 1 6 -> reject distance 18446744073709551615 next 6 held 9",
-];
-
-#[test]
-fn entries_come_back(rt: HostRuntime) -> Result<(), Fail> {
-    for text in ENTRIES {
-        let mut out = Vec::new(rt.alloc());
-        if let Ok((position, entry)) = read_entry(text) {
-            write_entry(position, &entry, &mut out)?;
-        }
-        assert_eq!(rt; out.as_slice(), text);
-    }
-    assert!(rt;
-        matches!(
-            read_entry(b"1 65536 2 stop -> stopped"),
-            Err(LineKind::Range)
-        )
-    );
-    assert!(rt; matches!(read_entry(b"1 1 2 stop -> stopped"), Err(LineKind::Words)));
     Ok(())
 }
