@@ -21,7 +21,7 @@ use std::alloc::Global;
 use std::marker::Model;
 
 /// Why a line of a layout is refused.
-#[derive(Clone, Copy, Debug, PartialEq, Eq)]
+#[derive(Clone, Copy)]
 pub enum LayoutFault {
     /// There are no lanes, or more than 16.
     Lane,
@@ -36,7 +36,7 @@ pub enum LayoutFault {
 }
 
 /// A layout in the making. It has all the room that a layout takes.
-#[derive(Debug, Drop)]
+#[derive(Drop)]
 pub struct Builder {
     ground: Ground,
     lanes: Vec<LanePaths>,

@@ -15,5 +15,3 @@ pub use policies::{Kind, Phase};
 pub use shapes::Shape;
 pub use std::alloc::AllocError as NoMemory;
 
-#[cfg(test)]
-mod tests;

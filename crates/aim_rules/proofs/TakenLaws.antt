@@ -174,7 +174,7 @@ are_below-legal i vehicles h legal = from_front (λ h. IsLegal i vehicles h → 
     go : (h : List Entry) (e : Entry) (a : Act) → are_below vehicles (fresh h) ≡ true → MayAct i vehicles e.caller e.act → e.act ≡ a → (b : Bool) → is_fresh h e ≡ b → are_below vehicles (fresh (h ++ e ∷ [])) ≡ true
     go h e a earlier may is false f = rw (fresh-none h e f) earlier
     go h e (act.Message m) earlier may is true f =
-        let l : e.caller < vehicles = rw is at may in
+        let l : e.caller < vehicles = (rw is at may).1 in
         rw (fresh-one h e f, list_all-snoc (λ x. nat_lt x.entry.caller vehicles) (fresh h) (served h e), earlier) (grind (arith, nat_tests))
     go h e (act.Order o) earlier may is true f = absurd (let g : false ≡ true = rw is at f in cc)
 
