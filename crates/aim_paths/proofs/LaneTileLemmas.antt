@@ -1,6 +1,5 @@
 -- The tiles of a lane, as paths are added to a layout.
-use Rattle.std.proofs.Common.{◌≡◌, ℕ, ◌<◌, inl, inr, ◌⊎◌, ◌∷◌, Bool, true, false, ◌&&◌, ◌||◌, List, [], length, slice_get, get_or, set, replicate, Option, Some, None, arith, refl, sym, ◌∙◌, ap, nat_lt}
-use Rattle.std.specs.List.{list_any}
+use Rattle.std.proofs.Common.{◌≡◌, ℕ, ◌<◌, inl, inr, Bool, true, false, ◌||◌, List, [], length, slice_get, get_or, set, replicate, Option, Some, None, arith, refl, sym, ◌∙◌, ap}
 use Rattle.std.proofs.lemmas.Bool.{cases_eq}
 use Rattle.std.proofs.lemmas.List.{length-set, length-replicate, get_or-set_same, get_or-set_other, get_or-replicate}
 use Rattle.std.proofs.lemmas.Option.{slice_get-get_or}
