@@ -158,7 +158,7 @@ pub enum Line {
 }
 
 /// Why a text isn't a line.
-#[derive(Clone, Copy, PartialEq, Eq)]
+#[derive(Clone, Copy, Debug, PartialEq, Eq)]
 pub enum LineKind {
     /// The number of words, or a word in a keyword's place, isn't one that its form allows.
     Words,
