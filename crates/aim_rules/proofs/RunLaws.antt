@@ -32,7 +32,7 @@ use Rattle.aim_rules.specs.Tables.{Tables, AreTables, empty, known_by, tables_ne
 -- The answer to any act, by the tables.
 pub answer-tables : (i : Intersection) (n : ℕ) (h : List Entry) (t : Tables) (v moment : ℕ) (what : Act) → i.times.early ≤ i.times.edge → i.times.late ≤ i.times.edge → IsLegal i n h → MayAct i n v what → AreTables i n h t →
     answer i h v moment what ≡ act_by i n t v moment what
-answer-tables i n h t v moment (act.Message m) before after legal may f = answer-kept i n h v moment (known_by i n t v moment) m before after legal (IsKnown-tables i n h t v moment before after may legal f)
+answer-tables i n h t v moment (act.Message m) before after legal may f = answer-kept i n h v moment (known_by i n t v moment) m before after legal (IsKnown-tables i n h t v moment before after may.1 legal f)
 answer-tables i n h t v moment (act.Order (order.Switch p)) before after legal may f = ap (λ now. reply.Switched (now + i.times.horizon)) (now_of-max h moment ∙ ap (λ now. max now moment) (sym f.now))
 answer-tables i n h t v moment (act.Order order.Stop) before after legal may f = refl
 

@@ -150,7 +150,7 @@ IsKnown-tables i n h t v moment before after l legal f = record {
 
 -- the caller of a message in a legal history
 caller_below : (i : Intersection) (n : ℕ) (h : List Entry) (e : Entry) (m : Message) → IsLegal i n (h ++ e ∷ []) → e.act ≡ act.Message m → e.caller < n
-caller_below i n h e m legal is = rw is at (last_legal i n h e legal).1.caller
+caller_below i n h e m legal is = (rw is at (last_legal i n h e legal).1.caller).1
 
 -- whether an entry is a fresh message, by the tables
 is_fresh-by : (i : Intersection) (n : ℕ) (h : List Entry) (t : Tables) (e : Entry) → IsLegal i n (h ++ e ∷ []) → AreTables i n h t → is_fresh_by t e ≡ is_fresh h e
