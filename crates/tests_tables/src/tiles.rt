@@ -3,8 +3,8 @@
 ghost use Rattle.std.specs.Prelude.{◌≡◌, ◌<◌, ◌≤◌};
 
 use crate::plain::Plain;
-use crate::{Steps, Table, first_meeting};
 use aim_pool::{Pool, Sheet, Span};
+use aim_tiles::{Steps, Table, first_meeting};
 use std::alloc::Global;
 use std::marker::Brand;
 use std::process::Abort;
@@ -21,7 +21,7 @@ fn words_that_meet(rt: HostRuntime) {
     assert_eq!(rt; first_meeting(&[4, 1, 2, 8, 16], &[8, 2, 4, 16, 32]), None);
 }
 
-/// Fills a sheet with these spans.
+// Fills a sheet with these spans.
 fn fill(rt: &impl Abort, sheet: &mut Sheet, spans: &[Span]) {
     sheet.clear();
     for span in spans {
@@ -30,18 +30,18 @@ fn fill(rt: &impl Abort, sheet: &mut Sheet, spans: &[Span]) {
     }
 }
 
-fn claim<L: Ledger>(rt: &impl Abort, table: &mut Table, sheet: &Sheet, steps: &mut Steps<L>) {
+fn claim<L: Ledger>(rt: &impl Abort, table: &mut Table<L>, sheet: &Sheet, steps: &mut Steps<L>) {
     assert!(rt; table.has_tiles(sheet));
     assert!(rt; table.has_steps(sheet));
     table.claim(sheet, steps);
 }
 
-fn release<L: Ledger>(rt: &impl Abort, table: &mut Table, sheet: &Sheet, steps: &mut Steps<L>) {
+fn release<L: Ledger>(rt: &impl Abort, table: &mut Table<L>, sheet: &Sheet, steps: &mut Steps<L>) {
     assert!(rt; table.has_tiles(sheet));
     table.release(sheet, steps);
 }
 
-fn advance<L: Ledger>(rt: &impl Abort, table: &mut Table, now: u32, steps: &mut Steps<L>) {
+fn advance<L: Ledger>(rt: &impl Abort, table: &mut Table<L>, now: u32, steps: &mut Steps<L>) {
     assert!(rt; table.now() <= now);
     assert!(rt; now <= 1_073_741_824);
     table.advance(now, steps);
@@ -49,7 +49,7 @@ fn advance<L: Ledger>(rt: &impl Abort, table: &mut Table, now: u32, steps: &mut 
 
 fn first<L: Ledger>(
     rt: &impl Abort,
-    table: &Table,
+    table: &Table<L>,
     sheet: &Sheet,
     own: Option<&Sheet>,
     steps: &mut Steps<L>,
@@ -71,7 +71,7 @@ fn come_and_go<L: Ledger>(rt: &impl Abort, alloc: Global, blank: Blank) -> Resul
     let mut pool = Pool::new(alloc, 2, 8)?;
     let mut one = pool.take()?;
     let mut two = pool.take()?;
-    let mut table = Table::new(alloc, 4, 3)?;
+    let mut table = Table::<L>::new(alloc, 4, 3)?;
     fill(rt, &mut one, &[span(1, 2, 0b0110), span(2, 0, 0b1000)]);
     claim(rt, &mut table, &one, &mut steps);
     fill(
@@ -93,7 +93,7 @@ fn cells_come_and_go(rt: HostRuntime) -> Result<(), Fail> {
     come_and_go::<Brand>(&rt, rt.alloc(), Blank::new(1))
 }
 
-/// A table of this size and horizon whose now goes on to the greatest step.
+// A table of this size and horizon whose now goes on to the greatest step.
 fn go_far<L: Ledger>(
     rt: &impl Abort,
     alloc: Global,
@@ -109,7 +109,7 @@ fn go_far<L: Ledger>(
     assert!(rt; 0 < horizon && horizon <= 8192);
     let mut steps = Steps::<L>::new(blank);
     let mut sheet = Pool::new(alloc, 1, 1)?.take()?;
-    let mut table = Table::new(alloc, size, horizon)?;
+    let mut table = Table::<L>::new(alloc, size, horizon)?;
     let corner = (size - 1) as u8;
     let last = 1_073_741_824 + (horizon - 1);
     fill(rt, &mut sheet, &[span(horizon - 1, corner, 1 << corner)]);
@@ -139,7 +139,7 @@ fn the_ends_of_all_ranges(rt: HostRuntime) -> Result<(), Fail> {
     Ok(())
 }
 
-/// Numbers that look random, and are the same each time.
+// Numbers that look random, and are the same each time.
 #[derive(Drop)]
 struct Random(u64);
 
@@ -155,7 +155,7 @@ impl Random {
         (self.0 >> 33) as u32 % bound
     }
 
-    /// Spans of a few steps from a step on.
+    // Spans of a few steps from a step on.
     fn fill(&mut self, rt: &impl Abort, sheet: &mut Sheet, size: u32, from: u32) {
         assert!(rt; 0 < size && size <= 64);
         sheet.clear();
@@ -187,7 +187,7 @@ fn compare<L: Ledger>(
     let mut pool = Pool::new(alloc, 2, 16)?;
     let mut sheet = pool.take()?;
     let mut own = pool.take()?;
-    let mut table = Table::new(alloc, size, horizon)?;
+    let mut table = Table::<L>::new(alloc, size, horizon)?;
     let mut plain = Plain::new(alloc, size, horizon)?;
     let mut random = Random(size as u64 + horizon as u64);
     let mut found = 0u32;

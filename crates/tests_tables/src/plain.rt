@@ -13,12 +13,12 @@ pub struct Plain {
     numbers: Vec<u32>,
 }
 
-/// Whether the span has this column.
+// Whether the span has this column.
 fn has_column(span: &Span, column: u8) -> bool {
     column < 64 && span.mask >> column & 1 == 1
 }
 
-/// Whether the spans have this cell.
+// Whether the spans have this cell.
 fn have_cell(spans: &[Span], step: u32, row: u8, column: u8) -> bool {
     spans.iter().any(|span| span.step == step && span.row == row && has_column(span, column))
 }
