@@ -1,5 +1,5 @@
 use Rattle.aim_turn.specs.Models.{IsSamePass}
-use Rattle.aim_turn.proofs.tests.calls.Given as goal
+use Rattle.tests_turn.proofs.turns.calls.Given as goal
 
 -- the pass stays the same pass
 abbrev pub invariant-loop-value : goal.invariant-loop-value

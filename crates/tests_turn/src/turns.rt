@@ -3,25 +3,25 @@ ghost use Rattle.std.specs.Prelude.{◌≡◌, ◌≤◌, [], ◌∷◌, ◌++�
 ghost use Rattle.aim_turn.specs.History.{Begins};
 ghost use Rattle.aim_turn.specs.Models.{IsPassOf, IsSamePass};
 
-use crate::{Kept, Pass, Turnstile};
-use std::alloc::{AllocError, Global};
+use aim_turn::{Kept, NoMemory, Pass, Turnstile};
+use std::alloc::Global;
 use std::sync::Wait;
 use std::test::Fail;
 use std::thread::join;
 
-/// One entry: the caller, and what it wrote.
+// One entry: the caller, and what it wrote.
 #[derive(Clone, Copy)]
 struct Mark {
     caller: u32,
     value: u32,
 }
 
-/// The setting. No value of it is made.
+// The setting. No value of it is made.
 struct Room {
     room: u32,
 }
 
-/// A list of marks with a fixed room.
+// A list of marks with a fixed room.
 #[derive(Drop)]
 struct Register {
     room: u32,
@@ -29,7 +29,7 @@ struct Register {
     ghost fits: { room ≤ vec_capacity marks },
 }
 
-fn empty_register(alloc: Global, room: u32) -> Result<Register, AllocError>
+fn empty_register(alloc: Global, room: u32) -> Result<Register, NoMemory>
     ensures { IfOk result (λ r. (r.marks.items ≡ []) × (r.room ≡ room)) }
 {
     let marks = Vec::with_capacity(alloc, room as usize)?;
@@ -127,6 +127,7 @@ fn callers_meet_and_the_passes_close_in_another_order(rt: HostRuntime) -> Result
     let Some(mut first) = passes.pop() else {
         unreachable!()
     };
+    assert_eq!(rt; (first.number(), second.number()), (7, 3));
     assert_eq!(rt; turnstile.with_turn(&rt, &mut first, 50), Some(0));
     assert_eq!(rt;
         turnstile.with_turn(&rt, &mut second, 60),
