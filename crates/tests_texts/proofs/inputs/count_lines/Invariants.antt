@@ -1,11 +1,11 @@
 use Rattle.std.proofs.Common.{◌≡◌, ◌-◌, ◌≤◌, ℕ, List, None, false, length}
 use Rattle.std.specs.declared.option.Option.{Option}
-use Rattle.aim_io.specs.Counting.{count_from}
+use Rattle.tests_texts.specs.Counting.{count_from}
 use Rattle.aim_io.specs.Known.{WhereKnown}
 use Rattle.aim_io.specs.Lines.{outcomes_of}
 use Rattle.aim_io.specs.Reader.{input, coming, IsSound, KnowsEnd}
 use Rattle.aim_io.specs.Taken.{TookLines}
-use Rattle.aim_io.proofs.tests.count_lines.Given as goal
+use Rattle.tests_texts.proofs.inputs.count_lines.Given as goal
 
 -- the lines taken so far, while the end of the input was not seen
 pub record TookCount (before after : Option (List ℕ)) (count : ℕ) : Type 0 where

@@ -2,9 +2,9 @@
 ghost use Rattle.std.specs.Prelude.{◌≡◌, ◌≢◌, Some, None, IfSome};
 ghost use Rattle.aim_io.specs.Causes.{Rose};
 ghost use Rattle.aim_io.specs.Lines.{outcomes_of};
-ghost use Rattle.aim_io.specs.Counting.{count_from, CountsWhole};
+ghost use Rattle.tests_texts.specs.Counting.{count_from, CountsWhole};
 
-use crate::{
+use aim_io::{
     CleanSource, Failed, LineFault, LineReader, MemSink, MemSource, Sink, Source, StdSink,
     StdSource, put_all,
 };

@@ -2,11 +2,11 @@ use Rattle.std.proofs.Common.{arith, ◌≡◌, ◌≢◌, ◌+◌, ℕ, ◌++�
 use Rattle.std.proofs.lemmas.List.{length-append}
 use Rattle.aim_io.specs.declared.lines.LineFault.{LineFault}
 use Rattle.aim_io.specs.declared.lines.LineFault.TheVariants.{Read}
-use Rattle.aim_io.specs.Counting.{count_from}
+use Rattle.tests_texts.specs.Counting.{count_from}
 use Rattle.aim_io.specs.Lines.{outcomes_of}
 use Rattle.aim_io.specs.Reader.{Reader, after_call}
 use Rattle.aim_io.proofs.LoopLemmas.{decides_line, decided_end, decided_fault, took_line, took_kept, took_part}
-use Rattle.aim_io.proofs.tests.count_lines.Goals as goal
+use Rattle.tests_texts.proofs.inputs.count_lines.Goals as goal
 
 pub lines-preserved : goal.lines-preserved
 lines-preserved g c =
