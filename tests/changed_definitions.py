@@ -6,7 +6,8 @@
 Each row of changed-definitions.tsv beside this file changes one definition. The script makes the change in a copy of
 the crates outside the repository, runs `rt check` there in the crate that the row names, and wants it to fail. It
 changes nothing in the repository. With words it tries only the rows of which the definition, the change or the crate
-has one of them; --list only prints the rows; --output prints what each check said on the standard error. A check takes 10 to 120 seconds, the first one of a crate longer.
+has one of them; --list only prints the rows; --output prints what each check said to the standard error. A check takes
+10 to 200 seconds.
 
 Its answers: `refused` with what failed (worked rows, and functions by their contracts, laws among them); LET THROUGH;
 STALE where an old text doesn't stand in the file exactly once; NO DEFINITION where a file of definitions itself is at
