@@ -1,4 +1,5 @@
--- Questions about the numbers below a bound, and about the last element of a list.
+-- Questions about the numbers below a bound and about elements of a list, for this crate and those above it. Of these
+-- a public clause of this crate cites only `is_outside` and `ceil_div`.
 use Rattle.std.specs.Prelude.{ℕ, suc, zero, ◌+◌, ◌/◌, ◌-◌, Bool, false, ◌||◌, List, [], ◌∷◌, Option, Some, None, min, max, if◌then◌else◌, find, reverse, ◌==◌, nat_lt}
 use Rattle.std.specs.List.{list_any}
 use Rattle.std.specs.Option.{option_or}

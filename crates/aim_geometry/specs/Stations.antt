@@ -7,6 +7,7 @@ use Rattle.aim_geometry.specs.declared.stations.Station.{Station}
 abbrev pub on_line : ℕ → ℕ → ℕ → ℕ → ℕ
 on_line x0 x1 m j = ((m - j) * x0 + j * x1) / m
 
+-- the mean of the three places, by the weights (m - j) ^ 2, 2 * j * (m - j) and j ^ 2, rounded down
 abbrev pub on_curve : ℕ → ℕ → ℕ → ℕ → ℕ → ℕ
 on_curve x0 x1 x2 m j = ((m - j) ^ 2 * x0 + 2 * j * (m - j) * x1 + j ^ 2 * x2) / m ^ 2
 

@@ -107,7 +107,7 @@ impl Ground {
         Ok(Ground { grid, times })
     }
 
-    /// The grid that the ground was built from.
+    /// The grid that the ground was built from. The call also tells the ranges of its numbers.
     pub fn grid(&self) -> Grid
         ensures grid { result ≡ self.now.grid }
         ensures valid { IsGrid result }
@@ -115,7 +115,7 @@ impl Ground {
         self.grid
     }
 
-    /// The times that the ground was built from.
+    /// The times that the ground was built from. The call also tells their ranges.
     pub fn times(&self) -> Times
         ensures times { result ≡ self.now.times }
         ensures valid { IsTimes result }

@@ -1,4 +1,4 @@
-//! Tiles that a square meets, and rows of tiles as bits.
+//! Tiles that a square touches, and tiles at the border.
 
 ghost use Rattle.std.specs.Prelude.{◌≡◌, ℕ, ◌+◌, ◌*◌, ◌<◌, ◌≤◌, ◌&&◌, ◌||◌, ◌↔◌, IsTrue};
 ghost use Rattle.aim_geometry.specs.Ground.{is_edge as is_edge_of, is_touched, meets};
@@ -15,7 +15,7 @@ pub struct TileRect {
     pub col1: u8,
 }
 
-/// The first and the last tile of a row of n tiles that meet the interval of that half length round x.
+// The first and the last tile of a row of n tiles that meet the interval of that half length round x.
 #[inline]
 #[tactic(auto, using(crate::proofs::Quotients::quotients_order, crate::proofs::Quotients::quotient_below))]
 fn tile_range(tile: u32, n: u32, x: u32, half: u32) -> (u8, u8)
@@ -33,7 +33,7 @@ fn tile_range(tile: u32, n: u32, x: u32, half: u32) -> (u8, u8)
     (first as u8, last as u8)
 }
 
-/// The tiles whose closed square meets the closed square of that half side round (x, y).
+/// The tiles of the grid whose closed square meets the closed square of that half side round (x, y).
 #[inline]
 pub fn tile_rect(ground: &Ground, x: u32, y: u32, half: u32) -> TileRect
     requires x { x ≤ ground.now.grid.side }

@@ -45,12 +45,12 @@ with_move i lane turn s =
 abbrev pub last_policy : Intersection → Option Policy
 last_policy i = slice_get i.policies (length i.policies - 1)
 
--- whether it is a light policy without a phase
+-- whether there is a policy, and it is a light policy without a phase
 abbrev pub lacks_phase : Option Policy → Bool
 lacks_phase None = false
 lacks_phase (Some p) = has_lights p.kind && length p.phases == 0
 
--- the fault of that policy, or of that phase of it
+-- why no further policy can be added
 abbrev pub policy_fault : Intersection → Option LayoutFault
 policy_fault i =
     if nat_le 8 (length i.policies) then Some (fault.Phase 8 0)
@@ -70,6 +70,7 @@ has_bad_lanes i lanes =
     nat_le (2 ^ length i.lanes) lanes
     || some_below (length i.lanes) (λ a. has_lane lanes a && some_below a (λ b. has_lane lanes b && share_tile i a b))
 
+-- whether the policy takes no phase, a number of the phase is out of its range, or its lanes are bad
 abbrev pub is_bad_phase_of : Intersection → Phase → Option Policy → Bool
 is_bad_phase_of i p None = true
 is_bad_phase_of i p (Some q) =
@@ -95,6 +96,7 @@ with_phase_of i p (Some q) =
 abbrev pub with_phase : Intersection → Phase → Intersection
 with_phase i p = with_phase_of i p (last_policy i)
 
+-- why the layout isn't whole
 abbrev pub finish_fault : Intersection → Option LayoutFault
 finish_fault i =
     if length i.policies == 0 || lacks_phase (last_policy i) then Some (fault.Phase (length i.policies - 1) 0)

@@ -8,7 +8,7 @@ use Rattle.aim_paths.specs.declared.policies.Kind.{Kind}
 use Rattle.aim_paths.specs.declared.policies.Phase.{Phase}
 use Rattle.aim_geometry.specs.declared.stations.Station.{Station}
 
--- for each turn, the stations of the path, if the lane offers it
+-- for each movement, the stations of its path, if the lane offers it; in names a movement is a turn
 pub record Lane : Type 0 where
   pub left : Option (List Station)
   pub straight : Option (List Station)
@@ -33,6 +33,6 @@ path_of l Right = l.right
 abbrev pub path : Intersection → ℕ → Turn → Option (List Station)
 path i lane turn = option_and_then (λ l. path_of l turn) (slice_get i.lanes lane)
 
--- the same, with no station where there is no such path
+-- the stations of the lane's path with that turn, none where there is no such path
 abbrev pub stations : Intersection → ℕ → Turn → List Station
 stations i lane turn = unwrap_or (path i lane turn) []

@@ -1,4 +1,4 @@
--- The paths of a stored lane.
+-- The paths of a lane as it is stored. No public clause cites this.
 use Rattle.std.specs.Prelude.{List, [], ◌∷◌, Option, Some, None}
 use Rattle.aim_geometry.specs.declared.stations.Station.{Station}
 

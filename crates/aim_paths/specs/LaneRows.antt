@@ -1,4 +1,4 @@
--- Lane tile sets as rows of bits. No public clause but that of `Layout::lane_rows` cites this.
+-- Lane tile sets as rows of bits. No public clause cites this, but for that of `lane_rows`, which cites `HasTilesOf`.
 use Rattle.std.specs.Prelude.{◌≡◌, ℕ, ◌<◌, List, [], length}
 use Rattle.std.specs.List.{slice_index_or}
 use Rattle.aim_geometry.specs.Rects.{tile_at}

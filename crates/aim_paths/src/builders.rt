@@ -160,18 +160,19 @@ impl Builder {
         Ok(Layout::of_parts(ground, lanes, tiles, policies, alloc))
     }
 
-    /// Adds a path that isn't refused.
+    // Adds a path that isn't refused.
     fn put(&mut self, lane: u32, turn: Turn, shape: &Shape)
         requires { move_fault self.old lane turn shape.now ≡ None }
         ensures { self.new ≡ with_move self.old lane turn shape.now }
     {
+        // This call only tells the ranges of the grid.
         let _grid = self.ground.grid();
         let paths = &mut self.lanes[lane as usize];
         let rows = &mut self.tiles[lane as usize];
         add_path(&self.ground, paths, rows, turn, shape);
     }
 
-    /// Adds a phase that isn't refused.
+    // Adds a phase that isn't refused.
     fn put_phase(&mut self, phase: Phase)
         requires { phase_fault self.old phase ≡ None }
         ensures { self.new ≡ with_phase self.old phase }
@@ -181,7 +182,7 @@ impl Builder {
         last.add(phase);
     }
 
-    /// Whether the lane offers the turn.
+    // Whether the lane offers the turn.
     fn offers(&self, lane: u32, turn: Turn) -> bool
         ensures { result ≡ is_some (path self.now lane turn) }
     {
@@ -192,7 +193,7 @@ impl Builder {
         }
     }
 
-    /// Whether such a move is refused for another cause than its spacing.
+    // Whether such a move is refused for another cause than its spacing.
     fn refuses_move(&self, lane: u32, turn: Turn, shape: &Shape) -> bool
         ensures { result ≡ is_bad_move self.now lane turn shape.now }
     {
@@ -201,7 +202,7 @@ impl Builder {
         lane as usize >= self.lanes.len() || is_offered || !self.policies.is_empty() || is_bad
     }
 
-    /// Whether the last policy is a light policy without a phase.
+    // Whether the last policy is a light policy without a phase.
     fn lacks_phase(&self) -> bool
         ensures { result ≡ lacks_phase_of (last_policy self.now) }
     {
@@ -211,7 +212,7 @@ impl Builder {
         }
     }
 
-    /// The number of the last policy's phases, 0 where there is no policy.
+    // The number of the last policy's phases, 0 where there is no policy.
     fn phase_count(&self) -> u8
         ensures { result ≡ phase_count_of (last_policy self.now) }
     {
@@ -221,7 +222,7 @@ impl Builder {
         }
     }
 
-    /// Whether the phase is refused.
+    // Whether the phase is refused.
     fn refuses_phase(&self, phase: Phase) -> bool
         ensures { result ≡ is_bad_phase_of self.now phase (last_policy self.now) }
     {
@@ -233,7 +234,7 @@ impl Builder {
         }
     }
 
-    /// Whether one of the lanes isn't there, or two of them share a tile.
+    // Whether one of the lanes isn't there, or two of them share a tile.
     fn has_bad_lanes(&self, lanes: u16) -> bool
         ensures { result ≡ has_bad_lanes_of self.now lanes }
     {
@@ -249,7 +250,7 @@ impl Builder {
         false
     }
 
-    /// Whether the lane shares a tile with an earlier one of the lanes.
+    // Whether the lane shares a tile with an earlier one of the lanes.
     fn meets_earlier(&self, lanes: u16, lane: u8) -> bool
         requires lane { lane < length self.now.lanes }
         requires most { lane < 16 }
@@ -263,7 +264,7 @@ impl Builder {
         false
     }
 
-    /// Whether the two lanes share a tile.
+    // Whether the two lanes share a tile.
     fn share_tile(&self, a: u8, b: u8) -> bool
         requires a { a < length self.now.lanes }
         requires b { b < length self.now.lanes }
@@ -272,7 +273,7 @@ impl Builder {
         share_bit(&self.tiles[a as usize], &self.tiles[b as usize])
     }
 
-    /// Whether there is no policy, or the last one is a light policy without a phase.
+    // Whether there is no policy, or the last one is a light policy without a phase.
     fn is_unfinished(&self) -> bool
         ensures { result ≡ (length self.now.policies == 0 || lacks_phase_of (last_policy self.now)) }
     {
@@ -281,7 +282,7 @@ impl Builder {
     }
 }
 
-/// Whether the lane is one of the lanes.
+// Whether the lane is one of the lanes.
 fn has_lane(lanes: u16, lane: u8) -> bool
     requires { lane < 16 }
     ensures { result ≡ has_lane_of lanes lane }
@@ -289,7 +290,7 @@ fn has_lane(lanes: u16, lane: u8) -> bool
     (lanes >> lane) & 1 == 1
 }
 
-/// Whether the lanes have one from that number on.
+// Whether the lanes have one from that number on.
 fn has_further(lanes: u16, count: u8) -> bool
     requires { count ≤ 16 }
     ensures { result ≡ nat_le (2 ^ count) lanes }
@@ -297,7 +298,7 @@ fn has_further(lanes: u16, count: u8) -> bool
     (lanes as u32) >> count != 0
 }
 
-/// Whether a tile has its bit in both.
+// Whether a tile has its bit in both.
 fn share_bit(a: &[u64; 64], b: &[u64; 64]) -> bool
     ensures some { OnTrue result ((r : ℕ) × (r < 64) × (0 < bit_and (slice_index a.now r) (slice_index b.now r)) × (slice_index a.now r < 2 ^ 64)) }
     ensures none { OnFalse result ((r : ℕ) → r < 64 → bit_and (slice_index a.now r) (slice_index b.now r) ≡ 0) }
@@ -310,12 +311,13 @@ fn share_bit(a: &[u64; 64], b: &[u64; 64]) -> bool
     false
 }
 
-/// A builder with all the room of a layout.
+// A builder with all the room of a layout.
 fn make(alloc: Global, ground: Ground, lanes: u32) -> Result<Builder, NoMemory>
     requires some { 0 < lanes }
     requires most { lanes ≤ 16 }
     ensures { IfOk result (λ b. b ≡ bare ground lanes) }
 {
+    // These two calls only tell the ranges of the grid and of the times.
     let _grid = ground.grid();
     let _times = ground.times();
     Ok(Builder {
@@ -327,7 +329,7 @@ fn make(alloc: Global, ground: Ground, lanes: u32) -> Result<Builder, NoMemory>
     })
 }
 
-/// So many lanes without a path.
+// So many lanes without a path.
 fn bare_lanes(alloc: Global, lanes: u32) -> Result<Vec<LanePaths>, NoMemory>
     ensures { IfOk result (λ v. v.items ≡ replicate lanes no_paths) }
 {
@@ -338,7 +340,7 @@ fn bare_lanes(alloc: Global, lanes: u32) -> Result<Vec<LanePaths>, NoMemory>
     Ok(bare)
 }
 
-/// No tile for each of so many lanes.
+// No tile for each of so many lanes.
 fn no_tiles(alloc: Global, lanes: u32) -> Result<Vec<[u64; 64]>, NoMemory>
     ensures { IfOk result (λ v. v.items ≡ replicate lanes (replicate 64 0)) }
 {

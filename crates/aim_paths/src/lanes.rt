@@ -88,7 +88,7 @@ impl LanePaths {
     }
 }
 
-/// The same stations, in a list with the room of a path.
+// Equal stations, in a list with the room of a path.
 fn with_room(alloc: Global, stations: &Vec<Station>) -> Result<Vec<Station>, NoMemory>
     ensures stations { IfOk result (λ v. v.items ≡ stations.now.items) }
     ensures room { IfOk result (λ v. 4097 ≤ vec_capacity v) }
@@ -111,12 +111,13 @@ pub fn add_path(
     ensures paths { paths.new ≡ with_path paths.old turn (stations_of shape.now) }
     ensures rows { (row col : ℕ) → row < 64 → col < 64 → tile_at rows.new row col ≡ (tile_at rows.old row col || is_met ground.now.grid (stations_of shape.now) row col) }
 {
+    // This call only tells the ranges of the grid.
     let _grid = ground.grid();
     paths.add(turn, shape);
     mark(ground, paths.stations(turn), rows);
 }
 
-/// Sets the bits of the tiles that meet the square of the lane tile sets round one of the stations.
+// Sets the bits of the tiles that meet the square of the lane tile sets round one of the stations.
 fn mark(ground: &Ground, stations: &[Station], rows: &mut [u64; 64])
     requires { (j : ℕ) (s : Station) → slice_get stations.now j ≡ Some s → (s.x ≤ ground.now.grid.side) × (s.y ≤ ground.now.grid.side) }
     ensures { (row col : ℕ) → row < 64 → col < 64 → tile_at rows.new row col ≡ (tile_at rows.old row col || is_met ground.now.grid stations.now row col) }

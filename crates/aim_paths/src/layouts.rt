@@ -62,7 +62,7 @@ impl Layout {
         }
     }
 
-    /// The ground.
+    /// The ground. The call also tells that the layout is valid.
     pub fn ground(&self) -> &Ground
         ensures grid { result.now.grid ≡ self.now.grid }
         ensures times { result.now.times ≡ self.now.times }
@@ -139,7 +139,7 @@ impl Layout {
     }
 }
 
-/// Equal lanes.
+// Equal lanes.
 fn copy_lanes(alloc: Global, lanes: &[LanePaths]) -> Result<Vec<LanePaths>, NoMemory>
     ensures { IfOk result (λ v. v.items ≡ lanes.now) }
 {
@@ -150,7 +150,7 @@ fn copy_lanes(alloc: Global, lanes: &[LanePaths]) -> Result<Vec<LanePaths>, NoMe
     Ok(copies)
 }
 
-/// Equal rows.
+// Equal rows.
 fn copy_tiles(alloc: Global, tiles: &[[u64; 64]]) -> Result<Vec<[u64; 64]>, NoMemory>
     ensures { IfOk result (λ v. v.items ≡ tiles.now) }
 {
@@ -159,7 +159,7 @@ fn copy_tiles(alloc: Global, tiles: &[[u64; 64]]) -> Result<Vec<[u64; 64]>, NoMe
     Ok(copies)
 }
 
-/// Equal policies.
+// Equal policies.
 fn copy_policies(alloc: Global, policies: &[StoredPolicy]) -> Result<Vec<StoredPolicy>, NoMemory>
     ensures { IfOk result (λ v. v.items ≡ policies.now) }
 {

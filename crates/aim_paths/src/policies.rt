@@ -16,7 +16,7 @@ pub enum Kind {
     Emerg,
     /// FCFS-LIGHT: as FCFS, beside lanes that are green in turn.
     Light,
-    /// Both of the last two.
+    /// FCFS-LIGHT and FCFS-EMERG at once: lanes are green in turn, and vehicles give way.
     LightEmerg,
 }
 
@@ -80,6 +80,7 @@ impl StoredPolicy {
         }
     }
 
+    /// The policy's kind.
     pub(crate) fn kind(&self) -> Kind
         ensures { result ≡ self.now.kind }
     {
@@ -102,7 +103,7 @@ impl StoredPolicy {
         self.phases[number as usize]
     }
 
-    /// Whether it is a light policy without a phase.
+    /// Whether this is a light policy without a phase.
     pub(crate) fn lacks_phase(&self) -> bool
         ensures { result ≡ lacks_phase_of (Some self.now) }
     {

@@ -124,7 +124,7 @@ impl Shape {
     }
 }
 
-/// Whether two stations are more than the spacing apart, in x or in y.
+// Whether two stations are more than the spacing apart, in x or in y.
 fn are_wide(spacing: u32, a: Station, b: Station) -> bool
     ensures { result ≡ are_wide_of spacing a b }
 {

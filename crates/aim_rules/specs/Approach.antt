@@ -18,6 +18,6 @@ is_approached i xs v p now lane =
     is_coming i now lane (Some p)
     || list_any (λ x. not (x.entry.caller == v) && is_coming i now lane (params_at x)) (last_of_each xs)
 
--- the least lane in which one comes
+-- the least lane in which an emergency comes
 abbrev pub approached : Intersection → List Fresh → ℕ → Params → ℕ → Option ℕ
 approached i xs v p now = least_below (length i.lanes) (is_approached i xs v p now)

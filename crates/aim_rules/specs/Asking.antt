@@ -17,7 +17,7 @@ abbrev pub is_reject : Reply → Bool
 is_reject (reply.Reject why next held) = true
 is_reject _ = false
 
--- the standing next: the `next` of the vehicle's last fresh Reject, or 0
+-- the standing next: the `next` of the vehicle's last fresh Reject, or 0; a Confirm leaves it
 abbrev pub standing_next : List Fresh → ℕ → ℕ
 standing_next xs v =
     unwrap_or (option_and_then (λ x. next_with x.entry.reply) (last (λ x. is_reject x.entry.reply) (of_vehicle v xs))) 0

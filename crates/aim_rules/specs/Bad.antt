@@ -10,7 +10,7 @@ use Rattle.aim_paths.specs.Intersection.{Intersection, path}
 use Rattle.aim_rules.specs.Footprint.{crossing_steps}
 use Rattle.aim_rules.specs.Cells.{in_cells, steps_of}
 
--- the pairs of a step and a row in which the crossing needs a cell
+-- the number of spans: pairs of a step, from 0 on, and a row in which the crossing needs a cell
 abbrev pub span_count : Intersection → Params → Bool → ℕ
 span_count i p fast =
     length (filter (λ c. some_below i.grid.n (λ col. in_cells i p fast (record c { col = col })))
@@ -20,6 +20,7 @@ span_count i p fast =
 abbrev pub is_fast_made : Params → Bool
 is_fast_made p = nat_lt 0 p.accel && nat_lt p.speed p.max_speed
 
+-- whether a trial that is made has more spans than a sheet has room for
 abbrev pub needs_too_many_spans : Intersection → Params → Bool
 needs_too_many_spans i p =
     nat_lt i.grid.spans (span_count i p false) || (is_fast_made p && nat_lt i.grid.spans (span_count i p true))

@@ -1,4 +1,4 @@
--- The pairs of a tile and a step that a crossing needs.
+-- The pairs of a tile of the grid and a step that a crossing needs. Steps count from 0 on.
 use Rattle.std.specs.Prelude.{◌≡◌, ◌⊎◌, ℕ, [], ◌∷◌, ◌+◌, ◌-◌, ◌*◌, Bool, ◌&&◌, nat_le, List, map, filter, flat_map, if◌then◌else◌}
 use Rattle.std.specs.List.{range_with_len}
 use Rattle.aim_msg.specs.declared.messages.Params.{Params}
@@ -28,7 +28,7 @@ abbrev pub block : ℕ → List ℕ → List Cell
 block n steps =
     flat_map (λ s. flat_map (λ r. map (λ c. record { row = r; col = c; step = s }) (range_with_len 0 n)) (range_with_len 0 n)) steps
 
--- the steps in which the crossing can need a cell
+-- the steps in which the crossing can need a cell, from 0 on
 abbrev pub steps_of : Intersection → Params → Bool → List ℕ
 steps_of i p fast = range_with_len (p.arrive - i.times.edge) (crossing_steps i p fast + 2 * i.times.edge)
 
@@ -37,6 +37,6 @@ abbrev pub IsIn : {X : Type 0} → X → List X → Type 0
 IsIn c [] = ⊥
 IsIn c (x ∷ xs) = (c ≡ x) ⊎ IsIn c xs
 
--- the cells that the crossing needs, in that order
+-- the cells that the crossing needs, by step, row and column
 abbrev pub cells : Intersection → Params → Bool → List Cell
 cells i p fast = filter (in_cells i p fast) (block i.grid.n (steps_of i p fast))

@@ -1,4 +1,4 @@
--- The tiles under a vehicle in a step of its crossing.
+-- The footprint of a vehicle in a step of its crossing: the tiles of the grid that it covers with its buffers.
 use Rattle.std.specs.Prelude.{ℕ, ◌+◌, ◌-◌, ◌*◌, ◌/◌, Bool, nat_lt, List, length, unwrap_or}
 use Rattle.std.specs.List.{list_any, slice_range}
 use Rattle.aim_msg.specs.declared.messages.Params.{Params}
@@ -24,7 +24,7 @@ covered i p fast k =
     slice_range (stations i p.lane p.turn) ((front p fast k - p.length) / i.grid.spacing)
     (ceil_div (front p fast (k + 1)) i.grid.spacing + 1)
 
--- whether the tile is under the vehicle with its buffers in crossing step k
+-- whether the tile is in the footprint of crossing step k, with a further buffer
 abbrev pub in_footprint : Intersection → Params → Bool → ℕ → ℕ → ℕ → ℕ → Bool
 in_footprint i p fast extra k row col =
     list_any (λ s. is_touched i.grid (ceil_div p.width 2 + i.grid.spacing + extra) s row col) (covered i p fast k)

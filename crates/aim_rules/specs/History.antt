@@ -39,7 +39,7 @@ abbrev pub is_confirm : Reply → Bool
 is_confirm (reply.Confirm id start before after accelerate end) = true
 is_confirm _ = false
 
--- The greatest moment, m included.
+-- The greatest moment, m included. At m = 0 it is the history's own, and 0 where there is no entry.
 abbrev pub now_of : List Entry → ℕ → ℕ
 now_of h m = fold max m (map (λ e. e.moment) h)
 
@@ -88,7 +88,7 @@ fresh_after before (e ∷ es) = fresh_one before e ++ fresh_after (before ++ e �
 abbrev pub fresh : List Entry → List Fresh
 fresh h = fresh_after [] h
 
--- those of a vehicle
+-- the fresh messages of a vehicle
 abbrev pub of_vehicle : ℕ → List Fresh → List Fresh
 of_vehicle v xs = filter (λ x. x.entry.caller == v) xs
 

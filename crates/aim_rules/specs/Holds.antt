@@ -31,7 +31,7 @@ abbrev pub is_granted_with : Intersection → Reply → Cell → Option Params �
 is_granted_with i r c None = false
 is_granted_with i r c (Some p) = in_cells i p (is_fast r) c
 
--- whether the cell is one of them
+-- whether the cell is one of the granted trial's
 abbrev pub is_granted : Intersection → Fresh → Cell → Bool
 is_granted i x c = is_granted_with i x.entry.reply c (params_at x)
 
@@ -39,7 +39,7 @@ is_granted i x c = is_granted_with i x.entry.reply c (params_at x)
 abbrev pub last_confirm : List Fresh → ℕ → Option Fresh
 last_confirm xs v = last (λ x. is_confirm x.entry.reply) (of_vehicle v xs)
 
--- whether a CANCEL or a DONE of the vehicle, after its last Confirm, names that one
+-- whether a CANCEL or a DONE of the vehicle, after its last Confirm, names the id
 abbrev pub is_given_up : List Fresh → ℕ → ℕ → Bool
 is_given_up xs v id =
     list_any (λ x. is_number (given_up_at x) id) (since_last (λ x. is_confirm x.entry.reply) (of_vehicle v xs))
@@ -52,7 +52,7 @@ stands i xs v now x = not (is_given_up xs v x.place) && list_any (λ c. nat_le n
 abbrev pub holding : Intersection → List Fresh → ℕ → ℕ → Option Fresh
 holding i xs v now = option_and_then (λ x. if stands i xs v now x then Some x else None) (last_confirm xs v)
 
--- its place, which is its id
+-- the place of the reservation that the vehicle holds, which is its id
 abbrev pub holds : Intersection → List Fresh → ℕ → ℕ → Option ℕ
 holds i xs v now = option_map (λ x. x.place) (holding i xs v now)
 

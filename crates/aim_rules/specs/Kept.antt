@@ -1,4 +1,5 @@
--- What a manager keeps of a history, and how one more fresh message changes it.
+-- What a manager keeps of a history, and how one more fresh message changes it. No rule is said here: these are words
+-- of the laws in `growth`, and no other public clause cites them.
 use Rattle.std.specs.Prelude.{◌≡◌, ◌<◌, ◌≤◌, ℕ, Bool, true, false, ◌==◌, ◌&&◌, not, nat_lt, nat_le, List, [], ◌∷◌, filter_map, Option, Some, None, option_map, option_and_then, if◌then◌else◌, unwrap_or}
 use Rattle.std.specs.List.{list_any, list_all}
 use Rattle.aim_msg.specs.declared.messages.Params.{Params}
@@ -17,7 +18,7 @@ use Rattle.aim_rules.specs.Timeline.{InForce, change_with}
 abbrev pub last_of : List Fresh → ℕ → Option Fresh
 last_of xs v = last (λ x. x.entry.caller == v) xs
 
--- its sequence number
+-- the sequence number of a fresh message
 abbrev pub seq_of : Option Fresh → Option ℕ
 seq_of o = option_and_then (λ x. option_map (λ m. m.seq) (message_at x)) o
 
@@ -35,7 +36,7 @@ abbrev pub without : Option ℕ → Option Fresh → Option Fresh
 without id None = None
 without id (Some x) = if is_number id x.place then None else Some x
 
--- what a further fresh message of the vehicle makes of it
+-- what a further fresh message of the vehicle makes of what it keeps
 abbrev pub kept_next : Option Fresh → Fresh → Option Fresh
 kept_next k x = if is_confirm x.entry.reply then Some x else without (given_up_at x) k
 
@@ -43,7 +44,7 @@ kept_next k x = if is_confirm x.entry.reply then Some x else without (given_up_a
 abbrev pub lasts : Intersection → ℕ → Fresh → Bool
 lasts i now x = list_any (λ c. nat_le now c.step) (granted i x)
 
--- the same reservation while some cell of it is not past
+-- the reservation while some cell of it is not past
 abbrev pub if_lasts : Intersection → ℕ → Option Fresh → Option Fresh
 if_lasts i now o = option_and_then (λ x. if lasts i now x then Some x else None) o
 
@@ -78,7 +79,7 @@ policy_in fs s = unwrap_or (last (λ f. nat_le f.from s) fs) (record { policy = 
 abbrev pub is_coming_by : Intersection → ℕ → ℕ → Option Fresh → Bool
 is_coming_by i now lane o = is_coming i now lane (option_and_then params_at o)
 
--- whether one comes by a vehicle below n other than v
+-- whether an emergency comes in the lane, by the last fresh message of a vehicle below n other than v
 abbrev pub is_coming_in : Intersection → ℕ → List Fresh → ℕ → ℕ → ℕ → Bool
 is_coming_in i n xs v now lane = some_below n (λ w. not (w == v) && is_coming_by i now lane (last_of xs w))
 

@@ -1,4 +1,5 @@
--- What a manager answers by what it keeps, without a history.
+-- What a manager answers by what it keeps, without a history. No rule is said here: these are words of the laws in
+-- `growth`, and no other public clause cites them. Each definition that ends with `_by` stands for that of `Answer`.
 use Rattle.std.specs.Prelude.{◌≡◌, ◌<◌, ◌≤◌, ℕ, ◌+◌, ◌-◌, Bool, true, false, ◌&&◌, ◌||◌, ◌==◌, not, nat_lt, nat_le, List, [], ◌∷◌, length, Option, Some, None, option_map, option_and_then, is_none, unwrap_or, slice_get, if◌then◌else◌}
 use Rattle.std.specs.List.{list_any, range_with_len}
 use Rattle.std.specs.Option.{option_or}
@@ -57,7 +58,7 @@ pub record Known : Type 0 where
   pub coming : ℕ → Bool
   pub taken : Cell → Option ℕ
 
--- what each of them is after a history, of vehicles below n
+-- what each part of the known is after a history, of vehicles below n
 pub record IsKnown (i : Intersection) (n : ℕ) (h : List Entry) (v moment : ℕ) (k : Known) : Type 0 where
   pub place : k.place ≡ length h
   pub now : k.now ≡ now_of h moment

@@ -1,4 +1,5 @@
--- The tables of a manager: what it keeps of a history for all vehicles, and how an entry changes them.
+-- The tables of a manager: what it keeps of a history for all vehicles, and how an entry changes them. No rule is said
+-- here: these are words of the laws in `growth`, and no other public clause cites them.
 use Rattle.std.specs.Prelude.{◌≡◌, ◌<◌, ◌≤◌, ℕ, ◌+◌, Bool, false, ◌&&◌, ◌||◌, ◌==◌, not, List, [], ◌∷◌, ◌++◌, length, max, fold, ◌%◌, filter_map, Option, Some, None, option_and_then, unwrap_or, if◌then◌else◌}
 use Rattle.aim_msg.specs.declared.messages.Params.{Params}
 use Rattle.aim_msg.specs.declared.messages.Message.{Message}
