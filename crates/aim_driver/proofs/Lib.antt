@@ -1,0 +1,10 @@
+pub mod Rows
+pub mod LinkLemmas
+pub mod SmallFacts
+pub mod GotLemmas
+pub mod SentLemmas
+pub mod ActLemmas
+pub mod SendLemmas
+pub mod StandLemmas
+pub mod RanLemmas
+pub mod HearLemmas
