@@ -1,11 +1,13 @@
 -- How a driver's log belongs to a history, which is a list of the manager's entries.
-use Rattle.std.specs.Prelude.{◌≡◌, ◌⊎◌, ℕ, ◌≤◌, List, [], ◌∷◌, Some, slice_get}
+use Rattle.std.specs.Prelude.{◌≡◌, ◌⊎◌, ℕ, ◌≤◌, ◌==◌, List, [], ◌∷◌, map, filter, Option, Some, None, slice_get}
 use Rattle.aim_msg.specs.declared.messages.Message.{Message}
 use Rattle.aim_msg.specs.declared.replies.Reply.{Reply}
 use Rattle.aim_msg.specs.declared.entries.Entry.{Entry}
+use Rattle.aim_msg.specs.declared.entries.Act.{Act}
 use Rattle.aim_msg.specs.declared.entries.Act.TheVariants as act
 use Rattle.aim_driver.specs.declared.logs.LogItem.{LogItem}
 use Rattle.aim_driver.specs.declared.logs.LogItem.TheVariants as item
+use Rattle.aim_driver.specs.Follows.{Call}
 
 -- the log sent the message, at the moment or before it
 abbrev pub WasSent : Message → ℕ → List LogItem → Type 0
@@ -42,3 +44,28 @@ EachGot P (item.Entered step id ∷ xs) = EachGot P xs
 pub record Fits (h : List Entry) (v : ℕ) (log : List LogItem) : Type 0 where
   pub sent : (k : ℕ) (e : Entry) → slice_get h k ≡ Some e → e.caller ≡ v → CarriesSent log e
   pub got : EachGot (IsAnswered h v) log
+
+-- the vehicle's entries, and what each says of a call: its moment and its message, and its reply
+
+abbrev pub entries_of : List Entry → ℕ → List Entry
+entries_of h v = filter (λ e. e.caller == v) h
+
+abbrev pub call_at : ℕ → Act → Option Call
+call_at moment (act.Message m) = Some (record { moment = moment; message = m })
+call_at moment (act.Order o) = None
+
+abbrev pub call_of : Entry → Option Call
+call_of e = call_at e.moment e.act
+
+abbrev pub reply_of : Entry → Reply
+reply_of e = e.reply
+
+abbrev pub calls_of : List Entry → ℕ → List (Option Call)
+calls_of h v = map call_of (entries_of h v)
+
+abbrev pub replies_of : List Entry → ℕ → List Reply
+replies_of h v = map reply_of (entries_of h v)
+
+-- The vehicle's entries carry just these calls, in their order.
+abbrev pub AreCallsOf : List Call → List Entry → ℕ → Type 0
+AreCallsOf calls h v = calls_of h v ≡ map (λ x. Some x) calls
