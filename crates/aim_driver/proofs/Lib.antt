@@ -7,5 +7,6 @@ pub mod SentLemmas
 pub mod ActLemmas
 pub mod SendLemmas
 pub mod StandLemmas
-pub mod RanLemmas
+pub mod CrossingLemmas
+pub mod TurnLemmas
 pub mod HearLemmas

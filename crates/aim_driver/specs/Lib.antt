@@ -9,3 +9,4 @@ pub mod Links
 pub mod Turns
 pub mod Follows
 pub mod Fits
+pub mod Crossings
