@@ -1,3 +1,4 @@
+pub mod PlanLemmas
 pub mod FollowLemmas
 pub mod Rows
 pub mod LinkLemmas

@@ -36,7 +36,7 @@ pub struct Known {
     pub is_cancel_used: bool,
 }
 
-/// The message's CHANGE-REQUEST would change that reservation.
+// The message's CHANGE-REQUEST would change that reservation.
 fn changed_by(latest: Option<Message>) -> Option<u32>
     ensures { result ≡ changed latest }
 {
@@ -51,7 +51,7 @@ fn changed_by(latest: Option<Message>) -> Option<u32>
     }
 }
 
-/// What the reply says is still held.
+// What the reply says is still held.
 fn held_in(answer: Option<Reply>) -> Option<u32>
     ensures { result ≡ held answer }
 {
@@ -99,7 +99,7 @@ fn is_due_at(at: Option<u32>, step: u32) -> bool
     }
 }
 
-/// The plan's params with that arrival.
+// The plan's params with that arrival.
 fn arriving(plan: &DrivePlan, arrive: u32) -> Params
     ensures { result ≡ params_at plan.now arrive }
 {
@@ -115,7 +115,7 @@ fn is_stop(reply: Reply) -> bool
     matches!(reply, Reply::EmergencyStop)
 }
 
-/// On what the driver is active after the answer to its latest message, which would change `change`.
+// On what the driver is active after the answer to its latest message, which would change `change`.
 fn active_after_answer(change: Option<u32>, reply: Reply, active: Option<u32>) -> Option<u32>
     ensures { result ≡ active_told change reply active }
 {
@@ -164,7 +164,7 @@ fn next_after_answer(reply: Reply, before: u32) -> u32
     }
 }
 
-/// In how many steps a vehicle of that speed comes a distance nearer, 65,536 at most.
+// In how many steps a vehicle of that speed comes a distance nearer, 65,536 at most.
 fn step_count(distance: u64, speed: u32) -> u32
     ensures { result ≡ steps_for distance speed }
 {
@@ -192,7 +192,7 @@ fn lead_after_answer(speed: u32, reply: Reply, before: u32) -> u32
     }
 }
 
-/// On what the driver is active after it has sent a message.
+// On what the driver is active after it has sent a message.
 fn active_after_sending(body: Body, active: Option<u32>) -> Option<u32>
     ensures { result ≡ active_sent body active }
 {

@@ -13,4 +13,4 @@ pub use drivers::{Driver, NoMemory};
 pub use links::{Fate, Link, Sending};
 pub use logs::{Entrance, LogItem, Window};
 pub use plans::{Changes, DrivePlan, PlannedChange};
-pub use turns::{begin_turn, hear};
+pub use turns::begin_turn;

@@ -4,7 +4,8 @@ ghost use Rattle.std.specs.Prelude.{◌≡◌, ◌+◌, ◌^◌, ◌<◌, ◌≤
 ghost use Rattle.std.specs.Option.{ForSome};
 ghost use Rattle.aim_driver.specs.Links.{new_link, sent_on, sooner, is_step, next_due, fate_at, earliest, first_at, first_by, item_of, came_again, delivered, after_delivery};
 
-use std::alloc::{AllocError, Global};
+use crate::NoMemory;
+use std::alloc::Global;
 use std::marker::Model;
 
 /// What becomes of an item that is sent.
@@ -168,7 +169,7 @@ impl<T: Copy> Link<T> {
     }
 
     /// Sends an item at that step.
-    pub fn send(&mut self, step: u32, item: T) -> Result<(), AllocError>
+    pub fn send(&mut self, step: u32, item: T) -> Result<(), NoMemory>
         ensures ok { OnOk result (self.new ≡ sent_on self.old step item) }
         ensures err { OnErr result (self.new ≡ self.old) }
     {

@@ -6,7 +6,7 @@ ghost use Rattle.aim_driver.specs.Logs.{item_step};
 use aim_msg::{Message, Reply};
 
 /// What a driver did or was told.
-#[derive(Clone, Copy)]
+#[derive(Clone, Copy, PartialEq, Eq)]
 pub enum LogItem {
     Sent { step: u32, message: Message },
     Got { step: u32, seq: u32, reply: Reply },

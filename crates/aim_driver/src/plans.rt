@@ -21,15 +21,15 @@ pub struct Changes {
 }
 
 impl Model for Changes {
-    ghost use Rattle.std.specs.Prelude.{List, ◌≤◌, take};
+    ghost use Rattle.std.specs.Prelude.{List, ◌≡◌, ◌≤◌, true, take};
     ghost use Rattle.aim_driver.specs.declared.plans.PlannedChange.{PlannedChange};
-    ghost use Rattle.aim_driver.specs.Plans.{AreShort};
+    ghost use Rattle.aim_driver.specs.Plans.{are_rising, AreShort};
 
     ghost Value = { List PlannedChange };
 
     ghost view = { λ c. take c.len c.items };
 
-    ghost invariant = { λ c. (c.len ≤ 4) × AreShort (take c.len c.items) };
+    ghost invariant = { λ c. (c.len ≤ 4) × (are_rising (take c.len c.items) ≡ true) × AreShort (take c.len c.items) };
 }
 
 impl Changes {
@@ -55,8 +55,8 @@ impl Changes {
         self.len += 1;
     }
 
-    /// The change of that place.
-    pub fn get(&self, place: usize) -> Option<PlannedChange>
+    // The change of that place.
+    pub(crate) fn get(&self, place: usize) -> Option<PlannedChange>
         ensures value { result ≡ slice_get self.now place }
         ensures lead { IfSome result (λ c. c.lead ≤ 65536) }
     {
