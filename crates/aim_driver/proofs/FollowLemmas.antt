@@ -1,8 +1,8 @@
 -- What a driver follows fits the history in which its calls stand.
-use Rattle.std.proofs.Common.{◌≡◌, ◌⊎◌, inl, inr, ℕ, zero, suc, ◌+◌, ◌-◌, ◌≤◌, Bool, true, false, ◌==◌, List, [], ◌∷◌, ◌++◌, map, length, drop, get_or, slice_get, Option, Some, None, option_map, if◌then◌else◌, refl, sym, ◌∙◌, ap, subst, arith, length-append, add-one}
+use Rattle.std.proofs.Common.{◌≡◌, inl, inr, ℕ, zero, suc, ◌+◌, ◌-◌, ◌≤◌, Bool, true, false, ◌==◌, List, [], ◌∷◌, ◌++◌, length, drop, slice_get, Option, Some, None, option_map, if◌then◌else◌, refl, sym, ◌∙◌, ap, subst, arith, length-append, add-one}
 use Rattle.std.specs.List.{All, filter}
 use Rattle.std.proofs.lemmas.Bool.Decides.{nat_tests}
-use Rattle.std.proofs.lemmas.Option.{slice_get_within, get_or_from_slice_get, slice_get-map, slice_get-get_or}
+use Rattle.std.proofs.lemmas.Option.{slice_get_within, get_or_from_slice_get, slice_get-map}
 use Rattle.std.proofs.lemmas.List.Elements.{All-nil, All-get_or, All-push, All-set, All-weaker}
 use Rattle.aim_msg.specs.declared.messages.Message.{Message}
 use Rattle.aim_msg.specs.declared.replies.Reply.{Reply}
@@ -15,10 +15,10 @@ use Rattle.aim_driver.specs.declared.logs.LogItem.TheVariants as item
 use Rattle.aim_driver.specs.declared.links.Fate.{Fate}
 use Rattle.aim_driver.specs.declared.links.Sending.{Sending}
 use Rattle.aim_driver.specs.Models.{acts, enters, with_sent, with_entered}
-use Rattle.aim_driver.specs.Links.{LinkModel, under_way, sent_on, next_place, delivered, came_again, after_coming, after_delivery, fate_at}
+use Rattle.aim_driver.specs.Links.{LinkModel, under_way, next_place, delivered, came_again, after_coming, after_delivery, fate_at}
 use Rattle.aim_driver.specs.Turns.{Ear, heard, hears, hears_all, sent_up, before_act}
-use Rattle.aim_driver.specs.Follows.{Call, Course, beginning, called, calls_with, one_call, some_calls, calling, turn, turns, first_course, course, follows_from}
-use Rattle.aim_driver.specs.Fits.{WasSent, CarriesSent, IsAnswered, EachGot, Fits, entries_of, call_at, call_of, reply_of, calls_of, replies_of, AreCallsOf}
+use Rattle.aim_driver.specs.Follows.{Call, Course, beginning, called, calls_with, one_call, some_calls, calling, turn, turns, first_course, follows_from}
+use Rattle.aim_driver.specs.Fits.{WasSent, CarriesSent, IsAnswered, EachGot, Fits, entries_of, call_at, call_of, reply_of, replies_of, AreCallsOf}
 use Rattle.aim_driver.proofs.SmallFacts.{some_is, none_some, never}
 use Rattle.aim_driver.proofs.LinkLemmas.{delivered_is, due_later}
 

@@ -1,6 +1,6 @@
 -- What a link delivers is the first thing that comes, and one thing less is under way then.
-use Rattle.std.proofs.Common.{◌≡◌, ◌≢◌, ◌⊎◌, inl, inr, ℕ, zero, suc, ◌+◌, ◌-◌, ◌<◌, ◌≤◌, min, Bool, true, false, not, ◌==◌, nat_le, nat_lt, List, [], ◌∷◌, length, get_or, set, fold, sum_by, position, slice_get, Option, Some, None, option_and_then, option_map, if◌then◌else◌, refl, sym, ◌∙◌, ap, subst, arith}
-use Rattle.std.specs.List.{position_or_len, prefix_len}
+use Rattle.std.proofs.Common.{◌≡◌, ◌⊎◌, inl, inr, ℕ, zero, suc, ◌+◌, ◌<◌, ◌≤◌, min, Bool, true, false, not, nat_le, nat_lt, List, [], ◌∷◌, length, get_or, set, fold, sum_by, position, slice_get, Option, Some, None, option_and_then, option_map, if◌then◌else◌, refl, sym, ◌∙◌, ap, subst, arith}
+use Rattle.std.specs.List.{position_or_len}
 use Rattle.std.proofs.lemmas.Bool.Decides.{nat_tests}
 use Rattle.std.proofs.lemmas.Option.{slice_get_within, slice_get-get_or, get_or_from_slice_get}
 use Rattle.std.proofs.lemmas.List.Quantifiers.{position-Some}
@@ -9,7 +9,7 @@ use Rattle.aim_driver.specs.declared.links.Fate.{Fate}
 use Rattle.aim_driver.specs.declared.links.Fate.TheVariants as fate
 use Rattle.aim_driver.specs.declared.links.Sending.{Sending}
 use Rattle.aim_driver.specs.Links.{LinkModel, dues, sooner, is_step, next_due, copies_left, under_way, earliest, first_at, first_by, next_place, item_of, delivered, came_again, after_coming, after_delivery, IsNext, NoneComes}
-use Rattle.aim_driver.proofs.SmallFacts.{true_le, le_true, some_is, none_some, never}
+use Rattle.aim_driver.proofs.SmallFacts.{true_le, some_is, none_some, never}
 
 length_dues : (at at' : ℕ) (f : Fate) → length (dues at f) ≡ length (dues at' f)
 length_dues at at' fate.Deliver = refl
@@ -213,9 +213,9 @@ one_next : {X : Type 0} (l : LinkModel X) (step j k : ℕ) → IsNext X l step j
 one_next l step j k a b = elim (a.first k b.sending b.due b.stands b.comes) [
   | inl lt ↦ elim (b.first j a.sending a.due a.stands a.comes) [ inl gt ↦ absurd (omega arith) | inr same ↦ absurd (let e = same.0 in omega arith) ]
   | inr p ↦ elim (b.first j a.sending a.due a.stands a.comes) [
-      | inl gt ↦ absurd (let e = p.0 in omega arith)
-      | inr q ↦ (let le = p.1 in let ge = q.1 in omega arith)
-    ]
+    | inl gt ↦ absurd (let e = p.0 in omega arith)
+    | inr q ↦ (let le = p.1 in let ge = q.1 in omega arith)
+  ]
 ]
 
 -- the next one's place is the one that is looked for

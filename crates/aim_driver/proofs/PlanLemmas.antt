@@ -1,5 +1,5 @@
 -- Changes that rise.
-use Rattle.std.proofs.Common.{◌≡◌, ℕ, zero, suc, ◌+◌, ◌<◌, ◌≤◌, Bool, true, ◌&&◌, nat_lt, List, [], ◌∷◌, ◌++◌, Some, slice_get, refl, sym, subst, arith}
+use Rattle.std.proofs.Common.{◌≡◌, zero, suc, ◌≤◌, true, nat_lt, List, [], ◌∷◌, ◌++◌, refl, sym, subst, arith}
 use Rattle.aim_driver.specs.declared.plans.PlannedChange.{PlannedChange}
 use Rattle.aim_driver.specs.Plans.{last_change, are_rising, AreShort}
 use Rattle.aim_driver.proofs.SmallFacts.{lt_true, and_left, and_right, both, some_is, none_some}
@@ -9,7 +9,7 @@ rising_more [] x rising above = refl
 rising_more (c ∷ []) x rising above = both (nat_lt c.step x.step) true (lt_true c.step x.step (omega arith)) refl
 rising_more (c ∷ d ∷ cs) x rising above =
     both (nat_lt c.step d.step) (are_rising (d ∷ cs ++ x ∷ [])) (and_left (nat_lt c.step d.step) (are_rising (d ∷ cs)) rising)
-        (rising_more (d ∷ cs) x (and_right (nat_lt c.step d.step) (are_rising (d ∷ cs)) rising) above)
+    (rising_more (d ∷ cs) x (and_right (nat_lt c.step d.step) (are_rising (d ∷ cs)) rising) above)
 
 short_more : (cs : List PlannedChange) (x : PlannedChange) → AreShort cs → x.lead ≤ 65536 → AreShort (cs ++ x ∷ [])
 short_more [] x short le zero c e = let is : x ≡ c = some_is x c e in let P : PlannedChange → Type 0 = λ d. d.lead ≤ 65536 in subst P is le

@@ -1,5 +1,5 @@
 -- Turns one after the other: where they begin, the calls of one, and that their log keeps the rules.
-use Rattle.std.proofs.Common.{◌≡◌, ◌⊎◌, inl, inr, ℕ, zero, suc, ◌+◌, ◌-◌, ◌<◌, ◌≤◌, Bool, true, false, nat_le, List, [], ◌∷◌, ◌++◌, reverse, Option, Some, None, if◌then◌else◌, refl, sym, ◌∙◌, ap, subst, arith}
+use Rattle.std.proofs.Common.{◌≡◌, ℕ, zero, suc, ◌+◌, ◌-◌, ◌<◌, ◌≤◌, Bool, true, false, nat_le, List, [], ◌∷◌, ◌++◌, reverse, Option, Some, None, if◌then◌else◌, refl, sym, ◌∙◌, ap, subst, arith}
 use Rattle.std.proofs.lemmas.Bool.Decides.{nat_tests}
 use Rattle.aim_msg.specs.declared.messages.Message.{Message}
 use Rattle.aim_msg.specs.declared.replies.Reply.{Reply}
@@ -8,16 +8,15 @@ use Rattle.aim_driver.specs.declared.logs.LogItem.{LogItem}
 use Rattle.aim_driver.specs.declared.logs.LogItem.TheVariants as item
 use Rattle.aim_driver.specs.declared.links.Fate.{Fate}
 use Rattle.aim_driver.specs.declared.known.Known.{Known}
-use Rattle.aim_driver.specs.Logs.{last_step}
 use Rattle.aim_driver.specs.Keeps.{keeps}
-use Rattle.aim_driver.specs.Rules.{known, act_by, entered_on}
+use Rattle.aim_driver.specs.Rules.{act_by, entered_on}
 use Rattle.aim_driver.specs.Own.{kept, Stands}
 use Rattle.aim_driver.specs.Steps.{known_got, known_sent, known_entered}
 use Rattle.aim_driver.specs.Models.{step_of, acts, enters, with_sent, with_entered}
-use Rattle.aim_driver.specs.Links.{LinkModel, under_way, delivered}
+use Rattle.aim_driver.specs.Links.{under_way, delivered}
 use Rattle.aim_driver.specs.Turns.{Ear, heard, hears, hears_all, before_act}
 use Rattle.aim_driver.specs.Follows.{Course, beginning, called, calls_with, one_call, some_calls, calling, turn, turns, first_course, course, follows_from, follows}
-use Rattle.aim_driver.proofs.SmallFacts.{true_le, some_is, none_some, never}
+use Rattle.aim_driver.proofs.SmallFacts.{true_le}
 use Rattle.aim_driver.proofs.LinkLemmas.{fewer}
 use Rattle.aim_driver.proofs.StandLemmas.{exact, stands_first, stands_got, stands_entered, stands_sent, act_is, enter_is, ends_at}
 
@@ -52,8 +51,8 @@ course_later plan up down first until replies le le' =
     let at : 0 + first ≡ first = omega arith in
     let still : turns plan 0 first start ≡ start = idle plan up down replies 0 first (omega arith) in
     let whole : turns plan 0 (until - 0) start ≡ turns plan first (until - first) start =
-        ap (λ k. turns plan 0 k start) parts ∙ turns_then plan 0 first (until - first) start ∙ ap (λ t. turns plan t (until - first) (turns plan 0 first start)) at
-            ∙ ap (λ d. turns plan first (until - first) d) still in
+    ap (λ k. turns plan 0 k start) parts ∙ turns_then plan 0 first (until - first) start ∙ ap (λ t. turns plan t (until - first) (turns plan 0 first start)) at
+    ∙ ap (λ d. turns plan first (until - first) d) still in
     sym whole
 
 pub follows_later : (plan : DrivePlan) (up down : List Fate) (first until : ℕ) (replies : List Reply) → first ≤ plan.first → first ≤ until → follows_from plan up down first until replies ≡ follows plan up down until replies

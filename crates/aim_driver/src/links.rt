@@ -53,11 +53,7 @@ impl<T> Model for Link<T> {
 fn once(at: u64, came: u32) -> Option<u64>
     ensures { result ≡ slice_get (at ∷ []) came }
 {
-    if came == 0 {
-        Some(at)
-    } else {
-        None
-    }
+    if came == 0 { Some(at) } else { None }
 }
 
 // The same where it comes once more a step later.

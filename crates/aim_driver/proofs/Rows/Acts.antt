@@ -4,7 +4,6 @@ use Rattle.std.specs.Prelude.{replicate}
 use Rattle.aim_msg.specs.declared.messages.Message.{Message}
 use Rattle.aim_msg.specs.declared.messages.Body.{Body}
 use Rattle.aim_msg.specs.declared.messages.Body.TheVariants as body
-use Rattle.aim_msg.specs.declared.replies.Reason.{Reason}
 use Rattle.aim_msg.specs.declared.replies.Reason.TheVariants as reason
 use Rattle.aim_msg.specs.declared.replies.Reply.{Reply}
 use Rattle.aim_msg.specs.declared.replies.Reply.TheVariants as reply
@@ -61,7 +60,6 @@ log10 = log3 ++ sent 3 4 (body.Cancel 1) ∷ []
 
 pub not_before_start0 : enters changing log10 10 ≡ None
 not_before_start0 = refl
-
 
 -- how often it sends
 
