@@ -14,10 +14,10 @@ use Rattle.aim_driver.specs.declared.logs.LogItem.{LogItem}
 use Rattle.aim_driver.specs.declared.logs.LogItem.TheVariants as item
 use Rattle.aim_driver.specs.declared.links.Fate.{Fate}
 use Rattle.aim_driver.specs.declared.links.Sending.{Sending}
-use Rattle.aim_driver.specs.Models.{acts, enters, with_sent, with_entered}
+use Rattle.aim_driver.specs.Models.{acts, enters, with_entered}
 use Rattle.aim_driver.specs.Links.{LinkModel, under_way, next_place, delivered, came_again, after_coming, after_delivery, fate_at}
-use Rattle.aim_driver.specs.Turns.{Ear, heard, hears, hears_all, sent_up, before_act}
-use Rattle.aim_driver.specs.Follows.{Call, Course, beginning, called, calls_with, one_call, some_calls, calling, turn, turns, first_course, follows_from}
+use Rattle.aim_driver.specs.Turns.{State, heard, hears, hears_all, entering, sending, begun}
+use Rattle.aim_driver.specs.Follows.{Call, Course, running, fresh, call, called, calls_with, one_call, some_calls, calling, turn, turns, follows_from}
 use Rattle.aim_driver.specs.Fits.{WasSent, CarriesSent, IsAnswered, EachGot, Fits, entries_of, call_at, call_of, reply_of, replies_of, AreCallsOf}
 use Rattle.aim_driver.proofs.SmallFacts.{some_is, none_some, never}
 use Rattle.aim_driver.proofs.LinkLemmas.{delivered_is, due_later}
@@ -120,11 +120,15 @@ CallBy log x = WasSent x.message x.moment log
 abbrev pub PairOf : List Reply → List Call → Sending (ℕ × Reply) → Type 0
 PairOf replies calls s = Replied replies calls s.item.0 s.item.1
 
-pub record IsSound (replies : List Reply) (c : Course) : Type 0 where
-  pub on_up : All (SentBy c.log) c.up.sent
-  pub made : All (CallBy c.log) c.calls
-  pub on_down : All (PairOf replies c.calls) c.down.sent
-  pub told : EachGot (Replied replies c.calls) c.log
+-- of a log, its links and the calls: all of it goes back to the log, or to a call and its reply
+pub record IsSound (replies : List Reply) (calls : List Call) (s : State) : Type 0 where
+  pub on_up : All (SentBy s.log) s.up.sent
+  pub made : All (CallBy s.log) calls
+  pub on_down : All (PairOf replies calls) s.down.sent
+  pub told : EachGot (Replied replies calls) s.log
+
+pub record IsSoundCourse (replies : List Reply) (c : Course) : Type 0 where
+  pub sound : IsSound replies c.calls c.state
   pub rest : c.goes_on ≡ true → c.left ≡ drop (length c.calls) replies
 
 -- what comes was sent, and what is left stays as it was sent
@@ -149,126 +153,111 @@ came_from P l step x all e =
     (n.sending, all_at P l.sent d.0 n.sending all n.stands, d.3, omega arith)
 
 -- the log grows
-grown_log : (replies : List Reply) (c : Course) (x : LogItem) → EachGot (Replied replies c.calls) (x ∷ []) → IsSound replies c → IsSound replies (record c { log = c.log ++ x ∷ [] })
-grown_log replies c x new s = record {
-  on_up = All-weaker (SentBy c.log) (SentBy (c.log ++ x ∷ [])) (λ y w. WasSent-left y.item y.step c.log (x ∷ []) w) c.up.sent s.on_up;
-  made = All-weaker (CallBy c.log) (CallBy (c.log ++ x ∷ [])) (λ y w. WasSent-left y.message y.moment c.log (x ∷ []) w) c.calls s.made;
-  on_down = s.on_down;
-  told = EachGot-append (Replied replies c.calls) c.log (x ∷ []) s.told new;
-  rest = s.rest;
+grown_log : (replies : List Reply) (calls : List Call) (s : State) (x : LogItem) → EachGot (Replied replies calls) (x ∷ []) → IsSound replies calls s → IsSound replies calls (record s { log = s.log ++ x ∷ [] })
+grown_log replies calls s x new h = record {
+  on_up = All-weaker (SentBy s.log) (SentBy (s.log ++ x ∷ [])) (λ y w. WasSent-left y.item y.step s.log (x ∷ []) w) s.up.sent h.on_up;
+  made = All-weaker (CallBy s.log) (CallBy (s.log ++ x ∷ [])) (λ y w. WasSent-left y.message y.moment s.log (x ∷ []) w) calls h.made;
+  on_down = h.on_down;
+  told = EachGot-append (Replied replies calls) s.log (x ∷ []) h.told new;
 }
 
--- it hears
+-- it hears, enters and acts
 
-with_ear : Course → Ear → Course
-with_ear c e = record c { log = e.log; down = e.down }
+heard_sound : (replies : List Reply) (calls : List Call) (step : ℕ) (s : State) (o : Option (ℕ × Reply)) → delivered s.down step ≡ o → IsSound replies calls s → IsSound replies calls (heard step s o)
+heard_sound replies calls step s None at h = h
+heard_sound replies calls step s (Some (seq, r)) at h =
+    let from = came_from (PairOf replies calls) s.down step (seq, r) h.on_down at in
+    let its : Replied replies calls seq r = (let P : (ℕ × Reply) → Type 0 = λ p. Replied replies calls p.0 p.1 in subst P from.2 from.1) in
+    let g = grown_log replies calls s (item.Got step seq r) (its, tt) h in
+    record { on_up = g.on_up; made = g.made; on_down = all_after (PairOf replies calls) (λ y n p. p) s.down step h.on_down; told = g.told }
 
-abbrev IsSoundEar : List Reply → Course → Ear → Type 0
-IsSoundEar replies c e = IsSound replies (record c { log = e.log; down = e.down })
+hears_sound : (replies : List Reply) (calls : List Call) (step n : ℕ) (s : State) → IsSound replies calls s → IsSound replies calls (hears step n s)
+hears_sound replies calls step zero s h = h
+hears_sound replies calls step (suc n) s h =
+    let d = hears step n s in heard_sound replies calls step d (delivered d.down step) refl (hears_sound replies calls step n s h)
 
-heard_sound : (replies : List Reply) (c : Course) (step : ℕ) (e : Ear) (o : Option (ℕ × Reply)) → delivered e.down step ≡ o → IsSoundEar replies c e → IsSoundEar replies c (heard step e o)
-heard_sound replies c step e None at s = s
-heard_sound replies c step e (Some (seq, r)) at s =
-    let from = came_from (PairOf replies c.calls) e.down step (seq, r) s.on_down at in
-    let its : Replied replies c.calls seq r = (let P : (ℕ × Reply) → Type 0 = λ p. Replied replies c.calls p.0 p.1 in subst P from.2 from.1) in
-    let g = grown_log replies (record c { log = e.log; down = e.down }) (item.Got step seq r) (its, tt) s in
-    record {
-      on_up = g.on_up;
-      made = g.made;
-      on_down = all_after (PairOf replies c.calls) (λ y n h. h) e.down step s.on_down;
-      told = g.told;
-      rest = g.rest;
-    }
+entered_sound : (replies : List Reply) (calls : List Call) (step : ℕ) (s : State) (o : Option ℕ) → IsSound replies calls s → IsSound replies calls (record s { log = with_entered s.log step o })
+entered_sound replies calls step s None h = h
+entered_sound replies calls step s (Some id) h = grown_log replies calls s (item.Entered step id) tt h
 
-hears_sound : (replies : List Reply) (c : Course) (step n : ℕ) (e : Ear) → IsSoundEar replies c e → IsSoundEar replies c (hears step n e)
-hears_sound replies c step zero e s = s
-hears_sound replies c step (suc n) e s =
-    let d = hears step n e in
-    heard_sound replies c step d (delivered d.down step) refl (hears_sound replies c step n e s)
+sent_sound : (replies : List Reply) (calls : List Call) (step : ℕ) (s : State) (o : Option Message) → IsSound replies calls s → IsSound replies calls (sending step s o)
+sent_sound replies calls step s None h = h
+sent_sound replies calls step s (Some m) h =
+    let g = grown_log replies calls s (item.Sent step m) tt h in
+    let new : Sending Message = record { step = step; item = m; fate = fate_at s.up.fates (length s.up.sent); came = 0 } in
+    record { on_up = All-push (SentBy (s.log ++ item.Sent step m ∷ [])) s.up.sent new g.on_up (WasSent-last m step s.log); made = g.made; on_down = g.on_down; told = g.told }
 
--- it enters and acts
-
-entered_sound : (replies : List Reply) (c : Course) (step : ℕ) (o : Option ℕ) → IsSound replies c → IsSound replies (record c { log = with_entered c.log step o })
-entered_sound replies c step None s = s
-entered_sound replies c step (Some id) s = grown_log replies c (item.Entered step id) tt s
-
-acted_sound : (replies : List Reply) (c : Course) (step : ℕ) (o : Option Message) → IsSound replies c → IsSound replies (record c { log = with_sent c.log step o; up = sent_up c.up step o })
-acted_sound replies c step None s = s
-acted_sound replies c step (Some m) s =
-    let g = grown_log replies c (item.Sent step m) tt s in
-    record {
-      on_up = All-push (SentBy (c.log ++ item.Sent step m ∷ [])) c.up.sent (record { step = step; item = m; fate = fate_at c.up.fates (length c.up.sent); came = 0 }) g.on_up (WasSent-last m step c.log);
-      made = g.made;
-      on_down = g.on_down;
-      told = g.told;
-      rest = g.rest;
-    }
-
-begun_sound : (replies : List Reply) (plan : DrivePlan) (step : ℕ) (c : Course) → IsSound replies c → IsSound replies (beginning plan step c)
-begun_sound replies plan step c s =
-    let e : Ear = hears_all step c.log c.down in
-    let heard_all : IsSoundEar replies c e = hears_sound replies c step (under_way c.down) (record { log = c.log; down = c.down }) s in
-    let in' = entered_sound replies (record c { log = e.log; down = e.down }) step (enters plan e.log step) heard_all in
-    acted_sound replies (record c { log = before_act plan step c.log c.down; down = e.down }) step (acts plan (before_act plan step c.log c.down) step) in'
+begun_sound : (replies : List Reply) (calls : List Call) (plan : DrivePlan) (step : ℕ) (s : State) → IsSound replies calls s → IsSound replies calls (begun plan step s)
+begun_sound replies calls plan step s h =
+    let all : State = hears_all step s in
+    let in' : State = entering plan step all in
+    sent_sound replies calls step in' (acts plan in'.log step) (entered_sound replies calls step all (enters plan all.log step) (hears_sound replies calls step (under_way s.down) s h))
 
 -- it makes its calls
 
-called_sound : (replies : List Reply) (step : ℕ) (c : Course) (m : Message) (rs : List Reply) → delivered c.up step ≡ Some m → c.goes_on ≡ true → c.left ≡ rs → IsSound replies c → IsSound replies (called step c m rs)
-called_sound replies step c m [] at on left s =
-    let from = came_from (SentBy c.log) c.up step m s.on_up at in
-    let its : WasSent m step c.log = WasSent-later m from.0.step step c.log from.3 (let P : Message → Type 0 = λ n. WasSent n from.0.step c.log in subst P from.2 from.1) in
-    let x : Call = record { moment = step; message = m } in
+called_sound : (replies : List Reply) (step : ℕ) (c : Course) (m : Message) (rs : List Reply) → delivered c.state.up step ≡ Some m → c.goes_on ≡ true → c.left ≡ rs → IsSoundCourse replies c → IsSoundCourse replies (called step c m rs)
+called_sound replies step c m [] at on left h =
+    let from = came_from (SentBy c.state.log) c.state.up step m h.sound.on_up at in
+    let its : WasSent m step c.state.log = WasSent-later m from.0.step step c.state.log from.3 (let P : Message → Type 0 = λ n. WasSent n from.0.step c.state.log in subst P from.2 from.1) in
+    let x : Call = call step m in
     record {
-      on_up = all_after (SentBy c.log) (λ y n h. h) c.up step s.on_up;
-      made = All-push (CallBy c.log) c.calls x s.made its;
-      on_down = All-weaker (PairOf replies c.calls) (PairOf replies (c.calls ++ x ∷ [])) (λ y p. Replied-more replies c.calls x y.item.0 y.item.1 p) c.down.sent s.on_down;
-      told = EachGot-weaken (Replied replies c.calls) (Replied replies (c.calls ++ x ∷ [])) c.log (λ n r p. Replied-more replies c.calls x n r p) s.told;
+      sound = record {
+        on_up = all_after (SentBy c.state.log) (λ y n p. p) c.state.up step h.sound.on_up;
+        made = All-push (CallBy c.state.log) c.calls x h.sound.made its;
+        on_down = All-weaker (PairOf replies c.calls) (PairOf replies (c.calls ++ x ∷ [])) (λ y p. Replied-more replies c.calls x y.item.0 y.item.1 p) c.state.down.sent h.sound.on_down;
+        told = EachGot-weaken (Replied replies c.calls) (Replied replies (c.calls ++ x ∷ [])) c.state.log (λ n r p. Replied-more replies c.calls x n r p) h.sound.told;
+      };
       rest = λ on. never (sym on);
     }
-called_sound replies step c m (r ∷ rs) at on left s =
-    let from = came_from (SentBy c.log) c.up step m s.on_up at in
-    let its : WasSent m step c.log = WasSent-later m from.0.step step c.log from.3 (let P : Message → Type 0 = λ n. WasSent n from.0.step c.log in subst P from.2 from.1) in
-    let x : Call = record { moment = step; message = m } in
-    let next = drop_parts replies (length c.calls) r rs (sym (s.rest on) ∙ left) in
+called_sound replies step c m (r ∷ rs) at on left h =
+    let from = came_from (SentBy c.state.log) c.state.up step m h.sound.on_up at in
+    let its : WasSent m step c.state.log = WasSent-later m from.0.step step c.state.log from.3 (let P : Message → Type 0 = λ n. WasSent n from.0.step c.state.log in subst P from.2 from.1) in
+    let x : Call = call step m in
+    let next = drop_parts replies (length c.calls) r rs (sym (h.rest on) ∙ left) in
     let count : length (c.calls ++ x ∷ []) ≡ suc (length c.calls) = length-append c.calls (x ∷ []) ∙ add-one (length c.calls) in
     record {
-      on_up = all_after (SentBy c.log) (λ y n h. h) c.up step s.on_up;
-      made = All-push (CallBy c.log) c.calls x s.made its;
-      on_down = All-push (PairOf replies (c.calls ++ x ∷ [])) c.down.sent _
-          (All-weaker (PairOf replies c.calls) (PairOf replies (c.calls ++ x ∷ [])) (λ y p. Replied-more replies c.calls x y.item.0 y.item.1 p) c.down.sent s.on_down)
-          (record { place = length c.calls; call = x; made = get-seam c.calls x; number = refl; told = next.0 });
-      told = EachGot-weaken (Replied replies c.calls) (Replied replies (c.calls ++ x ∷ [])) c.log (λ n q p. Replied-more replies c.calls x n q p) s.told;
+      sound = record {
+        on_up = all_after (SentBy c.state.log) (λ y n p. p) c.state.up step h.sound.on_up;
+        made = All-push (CallBy c.state.log) c.calls x h.sound.made its;
+        on_down = All-push (PairOf replies (c.calls ++ x ∷ [])) c.state.down.sent _
+            (All-weaker (PairOf replies c.calls) (PairOf replies (c.calls ++ x ∷ [])) (λ y p. Replied-more replies c.calls x y.item.0 y.item.1 p) c.state.down.sent h.sound.on_down)
+            (record { place = length c.calls; call = x; made = get-seam c.calls x; number = refl; told = next.0 });
+        told = EachGot-weaken (Replied replies c.calls) (Replied replies (c.calls ++ x ∷ [])) c.state.log (λ n q p. Replied-more replies c.calls x n q p) h.sound.told;
+      };
       rest = λ on. sym next.1 ∙ ap (λ n. drop n replies) (sym count);
     }
 
-one_sound : (replies : List Reply) (step : ℕ) (c : Course) → IsSound replies c → IsSound replies (one_call step c)
-one_sound replies step c s = go c.goes_on refl
+one_sound : (replies : List Reply) (step : ℕ) (c : Course) → IsSoundCourse replies c → IsSoundCourse replies (one_call step c)
+one_sound replies step c h = go c.goes_on refl
   where
-    comes : (o : Option Message) → delivered c.up step ≡ o → c.goes_on ≡ true → IsSound replies (calls_with step c o)
-    comes None at on = s
-    comes (Some m) at on = called_sound replies step c m c.left at on refl s
+    comes : (o : Option Message) → delivered c.state.up step ≡ o → c.goes_on ≡ true → IsSoundCourse replies (calls_with step c o)
+    comes None at on = h
+    comes (Some m) at on = called_sound replies step c m c.left at on refl h
 
-    go : (b : Bool) → c.goes_on ≡ b → IsSound replies (if b then calls_with step c (delivered c.up step) else c)
-    go true on = comes (delivered c.up step) refl on
-    go false on = s
+    go : (b : Bool) → c.goes_on ≡ b → IsSoundCourse replies (if b then calls_with step c (delivered c.state.up step) else c)
+    go true on = comes (delivered c.state.up step) refl on
+    go false on = h
 
-some_sound : (replies : List Reply) (step n : ℕ) (c : Course) → IsSound replies c → IsSound replies (some_calls step n c)
-some_sound replies step zero c s = s
-some_sound replies step (suc n) c s = one_sound replies step (some_calls step n c) (some_sound replies step n c s)
+some_sound : (replies : List Reply) (step n : ℕ) (c : Course) → IsSoundCourse replies c → IsSoundCourse replies (some_calls step n c)
+some_sound replies step zero c h = h
+some_sound replies step (suc n) c h = one_sound replies step (some_calls step n c) (some_sound replies step n c h)
 
-turn_sound : (replies : List Reply) (plan : DrivePlan) (step : ℕ) (c : Course) → IsSound replies c → IsSound replies (turn plan step c)
-turn_sound replies plan step c s = go c.goes_on
+turn_sound : (replies : List Reply) (plan : DrivePlan) (step : ℕ) (c : Course) → IsSoundCourse replies c → IsSoundCourse replies (turn plan step c)
+turn_sound replies plan step c h = go c.goes_on
   where
-    go : (b : Bool) → IsSound replies (if b then calling step (beginning plan step c) else c)
-    go true = some_sound replies step (under_way (beginning plan step c).up) (beginning plan step c) (begun_sound replies plan step c s)
-    go false = s
+    after : Course
+    after = record c { state = begun plan step c.state }
 
-pub turns_sound : (replies : List Reply) (plan : DrivePlan) (first n : ℕ) (c : Course) → IsSound replies c → IsSound replies (turns plan first n c)
-turns_sound replies plan first zero c s = s
-turns_sound replies plan first (suc n) c s = turn_sound replies plan (first + n) (turns plan first n c) (turns_sound replies plan first n c s)
+    go : (b : Bool) → IsSoundCourse replies (if b then calling step after else c)
+    go true = some_sound replies step (under_way after.state.up) after (record { sound = begun_sound replies c.calls plan step c.state h.sound; rest = h.rest })
+    go false = h
 
-first_sound : (up down : List Fate) (replies : List Reply) → IsSound replies (first_course up down replies)
-first_sound up down replies = record { on_up = All-nil (SentBy []); made = All-nil (CallBy []); on_down = All-nil (PairOf replies []); told = tt; rest = λ on. refl }
+pub turns_sound : (replies : List Reply) (plan : DrivePlan) (first n : ℕ) (c : Course) → IsSoundCourse replies c → IsSoundCourse replies (turns plan first n c)
+turns_sound replies plan first zero c h = h
+turns_sound replies plan first (suc n) c h = turn_sound replies plan (first + n) (turns plan first n c) (turns_sound replies plan first n c h)
+
+first_sound : (up down : List Fate) (replies : List Reply) → IsSoundCourse replies (running (fresh up down) [] replies)
+first_sound up down replies = record { sound = record { on_up = All-nil (SentBy []); made = All-nil (CallBy []); on_down = All-nil (PairOf replies []); told = tt }; rest = λ on. refl }
 
 -- the calls as entries of a history
 
@@ -345,5 +334,5 @@ sound_fits calls h v log same made told = record {
 -- the log that a driver follows fits the history in which its calls stand
 pub follows_fits : (plan : DrivePlan) (up down : List Fate) (first until : ℕ) (h : List Entry) (v : ℕ) → AreCallsOf (follows_from plan up down first until (replies_of h v)).1 h v → Fits h v (follows_from plan up down first until (replies_of h v)).0
 follows_fits plan up down first until h v same =
-    let s = turns_sound (replies_of h v) plan first (until - first) (first_course up down (replies_of h v)) (first_sound up down (replies_of h v)) in
-    sound_fits _ h v _ same s.made s.told
+    let s = turns_sound (replies_of h v) plan first (until - first) (running (fresh up down) [] (replies_of h v)) (first_sound up down (replies_of h v)) in
+    sound_fits _ h v _ same s.sound.made s.sound.told

@@ -1,5 +1,5 @@
 -- The part of an agent's turn in which it makes no call: it hears the replies that come, enters and acts.
-use Rattle.std.specs.Prelude.{◌≡◌, ℕ, zero, suc, List, [], ◌∷◌, ◌++◌, Option, Some, None}
+use Rattle.std.specs.Prelude.{ℕ, zero, suc, List, [], ◌∷◌, ◌++◌, Option, Some, None}
 use Rattle.aim_msg.specs.declared.messages.Message.{Message}
 use Rattle.aim_msg.specs.declared.replies.Reply.{Reply}
 use Rattle.aim_driver.specs.declared.plans.DrivePlan.{DrivePlan}
@@ -8,40 +8,41 @@ use Rattle.aim_driver.specs.declared.logs.LogItem.TheVariants as item
 use Rattle.aim_driver.specs.Models.{enters, acts, with_entered, with_sent}
 use Rattle.aim_driver.specs.Links.{LinkModel, under_way, sent_on, delivered, after_delivery}
 
--- a log and the link on which pairs of a number and a reply come
-pub record Ear : Type 0 where
+-- a driver's log, the link on which its messages go up, and the one on which pairs of a number and a reply come down
+pub record State : Type 0 where
   pub log : List LogItem
+  pub up : LinkModel Message
   pub down : LinkModel (ℕ × Reply)
 
-abbrev pub heard : ℕ → Ear → Option (ℕ × Reply) → Ear
-heard step e None = e
-heard step e (Some (seq, r)) = record { log = e.log ++ item.Got step seq r ∷ []; down = after_delivery e.down step }
+abbrev pub state : List LogItem → LinkModel Message → LinkModel (ℕ × Reply) → State
+state log up down = record { log = log; up = up; down = down }
+
+abbrev pub heard : ℕ → State → Option (ℕ × Reply) → State
+heard step s None = s
+heard step s (Some (seq, r)) = record s { log = s.log ++ item.Got step seq r ∷ []; down = after_delivery s.down step }
 
 -- after so many tries to hear one
-abbrev pub hears : ℕ → ℕ → Ear → Ear
-hears step zero e = e
-hears step (suc n) e = let d = hears step n e in heard step d (delivered d.down step)
+abbrev pub hears : ℕ → ℕ → State → State
+hears step zero s = s
+hears step (suc n) s = let d = hears step n s in heard step d (delivered d.down step)
 
 -- after all that come at the step, which are no more than are under way
-abbrev pub hears_all : ℕ → List LogItem → LinkModel (ℕ × Reply) → Ear
-hears_all step log down = hears step (under_way down) (record { log = log; down = down })
+abbrev pub hears_all : ℕ → State → State
+hears_all step s = hears step (under_way s.down) s
 
-abbrev pub Heard : ℕ → List LogItem → LinkModel (ℕ × Reply) → List LogItem → LinkModel (ℕ × Reply) → Type 0
-Heard step log down log' down' = record { log = log'; down = down' } ≡ hears_all step log down
+abbrev pub entering : DrivePlan → ℕ → State → State
+entering plan step s = record s { log = with_entered s.log step (enters plan s.log step) }
 
 abbrev pub sent_up : LinkModel Message → ℕ → Option Message → LinkModel Message
 sent_up up step None = up
 sent_up up step (Some m) = sent_on up step m
 
-abbrev pub entered : DrivePlan → ℕ → List LogItem → List LogItem
-entered plan step log = with_entered log step (enters plan log step)
+abbrev pub sending : ℕ → State → Option Message → State
+sending step s m = record s { log = with_sent s.log step m; up = sent_up s.up step m }
 
--- the log after all that it hears, when it has entered if it does
-abbrev pub before_act : DrivePlan → ℕ → List LogItem → LinkModel (ℕ × Reply) → List LogItem
-before_act plan step log down = entered plan step (hears_all step log down).log
+abbrev pub acting : DrivePlan → ℕ → State → State
+acting plan step s = sending step s (acts plan s.log step)
 
--- It hears, enters and acts.
-pub record Begun (plan : DrivePlan) (step : ℕ) (log : List LogItem) (up : LinkModel Message) (down : LinkModel (ℕ × Reply)) (log' : List LogItem) (up' : LinkModel Message) (down' : LinkModel (ℕ × Reply)) : Type 0 where
-  pub replies : down' ≡ (hears_all step log down).down
-  pub items : log' ≡ with_sent (before_act plan step log down) step (acts plan (before_act plan step log down) step)
-  pub messages : up' ≡ sent_up up step (acts plan (before_act plan step log down) step)
+-- it hears, enters if it does, and acts; a message goes up
+abbrev pub begun : DrivePlan → ℕ → State → State
+begun plan step s = acting plan step (entering plan step (hears_all step s))
