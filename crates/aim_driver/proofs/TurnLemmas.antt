@@ -1,6 +1,7 @@
 -- Turns one after the other: where they begin, the calls of one, and that their log keeps the rules.
 use Rattle.std.proofs.Common.{◌≡◌, ℕ, zero, suc, ◌+◌, ◌-◌, ◌<◌, ◌≤◌, Bool, true, false, nat_le, List, [], ◌∷◌, ◌++◌, reverse, Option, Some, None, if◌then◌else◌, refl, sym, ◌∙◌, ap, subst, arith}
 use Rattle.std.proofs.lemmas.Bool.Decides.{nat_tests}
+use Rattle.std.proofs.lemmas.List.{append-nil, append_assoc}
 use Rattle.aim_msg.specs.declared.messages.Message.{Message}
 use Rattle.aim_msg.specs.declared.replies.Reply.{Reply}
 use Rattle.aim_driver.specs.declared.plans.DrivePlan.{DrivePlan}
@@ -15,7 +16,7 @@ use Rattle.aim_driver.specs.Steps.{known_got, known_sent, known_entered}
 use Rattle.aim_driver.specs.Models.{step_of, acts, enters, with_sent, with_entered}
 use Rattle.aim_driver.specs.Links.{under_way, delivered}
 use Rattle.aim_driver.specs.Turns.{State, heard, hears, hears_all, entering, begun}
-use Rattle.aim_driver.specs.Follows.{Course, running, fresh, called, calls_with, one_call, some_calls, calling, turn, turns, course, follows_from, follows}
+use Rattle.aim_driver.specs.Follows.{Call, Course, running, halted, fresh, call, taken, answered, called, calls_with, one_call, some_calls, calling, turn, turns, course, follows_from, follows}
 use Rattle.aim_driver.proofs.SmallFacts.{true_le}
 use Rattle.aim_driver.proofs.LinkLemmas.{fewer}
 use Rattle.aim_driver.proofs.StandLemmas.{exact, stands_first, stands_got, stands_entered, stands_sent, act_is, enter_is, ends_at}
@@ -122,6 +123,62 @@ all_called step c d h same =
     let P : Course → Type 0 = λ x. one_call step x ≡ x in
     let le : h.count ≤ under_way c.state.up = (let l = h.left in omega arith) in
     h.so ∙ sym (still step c h.count (under_way c.state.up) le (subst P h.so same))
+
+-- A turn's calls for whatever calls were made before it and whatever replies are left behind it: `no_calls` and `more_calls`
+-- are the invariant of a loop that takes each message that comes, and `calls_end` and `calls_halt` are its ends.
+pub record Calls (step : ℕ) (s s' : State) (made : List Reply) (asks : List Call) : Type 0 where
+  pub tries : (before : List Call) (more : List Reply) → Calling step (running s before (made ++ more)) (running s' (before ++ asks) more)
+
+pub no_calls : (step : ℕ) (s : State) → Calls step s s [] []
+no_calls step s = record {
+  tries = λ before more. (
+      let P : List Call → Type 0 = λ xs. Calling step (running s before more) (running s xs more) in
+      subst P (sym (append-nil before)) (none_yet step (running s before more)));
+}
+
+answered_call : (step : ℕ) (s : State) (calls : List Call) (m : Message) (r : Reply) (rs : List Reply) → delivered s.up step ≡ Some m
+    → one_call step (running s calls (r ∷ rs)) ≡ running (answered step s m r) (calls ++ call step m ∷ []) rs
+answered_call step s calls m r rs at = ap (λ o. calls_with step (running s calls (r ∷ rs)) o) at
+
+pub more_calls : (step : ℕ) (s s' : State) (made : List Reply) (asks : List Call) (m : Message) (r : Reply)
+    → Calls step s s' made asks → delivered s'.up step ≡ Some m → Calls step s (answered step s' m r) (made ++ r ∷ []) (asks ++ call step m ∷ [])
+more_calls step s s' made asks m r h at = record {
+  tries = λ before more. (
+      let d : Course = running s' (before ++ asks) (r ∷ more) in
+      let one : Calling step (running s before (made ++ r ∷ more)) (one_call step d) = one_more step (running s before (made ++ r ∷ more)) d m (h.tries before (r ∷ more)) refl at in
+      let P : Course → Type 0 = λ x. Calling step (running s before (made ++ r ∷ more)) x in
+      let told = subst P (answered_call step s' (before ++ asks) m r more at) one in
+      let Q : List Call → Type 0 = λ xs. Calling step (running s before (made ++ r ∷ more)) (running (answered step s' m r) xs more) in
+      let R : List Reply → Type 0 = λ xs. Calling step (running s before xs) (running (answered step s' m r) (before ++ (asks ++ call step m ∷ [])) more) in
+      subst R (sym (append_assoc made (r ∷ []) more)) (subst Q (append_assoc before asks (call step m ∷ [])) told));
+}
+
+pub calls_end : (step : ℕ) (s s' : State) (made : List Reply) (asks : List Call) → Calls step s s' made asks → delivered s'.up step ≡ None → (before : List Call) (more : List Reply)
+    → calling step (running s before (made ++ more)) ≡ running s' (before ++ asks) more
+calls_end step s s' made asks h none before more =
+    sym (all_called step (running s before (made ++ more)) (running s' (before ++ asks) more) (h.tries before more) (no_call step (running s' (before ++ asks) more) none))
+
+-- a message comes, and no reply is left
+pub calls_halt : (step : ℕ) (s s' : State) (made : List Reply) (asks : List Call) (m : Message) → Calls step s s' made asks → delivered s'.up step ≡ Some m → (before : List Call)
+    → calling step (running s before made) ≡ halted (taken step s') (before ++ (asks ++ call step m ∷ []))
+calls_halt step s s' made asks m h at before =
+    let d : Course = running s' (before ++ asks) [] in
+    let c : Course = running s before (made ++ []) in
+    let one = one_more step c d m (h.tries before []) refl at in
+    let end : one_call step d ≡ halted (taken step s') (before ++ asks ++ call step m ∷ []) = ap (λ o. calls_with step d o) at in
+    let off : (one_call step d).goes_on ≡ false = ap (λ x. x.goes_on) end in
+    let all : one_call step d ≡ calling step c = all_called step c (one_call step d) one (halted_call step (one_call step d) off) in
+    ap (λ xs. calling step (running s before xs)) (sym (append-nil made)) ∙ sym all ∙ end ∙ ap (λ xs. halted (taken step s') xs) (append_assoc before asks (call step m ∷ []))
+
+-- a turn: it begins, and then makes its calls
+pub turn_is : (plan : DrivePlan) (step : ℕ) (s s' : State) (made : List Reply) (asks : List Call) → Calls step (begun plan step s) s' made asks → delivered s'.up step ≡ None → (before : List Call) (more : List Reply)
+    → turn plan step (running s before (made ++ more)) ≡ running s' (before ++ asks) more
+turn_is plan step s s' made asks h none before more = calls_end step (begun plan step s) s' made asks h none before more
+
+-- a turn in which a message comes and no reply is left
+pub turn_halts : (plan : DrivePlan) (step : ℕ) (s s' : State) (made : List Reply) (asks : List Call) (m : Message) → Calls step (begun plan step s) s' made asks → delivered s'.up step ≡ Some m → (before : List Call)
+    → turn plan step (running s before made) ≡ halted (taken step s') (before ++ (asks ++ call step m ∷ []))
+turn_halts plan step s s' made asks m h at before = calls_halt step (begun plan step s) s' made asks m h at before
 
 -- the log of a course keeps the rules
 
