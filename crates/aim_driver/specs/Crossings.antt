@@ -4,6 +4,7 @@ use Rattle.aim_msg.specs.declared.messages.Message.{Message}
 use Rattle.aim_msg.specs.declared.replies.Reply.{Reply}
 use Rattle.aim_msg.specs.declared.replies.Reply.TheVariants as reply
 use Rattle.aim_driver.specs.declared.logs.Window.{Window}
+use Rattle.aim_driver.specs.declared.logs.Entrance.{Entrance}
 use Rattle.aim_driver.specs.declared.logs.LogItem.{LogItem}
 use Rattle.aim_driver.specs.declared.logs.LogItem.TheVariants as item
 use Rattle.aim_driver.specs.Logs.{Crossing, crossing, is_done}
@@ -11,6 +12,13 @@ use Rattle.aim_driver.specs.Logs.{Crossing, crossing, is_done}
 -- the crossing that began in the log
 abbrev pub crossing_of : List LogItem → Option Crossing
 crossing_of log = crossing (reverse log)
+
+-- the first entrance in the log, in the order of the log
+abbrev pub first_entrance : List LogItem → Option Entrance
+first_entrance [] = None
+first_entrance (item.Sent step m ∷ xs) = first_entrance xs
+first_entrance (item.Got step seq r ∷ xs) = first_entrance xs
+first_entrance (item.Entered step id ∷ xs) = Some (record { step = step; id = id })
 
 -- a fact of each message of the log and the step of its sending
 abbrev pub EachSent : (ℕ → Message → Type 0) → List LogItem → Type 0

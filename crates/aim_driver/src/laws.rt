@@ -1,6 +1,6 @@
 //! Laws of the definitions, each the contract of a function that does nothing.
 
-ghost use Rattle.std.specs.Prelude.{◌≡◌, ◌↔◌, ℕ, ◌-◌, ◌≤◌, true, List, Some, None};
+ghost use Rattle.std.specs.Prelude.{◌≡◌, ◌↔◌, ℕ, ◌-◌, ◌≤◌, true, List, reverse, Some, None};
 ghost use Rattle.aim_msg.specs.declared.entries.Entry.{Entry};
 ghost use Rattle.aim_driver.specs.declared.plans.DrivePlan.{DrivePlan};
 ghost use Rattle.aim_driver.specs.declared.links.Fate.{Fate};
@@ -9,8 +9,9 @@ ghost use Rattle.aim_driver.specs.Follows.{turns, course, follows_from, follows}
 ghost use Rattle.aim_driver.specs.declared.logs.LogItem.{LogItem};
 ghost use Rattle.aim_driver.specs.Logs.{Crossing};
 ghost use Rattle.aim_driver.specs.Keeps.{keeps};
+ghost use Rattle.aim_driver.specs.Rules.{entrance};
 ghost use Rattle.aim_driver.specs.Fits.{AreCallsOf, replies_of, IsAnswered, Fits};
-ghost use Rattle.aim_driver.specs.Crossings.{crossing_of, CrossesAsGranted};
+ghost use Rattle.aim_driver.specs.Crossings.{crossing_of, first_entrance, CrossesAsGranted};
 ghost use Rattle.aim_driver.specs.Links.{LinkModel, next_place, IsNext, NoneComes};
 
 /// What a link delivers next is the one thing that comes first, by the step at which it comes and then by the order of
@@ -30,6 +31,11 @@ pub fn what_follows_fits()
     ensures { (plan : DrivePlan) (up down : List Fate) (first until : ℕ) (h : List Entry) (v : ℕ) →
         let f = follows_from plan up down first until (replies_of h v) in
         AreCallsOf f.1 h v → Fits h v f.0 }
+{}
+
+/// In a log that keeps the rules the driver entered at most once.
+pub fn enters_once()
+    ensures { (log : List LogItem) → keeps log ≡ true → first_entrance log ≡ entrance (reverse log) }
 {}
 
 /// Where a log keeps the rules and fits a history as vehicle v's, and the driver entered, it crosses as the history

@@ -106,3 +106,6 @@ no_entry_in_another_window = refl
 
 pub keeps_entry_in_its_own : keeps (asked ++ sent 2 2 (body.Change 0 (car 0 40)) ∷ item.Got 3 2 (granted 1 40 50) ∷ item.Entered 40 1 ∷ []) ≡ true
 keeps_entry_in_its_own = refl
+
+pub no_request_while_suspended : keeps (asked ++ sent 2 2 (body.Change 0 (car 0 40)) ∷ sent 3 3 (body.Request (car 0 50)) ∷ []) ≡ false
+no_request_while_suspended = refl
