@@ -1,5 +1,5 @@
 -- Worked rows: logs that keep the rules, and logs that break one.
-use Rattle.std.proofs.Common.{◌≡◌, true, false, List, [], ◌∷◌, ◌++◌, Some, refl}
+use Rattle.std.proofs.Common.{◌≡◌, true, false, List, [], ◌∷◌, ◌++◌, Some, None, refl}
 use Rattle.aim_msg.specs.declared.messages.Body.TheVariants as body
 use Rattle.aim_msg.specs.declared.replies.Reply.TheVariants as reply
 use Rattle.aim_driver.specs.declared.logs.LogItem.{LogItem}
@@ -109,3 +109,27 @@ keeps_entry_in_its_own = refl
 
 pub no_request_while_suspended : keeps (asked ++ sent 2 2 (body.Change 0 (car 0 40)) ∷ sent 3 3 (body.Request (car 0 50)) ∷ []) ≡ false
 no_request_while_suspended = refl
+
+pub no_falling_sending : keeps (asked ++ sent 0 2 (body.Cancel 0) ∷ []) ≡ false
+no_falling_sending = refl
+
+pub no_falling_entry : keeps (asked ++ item.Got 11 1 (granted 0 10 20) ∷ item.Entered 10 0 ∷ []) ≡ false
+no_falling_entry = refl
+
+-- a CANCEL or a DONE ends a suspension, an answer of an older number doesn't
+
+pub keeps_request_after_a_cancel : keeps (asked ++ sent 2 2 (body.Change 0 (car 0 40)) ∷ sent 3 3 (body.Cancel 0) ∷ sent 4 4 (body.Request (car 0 50)) ∷ []) ≡ true
+keeps_request_after_a_cancel = refl
+
+pub keeps_request_after_a_done : keeps (asked ++ sent 2 2 (body.Change 0 (car 0 40)) ∷ sent 3 3 (body.Done 0) ∷ sent 4 4 (body.Request (car 0 50)) ∷ []) ≡ true
+keeps_request_after_a_done = refl
+
+pub keeps_change_after_an_old_reply : keeps (asked ++ sent 2 2 (body.Change 0 (car 0 40)) ∷ item.Got 3 1 (granted 0 10 20) ∷ sent 4 3 (body.Change 0 (car 0 50)) ∷ []) ≡ true
+keeps_change_after_an_old_reply = refl
+
+pub no_change_after_the_answer : keeps (asked ++ sent 2 2 (body.Change 0 (car 0 40)) ∷ item.Got 3 2 (refused None) ∷ sent 4 3 (body.Change 0 (car 0 50)) ∷ []) ≡ false
+no_change_after_the_answer = refl
+
+-- any message that was sent may be sent again
+pub keeps_first_message_again : keeps (asked ++ sent 2 2 (body.Cancel 0) ∷ sent 3 1 (body.Request (car 0 10)) ∷ []) ≡ true
+keeps_first_message_again = refl
