@@ -101,8 +101,8 @@ no_call step c none = ap (λ o. if c.goes_on then calls_with step c o else c) no
     either true = refl
     either false = refl
 
--- So many tries, each of which made a call; `none_yet` and `one_more` are the invariant of a loop that makes them, and at its
--- end `all_called` says that the course is the one after all calls of the turn.
+-- So many tries, each of which made a call; `none_yet` and `one_more` are the invariant of a loop that makes them, and
+-- at its end `all_called` says that the course is the one after all calls of the turn.
 pub record Calling (step : ℕ) (c d : Course) : Type 0 where
   pub count : ℕ
   pub so : d ≡ some_calls step count c
@@ -124,8 +124,9 @@ all_called step c d h same =
     let le : h.count ≤ under_way c.state.up = (let l = h.left in omega arith) in
     h.so ∙ sym (still step c h.count (under_way c.state.up) le (subst P h.so same))
 
--- A turn's calls for whatever calls were made before it and whatever replies are left behind it: `no_calls` and `more_calls`
--- are the invariant of a loop that takes each message that comes, and `calls_end` and `calls_halt` are its ends.
+-- A turn's calls for whatever calls were made before it and whatever replies are left behind it: `no_calls` and
+-- `more_calls` are the invariant of a loop that takes each message that comes, and `calls_end` and `calls_halt` are its
+-- ends.
 pub record Calls (step : ℕ) (s s' : State) (made : List Reply) (asks : List Call) : Type 0 where
   pub tries : (before : List Call) (more : List Reply) → Calling step (running s before (made ++ more)) (running s' (before ++ asks) more)
 

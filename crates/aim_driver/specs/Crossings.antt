@@ -50,9 +50,9 @@ pub record Granted (heard : ℕ → Reply → Type 0) (id : ℕ) (w : Window) : 
   pub accelerate : Bool
   pub told : heard seq (reply.Confirm id w.start w.early w.late accelerate w.last)
 
--- The log's driver crosses as it was granted: a reply to the number `seq` told that the reservation is held, a Confirm of it
--- was heard whose window has the step at which it entered, and each message of a greater number is a DONE, sent past the last
--- step of the crossing.
+-- The log's driver crosses as it was granted: a reply to the number `seq` told that the reservation is held, a Confirm
+-- of it was heard whose window has the step at which it entered, and each message of a greater number is a DONE, sent
+-- past the last step of the crossing.
 pub record CrossesAsGranted (heard : ℕ → Reply → Type 0) (log : List LogItem) (c : Crossing) : Type 0 where
   pub seq : ℕ
   pub told : Told heard seq c.id

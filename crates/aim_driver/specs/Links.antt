@@ -64,7 +64,8 @@ module _ {T : Type 0} where
   first_by lag ss step None = None
   first_by lag ss step (Some due) = if nat_le due step then first_at lag ss due else None
 
-  -- the first sending that comes at the step or before it, by the step at which it comes and then by the order of sending
+  -- the first sending that comes at the step or before it, by the step at which it comes and then by the order of
+  -- sending
   abbrev pub next_place : LinkModel T → ℕ → Option ℕ
   next_place l step = first_by l.lag l.sent step (earliest l.lag l.sent)
 
@@ -87,8 +88,8 @@ module _ {T : Type 0} where
   abbrev pub after_delivery : LinkModel T → ℕ → LinkModel T
   after_delivery l step = record l { sent = after_coming l.sent (next_place l step) }
 
--- The sending of that place comes at the step or before it. No other comes sooner, nor at the same step and before it in
--- the order of sending.
+-- The sending of that place comes at the step or before it. No other comes sooner, nor at the same step and before it
+-- in the order of sending.
 pub record IsNext (T : Type 0) (l : LinkModel T) (step place : ℕ) : Type 0 where
   pub sending : Sending T
   pub due : ℕ

@@ -25,8 +25,8 @@ pub fn nothing_comes<T>()
     ensures { (l : LinkModel T) (step : ℕ) → (next_place l step ≡ None ↔ NoneComes T l step) }
 {}
 
-/// The log that a driver follows fits every history in which the vehicle's entries carry the calls that it follows, where
-/// the replies of these entries are the replies of its calls.
+/// The log that a driver follows fits every history in which the vehicle's entries carry the calls that it follows,
+/// where the replies of these entries are the replies of its calls.
 pub fn what_follows_fits()
     ensures { (plan : DrivePlan) (up down : List Fate) (first until : ℕ) (h : List Entry) (v : ℕ) →
         let f = follows_from plan up down first until (replies_of h v) in
@@ -39,15 +39,16 @@ pub fn enters_once()
 {}
 
 /// Where a log keeps the rules and fits a history as vehicle v's, and the driver entered, it crosses as the history
-/// granted: v has an entry there whose reply tells that the reservation is held, one that confirms it with a window in which
-/// the driver entered, and all messages of a greater number than the first are DONE, sent past the last step of the crossing.
+/// granted: v has an entry there whose reply tells that the reservation is held, one that confirms it with a window in
+/// which the driver entered, and all messages of a greater number than the first are DONE, sent past the last step of
+/// the crossing.
 pub fn crosses_as_granted()
     ensures { (h : List Entry) (v : ℕ) (log : List LogItem) (c : Crossing) →
         keeps log ≡ true → Fits h v log → crossing_of log ≡ Some c → CrossesAsGranted (IsAnswered h v) log c }
 {}
 
-/// What a driver follows doesn't depend on the step at which its turns begin, as long as that is not past its plan's first
-/// step.
+/// What a driver follows doesn't depend on the step at which its turns begin, as long as that is not past its plan's
+/// first step.
 pub fn turns_may_begin_later()
     ensures { (plan : DrivePlan) (up down : List Fate) (first until : ℕ) (replies : List Reply) →
         first ≤ plan.first → first ≤ until → follows_from plan up down first until replies ≡ follows plan up down until replies }
