@@ -17,7 +17,8 @@ use Rattle.aim_geometry.proofs.BoundedLemmas.{some_below_at, some_below_none, le
 use Rattle.aim_paths.specs.Intersection.{Intersection, stations}
 use Rattle.aim_rules.specs.Motion.{front}
 use Rattle.aim_rules.specs.Footprint.{crossing_steps, path_length, in_footprint}
-use Rattle.aim_rules.specs.Cells.{Cell, IsIn, is_buffered, in_cells, cells}
+use Rattle.aim_geometry.specs.Cells.{Cell}
+use Rattle.aim_rules.specs.Cells.{IsIn, is_buffered, in_cells, cells}
 use Rattle.aim_rules.proofs.Ranges.{list_any-slice_range_at}
 use Rattle.aim_rules.proofs.CellLemmas.{cells_has, cells_needed}
 use Rattle.aim_book.specs.Serving.{IsPlain}

@@ -16,7 +16,8 @@ use Rattle.aim_geometry.specs.Rects.{has_bit, tile_at}
 use Rattle.aim_geometry.proofs.BoundedLemmas.{some_below_found, some_below_false}
 use Rattle.aim_paths.specs.Intersection.{Intersection}
 use Rattle.aim_rules.specs.Footprint.{crossing_steps}
-use Rattle.aim_rules.specs.Cells.{Cell, in_cells}
+use Rattle.aim_geometry.specs.Cells.{Cell}
+use Rattle.aim_rules.specs.Cells.{in_cells}
 use Rattle.aim_book.specs.Serving.{IsPlain}
 use Rattle.aim_book.specs.Takings.{cell_at}
 use Rattle.aim_book.specs.Feet.{is_footed, is_filled}

@@ -13,7 +13,8 @@ use Rattle.aim_msg.specs.declared.entries.Entry.{Entry}
 use Rattle.aim_msg.specs.declared.replies.Reply.{Reply}
 use Rattle.aim_geometry.specs.Bounded.{last, since_last}
 use Rattle.aim_paths.specs.Intersection.{Intersection}
-use Rattle.aim_rules.specs.Cells.{Cell, in_cells, cells}
+use Rattle.aim_geometry.specs.Cells.{Cell}
+use Rattle.aim_rules.specs.Cells.{in_cells, cells}
 use Rattle.aim_rules.specs.History.{Fresh, fresh, is_confirm, given_up_at, params_of}
 use Rattle.aim_rules.specs.Holds.{holds, reservations, taken_by, granted, granted_with, is_granted, is_granted_with, is_fast, is_number}
 use Rattle.aim_rules.proofs.HistoryLemmas.{served}

@@ -6,7 +6,8 @@ use Rattle.aim_msg.specs.declared.entries.Act.{Act}
 use Rattle.aim_msg.specs.declared.entries.Entry.{Entry}
 use Rattle.aim_paths.specs.Intersection.{Intersection}
 use Rattle.aim_rules.specs.Footprint.{in_footprint}
-use Rattle.aim_rules.specs.Cells.{Cell, in_cells}
+use Rattle.aim_geometry.specs.Cells.{Cell}
+use Rattle.aim_rules.specs.Cells.{in_cells}
 use Rattle.aim_rules.specs.History.{message_of, params_of, is_confirm}
 
 -- the params that an act asks with

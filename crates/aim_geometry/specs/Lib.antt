@@ -1,4 +1,5 @@
 pub mod Bounded
+pub mod Cells
 pub mod Ground
 pub mod Sites
 pub mod Stations

@@ -10,9 +10,11 @@ use Rattle.std.proofs.lemmas.Nat.{le_or_l}
 use Rattle.std.proofs.lemmas.List.Edits.{length-insert, get_or-insert_below, get_or-insert_at, get_or-insert_above}
 use Rattle.std.proofs.lemmas.List.Folds.{list_any_at}
 use Rattle.aim_pool.specs.declared.spans.Span.{Span}
-use Rattle.aim_pool.specs.Spans.{has_bit, is_at, precedes, in_span, in_spans, has_place, Cell, AreRising, AreMarked}
+use Rattle.aim_geometry.specs.Cells.{Cell}
+use Rattle.aim_geometry.specs.Rects.{has_bit}
+use Rattle.aim_pool.specs.Spans.{is_at, precedes, in_span, in_spans, has_place, AreRising, AreMarked}
 use Rattle.aim_pool.specs.Sheets.{IsInOrder}
-use Rattle.aim_pool.proofs.Bits.{has_bit_or}
+use Rattle.aim_geometry.proofs.Bits.{has_bit_or}
 use Rattle.aim_pool.proofs.Order.{beyond, Precedes, precedes_parts, precedes_from, is_at_parts}
 
 or_last : (a b r : Bool) → ((a || r) || b) ≡ ((a || b) || r)
@@ -52,8 +54,8 @@ and_or false b c = refl
 joined : (a b : Span) (cell : Cell) → is_at a b.step b.row ≡ true → in_span (record { step = a.step; row = a.row; mask = bit_or a.mask b.mask }) cell ≡ (in_span a cell || in_span b cell)
 joined a b cell at =
     let p = is_at_parts a b.step b.row at in
-    let same : is_at b cell.0 cell.1 ≡ is_at a cell.0 cell.1 = rw (p.0, p.1) refl in
-    rw (has_bit_or a.mask b.mask cell.2, same) (and_or (is_at a cell.0 cell.1) (has_bit a.mask cell.2) (has_bit b.mask cell.2))
+    let same : is_at b cell.step cell.row ≡ is_at a cell.step cell.row = rw (p.0, p.1) refl in
+    rw (has_bit_or a.mask b.mask cell.col, same) (and_or (is_at a cell.step cell.row) (has_bit a.mask cell.col) (has_bit b.mask cell.col))
 
 module _ (spans : List Span) (i : ℕ) (lt : i < length spans) (e : Span) where
   -- with the bits of another span at place i

@@ -1,4 +1,3 @@
-pub mod Bits
 pub mod Order
 pub mod Edits
 pub mod Masks

@@ -1,16 +1,9 @@
--- Cells, and the cells of spans.
+-- The cells of spans.
 use Rattle.std.specs.Prelude.{◌≡◌, ℕ, Bool, true, ◌&&◌, ◌||◌, ◌==◌, nat_lt, List, AllPairs, All, ◌≢◌}
 use Rattle.std.specs.List.{list_any}
-use Rattle.std.specs.Int.{bit_at}
+use Rattle.aim_geometry.specs.Cells.{Cell}
+use Rattle.aim_geometry.specs.Rects.{has_bit}
 use Rattle.aim_pool.specs.declared.spans.Span.{Span}
-
--- a step, a row and a column
-abbrev pub Cell : Type 0
-Cell = ℕ × ℕ × ℕ
-
--- whether the mask has the column
-abbrev pub has_bit : ℕ → ℕ → Bool
-has_bit mask col = bit_at mask col == 1
 
 -- whether the span is of this step and row
 abbrev pub is_at : Span → ℕ → ℕ → Bool
@@ -22,7 +15,7 @@ precedes span step row = nat_lt span.step step || span.step == step && nat_lt sp
 
 -- whether the cell is one of the span's
 abbrev pub in_span : Span → Cell → Bool
-in_span span cell = is_at span cell.0 cell.1 && has_bit span.mask cell.2
+in_span span cell = is_at span cell.step cell.row && has_bit span.mask cell.col
 
 -- whether the cell is one of the spans'
 abbrev pub in_spans : List Span → Cell → Bool

@@ -2,7 +2,9 @@
 
 ghost use Rattle.std.specs.Prelude.{◌≡◌, ℕ, ◌≢◌, ◌↔◌, ◌+◌, ◌<◌, ◌≤◌, ◌||◌, ◌++◌, ◌∷◌, [], true, false, length, vec_len, vec_capacity, insert, slice_set, slice_index_or, All, OnOk, OnErr, IfOk, IfErr, IsErr, is_ok, if◌then◌else◌};
 ghost use Rattle.std.specs.List.Sorted.{IsPartitionPoint};
-ghost use Rattle.aim_pool.specs.Spans.{AreRising, AreMarked, Cell, has_bit, in_span, in_spans, is_at, has_place, precedes};
+ghost use Rattle.aim_geometry.specs.Cells.{Cell, cell_at};
+ghost use Rattle.aim_geometry.specs.Rects.{has_bit};
+ghost use Rattle.aim_pool.specs.Spans.{AreRising, AreMarked, in_span, in_spans, is_at, has_place, precedes};
 
 use crate::NoMemory;
 use crate::spans::Span;
@@ -71,7 +73,7 @@ fn find(spans: &[Span], step: u32, row: u8) -> Result<usize, usize>
 // The mask of the span of a step and row, or else 0.
 fn mask_of(spans: &[Span], step: u32, row: u8) -> u64
     requires { AreRising spans.now }
-    ensures { (column : ℕ) → has_bit result column ≡ in_spans spans.now (step, row, column) }
+    ensures { (column : ℕ) → has_bit result column ≡ in_spans spans.now (cell_at step row column) }
 {
     match find(spans, step, row) {
         Ok(at) => spans[at].mask,
@@ -218,7 +220,7 @@ impl Sheet {
 
     /// The columns of a step's row, one bit each: 0 where there is no span of that step and row.
     pub fn mask(&self, step: u32, row: u8) -> u64
-        ensures { (column : ℕ) → has_bit result column ≡ in_spans self.now.spans (step, row, column) }
+        ensures { (column : ℕ) → has_bit result column ≡ in_spans self.now.spans (cell_at step row column) }
     {
         mask_of(self.node.slots.spans(), step, row)
     }

@@ -8,7 +8,8 @@ use Rattle.aim_msg.specs.declared.entries.Act.TheVariants as act
 use Rattle.std.proofs.Common.{inl, inr, ◌∙◌, sym}
 use Rattle.aim_paths.specs.Intersection.{Intersection}
 use Rattle.aim_rules.specs.Footprint.{crossing_steps, in_footprint}
-use Rattle.aim_rules.specs.Cells.{Cell, IsIn, is_buffered, in_cells, cells}
+use Rattle.aim_geometry.specs.Cells.{Cell}
+use Rattle.aim_rules.specs.Cells.{IsIn, is_buffered, in_cells, cells}
 use Rattle.aim_rules.specs.Bad.{bad}
 use Rattle.aim_rules.specs.History.{is_fresh_seq, is_confirm, now_of, params_of, fresh}
 use Rattle.aim_rules.specs.Holds.{is_fast, reservations, is_granted}

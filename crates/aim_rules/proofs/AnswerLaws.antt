@@ -17,7 +17,8 @@ use Rattle.aim_msg.specs.declared.replies.Reply.TheVariants as reply
 use Rattle.aim_msg.specs.Same.{same_message}
 use Rattle.aim_geometry.specs.Bounded.{least_below, find_map}
 use Rattle.aim_paths.specs.Intersection.{Intersection}
-use Rattle.aim_rules.specs.Cells.{Cell, IsIn, cells}
+use Rattle.aim_geometry.specs.Cells.{Cell}
+use Rattle.aim_rules.specs.Cells.{IsIn, cells}
 use Rattle.aim_rules.specs.Bad.{bad, is_fast_made}
 use Rattle.aim_rules.specs.History.{Fresh, fresh, is_fresh_seq, now_of, of_vehicle, message_at}
 use Rattle.aim_rules.specs.Holds.{holding, reservations, taken_by, is_number}

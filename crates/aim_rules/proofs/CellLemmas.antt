@@ -13,7 +13,8 @@ use Rattle.aim_msg.specs.declared.messages.Params.{Params}
 use Rattle.aim_geometry.specs.Ground.{is_edge}
 use Rattle.aim_paths.specs.Intersection.{Intersection}
 use Rattle.aim_rules.specs.Footprint.{crossing_steps, in_footprint}
-use Rattle.aim_rules.specs.Cells.{Cell, IsIn, block, is_buffered, in_cells, cells, steps_of}
+use Rattle.aim_geometry.specs.Cells.{Cell}
+use Rattle.aim_rules.specs.Cells.{IsIn, block, is_buffered, in_cells, cells, steps_of}
 use Rattle.aim_geometry.proofs.BoundedLemmas.{some_below_found}
 
 -- c comes before d by step, row and column

@@ -5,7 +5,8 @@ use Rattle.std.specs.Option.{option_or}
 use Rattle.aim_msg.specs.declared.messages.Params.{Params}
 use Rattle.aim_msg.specs.declared.replies.Reason.TheVariants as reason
 use Rattle.aim_geometry.specs.Bounded.{find_map}
-use Rattle.aim_rules.specs.Cells.{Cell, IsIn, cells}
+use Rattle.aim_geometry.specs.Cells.{Cell}
+use Rattle.aim_rules.specs.Cells.{IsIn, cells}
 use Rattle.aim_rules.specs.Claims.{green}
 use Rattle.aim_rules.specs.History.{Fresh}
 use Rattle.aim_rules.specs.Holds.{reservations, taken_by, is_granted}

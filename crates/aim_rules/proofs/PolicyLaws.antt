@@ -8,7 +8,7 @@ use Rattle.std.proofs.lemmas.List.Elements.{filter_map-append}
 use Rattle.aim_msg.specs.declared.entries.Entry.{Entry}
 use Rattle.aim_geometry.specs.Bounded.{last, least_below}
 use Rattle.aim_paths.specs.Intersection.{Intersection}
-use Rattle.aim_rules.specs.Cells.{Cell}
+use Rattle.aim_geometry.specs.Cells.{Cell}
 use Rattle.aim_rules.specs.History.{is_stop}
 use Rattle.aim_rules.specs.Timeline.{InForce, change_with, is_from_at, policy_at}
 use Rattle.aim_paths.specs.Policies.{has_lane}

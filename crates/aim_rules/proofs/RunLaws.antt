@@ -14,7 +14,8 @@ use Rattle.aim_msg.specs.declared.entries.Order.TheVariants as order
 use Rattle.aim_msg.specs.declared.entries.Entry.{Entry}
 use Rattle.aim_msg.specs.declared.replies.Reply.TheVariants as reply
 use Rattle.aim_paths.specs.Intersection.{Intersection}
-use Rattle.aim_rules.specs.Cells.{Cell, IsIn}
+use Rattle.aim_geometry.specs.Cells.{Cell}
+use Rattle.aim_rules.specs.Cells.{IsIn}
 use Rattle.aim_rules.specs.History.{Fresh, fresh, now_of}
 use Rattle.aim_rules.specs.Answer.{answer}
 use Rattle.aim_rules.specs.Legal.{IsLegal, MayAct}

@@ -11,7 +11,8 @@ use Rattle.aim_geometry.specs.Ground.{is_touched, is_edge}
 use Rattle.aim_paths.specs.Intersection.{Intersection, stations}
 use Rattle.aim_rules.specs.Motion.{front}
 use Rattle.aim_rules.specs.Footprint.{path_length, crossing_steps, in_footprint}
-use Rattle.aim_rules.specs.Cells.{Cell, is_buffered, in_cells}
+use Rattle.aim_geometry.specs.Cells.{Cell}
+use Rattle.aim_rules.specs.Cells.{is_buffered, in_cells}
 use Rattle.aim_rules.specs.Bad.{bad}
 use Rattle.aim_geometry.proofs.BoundedLemmas.{some_below_at, some_below_found}
 use Rattle.aim_rules.proofs.MotionLemmas.{front_zero, front_more, crossing_steps-least}

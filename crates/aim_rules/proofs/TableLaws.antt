@@ -10,7 +10,7 @@ use Rattle.aim_msg.specs.declared.entries.Entry.{Entry}
 use Rattle.aim_geometry.specs.Bounded.{least_below}
 use Rattle.aim_geometry.proofs.BoundedLemmas.{least_below_none, least_below_at, least_below_found}
 use Rattle.aim_paths.specs.Intersection.{Intersection}
-use Rattle.aim_rules.specs.Cells.{Cell}
+use Rattle.aim_geometry.specs.Cells.{Cell}
 use Rattle.aim_rules.specs.History.{Fresh, fresh, is_fresh, is_fresh_message, now_of, message_of, message_at, params_of, params_at, is_stop}
 use Rattle.aim_rules.specs.Timeline.{policy_at, change_with}
 use Rattle.aim_rules.specs.Approach.{is_coming}

@@ -14,7 +14,8 @@ use Rattle.aim_msg.specs.declared.replies.Reply.{Reply}
 use Rattle.aim_geometry.specs.Bounded.{some_below}
 use Rattle.aim_geometry.proofs.BoundedLemmas.{least_below_none, least_below_at, some_below_none}
 use Rattle.aim_paths.specs.Intersection.{Intersection}
-use Rattle.aim_rules.specs.Cells.{Cell, IsIn, cells}
+use Rattle.aim_geometry.specs.Cells.{Cell}
+use Rattle.aim_rules.specs.Cells.{IsIn, cells}
 use Rattle.aim_rules.specs.History.{Fresh, fresh, is_fresh, is_fresh_seq, is_confirm, of_vehicle, params_of, params_at, given_up_at, now_of}
 use Rattle.aim_rules.specs.Holds.{is_number, is_fast, granted_with, is_granted, is_granted_with, last_confirm, is_given_up, holding, holds, reservations, taken_by}
 use Rattle.aim_rules.specs.Answer.{answer}

@@ -13,7 +13,7 @@ use Rattle.aim_msg.specs.declared.replies.Reply.{Reply}
 use Rattle.aim_msg.specs.declared.replies.Reply.TheVariants as reply
 use Rattle.aim_geometry.specs.Bounded.{greatest, max_with}
 use Rattle.aim_paths.specs.Intersection.{Intersection}
-use Rattle.aim_rules.specs.Cells.{Cell}
+use Rattle.aim_geometry.specs.Cells.{Cell}
 use Rattle.aim_rules.specs.Bad.{bad}
 use Rattle.aim_rules.specs.History.{Fresh, fresh, is_fresh, is_fresh_seq, is_confirm, params_of, given_up_at, message_of, now_of}
 use Rattle.aim_rules.specs.Holds.{is_number, granted, is_granted, is_granted_with, holding}

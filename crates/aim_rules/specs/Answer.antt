@@ -20,7 +20,8 @@ use Rattle.aim_paths.specs.declared.policies.Kind.TheVariants as kind
 use Rattle.aim_geometry.specs.Bounded.{least, greatest, find_map}
 use Rattle.aim_paths.specs.Intersection.{Intersection}
 use Rattle.aim_rules.specs.Footprint.{crossing_steps}
-use Rattle.aim_rules.specs.Cells.{Cell, cells}
+use Rattle.aim_geometry.specs.Cells.{Cell}
+use Rattle.aim_rules.specs.Cells.{cells}
 use Rattle.aim_rules.specs.Bad.{bad, is_fast_made}
 use Rattle.aim_rules.specs.History.{Fresh, fresh, of_vehicle, now_of, messages_of, is_fresh_seq, message_at, is_stop}
 use Rattle.aim_rules.specs.Holds.{holds, holding, reservations, taken_by, granted, is_number}

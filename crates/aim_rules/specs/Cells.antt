@@ -3,14 +3,10 @@ use Rattle.std.specs.Prelude.{◌≡◌, ◌⊎◌, ℕ, [], ◌∷◌, ◌+◌,
 use Rattle.std.specs.List.{range_with_len}
 use Rattle.aim_msg.specs.declared.messages.Params.{Params}
 use Rattle.aim_geometry.specs.Bounded.{some_below}
+use Rattle.aim_geometry.specs.Cells.{Cell}
 use Rattle.aim_geometry.specs.Ground.{is_edge}
 use Rattle.aim_paths.specs.Intersection.{Intersection}
 use Rattle.aim_rules.specs.Footprint.{in_footprint, crossing_steps}
-
-pub record Cell : Type 0 where
-  pub row : ℕ
-  pub col : ℕ
-  pub step : ℕ
 
 -- whether a tile that the vehicle needs at the step `at` is kept in the step s
 abbrev pub is_buffered : Intersection → ℕ → ℕ → ℕ → ℕ → Bool

@@ -4,7 +4,7 @@ use Rattle.std.specs.List.{list_any, range_with_len}
 use Rattle.aim_msg.specs.declared.entries.Entry.{Entry}
 use Rattle.aim_geometry.specs.Bounded.{some_below}
 use Rattle.aim_paths.specs.Intersection.{Intersection}
-use Rattle.aim_rules.specs.Cells.{Cell}
+use Rattle.aim_geometry.specs.Cells.{Cell}
 use Rattle.aim_rules.specs.History.{Fresh, fresh, now_of}
 use Rattle.aim_rules.specs.Holds.{reservations, is_granted}
 use Rattle.aim_rules.specs.Claims.{is_claimed}

@@ -6,7 +6,7 @@ use Rattle.aim_geometry.specs.Bounded.{least_below}
 use Rattle.aim_paths.specs.Intersection.{Intersection}
 use Rattle.aim_paths.specs.Policies.{has_lane}
 use Rattle.aim_paths.specs.LaneTiles.{in_lane_tiles}
-use Rattle.aim_rules.specs.Cells.{Cell}
+use Rattle.aim_geometry.specs.Cells.{Cell}
 use Rattle.aim_rules.specs.Lights.{green_at}
 
 -- whether the lane claims the cell: its tile is the lane's, and the lane is green then or was so at most the clearance before

@@ -7,7 +7,7 @@ use Rattle.aim_msg.specs.declared.entries.Entry.{Entry}
 use Rattle.aim_msg.specs.declared.replies.Reply.{Reply}
 use Rattle.aim_geometry.specs.Bounded.{last, min_with, least_below, some_below}
 use Rattle.aim_paths.specs.Intersection.{Intersection}
-use Rattle.aim_rules.specs.Cells.{Cell}
+use Rattle.aim_geometry.specs.Cells.{Cell}
 use Rattle.aim_rules.specs.History.{Fresh, message_at, params_at, given_up_at, is_confirm}
 use Rattle.aim_rules.specs.Holds.{is_number, granted, is_granted, last_confirm, is_given_up}
 use Rattle.aim_rules.specs.Distance.{is_blocked_reply, asked_from}

@@ -16,7 +16,8 @@ use Rattle.aim_msg.specs.Same.{same_message}
 use Rattle.aim_geometry.specs.Bounded.{least_below, find_map}
 use Rattle.aim_paths.specs.Intersection.{Intersection}
 use Rattle.aim_rules.specs.Footprint.{crossing_steps}
-use Rattle.aim_rules.specs.Cells.{Cell, cells}
+use Rattle.aim_geometry.specs.Cells.{Cell}
+use Rattle.aim_rules.specs.Cells.{cells}
 use Rattle.aim_rules.specs.Bad.{bad, is_fast_made}
 use Rattle.aim_rules.specs.History.{Fresh, fresh, now_of, message_at}
 use Rattle.aim_rules.specs.Holds.{is_number}

@@ -12,7 +12,7 @@ use Rattle.aim_msg.specs.declared.replies.Reply.TheVariants as reply
 use Rattle.aim_rules.specs.Journals.{Call}
 use Rattle.aim_geometry.specs.Bounded.{some_below}
 use Rattle.aim_paths.specs.Intersection.{Intersection}
-use Rattle.aim_rules.specs.Cells.{Cell}
+use Rattle.aim_geometry.specs.Cells.{Cell}
 use Rattle.aim_rules.specs.History.{Fresh, fresh, now_of, params_of, params_at, message_of, is_stop}
 use Rattle.aim_rules.specs.Timeline.{InForce, change_with, policy_at}
 use Rattle.aim_rules.specs.Approach.{is_coming}

@@ -8,7 +8,9 @@ use Rattle.std.proofs.lemmas.Nat.Bits.{bit_at_above}
 use Rattle.std.proofs.lemmas.List.{get_or_default}
 use Rattle.std.proofs.lemmas.List.Folds.{list_any_at, Any-from_list_any}
 use Rattle.aim_pool.specs.declared.spans.Span.{Span}
-use Rattle.aim_pool.specs.Spans.{Cell, has_bit, is_at, in_span, in_spans, AreMarked}
+use Rattle.aim_geometry.specs.Cells.{Cell, cell_at}
+use Rattle.aim_geometry.specs.Rects.{has_bit}
+use Rattle.aim_pool.specs.Spans.{is_at, in_span, in_spans, AreMarked}
 use Rattle.aim_tiles.specs.Cells.{TakenCells, in_range, has_cell, in_box}
 use Rattle.aim_tiles.specs.Sheets.{AreTiles, AreAhead}
 use Rattle.aim_tiles.proofs.Writes.{row_of_span, step_of_span, below_power, one_bit}
@@ -38,22 +40,22 @@ module _ (spans : List Span) (cell : Cell) (is : in_spans spans cell ≡ true) w
   record At : Type 0 where
     at : ℕ
     within : at < length spans
-    step : (d : Span) → (get_or spans at d).step ≡ cell.0
-    row : (d : Span) → (get_or spans at d).row ≡ cell.1
-    bit : (d : Span) → has_bit (get_or spans at d).mask cell.2 ≡ true
+    step : (d : Span) → (get_or spans at d).step ≡ cell.step
+    row : (d : Span) → (get_or spans at d).row ≡ cell.row
+    bit : (d : Span) → has_bit (get_or spans at d).mask cell.col ≡ true
 
   found_at : At
   found_at =
       let found = Any-from_list_any (λ s. in_span s cell) spans is in
-      let parts = and_parts (is_at found.1 cell.0 cell.1) (has_bit found.1.mask cell.2) found.4 in
-      let place = and_parts (found.1.step == cell.0) (found.1.row == cell.1) parts.0 in
+      let parts = and_parts (is_at found.1 cell.step cell.row) (has_bit found.1.mask cell.col) found.4 in
+      let place = and_parts (found.1.step == cell.step) (found.1.row == cell.row) parts.0 in
       let there : (d : Span) → get_or spans found.0 d ≡ found.1 = λ d. get_or_default spans found.0 d found.1 found.2 ∙ found.3 in
       record {
         at = found.0;
         within = found.2;
-        step = λ d. ap (λ (s : Span). s.step) (there d) ∙ eqb-true found.1.step cell.0 place.0;
-        row = λ d. ap (λ (s : Span). s.row) (there d) ∙ eqb-true found.1.row cell.1 place.1;
-        bit = λ d. ap (λ (s : Span). has_bit s.mask cell.2) (there d) ∙ parts.1;
+        step = λ d. ap (λ (s : Span). s.step) (there d) ∙ eqb-true found.1.step cell.step place.0;
+        row = λ d. ap (λ (s : Span). s.row) (there d) ∙ eqb-true found.1.row cell.row place.1;
+        bit = λ d. ap (λ (s : Span). has_bit s.mask cell.col) (there d) ∙ parts.1;
       }
 
 module _ (spans : List Span) (marked : AreMarked spans) where
@@ -67,13 +69,13 @@ module _ (spans : List Span) (marked : AreMarked spans) where
       to all cell is =
           let f : At spans cell is = found_at spans cell is in
           let b = all f.at e f.within in
-          (omega (arith, b.0, f.row e), bit_below (get_or spans f.at e).mask size cell.2 b.1 (f.bit e))
+          (omega (arith, b.0, f.row e), bit_below (get_or spans f.at e).mask size cell.col b.1 (f.bit e))
 
       from : AreTiles size spans → All (λ span. (span.row < size) × (span.mask < 2 ^ size)) spans
       from tiles k d lt = (
         row_of_span spans k d lt marked size tiles,
-        mask_fits (get_or spans k d).mask size (λ c bit. (tiles ((get_or spans k d).step, (get_or spans k d).row, c)
-            (list_any_at (λ s. in_span s ((get_or spans k d).step, (get_or spans k d).row, c)) spans k d lt
+        mask_fits (get_or spans k d).mask size (λ c bit. (tiles (cell_at (get_or spans k d).step (get_or spans k d).row c)
+            (list_any_at (λ s. in_span s (cell_at (get_or spans k d).step (get_or spans k d).row c)) spans k d lt
             (and_from (is_at (get_or spans k d) (get_or spans k d).step (get_or spans k d).row) (has_bit (get_or spans k d).mask c)
             (and_from ((get_or spans k d).step == (get_or spans k d).step) ((get_or spans k d).row == (get_or spans k d).row) (eq-eqb (get_or spans k d).step (get_or spans k d).step refl) (eq-eqb (get_or spans k d).row (get_or spans k d).row refl)) bit))).1),
       )

@@ -7,7 +7,9 @@ use Rattle.std.proofs.lemmas.Bool.{and_parts, and_from, both_ways, false_from_ne
 use Rattle.std.proofs.lemmas.List.{get_or_default, get_or-drop, get_or-take, length-take, length-drop}
 use Rattle.std.proofs.lemmas.List.Folds.{list_any_at, Any-from_list_any}
 use Rattle.aim_pool.specs.declared.spans.Span.{Span}
-use Rattle.aim_pool.specs.Spans.{Cell, has_bit, is_at, in_span, in_spans, AreRising, AreMarked}
+use Rattle.aim_geometry.specs.Cells.{Cell, cell_at}
+use Rattle.aim_geometry.specs.Rects.{has_bit}
+use Rattle.aim_pool.specs.Spans.{is_at, in_span, in_spans, AreRising, AreMarked}
 use Rattle.aim_pool.proofs.Order.{Precedes, precedes_parts, is_at_parts}
 use Rattle.aim_tiles.specs.Cells.{TakenCells, cell_cmp, has_cell}
 use Rattle.aim_tiles.specs.Pages.{is_marked}
@@ -84,7 +86,7 @@ module _ (spans : List Span) (at : ℕ) (le : at ≤ length spans) where
               | inr from ↦ (let e : at + (k - at) ≡ k = omega arith in
                   subst (λ (s : Span). IsClear test s) (run_at (k - at) d (omega arith) ∙ ap (λ m. get_or spans m d) e) (is.before (k - at) d (omega arith)))
             ];
-            lowest = λ d column below. subst (λ (s : Span). test s (cell.0, cell.1, column) ≡ false) (run_at is.place d lt) (is.lowest d column below);
+            lowest = λ d column below. subst (λ (s : Span). test s (cell_at cell.step cell.row column) ≡ false) (run_at is.place d lt) (is.lowest d column below);
           }
 
       pub clear_of_run : ((k : ℕ) (d : Span) → k < length (take count rest) → IsClear test (get_or (take count rest) k d)) → (k : ℕ) (d : Span) → k < at + count → IsClear test (get_or spans k d)
@@ -102,16 +104,16 @@ equal : (a b : ℕ) → a ≡ b → nat_cmp a b ≡ Equal
 equal a b e = rw (le-ltb a b (omega arith), eq-eqb a b e) refl
 
 -- one cell is not after another
-earlier_step : (a b : Cell) → a.0 < b.0 → is_le (cell_cmp a b) ≡ true
-earlier_step a b lt = rw (less a.0 b.0 lt) refl
+earlier_step : (a b : Cell) → a.step < b.step → is_le (cell_cmp a b) ≡ true
+earlier_step a b lt = rw (less a.step b.step lt) refl
 
-lower_row : (a b : Cell) → a.0 ≡ b.0 → a.1 < b.1 → is_le (cell_cmp a b) ≡ true
-lower_row a b e lt = rw (equal a.0 b.0 e, less a.1 b.1 lt) refl
+lower_row : (a b : Cell) → a.step ≡ b.step → a.row < b.row → is_le (cell_cmp a b) ≡ true
+lower_row a b e lt = rw (equal a.step b.step e, less a.row b.row lt) refl
 
-no_higher_column : (a b : Cell) → a.0 ≡ b.0 → a.1 ≡ b.1 → a.2 ≤ b.2 → is_le (cell_cmp a b) ≡ true
-no_higher_column a b e f le = elim (cases_eq a.2 b.2) [
-  | inl same ↦ rw (equal a.0 b.0 e, equal a.1 b.1 f, equal a.2 b.2 same) refl
-  | inr other ↦ rw (equal a.0 b.0 e, equal a.1 b.1 f, less a.2 b.2 (omega arith)) refl
+no_higher_column : (a b : Cell) → a.step ≡ b.step → a.row ≡ b.row → a.col ≤ b.col → is_le (cell_cmp a b) ≡ true
+no_higher_column a b e f le = elim (cases_eq a.col b.col) [
+  | inl same ↦ rw (equal a.step b.step e, equal a.row b.row f, equal a.col b.col same) refl
+  | inr other ↦ rw (equal a.step b.step e, equal a.row b.row f, less a.col b.col (omega arith)) refl
 ]
 
 module _ (words : List ℕ) (size horizon now : ℕ) (spans own : List Span) (table : TakenCells) (is : view_of words size horizon now ≡ table) where
@@ -140,8 +142,8 @@ module _ (words : List ℕ) (size horizon now : ℕ) (spans own : List Span) (ta
       let hit : hits found.1 cell ≡ true = and_from (in_span found.1 cell) (is_marked words size horizon now cell && not (in_spans own cell)) found.4 (sym (ap (λ b. b && not (in_spans own cell)) (held cell)) ∙ parts.1) in
       record { at = found.0; within = found.2; hit = λ d. subst (λ (s : Span). hits s cell ≡ true) (sym (get_or_default spans found.0 d found.1 found.2 ∙ found.3)) hit }
 
-  place_of_hit : (span : Span) (cell : Cell) → hits span cell ≡ true → (span.step ≡ cell.0) × (span.row ≡ cell.1)
-  place_of_hit span cell hit = is_at_parts span cell.0 cell.1 (and_parts (is_at span cell.0 cell.1) (has_bit span.mask cell.2) (and_parts (in_span span cell) (is_marked words size horizon now cell && not (in_spans own cell)) hit).0).0
+  place_of_hit : (span : Span) (cell : Cell) → hits span cell ≡ true → (span.step ≡ cell.step) × (span.row ≡ cell.row)
+  place_of_hit span cell hit = is_at_parts span cell.step cell.row (and_parts (is_at span cell.step cell.row) (has_bit span.mask cell.col) (and_parts (in_span span cell) (is_marked words size horizon now cell && not (in_spans own cell)) hit).0).0
 
   module _ (rising : AreRising spans) (cell : Cell) (first : IsFirstHit hits spans cell) where
     e : Span
@@ -153,17 +155,17 @@ module _ (words : List ℕ) (size horizon now : ℕ) (spans own : List Span) (ta
         let there = place_of_hit (get_or spans hit.at e) other (hit.hit e) in
         elim (cases_order first.place hit.at) [
           | inl same ↦ (
-              let s : cell.0 ≡ other.0 = sym here.0 ∙ ap (λ k. (get_or spans k e).step) same ∙ there.0 in
-              let r : cell.1 ≡ other.1 = sym here.1 ∙ ap (λ k. (get_or spans k e).row) same ∙ there.1 in
-              elim (cases_lt other.2 cell.2) [
-                | inl lower ↦ absurd (both_ways (hits (get_or spans first.place e) (cell.0, cell.1, other.2)) (first.lowest e other.2 lower)
-                    (subst (λ k. hits (get_or spans k e) (cell.0, cell.1, other.2) ≡ true) (sym same) ((λ i. hits (get_or spans hit.at e) (s i, r i, other.2)) ∙ hit.hit e)))
+              let s : cell.step ≡ other.step = sym here.0 ∙ ap (λ k. (get_or spans k e).step) same ∙ there.0 in
+              let r : cell.row ≡ other.row = sym here.1 ∙ ap (λ k. (get_or spans k e).row) same ∙ there.1 in
+              elim (cases_lt other.col cell.col) [
+                | inl lower ↦ absurd (both_ways (hits (get_or spans first.place e) (cell_at cell.step cell.row other.col)) (first.lowest e other.col lower)
+                    (subst (λ k. hits (get_or spans k e) (cell_at cell.step cell.row other.col) ≡ true) (sym same) ((λ i. hits (get_or spans hit.at e) (cell_at (s i) (r i) other.col)) ∙ hit.hit e)))
                 | inr le ↦ no_higher_column cell other s r le
               ])
           | inr (inl before) ↦ (
               let p : Precedes (get_or spans first.place e) (get_or spans hit.at e).step (get_or spans hit.at e).row
               = precedes_parts (get_or spans first.place e) (get_or spans hit.at e).step (get_or spans hit.at e).row (rising first.place hit.at e before hit.within) in
-              elim (cases_eq cell.0 other.0) [
+              elim (cases_eq cell.step other.step) [
                 | inl s ↦ lower_row cell other s (let l : (get_or spans first.place e).row < (get_or spans hit.at e).row = p.lower (here.0 ∙ s ∙ sym there.0) in omega (arith, l, here.1, there.1))
                 | inr n ↦ earlier_step cell other (omega (arith, p.no_later, here.0, there.0, n))
               ])
@@ -180,14 +182,14 @@ module _ (words : List ℕ) (size horizon now : ℕ) (spans own : List Span) (ta
   none_taken clear cell = false_from_ne_true (is_taken table spans own cell) (λ taken. (let h : HitAt cell = hit_of_taken cell taken in
       both_ways (hits (get_or spans h.at (record { step = 0; row = 0; mask = 0 })) cell) (clear h.at (record { step = 0; row = 0; mask = 0 }) h.within cell) (h.hit (record { step = 0; row = 0; mask = 0 }))))
 
--- the same for what a search gives
-pub taken_found : (words : List ℕ) (size horizon now : ℕ) (spans read own : List Span) (table : TakenCells) (found : Option Cell) → view_of words size horizon now ≡ table → read ≡ spans → AreRising read
-    → IfSome found (IsFirstHit (is_hit words size horizon now own) read) → IfSome found (IsFirst (is_taken table spans own))
+-- what a search gives is first, and where it gives none there is none
+pub taken_found : (words : List ℕ) (size horizon now : ℕ) (spans read own : List Span) (table : TakenCells) (found : Option (ℕ × ℕ × ℕ)) → view_of words size horizon now ≡ table → read ≡ spans → AreRising read
+    → IfSome found (λ r. IsFirstHit (is_hit words size horizon now own) read (cell_at r.0 r.1 r.2)) → IfSome found (λ r. IsFirst (is_taken table spans own) (cell_at r.0 r.1 r.2))
 taken_found words size horizon now spans read own table found is same rising first =
-    some_then found (IsFirstHit (is_hit words size horizon now own) read) (IsFirst (is_taken table spans own))
-    (λ cell hit. subst (λ (ss : List Span). IsFirst (is_taken table ss own) cell) same (first_taken_is words size horizon now read own table is rising cell hit)) first
+    some_then found (λ r. IsFirstHit (is_hit words size horizon now own) read (cell_at r.0 r.1 r.2)) (λ r. IsFirst (is_taken table spans own) (cell_at r.0 r.1 r.2))
+    (λ r hit. subst (λ (ss : List Span). IsFirst (is_taken table ss own) (cell_at r.0 r.1 r.2)) same (first_taken_is words size horizon now read own table is rising (cell_at r.0 r.1 r.2) hit)) first
 
-pub taken_none : (words : List ℕ) (size horizon now : ℕ) (spans read own : List Span) (table : TakenCells) (found : Option Cell) → view_of words size horizon now ≡ table → read ≡ spans
+pub taken_none : (words : List ℕ) (size horizon now : ℕ) (spans read own : List Span) (table : TakenCells) (found : Option (ℕ × ℕ × ℕ)) → view_of words size horizon now ≡ table → read ≡ spans
     → IfNone found ((k : ℕ) (d : Span) → k < length read → IsClear (is_hit words size horizon now own) (get_or read k d)) → IfNone found ((cell : Cell) → is_taken table spans own cell ≡ false)
 taken_none words size horizon now spans read own table None is same clear = λ cell. subst (λ (ss : List Span). is_taken table ss own cell ≡ false) same (none_taken words size horizon now read own table is clear cell)
-taken_none words size horizon now spans read own table (Some cell) is same clear = tt
+taken_none words size horizon now spans read own table (Some r) is same clear = tt

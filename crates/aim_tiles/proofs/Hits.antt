@@ -8,8 +8,10 @@ use Rattle.std.proofs.lemmas.Nat.Bits.{bit_at_not, bit_at-lt, bit_at-trailing_ze
 use Rattle.std.proofs.lemmas.List.{get_or_default, get_or-drop, get_or-take}
 use Rattle.std.proofs.lemmas.List.Folds.{list_any_at}
 use Rattle.aim_pool.specs.declared.spans.Span.{Span}
-use Rattle.aim_pool.specs.Spans.{Cell, has_bit, is_at, in_span, in_spans}
-use Rattle.aim_pool.proofs.Bits.{has_bit_and}
+use Rattle.aim_geometry.specs.Cells.{Cell, cell_at}
+use Rattle.aim_geometry.specs.Rects.{has_bit}
+use Rattle.aim_pool.specs.Spans.{is_at, in_span, in_spans}
+use Rattle.aim_geometry.proofs.Bits.{has_bit_and}
 use Rattle.aim_pool.proofs.Masks.{no_bit}
 use Rattle.aim_tiles.specs.Cells.{in_box, in_range}
 use Rattle.aim_tiles.specs.Pages.{place_of, has_mark, is_marked}
@@ -29,35 +31,35 @@ hit_bit mask word own c fits lt =
     ∙ rw (has_bit_and mask word c, bit_at_not w64 own c fits lt, turned (bit_at own c) (bit_at-lt own c)) refl
 
 module _ (words : List ℕ) (size horizon now : ℕ) (few : size ≤ 64) (own : List Span) (span : Span) (word : ℕ)
-    (is_word : (c : ℕ) → has_mark words size horizon (span.step, span.row, c) ≡ has_bit word c) where
+    (is_word : (c : ℕ) → has_mark words size horizon (cell_at span.step span.row c) ≡ has_bit word c) where
   -- what a hit in this column says
   abbrev meets : ℕ → Bool
-  meets c = (has_bit span.mask c && has_bit word c) && not (in_spans own (span.step, span.row, c))
+  meets c = (has_bit span.mask c && has_bit word c) && not (in_spans own (cell_at span.step span.row c))
 
-  hit_meets : (cell : Cell) → is_hit words size horizon now own span cell ≡ true → (meets cell.2 ≡ true) × (cell.2 < 64)
+  hit_meets : (cell : Cell) → is_hit words size horizon now own span cell ≡ true → (meets cell.col ≡ true) × (cell.col < 64)
   hit_meets cell is =
       let parts = and_parts (in_span span cell) (is_marked words size horizon now cell && not (in_spans own cell)) is in
-      let here = and_parts (is_at span cell.0 cell.1) (has_bit span.mask cell.2) parts.0 in
-      let at = and_parts (span.step == cell.0) (span.row == cell.1) here.0 in
-      let s : span.step ≡ cell.0 = eqb-true span.step cell.0 at.0 in
-      let r : span.row ≡ cell.1 = eqb-true span.row cell.1 at.1 in
+      let here = and_parts (is_at span cell.step cell.row) (has_bit span.mask cell.col) parts.0 in
+      let at = and_parts (span.step == cell.step) (span.row == cell.row) here.0 in
+      let s : span.step ≡ cell.step = eqb-true span.step cell.step at.0 in
+      let r : span.row ≡ cell.row = eqb-true span.row cell.row at.1 in
       let rest = and_parts (is_marked words size horizon now cell) (not (in_spans own cell)) parts.1 in
       let held = and_parts (in_box size horizon now cell) (has_mark words size horizon cell) rest.0 in
       let box : InBox size horizon now cell = box_parts size horizon now cell held.0 in
-      let mark : has_bit word cell.2 ≡ true = sym (is_word cell.2) ∙ (λ i. has_mark words size horizon (s i, r i, cell.2)) ∙ held.1 in
-      let other : not (in_spans own (span.step, span.row, cell.2)) ≡ true = (λ i. not (in_spans own (s i, r i, cell.2))) ∙ rest.1 in (
-        and_from (has_bit span.mask cell.2 && has_bit word cell.2) (not (in_spans own (span.step, span.row, cell.2))) (and_from (has_bit span.mask cell.2) (has_bit word cell.2) here.1 mark) other,
+      let mark : has_bit word cell.col ≡ true = sym (is_word cell.col) ∙ (λ i. has_mark words size horizon (cell_at (s i) (r i) cell.col)) ∙ held.1 in
+      let other : not (in_spans own (cell_at span.step span.row cell.col)) ≡ true = (λ i. not (in_spans own (cell_at (s i) (r i) cell.col))) ∙ rest.1 in (
+        and_from (has_bit span.mask cell.col && has_bit word cell.col) (not (in_spans own (cell_at span.step span.row cell.col))) (and_from (has_bit span.mask cell.col) (has_bit word cell.col) here.1 mark) other,
         omega (arith, box.column, few),
       )
 
   pub clear_at : ((c : ℕ) → c < 64 → meets c ≡ false) → IsClear (is_hit words size horizon now own) span
-  clear_at none cell = false_from_ne_true (is_hit words size horizon now own span cell) (λ is. (let h = hit_meets cell is in both_ways (meets cell.2) (none cell.2 h.1) h.0))
+  clear_at none cell = false_from_ne_true (is_hit words size horizon now own span cell) (λ is. (let h = hit_meets cell is in both_ways (meets cell.col) (none cell.col h.1) h.0))
 
   -- the words share no bit
   pub clear_apart : bit_and span.mask word ≡ 0 → IsClear (is_hit words size horizon now own) span
-  clear_apart apart = clear_at (λ c _. and_left (has_bit span.mask c && has_bit word c) (not (in_spans own (span.step, span.row, c))) (sym (has_bit_and span.mask word c) ∙ ap (λ m. has_bit m c) apart ∙ no_bit c))
+  clear_apart apart = clear_at (λ c _. and_left (has_bit span.mask c && has_bit word c) (not (in_spans own (cell_at span.step span.row c))) (sym (has_bit_and span.mask word c) ∙ ap (λ m. has_bit m c) apart ∙ no_bit c))
 
-  module _ (own_mask : ℕ) (fits : own_mask < 2 ^ 64) (is_own : (c : ℕ) → has_bit own_mask c ≡ in_spans own (span.step, span.row, c)) where
+  module _ (own_mask : ℕ) (fits : own_mask < 2 ^ 64) (is_own : (c : ℕ) → has_bit own_mask c ≡ in_spans own (cell_at span.step span.row c)) where
     abbrev hit : ℕ
     hit = bit_and (bit_and span.mask word) (bit_not w64 own_mask)
 
@@ -69,13 +71,13 @@ module _ (words : List ℕ) (size horizon now : ℕ) (few : size ≤ 64) (own : 
     clear_own none = clear_at (λ c lt. sym (bit_meets c lt) ∙ ap (λ m. has_bit m c) none ∙ no_bit c)
 
     -- they share more
-    pub hit_lowest : hit ≢ 0 → hit < 2 ^ 64 → (trailing_zeros w64 hit < 64) × (meets (trailing_zeros w64 hit) ≡ true) × ((c : ℕ) → c < trailing_zeros w64 hit → is_hit words size horizon now own span (span.step, span.row, c) ≡ false)
+    pub hit_lowest : hit ≢ 0 → hit < 2 ^ 64 → (trailing_zeros w64 hit < 64) × (meets (trailing_zeros w64 hit) ≡ true) × ((c : ℕ) → c < trailing_zeros w64 hit → is_hit words size horizon now own span (cell_at span.step span.row c) ≡ false)
     hit_lowest some below =
         let t = bit_at-trailing_zeros w64 hit (omega (arith, some)) below in (
           t.0,
           sym (bit_meets (trailing_zeros w64 hit) t.0) ∙ eq-eqb (bit_at hit (trailing_zeros w64 hit)) 1 t.1,
-          λ c lt. false_from_ne_true (is_hit words size horizon now own span (span.step, span.row, c)) (λ is.
-              (let h = hit_meets (span.step, span.row, c) is in
+          λ c lt. false_from_ne_true (is_hit words size horizon now own span (cell_at span.step span.row c)) (λ is.
+              (let h = hit_meets (cell_at span.step span.row c) is in
               let zero_bit : has_bit hit c ≡ false = ap (λ b. b == 1) (t.2 c lt) in
               both_ways (has_bit hit c) zero_bit (bit_meets c h.1 ∙ h.0))),
         )
@@ -84,7 +86,7 @@ module _ (words : List ℕ) (size horizon now : ℕ) (few : size ≤ 64) (own : 
 module _ (words : List ℕ) (size horizon place : ℕ) (run : List Span) (masks : List ℕ) (is_run : IsRun run masks (length run)) (e : Span)
     (is_place : place ≡ place_of size horizon (get_or run 0 e).step (get_or run 0 e).row) where
   pub word_of_run : (read : List ℕ) → read ≡ slice_range words place (place + length run) → (k : ℕ) → k < length run
-      → (c : ℕ) → has_mark words size horizon ((get_or run k e).step, (get_or run k e).row, c) ≡ has_bit (get_or read k 0) c
+      → (c : ℕ) → has_mark words size horizon (cell_at (get_or run k e).step (get_or run k e).row c) ≡ has_bit (get_or read k 0) c
   word_of_run read is k lt c =
       let s : (get_or run k e).step ≡ (get_or run 0 e).step = is_run.step k e lt in
       let r : (get_or run k e).row ≡ (get_or run 0 e).row + k = is_run.row k e lt in
@@ -104,7 +106,7 @@ module _ (words : List ℕ) (size horizon place : ℕ) (run : List Span) (masks 
     run_apart apart = at_default (IsClear (is_hit words size horizon now own))
         (clear_apart words size horizon now few own (get_or run k e) (get_or read k 0) (word_of_run read is_read k lt) (ap (λ m. bit_and m (get_or read k 0)) (sym (is_run.mask k e lt)) ∙ apart))
 
-    module _ (own_mask : ℕ) (fits : own_mask < 2 ^ 64) (is_own : (c : ℕ) → has_bit own_mask c ≡ in_spans own ((get_or run k e).step, (get_or run k e).row, c)) where
+    module _ (own_mask : ℕ) (fits : own_mask < 2 ^ 64) (is_own : (c : ℕ) → has_bit own_mask c ≡ in_spans own (cell_at (get_or run k e).step (get_or run k e).row c)) where
       abbrev left_over : ℕ
       left_over = bit_and (bit_and (get_or run k e).mask (get_or read k 0)) (bit_not w64 own_mask)
 
@@ -115,30 +117,30 @@ module _ (words : List ℕ) (size horizon place : ℕ) (run : List Span) (masks 
 
       -- they share another one
       pub run_hit : left_over ≢ 0 → (get_or run k e).mask < 2 ^ 64 → AreTiles size run → in_range now horizon (get_or run 0 e).step ≡ true → ((j : ℕ) (d : Span) → j < k → IsClear (is_hit words size horizon now own) (get_or run j d))
-          → IsFirstHit (is_hit words size horizon now own) run ((get_or run k e).step, (get_or run k e).row, trailing_zeros w64 left_over)
+          → IsFirstHit (is_hit words size horizon now own) run (cell_at (get_or run k e).step (get_or run k e).row (trailing_zeros w64 left_over))
       run_hit some mask_fits tiles range before =
           let column : ℕ = trailing_zeros w64 left_over in
           let below : left_over < 2 ^ 64 = omega (arith, and_le_l (bit_and (get_or run k e).mask (get_or read k 0)) (bit_not w64 own_mask), and_le_l (get_or run k e).mask (get_or read k 0), mask_fits) in
           let h = hit_lowest words size horizon now few own (get_or run k e) (get_or read k 0) (word_of_run read is_read k lt) own_mask fits is_own some below in
-          let parts = and_parts (has_bit (get_or run k e).mask (trailing_zeros w64 left_over) && has_bit (get_or read k 0) (trailing_zeros w64 left_over)) (not (in_spans own ((get_or run k e).step, (get_or run k e).row, trailing_zeros w64 left_over))) h.1 in
+          let parts = and_parts (has_bit (get_or run k e).mask (trailing_zeros w64 left_over) && has_bit (get_or read k 0) (trailing_zeros w64 left_over)) (not (in_spans own (cell_at (get_or run k e).step (get_or run k e).row (trailing_zeros w64 left_over)))) h.1 in
           let bits = and_parts (has_bit (get_or run k e).mask (trailing_zeros w64 left_over)) (has_bit (get_or read k 0) (trailing_zeros w64 left_over)) parts.0 in
-          let inside : in_span (get_or run k e) ((get_or run k e).step, (get_or run k e).row, trailing_zeros w64 left_over) ≡ true
+          let inside : in_span (get_or run k e) (cell_at (get_or run k e).step (get_or run k e).row (trailing_zeros w64 left_over)) ≡ true
           = and_from (is_at (get_or run k e) (get_or run k e).step (get_or run k e).row) (has_bit (get_or run k e).mask (trailing_zeros w64 left_over))
           (and_from ((get_or run k e).step == (get_or run k e).step) ((get_or run k e).row == (get_or run k e).row) (eq-eqb (get_or run k e).step (get_or run k e).step refl) (eq-eqb (get_or run k e).row (get_or run k e).row refl)) bits.0 in
-          let tile = tiles ((get_or run k e).step, (get_or run k e).row, trailing_zeros w64 left_over) (list_any_at (λ s. in_span s ((get_or run k e).step, (get_or run k e).row, trailing_zeros w64 left_over)) run k e lt inside) in
-          let box : in_box size horizon now ((get_or run k e).step, (get_or run k e).row, trailing_zeros w64 left_over) ≡ true
+          let tile = tiles (cell_at (get_or run k e).step (get_or run k e).row (trailing_zeros w64 left_over)) (list_any_at (λ s. in_span s (cell_at (get_or run k e).step (get_or run k e).row (trailing_zeros w64 left_over))) run k e lt inside) in
+          let box : in_box size horizon now (cell_at (get_or run k e).step (get_or run k e).row (trailing_zeros w64 left_over)) ≡ true
           = and_from (in_range now horizon (get_or run k e).step) (nat_lt (get_or run k e).row size && nat_lt (trailing_zeros w64 left_over) size)
           (ap (λ s. in_range now horizon s) (is_run.step k e lt) ∙ range)
           (and_from (nat_lt (get_or run k e).row size) (nat_lt (trailing_zeros w64 left_over) size) (lt-ltb (get_or run k e).row size tile.0) (lt-ltb (trailing_zeros w64 left_over) size tile.1)) in
-          let mark : has_mark words size horizon ((get_or run k e).step, (get_or run k e).row, trailing_zeros w64 left_over) ≡ true = word_of_run read is_read k lt (trailing_zeros w64 left_over) ∙ bits.1 in
-          let hit : is_hit words size horizon now own (get_or run k e) ((get_or run k e).step, (get_or run k e).row, trailing_zeros w64 left_over) ≡ true
-          = and_from (in_span (get_or run k e) ((get_or run k e).step, (get_or run k e).row, trailing_zeros w64 left_over)) _ inside
-          (and_from (is_marked words size horizon now ((get_or run k e).step, (get_or run k e).row, trailing_zeros w64 left_over)) (not (in_spans own ((get_or run k e).step, (get_or run k e).row, trailing_zeros w64 left_over)))
-          (and_from (in_box size horizon now ((get_or run k e).step, (get_or run k e).row, trailing_zeros w64 left_over)) (has_mark words size horizon ((get_or run k e).step, (get_or run k e).row, trailing_zeros w64 left_over)) box mark) parts.1) in
+          let mark : has_mark words size horizon (cell_at (get_or run k e).step (get_or run k e).row (trailing_zeros w64 left_over)) ≡ true = word_of_run read is_read k lt (trailing_zeros w64 left_over) ∙ bits.1 in
+          let hit : is_hit words size horizon now own (get_or run k e) (cell_at (get_or run k e).step (get_or run k e).row (trailing_zeros w64 left_over)) ≡ true
+          = and_from (in_span (get_or run k e) (cell_at (get_or run k e).step (get_or run k e).row (trailing_zeros w64 left_over))) _ inside
+          (and_from (is_marked words size horizon now (cell_at (get_or run k e).step (get_or run k e).row (trailing_zeros w64 left_over))) (not (in_spans own (cell_at (get_or run k e).step (get_or run k e).row (trailing_zeros w64 left_over))))
+          (and_from (in_box size horizon now (cell_at (get_or run k e).step (get_or run k e).row (trailing_zeros w64 left_over))) (has_mark words size horizon (cell_at (get_or run k e).step (get_or run k e).row (trailing_zeros w64 left_over))) box mark) parts.1) in
           record {
             place = k;
             within = lt;
-            hit = at_default (λ (s : Span). is_hit words size horizon now own s ((get_or run k e).step, (get_or run k e).row, trailing_zeros w64 left_over) ≡ true) hit;
+            hit = at_default (λ (s : Span). is_hit words size horizon now own s (cell_at (get_or run k e).step (get_or run k e).row (trailing_zeros w64 left_over)) ≡ true) hit;
             before = before;
-            lowest = λ d c below. at_default (λ (s : Span). is_hit words size horizon now own s ((get_or run k e).step, (get_or run k e).row, c) ≡ false) (h.2 c below) d;
+            lowest = λ d c below. at_default (λ (s : Span). is_hit words size horizon now own s (cell_at (get_or run k e).step (get_or run k e).row c) ≡ false) (h.2 c below) d;
           }

@@ -8,7 +8,9 @@ use Rattle.std.proofs.lemmas.Bool.{and_parts, and_from, and_right, cases_lt, le-
 use Rattle.std.proofs.lemmas.Nat.{mod_below}
 use Rattle.std.proofs.lemmas.List.{get_or-replicate, get_or_past, length-replicate}
 use Rattle.aim_pool.specs.declared.spans.Span.{Span}
-use Rattle.aim_pool.specs.Spans.{Cell, has_bit, in_spans}
+use Rattle.aim_geometry.specs.Cells.{Cell, cell_at}
+use Rattle.aim_geometry.specs.Rects.{has_bit}
+use Rattle.aim_pool.specs.Spans.{in_spans}
 use Rattle.aim_pool.proofs.Masks.{no_bit}
 use Rattle.aim_tiles.specs.Cells.{TakenCells, cell_cmp, has_cell, in_box, in_range}
 use Rattle.aim_tiles.specs.Pages.{has_mark, is_marked, marked_cells, place_of}
@@ -35,7 +37,7 @@ by_box_not false m n r is = refl
 spans_in_box : (size horizon now : ℕ) (spans : List Span) → AreTiles size spans → AreAhead now horizon spans → (cell : Cell) → in_spans spans cell ≡ true → in_box size horizon now cell ≡ true
 spans_in_box size horizon now spans tiles ahead cell is =
     let t = tiles cell is in
-    and_from (in_range now horizon cell.0) (nat_lt cell.1 size && nat_lt cell.2 size) (ahead cell is) (and_from (nat_lt cell.1 size) (nat_lt cell.2 size) (lt-ltb cell.1 size t.0) (lt-ltb cell.2 size t.1))
+    and_from (in_range now horizon cell.step) (nat_lt cell.row size && nat_lt cell.col size) (ahead cell is) (and_from (nat_lt cell.row size) (nat_lt cell.col size) (lt-ltb cell.row size t.0) (lt-ltb cell.col size t.1))
 
 -- the spans' cells are added
 pub claimed : (size horizon now size' horizon' : ℕ) (old new : List ℕ) (spans read : List Span) (table : TakenCells) → view_of old size horizon now ≡ table → size' ≡ size → horizon' ≡ horizon → read ≡ spans
@@ -66,7 +68,7 @@ released size horizon now size' horizon' old new spans read table is same_size s
 
 -- now goes on
 module _ (size horizon now later leaving : ℕ) (old new : List ℕ) (some : 0 < horizon) (goes_on : now ≤ later) (is_leaving : leaving ≡ min (later - now) horizon)
-    (marks : (cell : Cell) → in_box size horizon now cell ≡ true → has_mark new size horizon cell ≡ (has_mark old size horizon cell && nat_le (now + leaving) cell.0))
+    (marks : (cell : Cell) → in_box size horizon now cell ≡ true → has_mark new size horizon cell ≡ (has_mark old size horizon cell && nat_le (now + leaving) cell.step))
   where
     -- the step of the old table that has the page of this one
     abbrev twin : ℕ → ℕ
@@ -89,48 +91,48 @@ module _ (size horizon now later leaving : ℕ) (old new : List ℕ) (some : 0 <
           omega arith)
     ]
 
-    stays_marked : (cell : Cell) → is_marked new size horizon later cell ≡ true → (is_marked old size horizon now cell && nat_le later cell.0) ≡ true
+    stays_marked : (cell : Cell) → is_marked new size horizon later cell ≡ true → (is_marked old size horizon now cell && nat_le later cell.step) ≡ true
     stays_marked cell is =
         let parts = and_parts (in_box size horizon later cell) (has_mark new size horizon cell) is in
         let box : InBox size horizon later cell = box_parts size horizon later cell parts.0 in
-        let from : now ≤ cell.0 = omega (arith, box.from) in
-        let m : (cell.0 - now) % horizon < horizon = mod_below (cell.0 - now) horizon some in
-        let inside : in_box size horizon now (twin cell.0, cell.1, cell.2) ≡ true
-        = box_from size horizon now (twin cell.0, cell.1, cell.2) (record { from = omega arith; below = omega arith; row = box.row; column = box.column }) in
-        let same : has_mark new size horizon (twin cell.0, cell.1, cell.2) ≡ has_mark new size horizon cell
-        = ap (λ p. has_bit (slice_index new (p * size + cell.1)) cell.2) (twin_page cell.0 from) in
-        let both = and_parts (has_mark old size horizon (twin cell.0, cell.1, cell.2)) (nat_le (now + leaving) (twin cell.0)) (sym (marks (twin cell.0, cell.1, cell.2) inside) ∙ same ∙ parts.1) in
-        let e : twin cell.0 ≡ cell.0 = twin_is cell.0 from box.below (leb-true (now + leaving) (twin cell.0) both.1) in
-        and_from (is_marked old size horizon now cell) (nat_le later cell.0)
+        let from : now ≤ cell.step = omega (arith, box.from) in
+        let m : (cell.step - now) % horizon < horizon = mod_below (cell.step - now) horizon some in
+        let inside : in_box size horizon now (cell_at (twin cell.step) cell.row cell.col) ≡ true
+        = box_from size horizon now (cell_at (twin cell.step) cell.row cell.col) (record { from = omega arith; below = omega arith; row = box.row; column = box.column }) in
+        let same : has_mark new size horizon (cell_at (twin cell.step) cell.row cell.col) ≡ has_mark new size horizon cell
+        = ap (λ p. has_bit (slice_index new (p * size + cell.row)) cell.col) (twin_page cell.step from) in
+        let both = and_parts (has_mark old size horizon (cell_at (twin cell.step) cell.row cell.col)) (nat_le (now + leaving) (twin cell.step)) (sym (marks (cell_at (twin cell.step) cell.row cell.col) inside) ∙ same ∙ parts.1) in
+        let e : twin cell.step ≡ cell.step = twin_is cell.step from box.below (leb-true (now + leaving) (twin cell.step) both.1) in
+        and_from (is_marked old size horizon now cell) (nat_le later cell.step)
         (and_from (in_box size horizon now cell) (has_mark old size horizon cell)
-        (subst (λ (s : ℕ). in_box size horizon now (s, cell.1, cell.2) ≡ true) e inside)
-        (subst (λ (s : ℕ). has_mark old size horizon (s, cell.1, cell.2) ≡ true) e both.0))
-        (le-leb later cell.0 box.from)
+        (subst (λ (s : ℕ). in_box size horizon now (cell_at s cell.row cell.col) ≡ true) e inside)
+        (subst (λ (s : ℕ). has_mark old size horizon (cell_at s cell.row cell.col) ≡ true) e both.0))
+        (le-leb later cell.step box.from)
 
-    was_marked : (cell : Cell) → (is_marked old size horizon now cell && nat_le later cell.0) ≡ true → is_marked new size horizon later cell ≡ true
+    was_marked : (cell : Cell) → (is_marked old size horizon now cell && nat_le later cell.step) ≡ true → is_marked new size horizon later cell ≡ true
     was_marked cell is =
-        let parts = and_parts (is_marked old size horizon now cell) (nat_le later cell.0) is in
-        let from : later ≤ cell.0 = leb-true later cell.0 parts.1 in
+        let parts = and_parts (is_marked old size horizon now cell) (nat_le later cell.step) is in
+        let from : later ≤ cell.step = leb-true later cell.step parts.1 in
         let held = and_parts (in_box size horizon now cell) (has_mark old size horizon cell) parts.0 in
         let box : InBox size horizon now cell = box_parts size horizon now cell held.0 in
         and_from (in_box size horizon later cell) (has_mark new size horizon cell)
         (box_from size horizon later cell (record { from = from; below = omega (arith, box.below); row = box.row; column = box.column }))
-        (marks cell held.0 ∙ and_from (has_mark old size horizon cell) (nat_le (now + leaving) cell.0) held.1 (le-leb (now + leaving) cell.0 (omega arith)))
+        (marks cell held.0 ∙ and_from (has_mark old size horizon cell) (nat_le (now + leaving) cell.step) held.1 (le-leb (now + leaving) cell.step (omega arith)))
 
-    advanced_marks : (cell : Cell) → is_marked new size horizon later cell ≡ (is_marked old size horizon now cell && nat_le later cell.0)
-    advanced_marks cell = same_tests (is_marked new size horizon later cell) (is_marked old size horizon now cell && nat_le later cell.0) (stays_marked cell) (was_marked cell)
+    advanced_marks : (cell : Cell) → is_marked new size horizon later cell ≡ (is_marked old size horizon now cell && nat_le later cell.step)
+    advanced_marks cell = same_tests (is_marked new size horizon later cell) (is_marked old size horizon now cell && nat_le later cell.step) (stays_marked cell) (was_marked cell)
 
     -- the cells below now leave
     pub advanced : (size' horizon' : ℕ) (table : TakenCells) → view_of old size horizon now ≡ table → size' ≡ size → horizon' ≡ horizon
-        → (cell : Cell) → has_cell (view_of new size' horizon' later) cell ≡ (has_cell table cell && nat_le later cell.0)
+        → (cell : Cell) → has_cell (view_of new size' horizon' later) cell ≡ (has_cell table cell && nat_le later cell.step)
     advanced size' horizon' table is same_size same_horizon cell =
         (λ i. has_cell (view_of new (same_size i) (same_horizon i) later) cell)
         ∙ has_cell-view_of new size horizon later cell
         ∙ advanced_marks cell
-        ∙ ap (λ b. b && nat_le later cell.0) (sym (has_cell-view_of old size horizon now cell) ∙ ap (λ (t : TakenCells). has_cell t cell) is)
+        ∙ ap (λ b. b && nat_le later cell.step) (sym (has_cell-view_of old size horizon now cell) ∙ ap (λ (t : TakenCells). has_cell t cell) is)
 
 no_mark : (n size horizon : ℕ) (cell : Cell) → has_mark (replicate n 0) size horizon cell ≡ false
-no_mark n size horizon cell = ap (λ w. has_bit w cell.2) (all_zero n (place_of size horizon cell.0 cell.1)) ∙ no_bit cell.2
+no_mark n size horizon cell = ap (λ w. has_bit w cell.col) (all_zero n (place_of size horizon cell.step cell.row)) ∙ no_bit cell.col
   where
     all_zero : (n k : ℕ) → slice_index (replicate n 0) k ≡ 0
     all_zero n k = elim (cases_lt k n) [

@@ -8,8 +8,10 @@ use Rattle.std.proofs.lemmas.Nat.{leading_top, le-div, div_below, pow_pos, same_
 use Rattle.std.proofs.lemmas.Nat.Bits.{bit_at_not, bit_at-lt}
 use Rattle.std.proofs.lemmas.List.{get_or-set_same, get_or-set_other}
 use Rattle.aim_pool.specs.declared.spans.Span.{Span}
-use Rattle.aim_pool.specs.Spans.{Cell, has_bit, is_at, in_span, in_spans, AreMarked}
-use Rattle.aim_pool.proofs.Bits.{has_bit_or, has_bit_and}
+use Rattle.aim_geometry.specs.Cells.{Cell, cell_at}
+use Rattle.aim_geometry.specs.Rects.{has_bit}
+use Rattle.aim_pool.specs.Spans.{is_at, in_span, in_spans, AreMarked}
+use Rattle.aim_geometry.proofs.Bits.{has_bit_or, has_bit_and}
 use Rattle.aim_tiles.specs.Cells.{in_box, in_range}
 use Rattle.aim_tiles.specs.Pages.{place_of, has_mark}
 use Rattle.aim_tiles.specs.Sheets.{AreTiles, AreAhead}
@@ -54,50 +56,50 @@ and-true false = refl
 
 module _ (words : List ℕ) (size horizon now : ℕ) (ahead : 0 < horizon) (span : Span) (row : span.row < size) (range : in_range now horizon span.step ≡ true) where
   -- a cell of the table at the span's place is of the span's step and row
-  same_place : (cell : Cell) → in_box size horizon now cell ≡ true → place_of size horizon cell.0 cell.1 ≡ place_of size horizon span.step span.row → is_at span cell.0 cell.1 ≡ true
+  same_place : (cell : Cell) → in_box size horizon now cell ≡ true → place_of size horizon cell.step cell.row ≡ place_of size horizon span.step span.row → is_at span cell.step cell.row ≡ true
   same_place cell box same =
       let b : InBox size horizon now cell = box_parts size horizon now cell box in
-      let e = same_from_place (cell.0 % horizon) cell.1 (span.step % horizon) span.row size b.row row same in
+      let e = same_from_place (cell.step % horizon) cell.row (span.step % horizon) span.row size b.row row same in
       let r = and_parts (nat_le now span.step) (nat_lt span.step (now + horizon)) range in
-      let s : cell.0 ≡ span.step = one_step horizon now cell.0 span.step ahead e.0 b.from b.below (leb-true now span.step r.0) (ltb-true span.step (now + horizon) r.1) in
-      and_from (span.step == cell.0) (span.row == cell.1) (eq-eqb span.step cell.0 (sym s)) (eq-eqb span.row cell.1 (sym e.1))
+      let s : cell.step ≡ span.step = one_step horizon now cell.step span.step ahead e.0 b.from b.below (leb-true now span.step r.0) (ltb-true span.step (now + horizon) r.1) in
+      and_from (span.step == cell.step) (span.row == cell.row) (eq-eqb span.step cell.step (sym s)) (eq-eqb span.row cell.row (sym e.1))
 
-  other_place : (cell : Cell) → place_of size horizon cell.0 cell.1 ≢ place_of size horizon span.step span.row → is_at span cell.0 cell.1 ≡ false
-  other_place cell other = false_from_ne_true (is_at span cell.0 cell.1) (λ is.
-      (let p = and_parts (span.step == cell.0) (span.row == cell.1) is in
-      let s : span.step ≡ cell.0 = eqb-true span.step cell.0 p.0 in
-      let r : span.row ≡ cell.1 = eqb-true span.row cell.1 p.1 in
+  other_place : (cell : Cell) → place_of size horizon cell.step cell.row ≢ place_of size horizon span.step span.row → is_at span cell.step cell.row ≡ false
+  other_place cell other = false_from_ne_true (is_at span cell.step cell.row) (λ is.
+      (let p = and_parts (span.step == cell.step) (span.row == cell.row) is in
+      let s : span.step ≡ cell.step = eqb-true span.step cell.step p.0 in
+      let r : span.row ≡ cell.row = eqb-true span.row cell.row p.1 in
       other (λ i. place_of size horizon (sym s i) (sym r i))))
 
   module _ (at : ℕ) (place : at ≡ place_of size horizon span.step span.row) (within : at < length words) where
     -- after a word is written, the cells of the span have its bits, and the others have what they had
     written : (word : ℕ) (cell : Cell) (there : Bool) → in_box size horizon now cell ≡ true
-        → (is_at span cell.0 cell.1 ≡ true → has_bit word cell.2 ≡ there)
-        → (is_at span cell.0 cell.1 ≡ false → has_mark words size horizon cell ≡ there)
+        → (is_at span cell.step cell.row ≡ true → has_bit word cell.col ≡ there)
+        → (is_at span cell.step cell.row ≡ false → has_mark words size horizon cell ≡ there)
         → has_mark (set words at word) size horizon cell ≡ there
-    written word cell there box here elsewhere = elim (cases_eq (place_of size horizon cell.0 cell.1) at) [
-      | inl e ↦ ap (λ k. has_bit (get_or (set words at word) k 0) cell.2) e ∙ ap (λ w. has_bit w cell.2) (get_or-set_same words at word 0 within) ∙ here (same_place cell box (e ∙ place))
-      | inr n ↦ ap (λ w. has_bit w cell.2) (get_or-set_other words at (place_of size horizon cell.0 cell.1) word 0 n) ∙ elsewhere (other_place cell (λ e. n (e ∙ sym place)))
+    written word cell there box here elsewhere = elim (cases_eq (place_of size horizon cell.step cell.row) at) [
+      | inl e ↦ ap (λ k. has_bit (get_or (set words at word) k 0) cell.col) e ∙ ap (λ w. has_bit w cell.col) (get_or-set_same words at word 0 within) ∙ here (same_place cell box (e ∙ place))
+      | inr n ↦ ap (λ w. has_bit w cell.col) (get_or-set_other words at (place_of size horizon cell.step cell.row) word 0 n) ∙ elsewhere (other_place cell (λ e. n (e ∙ sym place)))
     ]
 
-    word_is : (cell : Cell) → is_at span cell.0 cell.1 ≡ true → has_bit (get_or words at 0) cell.2 ≡ has_mark words size horizon cell
+    word_is : (cell : Cell) → is_at span cell.step cell.row ≡ true → has_bit (get_or words at 0) cell.col ≡ has_mark words size horizon cell
     word_is cell is =
-        let p = and_parts (span.step == cell.0) (span.row == cell.1) is in
-        let s : span.step ≡ cell.0 = eqb-true span.step cell.0 p.0 in
-        let r : span.row ≡ cell.1 = eqb-true span.row cell.1 p.1 in
-        ap (λ k. has_bit (get_or words k 0) cell.2) (place ∙ (λ i. place_of size horizon (s i) (r i)))
+        let p = and_parts (span.step == cell.step) (span.row == cell.row) is in
+        let s : span.step ≡ cell.step = eqb-true span.step cell.step p.0 in
+        let r : span.row ≡ cell.row = eqb-true span.row cell.row p.1 in
+        ap (λ k. has_bit (get_or words k 0) cell.col) (place ∙ (λ i. place_of size horizon (s i) (r i)))
 
     pub has_mark-mark : (cell : Cell) → in_box size horizon now cell ≡ true → has_mark (set words at (bit_or (get_or words at 0) span.mask)) size horizon cell ≡ (has_mark words size horizon cell || in_span span cell)
     has_mark-mark cell box = written (bit_or (get_or words at 0) span.mask) cell (has_mark words size horizon cell || in_span span cell) box
-        (λ is. has_bit_or (get_or words at 0) span.mask cell.2 ∙ rw (word_is cell is, is) refl)
+        (λ is. has_bit_or (get_or words at 0) span.mask cell.col ∙ rw (word_is cell is, is) refl)
         (λ no. rw no (sym (or-false (has_mark words size horizon cell))))
 
     pub has_mark-unmark : (cell : Cell) → in_box size horizon now cell ≡ true → size ≤ 64 → span.mask < 2 ^ 64 → has_mark (set words at (bit_and (get_or words at 0) (bit_not w64 span.mask))) size horizon cell ≡ (has_mark words size horizon cell && not (in_span span cell))
     has_mark-unmark cell box few fits =
         let b : InBox size horizon now cell = box_parts size horizon now cell box in
-        let inverted : has_bit (bit_not w64 span.mask) cell.2 ≡ not (has_bit span.mask cell.2) = rw (bit_at_not w64 span.mask cell.2 fits (omega (arith, b.column, few))) (turned (bit_at span.mask cell.2) (bit_at-lt span.mask cell.2)) in
+        let inverted : has_bit (bit_not w64 span.mask) cell.col ≡ not (has_bit span.mask cell.col) = rw (bit_at_not w64 span.mask cell.col fits (omega (arith, b.column, few))) (turned (bit_at span.mask cell.col) (bit_at-lt span.mask cell.col)) in
         written (bit_and (get_or words at 0) (bit_not w64 span.mask)) cell (has_mark words size horizon cell && not (in_span span cell)) box
-        (λ is. has_bit_and (get_or words at 0) (bit_not w64 span.mask) cell.2 ∙ rw (word_is cell is, is, inverted) refl)
+        (λ is. has_bit_and (get_or words at 0) (bit_not w64 span.mask) cell.col ∙ rw (word_is cell is, is, inverted) refl)
         (λ no. rw no (sym (and-true (has_mark words size horizon cell))))
       where
         turned : (a : ℕ) → a < 2 → (1 - a == 1) ≡ not (a == 1)
@@ -107,20 +109,20 @@ module _ (words : List ℕ) (size horizon now : ℕ) (ahead : 0 < horizon) (span
 
 -- a span's cells are told apart by what the spans have
 module _ (spans : List Span) (k : ℕ) (d : Span) (lt : k < length spans) (marked : AreMarked spans) where
-  some_cell : (c : ℕ) × (in_spans spans ((get_or spans k d).step, (get_or spans k d).row, c) ≡ true)
+  some_cell : (c : ℕ) × (in_spans spans (cell_at (get_or spans k d).step (get_or spans k d).row c) ≡ true)
   some_cell =
       let column = some_column (get_or spans k d).mask (marked k d lt) in (
         column.0,
-        list_any_at (λ s. in_span s ((get_or spans k d).step, (get_or spans k d).row, column.0)) spans k d lt
+        list_any_at (λ s. in_span s (cell_at (get_or spans k d).step (get_or spans k d).row column.0)) spans k d lt
             (and_from (is_at (get_or spans k d) (get_or spans k d).step (get_or spans k d).row) (has_bit (get_or spans k d).mask column.0)
             (and_from ((get_or spans k d).step == (get_or spans k d).step) ((get_or spans k d).row == (get_or spans k d).row) (eq-eqb (get_or spans k d).step (get_or spans k d).step refl) (eq-eqb (get_or spans k d).row (get_or spans k d).row refl)) column.1),
       )
 
   pub row_of_span : (size : ℕ) → AreTiles size spans → (get_or spans k d).row < size
-  row_of_span size tiles = (tiles ((get_or spans k d).step, (get_or spans k d).row, some_cell.0) some_cell.1).0
+  row_of_span size tiles = (tiles (cell_at (get_or spans k d).step (get_or spans k d).row some_cell.0) some_cell.1).0
 
   pub step_of_span : (now horizon : ℕ) → AreAhead now horizon spans → in_range now horizon (get_or spans k d).step ≡ true
-  step_of_span now horizon ahead = ahead ((get_or spans k d).step, (get_or spans k d).row, some_cell.0) some_cell.1
+  step_of_span now horizon ahead = ahead (cell_at (get_or spans k d).step (get_or spans k d).row some_cell.0) some_cell.1
 
 or_within : (a b c : Bool) → ((a || b) || c) ≡ (a || (b || c))
 or_within true b c = refl

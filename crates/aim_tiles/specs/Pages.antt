@@ -1,7 +1,8 @@
 -- What the pages of a table mean. No public clause cites it: only the table's model and contracts of private functions.
 use Rattle.std.specs.Prelude.{ℕ, zero, suc, ◌+◌, ◌*◌, ◌%◌, Bool, ◌&&◌, List, [], ◌∷◌, ◌++◌, slice_index}
 use Rattle.std.specs.FinSet as set
-use Rattle.aim_pool.specs.Spans.{Cell, has_bit}
+use Rattle.aim_geometry.specs.Cells.{Cell, cell_at}
+use Rattle.aim_geometry.specs.Rects.{has_bit}
 use Rattle.aim_tiles.specs.Cells.{Cells, in_box}
 
 -- where the word of a step's row is: a step's page is that of the step modulo the horizon
@@ -10,7 +11,7 @@ place_of size horizon step row = step % horizon * size + row
 
 -- whether the cell's bit is set
 abbrev pub has_mark : List ℕ → ℕ → ℕ → Cell → Bool
-has_mark words size horizon cell = has_bit (slice_index words (place_of size horizon cell.0 cell.1)) cell.2
+has_mark words size horizon cell = has_bit (slice_index words (place_of size horizon cell.step cell.row)) cell.col
 
 -- whether the cell is one that the table has, and its bit is set
 abbrev pub is_marked : List ℕ → ℕ → ℕ → ℕ → Cell → Bool
@@ -19,7 +20,7 @@ is_marked words size horizon now cell = in_box size horizon now cell && has_mark
 -- the cells of so many columns, rows and steps
 unfoldable pub column_cells : ℕ → ℕ → ℕ → List Cell
 column_cells step row zero = []
-column_cells step row (suc column) = (step, row, column) ∷ column_cells step row column
+column_cells step row (suc column) = (cell_at step row column) ∷ column_cells step row column
 
 unfoldable pub row_cells : ℕ → ℕ → ℕ → List Cell
 row_cells size step zero = []

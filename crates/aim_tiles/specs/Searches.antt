@@ -3,7 +3,8 @@ use Rattle.std.specs.Prelude.{◌≡◌, ℕ, ◌+◌, ◌<◌, Bool, true, fals
 use Rattle.std.specs.Ordering.{is_le}
 use Rattle.aim_pool.specs.declared.spans.Span.{Span}
 use Rattle.aim_pool.specs.Sheets.{Spans}
-use Rattle.aim_pool.specs.Spans.{Cell, in_span, in_spans}
+use Rattle.aim_geometry.specs.Cells.{Cell, cell_at}
+use Rattle.aim_pool.specs.Spans.{in_span, in_spans}
 use Rattle.aim_tiles.specs.Cells.{TakenCells, cell_cmp, has_cell}
 use Rattle.aim_tiles.specs.Pages.{is_marked}
 
@@ -35,7 +36,7 @@ pub record IsFirstHit (test : Span → Cell → Bool) (spans : List Span) (cell 
   pub within : place < length spans
   pub hit : (d : Span) → test (slice_index_or spans place d) cell ≡ true
   pub before : (k : ℕ) (d : Span) → k < place → IsClear test (slice_index_or spans k d)
-  pub lowest : (d : Span) (column : ℕ) → column < cell.2 → test (slice_index_or spans place d) (cell.0, cell.1, column) ≡ false
+  pub lowest : (d : Span) (column : ℕ) → column < cell.col → test (slice_index_or spans place d) (cell_at cell.step cell.row column) ≡ false
 
 -- the spans from the first on are of its step and of neighbouring rows, as far as there are masks, which are theirs
 pub record IsRun (spans : List Span) (masks : List ℕ) (count : ℕ) : Type 0 where

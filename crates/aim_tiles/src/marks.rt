@@ -1,7 +1,8 @@
 //! The marks of many cells.
 
 ghost use Rattle.std.specs.Prelude.{◌≡◌, ℕ, ◌+◌, ◌*◌, ◌<◌, ◌≤◌, ◌&&◌, ◌||◌, not, nat_le, true, length};
-ghost use Rattle.aim_pool.specs.Spans.{AreMarked, Cell, in_span, in_spans};
+ghost use Rattle.aim_geometry.specs.Cells.{Cell};
+ghost use Rattle.aim_pool.specs.Spans.{AreMarked, in_span, in_spans};
 ghost use Rattle.aim_tiles.specs.Cells.{in_box};
 ghost use Rattle.aim_tiles.specs.Pages.{has_mark};
 ghost use Rattle.aim_tiles.specs.Sheets.{AreAhead, AreTiles};
@@ -76,7 +77,7 @@ pub(crate) fn clear_pages<L: Ledger>(
 )
     requires few { leaving ≤ pages.old.horizon }
     requires last { now ≤ 1073741824 }
-    ensures marks { (cell : Cell) → in_box pages.old.size pages.old.horizon now cell ≡ true → has_mark pages.new.words.items pages.old.size pages.old.horizon cell ≡ (has_mark pages.old.words.items pages.old.size pages.old.horizon cell && nat_le (now + leaving) cell.0) }
+    ensures marks { (cell : Cell) → in_box pages.old.size pages.old.horizon now cell ≡ true → has_mark pages.new.words.items pages.old.size pages.old.horizon cell ≡ (has_mark pages.old.words.items pages.old.size pages.old.horizon cell && nat_le (now + leaving) cell.step) }
     ensures size { pages.new.size ≡ pages.old.size }
     ensures horizon { pages.new.horizon ≡ pages.old.horizon }
     ensures cost { steps.new ≡ steps.old + pages.old.size * leaving }

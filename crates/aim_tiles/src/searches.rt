@@ -2,7 +2,9 @@
 
 ghost use Rattle.std.specs.Prelude.{◌≡◌, ℕ, ◌+◌, ◌<◌, ◌≤◌, length, slice_index_or, IfNone, IfSome};
 ghost use Rattle.std.specs.Option.{option_copied};
-ghost use Rattle.aim_pool.specs.Spans.{AreMarked, has_bit, in_spans};
+ghost use Rattle.aim_geometry.specs.Rects.{has_bit};
+ghost use Rattle.aim_geometry.specs.Cells.{cell_at};
+ghost use Rattle.aim_pool.specs.Spans.{AreMarked, in_spans};
 ghost use Rattle.aim_tiles.specs.Searches.{is_hit, IsClear, IsFirstHit, IsRun, spans_of};
 ghost use Rattle.aim_tiles.specs.Sheets.{AreTiles};
 
@@ -37,7 +39,7 @@ fn gather(spans: &[Span], masks: &mut [u64; 64]) -> usize
 
 // The columns of the own sheet, if there is one, in a row of a step.
 fn own_mask(own: Option<&Sheet>, step: u32, row: u8) -> u64
-    ensures { (column : ℕ) → has_bit result column ≡ in_spans (spans_of (option_copied own.entry)) (step, row, column) }
+    ensures { (column : ℕ) → has_bit result column ≡ in_spans (spans_of (option_copied own.entry)) (cell_at step row column) }
 {
     match own {
         Some(sheet) => sheet.mask(step, row),
@@ -60,7 +62,7 @@ fn first_in_run<L: Ledger>(
     requires run { IsRun run.now masks.now (length run.now) }
     requires tiles { AreTiles pages.now.size run.now }
     requires marked { AreMarked run.now }
-    ensures found { IfSome result (IsFirstHit (is_hit pages.now.words.items pages.now.size pages.now.horizon now (spans_of (option_copied own.entry))) run.now) }
+    ensures found { IfSome result (λ r. IsFirstHit (is_hit pages.now.words.items pages.now.size pages.now.horizon now (spans_of (option_copied own.entry))) run.now (cell_at r.0 r.1 r.2)) }
     ensures none { IfNone result ((k : ℕ) (d : Span) → k < length run.now → IsClear (is_hit pages.now.words.items pages.now.size pages.now.horizon now (spans_of (option_copied own.entry))) (slice_index_or run.now k d)) }
     ensures cost { steps.new ≤ steps.old + length run.now }
     ensures counted { steps.old ≤ steps.new }
@@ -94,7 +96,7 @@ pub(crate) fn first_in_spans<L: Ledger>(
     requires last { now ≤ 1073741824 }
     requires tiles { AreTiles pages.now.size spans.now }
     requires marked { AreMarked spans.now }
-    ensures found { IfSome result (IsFirstHit (is_hit pages.now.words.items pages.now.size pages.now.horizon now (spans_of (option_copied own.entry))) spans.now) }
+    ensures found { IfSome result (λ r. IsFirstHit (is_hit pages.now.words.items pages.now.size pages.now.horizon now (spans_of (option_copied own.entry))) spans.now (cell_at r.0 r.1 r.2)) }
     ensures none { IfNone result ((k : ℕ) (d : Span) → k < length spans.now → IsClear (is_hit pages.now.words.items pages.now.size pages.now.horizon now (spans_of (option_copied own.entry))) (slice_index_or spans.now k d)) }
     ensures cost { steps.new ≤ steps.old + length spans.now }
     ensures counted { steps.old ≤ steps.new }

@@ -2,7 +2,8 @@
 
 ghost use Rattle.std.specs.Prelude.{◌≡◌, ℕ, ◌+◌, ◌-◌, ◌*◌, ◌<◌, ◌≤◌, ◌&&◌, ◌||◌, not, nat_le, min, true, false, ◌↔◌, IsTrue, length, IfOk, IfNone, IfSome};
 ghost use Rattle.std.specs.FinSet as set;
-ghost use Rattle.aim_pool.specs.Spans.{Cell, in_spans};
+ghost use Rattle.aim_geometry.specs.Cells.{Cell, cell_at};
+ghost use Rattle.aim_pool.specs.Spans.{in_spans};
 ghost use Rattle.aim_tiles.specs.Cells.{has_cell, in_box};
 ghost use Rattle.aim_tiles.specs.Searches.{is_taken, IsFirst, spans_of};
 ghost use Rattle.aim_tiles.specs.Sheets.{AreTiles, AreAhead};
@@ -100,7 +101,7 @@ impl<L: Ledger> Table<L> {
     pub fn advance(&mut self, now: u32, steps: &mut Steps<L>)
         requires later { self.old.current ≤ now }
         requires last { now ≤ 1073741824 }
-        ensures cells { (cell : Cell) → has_cell self.new cell ≡ (has_cell self.old cell && nat_le now cell.0) }
+        ensures cells { (cell : Cell) → has_cell self.new cell ≡ (has_cell self.old cell && nat_le now cell.step) }
         ensures rest { self.new ≡ record self.old { current = now; cells = self.new.cells } }
         ensures cost { steps.new ≡ steps.old + self.old.size * min (now - self.old.current) self.old.horizon }
     {
@@ -118,7 +119,7 @@ impl<L: Ledger> Table<L> {
         steps: &mut Steps<L>,
     ) -> Option<(u32, u8, u8)>
         requires { AreTiles self.now.size sheet.now.spans }
-        ensures found { IfSome result (IsFirst (is_taken self.now sheet.now.spans (spans_of (option_copied own.entry)))) }
+        ensures found { IfSome result (λ r. IsFirst (is_taken self.now sheet.now.spans (spans_of (option_copied own.entry))) (cell_at r.0 r.1 r.2)) }
         ensures none { IfNone result ((cell : Cell) → is_taken self.now sheet.now.spans (spans_of (option_copied own.entry)) cell ≡ false) }
         ensures cost { steps.new ≤ steps.old + length sheet.now.spans }
         ensures counted { steps.old ≤ steps.new }

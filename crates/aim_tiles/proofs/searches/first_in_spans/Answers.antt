@@ -1,3 +1,4 @@
+use Rattle.aim_geometry.specs.Cells.{cell_at}
 use Rattle.std.proofs.Common.{arith, rules, sym}
 use Rattle.std.specs.Option.{option_copied}
 use Rattle.aim_tiles.specs.Searches.{is_hit, IsFirstHit, spans_of}
@@ -15,9 +16,9 @@ first_in_run-found-requires-clause-tiles g c = run_tiles c.args.spans.now c.loop
 
 pub returns-then-is_some-clause-found : goal.returns-then-is_some-clause-found
 returns-then-is_some-clause-found g c =
-    some_then c.first_in_run-found.result _ (IsFirstHit (is_hit c.args.pages.now.words.items c.args.pages.now.size c.args.pages.now.horizon c.args.now (spans_of (option_copied c.args.own))) c.args.spans.now)
-    (hit_of_run c.args.spans.now c.loop-at.at c.loop-at.invariant.within c.gather-count.result c.gather-count.ensures.within
-    (is_hit c.args.pages.now.words.items c.args.pages.now.size c.args.pages.now.horizon c.args.now (spans_of (option_copied c.args.own))) c.loop-at.invariant.clear)
+    some_then c.first_in_run-found.result _ (λ r. IsFirstHit (is_hit c.args.pages.now.words.items c.args.pages.now.size c.args.pages.now.horizon c.args.now (spans_of (option_copied c.args.own))) c.args.spans.now (cell_at r.0 r.1 r.2))
+    (λ r. hit_of_run c.args.spans.now c.loop-at.at c.loop-at.invariant.within c.gather-count.result c.gather-count.ensures.within
+    (is_hit c.args.pages.now.words.items c.args.pages.now.size c.args.pages.now.horizon c.args.now (spans_of (option_copied c.args.own))) c.loop-at.invariant.clear (cell_at r.0 r.1 r.2))
     c.first_in_run-found.ensures.found
 
 pub loop-at-preserved : goal.loop-at-preserved
