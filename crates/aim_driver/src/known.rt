@@ -23,7 +23,7 @@ pub struct Known {
     pub answer: Option<Reply>,
     /// The reservation on which the driver is active.
     pub active: Option<u32>,
-    /// What was granted for it.
+    /// What was granted for the reservation at hand. A driver keeps what the last Confirm that counts granted.
     pub window: Option<Window>,
     pub entrance: Option<Entrance>,
     pub has_stopped: bool,
