@@ -1,0 +1,77 @@
+//! The reservation distances of lanes.
+
+ghost use Rattle.std.specs.Prelude.{◌≡◌, ◌<◌, ◌≤◌, None, Some, replicate, slice_index_or, slice_set};
+ghost use Rattle.std.specs.Result.{result_err};
+ghost use Rattle.aim_geometry.specs.Bounded.{min_with};
+ghost use Rattle.aim_rules.specs.Asking.{next_allowed as next_allowed_of};
+ghost use Rattle.aim_fcfs.specs.Distances.{exceeded};
+
+use std::marker::Model;
+
+/// For each of 16 lanes the least distance that was refused, in millimetres, or none.
+#[derive(Drop)]
+pub struct Distances {
+    least: [Option<u64>; 16],
+}
+
+impl Model for Distances {
+    ghost use Rattle.std.specs.Prelude.{ℕ, List, Option};
+
+    ghost Value = { List (Option ℕ) };
+
+    ghost use Rattle.std.specs.Prelude.{◌≡◌, length};
+
+    ghost view = { λ d. d.least };
+
+    ghost invariant = { λ d. length d.least ≡ 16 };
+}
+
+impl Distances {
+    /// No distance was refused.
+    pub fn new() -> Distances
+        ensures { result ≡ replicate 16 None }
+    {
+        Distances { least: [None; 16] }
+    }
+
+    /// Whether a vehicle may ask from there: an error is the lane's distance, where that is less.
+    pub fn test(&self, lane: u8, distance: u64) -> Result<(), u64>
+        requires { lane < 16 }
+        ensures { result_err result ≡ exceeded distance (slice_index_or self.now lane None) }
+    {
+        let kept = self.least[lane as usize];
+        match kept {
+            Some(least) if least < distance => Err(least),
+            _ => Ok(()),
+        }
+    }
+
+    /// A vehicle that asked from there was refused.
+    pub fn refused(&mut self, lane: u8, distance: u64)
+        requires { lane < 16 }
+        ensures { self.new ≡ slice_set self.old lane (Some (min_with distance (slice_index_or self.old lane None))) }
+    {
+        let least = match self.least[lane as usize] {
+            Some(least) => least.min(distance),
+            None => distance,
+        };
+        self.least[lane as usize] = Some(least);
+    }
+
+    /// A vehicle of the lane was confirmed.
+    pub fn confirmed(&mut self, lane: u8)
+        requires { lane < 16 }
+        ensures { self.new ≡ slice_set self.old lane None }
+    {
+        self.least[lane as usize] = None;
+    }
+}
+
+/// When to ask again: after half of the way to the arrival, but a step at least and the longest wait at most.
+pub fn next_allowed(now: u32, arrive: u32, longest: u32) -> u32
+    requires moment { now ≤ 1073741824 }
+    requires wait { longest ≤ 65536 }
+    ensures { result ≡ next_allowed_of now arrive longest }
+{
+    now + longest.min(arrive.saturating_sub(now) / 2).max(1)
+}

@@ -1,0 +1,4 @@
+pub mod Rounds
+pub mod Phases
+pub mod UnitedRows
+pub mod Greens

@@ -1,0 +1,39 @@
+//! Laws of sessions and histories. Each is the contract of a function that does nothing.
+
+ghost use Rattle.std.specs.Prelude.{◌≡◌, ℕ, ◌<◌, false, List, [], ◌∷◌, ◌++◌, length, replicate, slice_index_or, slice_set};
+ghost use Rattle.aim_msg.specs.declared.entries.Act.{Act};
+ghost use Rattle.aim_msg.specs.declared.entries.Entry.{Entry};
+ghost use Rattle.aim_msg.specs.declared.messages.Message.{Message};
+ghost use Rattle.aim_msg.specs.declared.replies.Reason.{Reason};
+ghost use Rattle.aim_msg.specs.declared.replies.Reply.{Reply};
+ghost use Rattle.aim_paths.specs.Intersection.{Intersection};
+ghost use Rattle.aim_rules.specs.Answer.{answer};
+ghost use Rattle.aim_rules.specs.Asking.{standing_next};
+ghost use Rattle.aim_rules.specs.History.{fresh, is_fresh, now_of};
+ghost use Rattle.aim_rules.specs.Holds.{holds};
+ghost use Rattle.aim_session.specs.declared.sessions.Look.{Look};
+ghost use Rattle.aim_session.specs.declared.sessions.Session.{Session};
+ghost use Rattle.aim_session.specs.Kept.{AreSessions, no_session, session_after};
+ghost use Rattle.aim_session.specs.Looks.{is_fresh_look, look_of};
+
+/// Sessions that go on with each fresh message are those of the history.
+pub fn sessions_are_those_of_the_history()
+    ensures none { (vehicles : ℕ) → AreSessions (replicate vehicles no_session) [] }
+    ensures fresh { (rows : List Session) (h : List Entry) (e : Entry) (m : Message) → AreSessions rows (fresh h) → e.caller < length rows → e.act ≡ Act.Message m →
+        is_fresh h e ≡ is_fresh_look (look_of (slice_index_or rows e.caller no_session).last m) }
+    ensures more { (rows : List Session) (h : List Entry) (e : Entry) (m : Message) → AreSessions rows (fresh h) → e.caller < length rows → e.act ≡ Act.Message m →
+        look_of (slice_index_or rows e.caller no_session).last m ≡ Look.Fresh →
+        AreSessions (slice_set rows e.caller (session_after m e.reply (slice_index_or rows e.caller no_session).next)) (fresh (h ++ e ∷ [])) }
+    ensures same { (rows : List Session) (h : List Entry) (e : Entry) → is_fresh h e ≡ false → AreSessions rows (fresh h) → AreSessions rows (fresh (h ++ e ∷ [])) }
+{}
+
+/// The answers to a number that is not above the vehicle's greatest, over any history, legal or not.
+pub fn answers_by_the_look()
+    ensures stale { (i : Intersection) (rows : List Session) (h : List Entry) (v moment last : ℕ) (m : Message) → AreSessions rows (fresh h) → v < length rows →
+        look_of (slice_index_or rows v no_session).last m ≡ Look.Stale last → answer i h v moment (Act.Message m) ≡ Reply.Stale last }
+    ensures repeat { (i : Intersection) (rows : List Session) (h : List Entry) (v moment : ℕ) (m : Message) (reply : Reply) → AreSessions rows (fresh h) → v < length rows →
+        look_of (slice_index_or rows v no_session).last m ≡ Look.Repeat reply → answer i h v moment (Act.Message m) ≡ reply }
+    ensures reused { (i : Intersection) (rows : List Session) (h : List Entry) (v moment : ℕ) (m : Message) → AreSessions rows (fresh h) → v < length rows →
+        look_of (slice_index_or rows v no_session).last m ≡ Look.Reused →
+        answer i h v moment (Act.Message m) ≡ Reply.Reject (Reason.Reused m.seq) (standing_next (fresh h) v) (holds i (fresh h) v (now_of h moment)) }
+{}

@@ -1,0 +1,36 @@
+//! Laws of timelines and histories. Each is the contract of a function that does nothing.
+
+ghost use Rattle.std.specs.Prelude.{◌≡◌, ℕ, ◌+◌, ◌≤◌, true, length, List, Option, Some, None, is_some};
+ghost use Rattle.aim_geometry.specs.Bounded.{some_below};
+ghost use Rattle.aim_msg.specs.declared.entries.Entry.{Entry};
+ghost use Rattle.aim_paths.specs.Intersection.{Intersection};
+ghost use Rattle.aim_paths.specs.Valid.{IsValid};
+ghost use Rattle.aim_rules.specs.Cells.{Cell};
+ghost use Rattle.aim_rules.specs.Claims.{green, is_claimed};
+ghost use Rattle.aim_rules.specs.History.{now_of};
+ghost use Rattle.aim_rules.specs.Kept.{changes, policy_in};
+ghost use Rattle.aim_rules.specs.Legal.{IsAnswered, IsLegal};
+ghost use Rattle.aim_rules.specs.Timeline.{InForce, change_with, policy_at};
+ghost use Rattle.aim_switch.specs.Changes.{is_claimed_for, latest};
+
+/// A timeline that has the changes of a history tells the history's policies.
+pub fn policies_are_those_of_the_history()
+    ensures { (h : List Entry) (step : ℕ) → policy_in (changes h) step ≡ policy_at h step }
+{}
+
+/// It claims for others than a lane what the least other lane's green blocks, and without exception what some lane claims.
+pub fn claims_are_those_of_the_history()
+    ensures others { (i : Intersection) (h : List Entry) (except : ℕ) (c : Cell) → is_claimed_for i (policy_in (changes h)) (Some except) c ≡ is_some (green i h c except) }
+    ensures all { (i : Intersection) (h : List Entry) (c : Cell) → is_claimed_for i (policy_in (changes h)) None c ≡ some_below (length i.lanes) (λ lane. is_claimed i h lane c) }
+{}
+
+/// A cell is claimed by one lane at most, over any history, also where policies change within the clearance.
+pub fn a_cell_is_claimed_by_one_lane()
+    ensures { (i : Intersection) (h : List Entry) (a b : ℕ) (c : Cell) → IsValid i → is_claimed i h a c ≡ true → is_claimed i h b c ≡ true → a ≡ b }
+{}
+
+/// A switch is in force a horizon later, so that the switches of a legal history are pushed in order.
+pub fn switches_come_in_order()
+    ensures from { (i : Intersection) (h : List Entry) (e : Entry) (f : InForce) → IsAnswered i h e → change_with e.act e.reply ≡ Some f → f.from ≡ now_of h e.moment + i.times.horizon }
+    ensures order { (i : Intersection) (vehicles : ℕ) (h : List Entry) → IsLegal i vehicles h → latest (changes h) ≤ now_of h 0 + i.times.horizon }
+{}
