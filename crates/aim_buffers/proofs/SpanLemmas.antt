@@ -15,7 +15,8 @@ use Rattle.aim_rules.specs.Motion.{front, sum_below}
 use Rattle.aim_rules.proofs.MotionLemmas.{crossing_steps-least, front_zero}
 use Rattle.aim_simulate.proofs.Unions.{alike}
 use Rattle.aim_rules.specs.Footprint.{crossing_steps, in_footprint, path_length}
-use Rattle.aim_rules.specs.Cells.{Cell, in_cells, is_buffered}
+use Rattle.aim_geometry.specs.Cells.{Cell}
+use Rattle.aim_rules.specs.Cells.{in_cells, is_buffered}
 use Rattle.aim_rules.specs.Bad.{span_count}
 use Rattle.aim_rules.proofs.CellLemmas.{kept_within}
 use Rattle.aim_buffers.specs.Counts.{count_below, needs_row, rows_needed, spans_before}

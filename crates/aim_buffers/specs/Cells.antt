@@ -4,8 +4,9 @@ use Rattle.aim_msg.specs.declared.messages.Params.{Params}
 use Rattle.aim_paths.specs.Intersection.{Intersection}
 use Rattle.aim_pool.specs.declared.spans.Span.{Span}
 use Rattle.aim_pool.specs.Spans.{in_spans}
-use Rattle.aim_rules.specs.Cells.{Cell, in_cells}
+use Rattle.aim_geometry.specs.Cells.{Cell}
+use Rattle.aim_rules.specs.Cells.{in_cells}
 
 -- the spans have just the cells that the crossing needs
 abbrev pub HaveCells : Intersection → Params → Bool → List Span → Type 0
-HaveCells i p fast spans = (c : Cell) → in_spans spans (c.step, c.row, c.col) ≡ in_cells i p fast c
+HaveCells i p fast spans = (c : Cell) → in_spans spans c ≡ in_cells i p fast c

@@ -1,6 +1,7 @@
 //! The tiles of a step as spans of a sheet.
 
 ghost use Rattle.std.specs.Prelude.{◌≡◌, ◌≢◌, ℕ, ◌<◌, ◌≤◌, ◌+◌, ◌-◌, ◌||◌, ◌&&◌, ◌==◌, length, OnErr, OnOk, if◌then◌else◌};
+ghost use Rattle.aim_geometry.specs.Cells.{cell_at};
 ghost use Rattle.aim_geometry.specs.Rects.{has_bit};
 ghost use Rattle.aim_pool.specs.Spans.{in_spans};
 ghost use Rattle.aim_buffers.specs.Rows.{AreBefore, has_shown, in_rows_of, is_border};
@@ -46,7 +47,7 @@ fn row_mask(n: u8, row: u8, inner: u64, outer: u64) -> u64
 #[inline]
 fn push_row(sheet: &mut Sheet, step: u32, row: u8, mask: u64) -> Result<(), SheetFull>
     requires before { AreBefore sheet.old.spans step row }
-    ensures cells { OnOk result ((s r c : ℕ) → in_spans sheet.new.spans (s, r, c) ≡ (in_spans sheet.old.spans (s, r, c) || (step == s && row == r && has_bit mask c))) }
+    ensures cells { OnOk result ((s r c : ℕ) → in_spans sheet.new.spans (cell_at s r c) ≡ (in_spans sheet.old.spans (cell_at s r c) || (step == s && row == r && has_bit mask c))) }
     ensures count { OnOk result (length sheet.new.spans ≡ length sheet.old.spans + (if mask == 0 then 0 else 1)) }
     ensures before { OnOk result (AreBefore sheet.new.spans step (row + 1)) }
     ensures full { OnErr result ((mask ≢ 0) × (length sheet.old.spans ≡ sheet.old.room)) }
@@ -74,7 +75,7 @@ pub fn write_step(
     requires last { last < 64 }
     requires order { first ≤ last }
     requires before { AreBefore sheet.old.spans step first }
-    ensures cells { OnOk result ((s r c : ℕ) → in_spans sheet.new.spans (s, r, c) ≡ (in_spans sheet.old.spans (s, r, c) || in_rows_of n inner.now outer.now step first (last + 1) s r c)) }
+    ensures cells { OnOk result ((s r c : ℕ) → in_spans sheet.new.spans (cell_at s r c) ≡ (in_spans sheet.old.spans (cell_at s r c) || in_rows_of n inner.now outer.now step first (last + 1) s r c)) }
     ensures count { OnOk result (length sheet.new.spans ≡ length sheet.old.spans + count_below (last + 1) (has_shown n inner.now outer.now first)) }
     ensures before { OnOk result (AreBefore sheet.new.spans step (last + 1)) }
     ensures full { OnErr result (sheet.old.room < length sheet.old.spans + count_below (last + 1) (has_shown n inner.now outer.now first)) }

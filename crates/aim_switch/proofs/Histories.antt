@@ -17,7 +17,7 @@ use Rattle.aim_paths.specs.Intersection.{Intersection}
 use Rattle.aim_paths.specs.Policies.{has_lane}
 use Rattle.aim_paths.specs.LaneTiles.{in_lane_tiles}
 use Rattle.aim_paths.specs.Valid.{IsValid}
-use Rattle.aim_rules.specs.Cells.{Cell}
+use Rattle.aim_geometry.specs.Cells.{Cell}
 use Rattle.aim_rules.specs.Claims.{green, is_claimed}
 use Rattle.aim_rules.specs.History.{now_of}
 use Rattle.aim_rules.specs.Kept.{changes, policy_in}

@@ -7,7 +7,7 @@ use Rattle.aim_paths.specs.Intersection.{Intersection, Policy}
 use Rattle.aim_paths.specs.Policies.{has_lane, has_lights}
 use Rattle.aim_paths.specs.LaneTiles.{in_lane_tiles}
 use Rattle.aim_paths.specs.Valid.{IsValid}
-use Rattle.aim_rules.specs.Cells.{Cell}
+use Rattle.aim_geometry.specs.Cells.{Cell}
 use Rattle.aim_rules.specs.Known.{is_claimed_by}
 use Rattle.aim_rules.proofs.Lists.{some_below-same}
 use Rattle.aim_rules.specs.Timeline.{InForce}

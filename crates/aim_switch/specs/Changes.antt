@@ -2,7 +2,7 @@
 use Rattle.std.specs.Prelude.{ℕ, ◌-◌, Bool, ◌&&◌, List, length, slice_get, slice_index_or, Option}
 use Rattle.aim_geometry.specs.Bounded.{some_below}
 use Rattle.aim_paths.specs.Intersection.{Intersection}
-use Rattle.aim_rules.specs.Cells.{Cell}
+use Rattle.aim_geometry.specs.Cells.{Cell}
 use Rattle.aim_rules.specs.Timeline.{InForce}
 use Rattle.aim_rules.specs.Lights.{green_lanes}
 use Rattle.aim_rules.specs.Kept.{policy_in}

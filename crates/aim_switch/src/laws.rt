@@ -5,7 +5,7 @@ ghost use Rattle.aim_geometry.specs.Bounded.{some_below};
 ghost use Rattle.aim_msg.specs.declared.entries.Entry.{Entry};
 ghost use Rattle.aim_paths.specs.Intersection.{Intersection};
 ghost use Rattle.aim_paths.specs.Valid.{IsValid};
-ghost use Rattle.aim_rules.specs.Cells.{Cell};
+ghost use Rattle.aim_geometry.specs.Cells.{Cell};
 ghost use Rattle.aim_rules.specs.Claims.{green, is_claimed};
 ghost use Rattle.aim_rules.specs.History.{now_of};
 ghost use Rattle.aim_rules.specs.Kept.{changes, policy_in};

@@ -1,4 +1,5 @@
 use Rattle.std.proofs.Common.{◌≡◌, ◌+◌, arith, refl, true, length, if◌then◌else◌}
+use Rattle.aim_geometry.specs.Cells.{cell_at}
 use Rattle.aim_pool.specs.Spans.{in_spans}
 use Rattle.aim_buffers.specs.Counts.{count_below}
 use Rattle.aim_buffers.specs.Rows.{has_shown, in_rows_of}
@@ -11,7 +12,7 @@ loop-row-init c =
     let a = c.args in
     let none = shown_none a.n a.first a.inner.now a.outer.now in
     record {
-      cells = λ s r k. or_none (in_spans a.sheet.now.spans (s, r, k)) (in_rows_of a.n a.inner.now a.outer.now a.step a.first a.first s r k) (rows_none a.n a.step a.first s r k a.inner.now a.outer.now);
+      cells = λ s r k. or_none (in_spans a.sheet.now.spans (cell_at s r k)) (in_rows_of a.n a.inner.now a.outer.now a.step a.first a.first s r k) (rows_none a.n a.step a.first s r k a.inner.now a.outer.now);
       count = omega arith;
       before = c.requires.before;
       room = refl;
@@ -45,7 +46,7 @@ loop-row-preserved c =
     let more = count_more row test in
     let count = i.count in
     record {
-      cells = λ s r k. rows_more a.n a.step a.first row s r k mask a.inner.now a.outer.now (in_spans c.loop-row.sheet.spans (s, r, k)) (in_spans c.push_row.new.sheet.spans (s, r, k)) (in_spans a.sheet.now.spans (s, r, k)) (omega arith) c.row_mask-mask.type_inv c.row_mask-mask.ensures (ok.cells s r k) (i.cells s r k);
+      cells = λ s r k. rows_more a.n a.step a.first row s r k mask a.inner.now a.outer.now (in_spans c.loop-row.sheet.spans (cell_at s r k)) (in_spans c.push_row.new.sheet.spans (cell_at s r k)) (in_spans a.sheet.now.spans (cell_at s r k)) (omega arith) c.row_mask-mask.type_inv c.row_mask-mask.ensures (ok.cells s r k) (i.cells s r k);
       count = omega arith;
       before = ok.before;
       room = cc;
