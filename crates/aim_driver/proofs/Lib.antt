@@ -10,4 +10,5 @@ pub mod SendLemmas
 pub mod StandLemmas
 pub mod CrossingLemmas
 pub mod TurnLemmas
+pub mod CountLemmas
 pub mod HearLemmas

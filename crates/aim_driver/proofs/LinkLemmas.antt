@@ -17,7 +17,7 @@ length_dues at at' fate.Lose = refl
 length_dues at at' fate.Repeat = refl
 length_dues at at' (fate.Delay more) = refl
 
-few_dues : (at : ℕ) (f : Fate) → length (dues at f) ≤ 2
+pub few_dues : (at : ℕ) (f : Fate) → length (dues at f) ≤ 2
 few_dues at fate.Deliver = omega arith
 few_dues at fate.Lose = omega arith
 few_dues at fate.Repeat = omega arith

@@ -1,6 +1,6 @@
 //! Laws of the definitions, each the contract of a function that does nothing.
 
-ghost use Rattle.std.specs.Prelude.{◌≡◌, ◌↔◌, ℕ, ◌-◌, ◌≤◌, true, List, reverse, Some, None};
+ghost use Rattle.std.specs.Prelude.{◌≡◌, ◌↔◌, ℕ, ◌-◌, ◌≤◌, true, List, length, reverse, Some, None};
 ghost use Rattle.aim_msg.specs.declared.entries.Entry.{Entry};
 ghost use Rattle.aim_driver.specs.declared.plans.DrivePlan.{DrivePlan};
 ghost use Rattle.aim_driver.specs.declared.links.Fate.{Fate};
@@ -64,4 +64,10 @@ pub fn turns_go_on()
 pub fn what_follows_keeps_the_rules()
     ensures { (plan : DrivePlan) (up down : List Fate) (first until : ℕ) (replies : List Reply) →
         plan.lead ≤ 65536 → keeps (follows_from plan up down first until replies).0 ≡ true }
+{}
+
+/// A driver follows at most 128 calls: it sends at most 64 messages, and none comes more than twice.
+pub fn follows_few_calls()
+    ensures { (plan : DrivePlan) (up down : List Fate) (first until : ℕ) (replies : List Reply) →
+        length (follows_from plan up down first until replies).1 ≤ 128 }
 {}
