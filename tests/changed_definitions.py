@@ -65,8 +65,8 @@ def answer(row, status, output):
     errors = re.findall(r"^(?:\./)?(\S+\.(?:antt|rt)):\d+:\d+: error:(?: `([^`]+)`)?", output, re.M)
     if any("specs/" in file for file, _ in errors):
         return "NO DEFINITION", ", ".join(sorted({file for file, _ in errors if "specs/" in file}))
-    rows = [name for file, name in errors if name and ("/Rows" in file or "Examples" in file or "/Row" in file)]
-    functions = re.findall(r"^fn ([\w:]+): not proved", output, re.M)
+    rows = [name for file, name in errors if name and ("/Rows" in file or "Examples" in file)]
+    functions = re.findall(r"^fn ([\w:]+): (?:not proved|no proof: (?!it calls))", output, re.M)
     failed = [f"row {name}" for name in dict.fromkeys(rows)] + functions
     return "refused", ", ".join(failed) or "; ".join(f"{file} {name}" for file, name in errors[:3]) or "see the output"
 
