@@ -10,12 +10,12 @@ use Rattle.aim_paths.specs.Intersection.{Intersection, Lane}
 abbrev pub is_met : Grid → List Station → ℕ → ℕ → Bool
 is_met g ss row col = list_any (λ s. is_touched g g.half s row col) ss
 
--- whether the tile meets such a square on a path of the lane, where that is offered
+-- whether the tile meets the square of the lane tile sets round a station of the path, if it is offered
 abbrev pub is_on_path : Intersection → Option (List Station) → ℕ → ℕ → Bool
 is_on_path i None row col = false
 is_on_path i (Some ss) row col = is_met i.grid ss row col
 
--- whether the tile meets such a square on one of the paths of the lane, where there is one
+-- whether the tile meets the square of the lane tile sets round a station of one of the lane's paths
 abbrev pub is_on_lane : Intersection → Option Lane → ℕ → ℕ → Bool
 is_on_lane i None row col = false
 is_on_lane i (Some l) row col = is_on_path i l.left row col || is_on_path i l.straight row col || is_on_path i l.right row col

@@ -12,7 +12,8 @@ use Rattle.aim_paths.specs.Policies.{has_lights, has_lane}
 use Rattle.aim_paths.specs.LaneTiles.{in_lane_tiles}
 use Rattle.aim_paths.specs.Building.{lacks_phase}
 
--- The stations are those of a shape within its ranges, a line or a curve: 2 to 4097, on the ground, and each near the next.
+-- The stations are those of a shape within its ranges, a line or a curve: 2 to 4097, on the ground, and each near the
+-- next.
 pub record IsPath (g : Grid) (ss : List Station) : Type 0 where
   pub some : 1 < length ss
   pub most : length ss ≤ 4097

@@ -193,7 +193,7 @@ impl Builder {
         }
     }
 
-    // Whether such a move is refused for another cause than its spacing.
+    // Whether the path of that turn is refused for another cause than its spacing.
     fn refuses_move(&self, lane: u32, turn: Turn, shape: &Shape) -> bool
         ensures { result ≡ is_bad_move self.now lane turn shape.now }
     {

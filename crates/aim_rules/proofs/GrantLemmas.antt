@@ -17,7 +17,8 @@ use Rattle.aim_rules.specs.Holds.{is_fast}
 use Rattle.aim_rules.specs.Answer.{Asked, answer_fresh, answer_asking, answer_free, refused_or, confirmation, first_blocked, first_reason, own_refusal, where_so, is_stopped, too_soon, bad_field, too_late, too_far, too_distant, in_the_way}
 use Rattle.aim_rules.proofs.FreeLemmas.{first_none, map_none}
 
--- what a Confirm rests on: the params are good, their cells are late and near enough, and none of those granted is blocked
+-- what a Confirm rests on: the params are good, their cells are late and near enough, and none of those granted is
+-- blocked
 pub record IsGranted (a : Asked) (p : Params) (r : Reply) : Type 0 where
   pub good : bad a.layout p ≡ None
   pub later : nat_le p.arrive (a.now + a.layout.times.edge) ≡ false

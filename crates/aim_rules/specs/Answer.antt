@@ -1,4 +1,4 @@
--- What the manager answers. The lines are those of the table of answers: the first that applies decides.
+-- What the manager answers. The lines are those of the table in docs/ANSWERS.md: the first that applies decides.
 use Rattle.std.specs.Prelude.{ℕ, ◌+◌, ◌-◌, Bool, true, false, ◌&&◌, ◌==◌, not, nat_lt, nat_le, List, [], ◌∷◌, map, length, find, Option, Some, None, option_map, option_and_then, is_none, unwrap_or, slice_get, if◌then◌else◌}
 use Rattle.std.specs.List.{list_any}
 use Rattle.std.specs.Option.{option_or}

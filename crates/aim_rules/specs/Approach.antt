@@ -1,4 +1,5 @@
--- The lanes in which emergencies approach. An emergency counts whatever its answer was, until its vehicle's next fresh message.
+-- The lanes in which emergencies approach. An emergency counts whatever its answer was, until its vehicle's next fresh
+-- message.
 use Rattle.std.specs.Prelude.{ℕ, ◌+◌, Bool, false, ◌&&◌, ◌||◌, ◌==◌, not, nat_le, List, length, Option, Some, None, is_none}
 use Rattle.std.specs.List.{list_any}
 use Rattle.aim_msg.specs.declared.messages.Params.{Params}

@@ -9,7 +9,8 @@ use Rattle.aim_paths.specs.LaneTiles.{in_lane_tiles}
 use Rattle.aim_geometry.specs.Cells.{Cell}
 use Rattle.aim_rules.specs.Lights.{green_at}
 
--- whether the lane claims the cell: its tile is the lane's, and the lane is green then or was so at most the clearance before
+-- whether the lane claims the cell: the cell's tile is the lane's, and the lane is green in its step or was green at most
+-- the clearance before
 abbrev pub is_claimed : Intersection → List Entry → ℕ → Cell → Bool
 is_claimed i h lane c =
     in_lane_tiles i lane c.row c.col

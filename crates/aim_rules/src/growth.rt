@@ -132,7 +132,8 @@ pub fn nothing_past_the_horizon()
     ensures green { (i : Intersection) (h : List Entry) (e : Entry) (c : Cell) (except : ℕ) → IsAnswered i h e → c.step < now_of h e.moment + i.times.horizon → green i (h ++ e ∷ []) c except ≡ green i h c except }
 {}
 
-/// The tables of a manager: those of the empty history, those of one more entry, and what is known by them for an answer.
+/// The tables of a manager: those of the empty history, those of one more entry, and what is known by them for an
+/// answer.
 pub fn tables_of_one_more()
     ensures none { (i : Intersection) (n : ℕ) → AreTables i n [] empty }
     ensures more { (i : Intersection) (n : ℕ) (h : List Entry) (t : Tables) (e : Entry) → i.times.early ≤ i.times.edge → i.times.late ≤ i.times.edge → IsLegal i n (h ++ e ∷ []) → AreTables i n h t → AreTables i n (h ++ e ∷ []) (tables_next i t e) }
