@@ -1,4 +1,4 @@
--- What the loop of the tests counts, by the bytes alone.
+-- What the loop of the tests counts, by the bytes alone. No public clause cites it.
 use Rattle.std.specs.Prelude.{◌≡◌, ℕ, ◌+◌, List, [], ◌∷◌, length, Some, None}
 use Rattle.std.specs.declared.option.Option.{Option}
 use Rattle.aim_io.specs.declared.lines.LineFault.{LineFault}
