@@ -1,4 +1,4 @@
--- Windows of a trial as they move from step to step. No public clause cites this. No public clause cites this.
+-- Windows of a trial as they move from step to step. No public clause cites this.
 use Rattle.std.specs.Prelude.{ℕ, Bool, ◌≡◌, ◌<◌, ◌≤◌, ◌+◌, List, length}
 use Rattle.aim_msg.specs.declared.messages.Params.{Params}
 use Rattle.aim_geometry.specs.Bounded.{ceil_div}
