@@ -1,5 +1,5 @@
 -- How a replay goes on with one more line, and how it ends.
-use Rattle.std.proofs.Common.{◌≡◌, inl, inr, ℕ, ◌+◌, ◌<◌, ◌≤◌, Bool, true, false, List, [], ◌∷◌, ◌++◌, length, Option, Some, None, IfSome, Ok, Err, refl, sym, ap, ◌∙◌, subst, arith, append_assoc, append-nil, length-append, codes, decimal}
+use Rattle.std.proofs.Common.{◌≡◌, inl, inr, ℕ, ◌+◌, ◌<◌, ◌≤◌, Bool, true, false, List, [], ◌∷◌, ◌++◌, length, Option, Some, None, IfSome, Ok, Err, refl, sym, ap, ◌∙◌, subst, arith, append_assoc, append-nil, length-append}
 use Rattle.std.specs.List.{AllByRecursion}
 use Rattle.std.specs.Bool.{OnTrue, OnFalse}
 use Rattle.std.specs.Io.KnownBytes.{Appends, Consumes, Keeps, IsAtEnd, prepend_known}
@@ -10,26 +10,24 @@ use Rattle.aim_io.specs.declared.lines.LineFault.TheVariants as line_fault
 use Rattle.aim_io.specs.Known.{AppendsFront}
 use Rattle.aim_io.specs.Lines.{Outcome, Line as LineOf, Stop, outcomes_from, IsOpen, ShowsNothing, with_end}
 use Rattle.aim_io.specs.Reader.{Reader, fresh, input, coming, Answers, Stops, KnowsEnd, IsSound, after_call}
-use Rattle.aim_msg.specs.Texts.{Words, spaced}
+use Rattle.aim_msg.specs.Texts.{spaced}
 use Rattle.aim_msg.specs.declared.entries.Entry.{Entry}
 use Rattle.aim_msg.specs.declared.script.Line.{Line}
 use Rattle.aim_paths.specs.Intersection.{Intersection}
 use Rattle.aim_rules.specs.Journals.{journal}
-use Rattle.aim_replay.specs.declared.endings.Ending.{Ending}
-use Rattle.aim_replay.specs.declared.endings.Ending.TheVariants as ending
-use Rattle.aim_replay.specs.declared.endings.Kind.{Kind}
-use Rattle.aim_replay.specs.declared.endings.Limit.{Limit}
+use Rattle.aim_replay.specs.declared.decisions.Decision.{Decision}
+use Rattle.aim_replay.specs.declared.decisions.Decision.TheVariants as decision
+use Rattle.aim_replay.specs.declared.decisions.Kind.{Kind}
 use Rattle.aim_replay.specs.declared.stages.Stage.{Stage}
 use Rattle.aim_replay.specs.declared.stages.Stage.TheVariants as stage
 use Rattle.aim_replay.specs.Said.{layout_of, calls_of, names_of}
-use Rattle.aim_replay.specs.Verdicts.{Decision, Judgement, bad, limit, number_after, judge, decides, goes_on, of_fault, at_end, verdict_from, verdict}
-use Rattle.aim_replay.specs.Texts.{entry_lines, printed, journal_of, last_words, replay_text, status_of}
+use Rattle.aim_replay.specs.Verdicts.{Judgement, Verdict, number_after, judge, decides, goes_on, of_fault, at_end, verdict_from, verdict}
+use Rattle.aim_replay.specs.Texts.{entry_lines, printed, journal_of, decision_words, replay_text, status_of}
 use Rattle.aim_replay.specs.Today.{today}
-use Rattle.aim_replay.specs.Endings.{Tells, kind_text, limit_text, ending_words}
 use Rattle.aim_replay.specs.Stands.{IsHeader}
 use Rattle.aim_replay.specs.Stages.{Stands, Says, Judged, Grows, MayTake, journal_at}
 use Rattle.aim_replay.specs.Replays.{Replays, StopsShort, Writes, WritesFront, ended, script_after, unless_decided, entries_text, gained}
-use Rattle.aim_replay.specs.Sessions.{Decides, Took, Reached, Responds, TellsVerdict}
+use Rattle.aim_replay.specs.Sessions.{Decides, Took, Reached, Responds, Comes}
 use Rattle.aim_replay.proofs.TextLemmas.{entry_lines-append, Begins, journal_of_begins, nothing_begins}
 
 -- the lines of what a journal has gained come behind those of the journal
@@ -120,11 +118,10 @@ ends_fault before old new f (Some bytes) (Some xs) None other decided step = abs
 ends_fault before old new f (Some bytes) (Some xs) (Some ys) other decided step =
     sym decided ∙ ap (verdict_from today before) (stops_there old xs f other step.1) ∙ verdict_stops before (of_fault f) (Stop f) [] refl
 
--- the ending tells the verdict
-pub told : (before : List Line) (s : Stage) (d : Decision) (e : Ending) (bytes : Option (List ℕ)) → Says before s → IsVerdict before d bytes → Tells d (length (journal_at s)) e → IfSome bytes (λ bs. TellsVerdict e (verdict today bs))
-told before s d e None says is tells = tt
-told before s d e (Some bytes) says is tells =
-    subst (TellsVerdict e) (sym is) (subst (λ (h : List Entry). Tells d (length h) e) (sym (journal_is before s says)) tells)
+-- a verdict that is made is what the bytes come to
+pub told : (before : List Line) (d : Decision) (bytes : Option (List ℕ)) → IsVerdict before d bytes → Comes d bytes
+told before d None is = tt
+told before d (Some bytes) is = ap (λ (v : Verdict). v.decision) is
 
 -- all entries' lines were written
 pub written_all : (before : List Line) (s : Stage) (d : Decision) (bytes old new : Option (List ℕ)) → Says before s → IsVerdict before d bytes → Appends old new (entry_lines 0 (journal_at s)) → Writes bytes old new (entries_text today)
@@ -328,32 +325,27 @@ short_reached bytes left after start now old new f P s r same shows kept =
     let going : old.ended ≡ false = sym (ap (λ (x : Reader). x.ended) same) ∙ shows.1 in
     stops_short bytes (input old left) after start now old new s r going (ap (λ (x : Reader). x.given) same) (ap (λ (x : Reader). x.place) same) shows.0 kept
 
-pub fault_told : (bytes rest left start now : Option (List ℕ)) (old new : Reader) (s : Stage) (f : LineFault) (e : Ending) → Reached bytes rest start now old s → IsOfInput f → Answers old new rest left (Err f) → Tells (of_fault f) (length (journal_at s)) e
-    → IfSome bytes (λ bs. TellsVerdict e (verdict today bs))
-fault_told bytes rest left start now old new s f e r other step tells = told r.before s (of_fault f) e bytes r.stands.says (ends_fault r.before old new f bytes rest left other r.decides step) tells
+pub fault_told : (bytes rest left start now : Option (List ℕ)) (old new : Reader) (s : Stage) (f : LineFault) → Reached bytes rest start now old s → IsOfInput f → Answers old new rest left (Err f) → Comes (of_fault f) bytes
+fault_told bytes rest left start now old new s f r other step = told r.before (of_fault f) bytes (ends_fault r.before old new f bytes rest left other r.decides step)
 
 pub fault_written : (bytes rest left start now : Option (List ℕ)) (old new : Reader) (s : Stage) (f : LineFault) → Reached bytes rest start now old s → IsOfInput f → Answers old new rest left (Err f) → Writes bytes start now (entries_text today)
 fault_written bytes rest left start now old new s f r other step = written_all r.before s (of_fault f) bytes start now r.stands.says (ends_fault r.before old new f bytes rest left other r.decides step) r.written
 
-pub end_told : (bytes rest left start now : Option (List ℕ)) (old new : Reader) (s : Stage) (e : Ending) (r : Reached bytes rest start now old s) → Answers old new rest left (Ok false) → Tells (at_end r.before) (length (journal_at s)) e
-    → IfSome bytes (λ bs. TellsVerdict e (verdict today bs))
-end_told bytes rest left start now old new s e r step tells = told r.before s (at_end r.before) e bytes r.stands.says (ends_input r.before old new bytes rest left r.decides step) tells
+pub end_told : (bytes rest left start now : Option (List ℕ)) (old new : Reader) (s : Stage) (d : Decision) (r : Reached bytes rest start now old s) → Answers old new rest left (Ok false) → d ≡ at_end r.before → Comes d bytes
+end_told bytes rest left start now old new s d r step is = subst (λ e. Comes e bytes) (sym is) (told r.before (at_end r.before) bytes (ends_input r.before old new bytes rest left r.decides step))
 
 pub end_written : (bytes rest left start now : Option (List ℕ)) (old new : Reader) (s : Stage) → Reached bytes rest start now old s → Answers old new rest left (Ok false) → Writes bytes start now (entries_text today)
 end_written bytes rest left start now old new s r step = written_all r.before s (at_end r.before) bytes start now r.stands.says (ends_input r.before old new bytes rest left r.decides step) r.written
 
-pub bad_told : (bytes rest left start now : Option (List ℕ)) (old new : Reader) (s : Stage) (number : ℕ) (kind : Kind) (r : Reached bytes rest start now old s) → Answers old new rest left (Ok true) → judge today r.before (LineOf new.line) ≡ decides (bad (number_after r.before) (kind_text kind))
-    → number ≡ old.given + 1 → IfSome bytes (λ bs. TellsVerdict (ending.Bad number kind) (verdict today bs))
+pub bad_told : (bytes rest left start now : Option (List ℕ)) (old new : Reader) (s : Stage) (number : ℕ) (kind : Kind) (r : Reached bytes rest start now old s) → Answers old new rest left (Ok true) → judge today r.before (LineOf new.line) ≡ decides (decision.Bad (number_after r.before) kind)
+    → number ≡ old.given + 1 → Comes (decision.Bad number kind) bytes
 bad_told bytes rest left start now old new s number kind r step is same =
-    let d = bad (number_after r.before) (kind_text kind) in
+    let d = decision.Bad (number_after r.before) kind in
     let count : number_after r.before ≡ number = omega (arith, r.count, same) in
-    told r.before s d (ending.Bad number kind) bytes r.stands.says (ends_line r.before d old new bytes rest left is r.decides step) (ap (λ n. bad n (kind_text kind)) count)
+    subst (λ n. Comes (decision.Bad n kind) bytes) count (told r.before d bytes (ends_line r.before d old new bytes rest left is r.decides step))
 
-pub limit_told : (bytes rest left start now : Option (List ℕ)) (old new : Reader) (s : Stage) (which : Limit) (r : Reached bytes rest start now old s) → Answers old new rest left (Ok true) → judge today r.before (LineOf new.line) ≡ decides (limit (limit_text which))
-    → IfSome bytes (λ bs. TellsVerdict (ending.Limit which) (verdict today bs))
-limit_told bytes rest left start now old new s which r step is =
-    let d = limit (limit_text which) in
-    told r.before s d (ending.Limit which) bytes r.stands.says (ends_line r.before d old new bytes rest left is r.decides step) refl
+pub line_told : (bytes rest left start now : Option (List ℕ)) (old new : Reader) (s : Stage) (d : Decision) (r : Reached bytes rest start now old s) → Answers old new rest left (Ok true) → judge today r.before (LineOf new.line) ≡ decides d → Comes d bytes
+line_told bytes rest left start now old new s d r step is = told r.before d bytes (ends_line r.before d old new bytes rest left is r.decides step)
 
 pub bad_written : (bytes rest left start mid now : Option (List ℕ)) (old new : Reader) (s : Stage) (d : Decision) (r : Reached bytes rest start mid old s) → Answers old new rest left (Ok true) → judge today r.before (LineOf new.line) ≡ decides d → Appends mid now []
     → Writes bytes start now (entries_text today)
@@ -363,32 +355,22 @@ bad_written bytes rest left start mid now old new s d r step is none =
 pub memory_front : (bytes rest start mid now : Option (List ℕ)) (reader : Reader) (s : Stage) → Reached bytes rest start mid reader s → Appends mid now [] → WritesFront bytes start now (entries_text today)
 memory_front bytes rest start mid now reader s r none = stops_whole r.before s reader bytes rest start now r.stands r.decides (written_kept start mid now (entry_lines 0 (journal_at s)) r.written none)
 
--- the last line of an ending is that of the verdict that it tells
-last_words_are : (d : Decision) (entries : ℕ) (e : Ending) → Tells d entries e → last_words entries d ≡ ending_words e
-last_words_are d entries (ending.Bad number k) tells = ap (last_words entries) tells
-last_words_are d entries (ending.Limit l) tells = ap (last_words entries) tells
-last_words_are d entries (ending.Whole n) tells = ap (last_words entries) tells.0 ∙ ap (λ m. codes "end" ∷ decimal m ∷ []) (sym tells.1)
-
 -- the text is the entries' lines and the last line
-text_is : (bytes : List ℕ) (e : Ending) → TellsVerdict e (verdict today bytes) → replay_text today None bytes ≡ entries_text today bytes ++ printed (spaced (ending_words e))
-text_is bytes e tells =
-    let v = verdict today bytes in
-    ap (λ (words : Words). entries_text today bytes ++ printed (spaced words)) (last_words_are v.decision (length (journal_of v)) e tells)
+text_is : (bytes : List ℕ) (d : Decision) → Comes d (Some bytes) → replay_text today None bytes ≡ entries_text today bytes ++ printed (spaced (decision_words d))
+text_is bytes d comes = ap (λ (e : Decision). entries_text today bytes ++ printed (spaced (decision_words e))) comes
 
 -- the last line was written behind the entries' lines
-pub all_written : (bytes start mid now : Option (List ℕ)) (e : Ending) → IfSome bytes (λ bs. TellsVerdict e (verdict today bs)) → Writes bytes start mid (entries_text today) → Appends mid now (printed (spaced (ending_words e)))
-    → Writes bytes start now (replay_text today None)
-all_written None start mid now e tells first last = tt
-all_written (Some bytes) start mid now e tells first last = subst (Appends start now) (sym (text_is bytes e tells)) (Appends-trans start mid now _ _ first last)
+pub all_written : (bytes start mid now : Option (List ℕ)) (d : Decision) → Comes d bytes → Writes bytes start mid (entries_text today) → Appends mid now (printed (spaced (decision_words d))) → Writes bytes start now (replay_text today None)
+all_written None start mid now d comes first last = tt
+all_written (Some bytes) start mid now d comes first last = subst (Appends start now) (sym (text_is bytes d comes)) (Appends-trans start mid now _ _ first last)
 
 -- a front of the last line was written behind them
-pub front_written : (bytes start mid now : Option (List ℕ)) (e : Ending) → IfSome bytes (λ bs. TellsVerdict e (verdict today bs)) → Writes bytes start mid (entries_text today) → AppendsFront mid now (printed (spaced (ending_words e)))
-    → WritesFront bytes start now (replay_text today None)
-front_written None start mid now e tells first last = tt
-front_written (Some bytes) start mid now e tells first last = record {
+pub front_written : (bytes start mid now : Option (List ℕ)) (d : Decision) → Comes d bytes → Writes bytes start mid (entries_text today) → AppendsFront mid now (printed (spaced (decision_words d))) → WritesFront bytes start now (replay_text today None)
+front_written None start mid now d comes first last = tt
+front_written (Some bytes) start mid now d comes first last = record {
   front = entries_text today bytes ++ last.front;
   rest = last.rest;
-  whole = text_is bytes e tells ∙ ap (λ (t : List ℕ). entries_text today bytes ++ t) last.whole ∙ sym (append_assoc (entries_text today bytes) last.front last.rest);
+  whole = text_is bytes d comes ∙ ap (λ (t : List ℕ). entries_text today bytes ++ t) last.whole ∙ sym (append_assoc (entries_text today bytes) last.front last.rest);
   added = Appends-trans start mid now _ _ first last.added;
 }
 
@@ -397,7 +379,7 @@ pub front_of_text : (bytes start now : Option (List ℕ)) → WritesFront bytes 
 front_of_text None start now front = tt
 front_of_text (Some bytes) start now front =
     let v = verdict today bytes in
-    let last = printed (spaced (last_words (length (journal_of v)) v.decision)) in
+    let last = printed (spaced (decision_words v.decision)) in
     record {
       front = front.front;
       rest = front.rest ++ last;
@@ -405,19 +387,6 @@ front_of_text (Some bytes) start now front =
       added = front.added;
     }
 
--- the status of an ending
-abbrev pub status_told : Ending → ℕ
-status_told (ending.Bad number k) = 3
-status_told (ending.Limit l) = 6
-status_told (ending.Whole n) = 0
-
-status_is : (d : Decision) (entries : ℕ) (e : Ending) → Tells d entries e → status_told e ≡ status_of d
-status_is d entries (ending.Bad number k) tells = ap status_of (sym tells)
-status_is d entries (ending.Limit l) tells = ap status_of (sym tells)
-status_is d entries (ending.Whole n) tells = ap status_of (sym tells.0)
-
-pub replays : (bytes old new : Option (List ℕ)) (e : Ending) → IfSome bytes (λ bs. TellsVerdict e (verdict today bs)) → Writes bytes old new (replay_text today None) → IfSome bytes (λ bs. Replays today None bs old new (status_told e))
-replays None old new e tells written = tt
-replays (Some bytes) old new e tells written =
-    let v = verdict today bytes in
-    record { text = written; status = status_is v.decision (length (journal_of v)) e tells }
+pub replays : (bytes old new : Option (List ℕ)) (d : Decision) → Comes d bytes → Writes bytes old new (replay_text today None) → IfSome bytes (λ bs. Replays today None bs old new (status_of d))
+replays None old new d comes written = tt
+replays (Some bytes) old new d comes written = record { text = written; status = ap status_of (sym comes) }

@@ -1,5 +1,5 @@
 -- What a line comes to at the stage where it belongs.
-use Rattle.std.proofs.Common.{◌≡◌, inl, inr, ℕ, ◌<◌, ◌==◌, Bool, true, false, ◌||◌, not, nat_lt, nat_le, is_some, List, [], ◌∷◌, ◌++◌, length, Option, Some, None, option_map, Result, Ok, Err, refl, sym, ap, ◌∙◌, subst, arith, codes, length-append, if◌then◌else◌}
+use Rattle.std.proofs.Common.{◌≡◌, inl, inr, ℕ, ◌<◌, ◌==◌, Bool, true, false, ◌||◌, not, nat_lt, nat_le, is_some, List, [], ◌∷◌, ◌++◌, length, Option, Some, None, option_map, Result, Ok, Err, refl, sym, ap, ◌∙◌, subst, arith, ◌+◌, fold, length-append, if◌then◌else◌}
 use Rattle.std.specs.List.{list_any}
 use Rattle.std.proofs.lemmas.Bool.{cases_Bool, eq-eqb, eqb-true, ltb-false, leb-false}
 use Rattle.std.specs.Bool.{IsTrue}
@@ -30,18 +30,21 @@ use Rattle.aim_paths.specs.declared.builders.LayoutFault.{LayoutFault}
 use Rattle.aim_paths.specs.declared.builders.LayoutFault.TheVariants as layout_fault
 use Rattle.aim_paths.specs.Shapes.{stations_of, wide_step}
 use Rattle.aim_paths.specs.Building.{bare, is_bad_move, move_fault, with_move, policy_fault, finish_fault, with_policy}
-use Rattle.aim_rules.specs.Journals.{entry_of}
+use Rattle.aim_rules.specs.Journals.{Call, entry_of, journal}
 use Rattle.aim_book.specs.State.{State}
 use Rattle.aim_book.specs.Serving.{IsPlain, MayServe}
+use Rattle.aim_replay.specs.declared.decisions.Decision.TheVariants as decision
+use Rattle.aim_replay.specs.declared.decisions.Kind.{Kind}
+use Rattle.aim_replay.specs.declared.decisions.Kind.TheVariants as why
+use Rattle.aim_replay.specs.declared.decisions.Limit.{Limit}
 use Rattle.aim_replay.specs.declared.stages.Stage.{Stage}
 use Rattle.aim_replay.specs.declared.stages.Stage.TheVariants as stage
 use Rattle.aim_replay.specs.declared.stages.Refusal.{Refusal}
 use Rattle.aim_replay.specs.declared.stages.Refusal.TheVariants as refusal
 use Rattle.aim_replay.specs.Order.{part_after, belongs, is_end}
-use Rattle.aim_replay.specs.Said.{version_after, nowhere, grid_of, times_of, names_of, shape_of}
+use Rattle.aim_replay.specs.Said.{version_after, nowhere, grid_of, times_of, names_of, calls_of, shape_of}
 use Rattle.aim_replay.specs.Kinds.{kind_of_fault, limit_of, vehicles_limit}
-use Rattle.aim_replay.specs.Verdicts.{judge, of_read, goes_on, decides, bad, limit, number_after, kind_word}
-use Rattle.aim_replay.specs.Endings.{kind_text, limit_text}
+use Rattle.aim_replay.specs.Verdicts.{judge, of_read, goes_on, decides, number_after, at_end}
 use Rattle.aim_replay.specs.Today.{today, is_missing_form}
 use Rattle.aim_replay.specs.Stands.{IsBody}
 use Rattle.aim_replay.specs.Stages.{Stands, Says, Takes, Judged, MayTake, Opens, move_kind_of, part_of, is_over, IsUnbuffered, IsDesk, is_missing_request, request_kind}
@@ -53,7 +56,7 @@ goes : (before : List Line) (l : Line) → kind_of_fault today before l ≡ None
 goes before l no_kind no_limit = rw (no_kind, no_limit) refl
 
 -- a line with a kind decides
-pub falls : (before : List Line) (l : Line) (kind : List ℕ) → kind_of_fault today before l ≡ Some kind → of_read today before (Ok l) ≡ decides (bad (number_after before) kind)
+pub falls : (before : List Line) (l : Line) (kind : Kind) → kind_of_fault today before l ≡ Some kind → of_read today before (Ok l) ≡ decides (decision.Bad (number_after before) kind)
 falls before l kind is = rw is refl
 
 stands_after : (before : List Line) (l : Line) (s : Stage) → part_after (Some l) ≡ part_of s → is_end (Some l) ≡ is_over s → Says (before ++ l ∷ []) s → Stands (before ++ l ∷ []) s
@@ -65,8 +68,8 @@ stands_after before l s part over says = record {
 
 -- a line that doesn't belong to the stage
 pub order_falls : (before : List Line) (s : Stage) (l : Line) → Stands before s → is_missing_form before l ≡ false → belongs (part_of s) l ≡ false
-    → of_read today before (Ok l) ≡ decides (bad (number_after before) (codes "order"))
-order_falls before s l st form not_there = falls before l (codes "order") (out_of_order before l (part_of s) st.part form not_there)
+    → of_read today before (Ok l) ≡ decides (decision.Bad (number_after before) why.Order)
+order_falls before s l st form not_there = falls before l why.Order (out_of_order before l (part_of s) st.part form not_there)
 
 or_parts : (a b : Bool) → (a || b) ≡ false → (a ≡ false) × (b ≡ false)
 or_parts true b is = absurd (cc)
@@ -196,8 +199,8 @@ request_kind_is : (before : List Line) (k : State) (n v at : ℕ) (m : Message) 
 request_kind_is before k n v at m p asks st =
     event_kind before v at m p asks st.part ∙ rw (st.says.0.events v, st.says.0.declared, st.says.0.layout) refl
 
-pub request_falls : (before : List Line) (s : Stage) (k : State) (n v at : ℕ) (m : Message) (p : Params) (kind : List ℕ) → s ≡ stage.Body k n → m.body ≡ body.Request p → request_kind k n v at p ≡ Some kind → Stands before s
-    → of_read today before (Ok (line.Event v at m)) ≡ decides (bad (number_after before) kind)
+pub request_falls : (before : List Line) (s : Stage) (k : State) (n v at : ℕ) (m : Message) (p : Params) (kind : Kind) → s ≡ stage.Body k n → m.body ≡ body.Request p → request_kind k n v at p ≡ Some kind → Stands before s
+    → of_read today before (Ok (line.Event v at m)) ≡ decides (decision.Bad (number_after before) kind)
 request_falls before s k n v at m p kind is asks fault st =
     falls before (line.Event v at m) kind (request_kind_is before k n v at m p asks (subst (Stands before) is st) ∙ fault)
 
@@ -215,7 +218,7 @@ request_taken before s k new n v at m p is asks good same st =
     subst (λ x. Takes before l (Ok (stage.Body x n))) (sym same) taken
 
 -- the vehicles of a header that lacks a policy
-pub vehicles_kind_in_moves : (before : List Line) (b : Intersection) (n : ℕ) → Stands before (stage.Moves b) → kind_of_fault today before (line.Vehicles n) ≡ Some (codes "phase")
+pub vehicles_kind_in_moves : (before : List Line) (b : Intersection) (n : ℕ) → Stands before (stage.Moves b) → kind_of_fault today before (line.Vehicles n) ≡ Some why.Phase
 vehicles_kind_in_moves before b n st = vehicles_kind before n (inl st.part) ∙ rw (st.says.0.layout, unfinished b st.says.2) refl
   where
     unfinished : (b : Intersection) → b.policies ≡ [] → is_some (finish_fault b) ≡ true
@@ -223,7 +226,7 @@ vehicles_kind_in_moves before b n st = vehicles_kind before n (inl st.part) ∙ 
 
 -- the vehicles of a header that has one
 pub vehicles_kind_in_policies : (before : List Line) (b : Intersection) (n : ℕ) → Stands before (stage.Policies b)
-    → kind_of_fault today before (line.Vehicles n) ≡ (if is_some (finish_fault b) then Some (codes "phase") else if n == 0 then Some (codes "vehicle") else None)
+    → kind_of_fault today before (line.Vehicles n) ≡ (if is_some (finish_fault b) then Some why.Phase else if n == 0 then Some why.Vehicle else None)
 vehicles_kind_in_policies before b n st = vehicles_kind before n (inr st.part) ∙ rw st.says.0.layout refl
 
 -- a number of vehicles, of which the layout allows as many as there are
@@ -245,13 +248,13 @@ vehicles_taken before s b k n at within some fault same st =
     subst (λ x. Takes before l (Ok (stage.Begin x n))) (sym same) taken
 
 -- a line without a kind that goes past a limit
-passes : (before : List Line) (l : Line) (which : List ℕ) → kind_of_fault today before l ≡ None → limit_of before l ≡ Some which → of_read today before (Ok l) ≡ decides (limit which)
+passes : (before : List Line) (l : Line) (which : Limit) → kind_of_fault today before l ≡ None → limit_of before l ≡ Some which → of_read today before (Ok l) ≡ decides (decision.Limit which)
 passes before l which no_kind past = rw (no_kind, past) refl
 
 -- a move that the builder refuses
 pub move_falls : (before : List Line) (s : Stage) (b : Intersection) (lane : ℕ) (turn : Turn) (shape : MoveShape) (f : LayoutFault) → s ≡ stage.Moves b
     → Some f ≡ move_fault b lane turn (shape_of shape) → Stands before s
-    → of_read today before (Ok (line.Move lane turn shape)) ≡ decides (bad (number_after before) (move_kind_of f))
+    → of_read today before (Ok (line.Move lane turn shape)) ≡ decides (decision.Bad (number_after before) (move_kind_of f))
 move_falls before s b lane turn shape f at fault st =
     let st : Stands before (stage.Moves b) = subst (Stands before) at st in
     falls before (line.Move lane turn shape) (move_kind_of f) (move_kind before lane turn shape st.part ∙ rw st.says.0.layout (refused (is_bad_move b lane turn (shape_of shape)) (wide_step b.grid.spacing (stations_of (shape_of shape))) fault))
@@ -260,7 +263,7 @@ move_falls before s b lane turn shape f at fault st =
     same f g is = let e : f ≡ g = cc in ap (λ h. Some (move_kind_of h)) (sym e)
 
     refused : (b : Bool) (o : Option ℕ) → Some f ≡ (if b then Some (layout_fault.Move lane turn) else option_map (λ k. layout_fault.Spacing lane turn k) o)
-        → (if b then Some (codes "move") else if is_some o then Some (codes "spacing") else None) ≡ Some (move_kind_of f)
+        → (if b then Some why.Move else if is_some o then Some why.Spacing else None) ≡ Some (move_kind_of f)
     refused true o is = same f (layout_fault.Move lane turn) is
     refused false None is = absurd (cc)
     refused false (Some k) is = same f (layout_fault.Spacing lane turn k) is
@@ -294,9 +297,9 @@ none_of (Some x) is = absurd (cc)
 -- a request of no kind may be served
 pub may_serve : (k : State) (n v at seq : ℕ) (p : Params) → IsDesk k n → None ≡ request_kind k n v at p → MayServe k.layout k.vehicles k.journal v at (record { seq = seq; body = body.Request p })
 may_serve k n v at seq p desk is =
-    let a = unguarded (list_any (λ (e : Entry). e.caller == v) k.journal || is_missing_request k.layout p) (codes "unsupported") (if nat_le n v then Some (codes "vehicle") else if nat_lt 1073741824 at then Some (codes "moment") else None) is in
-    let b = unguarded (nat_le n v) (codes "vehicle") (if nat_lt 1073741824 at then Some (codes "moment") else None) (sym a.1) in
-    let c = unguarded (nat_lt 1073741824 at) (codes "moment") None (sym b.1) in
+    let a = unguarded (list_any (λ (e : Entry). e.caller == v) k.journal || is_missing_request k.layout p) why.Unsupported (if nat_le n v then Some why.Vehicle else if nat_lt 1073741824 at then Some why.Moment else None) is in
+    let b = unguarded (nat_le n v) why.Vehicle (if nat_lt 1073741824 at then Some why.Moment else None) (sym a.1) in
+    let c = unguarded (nat_lt 1073741824 at) why.Moment None (sym b.1) in
     let fresh = or_parts (list_any (λ (e : Entry). e.caller == v) k.journal) (is_missing_request k.layout p) a.0 in
     let good = or_parts (not (p.accel == 0) || not (p.speed == p.max_speed)) (is_some (bad_field k.layout p)) fresh.1 in
     let steady = or_parts (not (p.accel == 0)) (not (p.speed == p.max_speed)) good.0 in
@@ -333,9 +336,9 @@ vehicles_opened before s b i n r at fault same opens st =
         subst (λ x. Takes before (line.Vehicles n) (Ok x)) (sym opens.2) (vehicles_taken before (stage.Policies b) b book n refl opens.1 opens.0 fault refl st)
     go (Err (refusal.Bad kind)) opens st =
         let whole : is_some (finish_fault b) ≡ false = rw (sym fault) refl in
-        falls before (line.Vehicles n) (kind_text kind) (vehicles_kind_in_policies before b n st ∙ rw (whole, opens.0, opens.1) refl)
+        falls before (line.Vehicles n) kind (vehicles_kind_in_policies before b n st ∙ rw (whole, opens.0, opens.1) refl)
     go (Err (refusal.Limit which)) opens st =
-        passes before (line.Vehicles n) (limit_text which) (vehicles_fit before b n fault opens.0 st) (rw st.says.0.layout opens.1)
+        passes before (line.Vehicles n) which (vehicles_fit before b n fault opens.0 st) (rw st.says.0.layout opens.1)
     go (Err refusal.NoMemory) opens st = tt
 
 -- the lines so far are of version 1
@@ -358,5 +361,17 @@ judged before s bytes l (Err (refusal.Limit which)) st is takes = rw (version_at
 judged before s bytes l (Err refusal.NoMemory) st is takes = tt
 
 -- bytes that spell no line
-pub unread : (before : List Line) (s : Stage) (bytes : List ℕ) (kind : LineKind) → Stands before s → Err kind ≡ line_at 1 bytes → judge today before (LineOf bytes) ≡ decides (bad (number_after before) (kind_word kind))
+pub unread : (before : List Line) (s : Stage) (bytes : List ℕ) (kind : LineKind) → Stands before s → Err kind ≡ line_at 1 bytes → judge today before (LineOf bytes) ≡ decides (decision.Bad (number_after before) (why.Spelling kind))
 unread before s bytes kind st is = rw (version_at before s st.says, sym is) refl
+
+-- a journal has an entry of each call
+entries_of_calls : (i : Intersection) (h : List Entry) (calls : List Call) → length (fold (λ (h : List Entry) (c : Call). h ++ entry_of i h c ∷ []) h calls) ≡ length h + length calls
+entries_of_calls i h [] = omega arith
+entries_of_calls i h (c ∷ calls) = omega (arith, entries_of_calls i (h ++ entry_of i h c ∷ []) calls, length-append h (entry_of i h c ∷ []))
+
+-- the script is whole where its input ends behind its `end`
+pub ends_whole : (before : List Line) (s : Stage) (k : State) (n : ℕ) → s ≡ stage.Over k → n ≡ length k.journal → Stands before s → decision.Whole n ≡ at_end before
+ends_whole before s k n at count st =
+    let st : Stands before (stage.Over k) = subst (Stands before) at st in
+    let entries : length (calls_of before) ≡ length k.journal = omega (arith, entries_of_calls k.layout [] (calls_of before), ap (λ (h : List Entry). length h) st.says.journal) in
+    rw (st.over, entries, count) refl

@@ -1,19 +1,18 @@
 -- What is known between two lines of a replay.
-use Rattle.std.specs.Prelude.{◌≡◌, ℕ, Bool, true, false, List, [], length, Option, Some, None, Result, Ok, Err}
+use Rattle.std.specs.Prelude.{◌≡◌, ℕ, Bool, true, false, List, [], length, Option, Some, None, IfSome, Result, Ok, Err}
 use Rattle.std.specs.Io.KnownBytes.{Appends, Consumes}
 use Rattle.aim_io.specs.Known.{AppendsFront}
 use Rattle.aim_io.specs.Reader.{Reader, coming}
 use Rattle.aim_msg.specs.declared.script.Line.{Line}
-use Rattle.aim_replay.specs.declared.endings.Ending.{Ending}
-use Rattle.aim_replay.specs.declared.endings.Ending.TheVariants as ending
+use Rattle.aim_replay.specs.declared.decisions.Decision.{Decision}
+use Rattle.aim_replay.specs.declared.decisions.Decision.TheVariants as decision
 use Rattle.aim_replay.specs.declared.session.Halt.{Halt}
 use Rattle.aim_replay.specs.declared.session.Halt.TheVariants as halt
 use Rattle.aim_replay.specs.declared.stages.Stage.{Stage}
 use Rattle.aim_replay.specs.declared.stages.Refusal.TheVariants as refusal
-use Rattle.aim_replay.specs.Verdicts.{Verdict, verdict_from, verdict}
-use Rattle.aim_replay.specs.Texts.{entry_lines, journal_of, printed}
+use Rattle.aim_replay.specs.Verdicts.{verdict_from, verdict}
+use Rattle.aim_replay.specs.Texts.{entry_lines, printed}
 use Rattle.aim_replay.specs.Today.{today}
-use Rattle.aim_replay.specs.Endings.{Tells}
 use Rattle.aim_replay.specs.Stages.{Stands, Judged, Grows, journal_at}
 use Rattle.aim_replay.specs.Replays.{AreWhole, ended, gained}
 
@@ -52,10 +51,10 @@ Responds before s line old new (Err (halt.Limit which)) = Judged before line (Er
 Responds before s line old new (Err halt.Write) = (next : Stage) × Judged before line (Ok next) × Grows (journal_at s) (journal_at next) × AppendsFront old new (gained (journal_at s) (journal_at next))
 Responds before s line old new (Err halt.NoMemory) = (journal_at s ≡ []) × Appends old new []
 
--- the ending tells the verdict
-abbrev pub TellsVerdict : Ending → Verdict → Type 0
-TellsVerdict e v = Tells v.decision (length (journal_of v)) e
+-- where the source tells its bytes, they come to the decision
+abbrev pub Comes : Decision → Option (List ℕ) → Type 0
+Comes d bytes = IfSome bytes (λ bs. let v = verdict today bs in v.decision ≡ d)
 
-abbrev pub is_whole : Ending → Bool
-is_whole (ending.Whole n) = true
+abbrev pub is_whole : Decision → Bool
+is_whole (decision.Whole entries) = true
 is_whole _ = false

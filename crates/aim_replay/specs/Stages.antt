@@ -1,5 +1,5 @@
 -- What is known of the lines of a script so far, at each stage of its replay.
-use Rattle.std.specs.Prelude.{◌≡◌, ◌⊎◌, ℕ, ◌<◌, ◌==◌, Bool, true, false, List, [], ◌∷◌, ◌++◌, ◌||◌, not, nat_lt, nat_le, length, Option, Some, None, is_some, Result, Ok, Err, codes, if◌then◌else◌}
+use Rattle.std.specs.Prelude.{◌≡◌, ◌⊎◌, ℕ, ◌<◌, ◌==◌, Bool, true, false, List, [], ◌∷◌, ◌++◌, ◌||◌, not, nat_lt, nat_le, length, Option, Some, None, is_some, Result, Ok, Err, if◌then◌else◌}
 use Rattle.std.specs.List.{list_any}
 use Rattle.aim_msg.specs.declared.messages.Params.{Params}
 use Rattle.aim_rules.specs.Bad.{bad as bad_field}
@@ -16,12 +16,14 @@ use Rattle.aim_replay.specs.declared.stages.Stage.{Stage}
 use Rattle.aim_replay.specs.declared.stages.Stage.TheVariants as stage
 use Rattle.aim_replay.specs.declared.stages.Refusal.{Refusal}
 use Rattle.aim_replay.specs.declared.stages.Refusal.TheVariants as refusal
+use Rattle.aim_replay.specs.declared.decisions.Decision.TheVariants as decision
+use Rattle.aim_replay.specs.declared.decisions.Kind.{Kind}
+use Rattle.aim_replay.specs.declared.decisions.Kind.TheVariants as kind
 use Rattle.aim_io.specs.Lines.{Line as LineOf}
 use Rattle.aim_replay.specs.Order.{Part, part_after, is_end, to_version, to_ground, to_times, to_lanes, in_moves, in_policies, to_begin, in_body, nothing}
 use Rattle.aim_replay.specs.Said.{nowhere, last_of}
-use Rattle.aim_replay.specs.Verdicts.{judge, of_read, goes_on, decides, bad, limit, number_after}
+use Rattle.aim_replay.specs.Verdicts.{judge, of_read, goes_on, decides, number_after}
 use Rattle.aim_replay.specs.Today.{today}
-use Rattle.aim_replay.specs.Endings.{kind_text, limit_text}
 use Rattle.aim_replay.specs.Kinds.{vehicles_limit}
 use Rattle.aim_replay.specs.Stands.{IsHeader, IsBody}
 
@@ -83,17 +85,17 @@ abbrev pub is_missing_request : Intersection → Params → Bool
 is_missing_request i p = not (p.accel == 0) || not (p.speed == p.max_speed) || is_some (bad_field i p)
 
 -- what is wrong with a request of a vehicle v, one of n, at some moment
-abbrev pub request_kind : State → ℕ → ℕ → ℕ → Params → Option (List ℕ)
+abbrev pub request_kind : State → ℕ → ℕ → ℕ → Params → Option Kind
 request_kind k n v at p =
-    if list_any (λ e. e.caller == v) k.journal || is_missing_request k.layout p then Some (codes "unsupported")
-    else if nat_le n v then Some (codes "vehicle")
-    else if nat_lt 1073741824 at then Some (codes "moment")
+    if list_any (λ e. e.caller == v) k.journal || is_missing_request k.layout p then Some kind.Unsupported
+    else if nat_le n v then Some kind.Vehicle
+    else if nat_lt 1073741824 at then Some kind.Moment
     else None
 
 -- the kind of a line whose move is refused
-abbrev pub move_kind_of : LayoutFault → List ℕ
-move_kind_of (fault.Spacing lane turn station) = codes "spacing"
-move_kind_of _ = codes "move"
+abbrev pub move_kind_of : LayoutFault → Kind
+move_kind_of (fault.Spacing lane turn station) = kind.Spacing
+move_kind_of _ = kind.Move
 
 -- whether a further line may be taken
 abbrev pub MayTake : Stage → Type 0
@@ -103,15 +105,15 @@ MayTake _ = Unit {0}
 -- what a further line comes to
 abbrev pub Takes : List Line → Line → Result Stage Refusal → Type 0
 Takes before l (Ok next) = (of_read today before (Ok l) ≡ goes_on l) × Stands (before ++ l ∷ []) next
-Takes before l (Err (refusal.Bad kind)) = of_read today before (Ok l) ≡ decides (bad (number_after before) (kind_text kind))
-Takes before l (Err (refusal.Limit which)) = of_read today before (Ok l) ≡ decides (limit (limit_text which))
+Takes before l (Err (refusal.Bad why)) = of_read today before (Ok l) ≡ decides (decision.Bad (number_after before) why)
+Takes before l (Err (refusal.Limit which)) = of_read today before (Ok l) ≡ decides (decision.Limit which)
 Takes before l (Err refusal.NoMemory) = Unit {0}
 
 -- what further bytes come to
 abbrev pub Judged : List Line → List ℕ → Result Stage Refusal → Type 0
 Judged before bytes (Ok next) = (l : Line) × (judge today before (LineOf bytes) ≡ goes_on l) × Stands (before ++ l ∷ []) next
-Judged before bytes (Err (refusal.Bad kind)) = judge today before (LineOf bytes) ≡ decides (bad (number_after before) (kind_text kind))
-Judged before bytes (Err (refusal.Limit which)) = judge today before (LineOf bytes) ≡ decides (limit (limit_text which))
+Judged before bytes (Err (refusal.Bad why)) = judge today before (LineOf bytes) ≡ decides (decision.Bad (number_after before) why)
+Judged before bytes (Err (refusal.Limit which)) = judge today before (LineOf bytes) ≡ decides (decision.Limit which)
 Judged before bytes (Err refusal.NoMemory) = Unit {0}
 
 -- the journal stays, or gets one more entry
@@ -121,6 +123,6 @@ Grows old new = (new ≡ old) ⊎ ((e : Entry) × (new ≡ old ++ e ∷ []))
 -- a book is opened, if there is a vehicle, no limit is passed, and there is memory
 abbrev pub Opens : Intersection → ℕ → Result Stage Refusal → Type 0
 Opens i n (Ok next) = (n == 0 ≡ false) × (vehicles_limit i.grid.spans n ≡ None) × (next ≡ stage.Begin (record { layout = i; vehicles = n; room = 262144; journal = [] }) n)
-Opens i n (Err (refusal.Bad kind)) = (n == 0 ≡ true) × (kind_text kind ≡ codes "vehicle")
-Opens i n (Err (refusal.Limit which)) = (n == 0 ≡ false) × (vehicles_limit i.grid.spans n ≡ Some (limit_text which))
+Opens i n (Err (refusal.Bad why)) = (n == 0 ≡ true) × (why ≡ kind.Vehicle)
+Opens i n (Err (refusal.Limit which)) = (n == 0 ≡ false) × (vehicles_limit i.grid.spans n ≡ Some which)
 Opens i n (Err refusal.NoMemory) = Unit {0}

@@ -7,15 +7,13 @@ ghost use Rattle.aim_io.specs.Known.{AppendsFront};
 ghost use Rattle.aim_msg.specs.declared.entries.Entry.{Entry};
 ghost use Rattle.aim_msg.specs.declared.script.Line.{Line};
 ghost use Rattle.aim_msg.specs.Texts.{entry_text as text_of, spaced};
-ghost use Rattle.aim_replay.specs.Texts.{printed, replay_text};
+ghost use Rattle.aim_replay.specs.Texts.{decision_words, printed, replay_text};
 ghost use Rattle.aim_replay.specs.Today.{today};
-ghost use Rattle.aim_replay.specs.Verdicts.{verdict};
 ghost use Rattle.aim_replay.specs.Stages.{Grows, MayTake, Stands, journal_at};
 ghost use Rattle.aim_replay.specs.Replays.{Replays, StopsShort, Writes, WritesFront, entries_text, gained};
-ghost use Rattle.aim_replay.specs.Endings.{ending_words};
-ghost use Rattle.aim_replay.specs.Sessions.{IsWholeLine, Responds, TellsVerdict, is_whole};
+ghost use Rattle.aim_replay.specs.Sessions.{Comes, IsWholeLine, Responds, is_whole};
 
-use crate::endings::{Ending, Kind, Limit, last_line};
+use crate::decisions::{Decision, Kind, Limit, last_line};
 use crate::stages::{Refusal, Stage};
 use aim_io::{Failed, LineFault, LineReader, Sink, Source, put_all};
 use aim_msg::{Entry, entry_text};
@@ -110,11 +108,11 @@ fn replay_lines<S: Source, K: Sink>(
     alloc: Global,
     source: &mut S,
     sink: &mut K,
-) -> Result<Ending, Stop>
-    ensures verdict { IfOk result (λ ending. IfSome (S.left source.old) (λ bytes. TellsVerdict ending (verdict today bytes))) }
+) -> Result<Decision, Stop>
+    ensures verdict { IfOk result (λ decision. Comes decision (S.left source.old)) }
     ensures written { OnOk result (Writes (S.left source.old) (K.held sink.old) (K.held sink.new) (entries_text today)) }
     ensures front { OnErr result (WritesFront (S.left source.old) (K.held sink.old) (K.held sink.new) (entries_text today)) }
-    ensures ended { IfOk result (λ ending. is_whole ending ≡ true → IsAtEnd (S.left source.new)) }
+    ensures ended { IfOk result (λ decision. is_whole decision ≡ true → IsAtEnd (S.left source.new)) }
     ensures short { result ≡ Err Stop.Read → StopsShort today (S.left source.old) (S.left source.new) (K.held sink.old) (K.held sink.new) }
     ensures memory { result ≡ Err Stop.NoMemory → Appends (K.held sink.old) (K.held sink.new) [] }
     ensures read { result ≡ Err Stop.Read → Rose (S.faults source.old) (S.faults source.new) }
@@ -128,16 +126,16 @@ fn replay_lines<S: Source, K: Sink>(
     'lines: loop {
         match reader.advance(source) {
             Err(LineFault::Read) => return Err(Stop::Read),
-            Err(LineFault::Long(line)) => return Ok(Ending::Bad(line, Kind::Long)),
-            Err(LineFault::Bytes) => return Ok(Ending::Limit(Limit::Bytes)),
-            Err(LineFault::Lines) => return Ok(Ending::Limit(Limit::Lines)),
+            Err(LineFault::Long(line)) => return Ok(Decision::Bad(line, Kind::Long)),
+            Err(LineFault::Bytes) => return Ok(Decision::Limit(Limit::Bytes)),
+            Err(LineFault::Lines) => return Ok(Decision::Limit(Limit::Lines)),
             Ok(false) => return Ok(stage.at_end(number)),
             Ok(true) => {
                 number += 1;
                 match answer_line(alloc, stage, sink, reader.line()) {
                     Ok(next) => stage = next,
-                    Err(Halt::Bad(kind)) => return Ok(Ending::Bad(number, kind)),
-                    Err(Halt::Limit(limit)) => return Ok(Ending::Limit(limit)),
+                    Err(Halt::Bad(kind)) => return Ok(Decision::Bad(number, kind)),
+                    Err(Halt::Limit(limit)) => return Ok(Decision::Limit(limit)),
                     Err(Halt::Write) => return Err(Stop::Write),
                     Err(Halt::NoMemory) => return Err(Stop::NoMemory),
                 }
@@ -147,13 +145,13 @@ fn replay_lines<S: Source, K: Sink>(
 }
 
 // Writes the last line.
-fn put_ending<K: Sink>(sink: &mut K, ending: Ending) -> Result<(), Failed>
-    ensures ok { OnOk result (Appends (K.held sink.old) (K.held sink.new) (printed (spaced (ending_words ending)))) }
-    ensures err { OnErr result (AppendsFront (K.held sink.old) (K.held sink.new) (printed (spaced (ending_words ending)))) }
+fn put_decision<K: Sink>(sink: &mut K, decision: Decision) -> Result<(), Failed>
+    ensures ok { OnOk result (Appends (K.held sink.old) (K.held sink.new) (printed (spaced (decision_words decision)))) }
+    ensures err { OnErr result (AppendsFront (K.held sink.old) (K.held sink.new) (printed (spaced (decision_words decision)))) }
     ensures cause { HasCause (K.faults sink.old) (K.faults sink.new) result }
 {
     let mut line = [0; 400];
-    let len = last_line(ending, &mut line);
+    let len = last_line(decision, &mut line);
     put_line(sink, &line[..len])
 }
 
@@ -162,11 +160,11 @@ fn replay_script<S: Source, K: Sink>(
     alloc: Global,
     source: &mut S,
     sink: &mut K,
-) -> Result<Ending, Stop>
-    ensures verdict { IfOk result (λ ending. IfSome (S.left source.old) (λ bytes. TellsVerdict ending (verdict today bytes))) }
+) -> Result<Decision, Stop>
+    ensures verdict { IfOk result (λ decision. Comes decision (S.left source.old)) }
     ensures written { OnOk result (Writes (S.left source.old) (K.held sink.old) (K.held sink.new) (replay_text today None)) }
     ensures front { OnErr result (WritesFront (S.left source.old) (K.held sink.old) (K.held sink.new) (replay_text today None)) }
-    ensures ended { IfOk result (λ ending. is_whole ending ≡ true → IsAtEnd (S.left source.new)) }
+    ensures ended { IfOk result (λ decision. is_whole decision ≡ true → IsAtEnd (S.left source.new)) }
     ensures short { result ≡ Err Stop.Read → StopsShort today (S.left source.old) (S.left source.new) (K.held sink.old) (K.held sink.new) }
     ensures memory { result ≡ Err Stop.NoMemory → Appends (K.held sink.old) (K.held sink.new) [] }
     ensures read { result ≡ Err Stop.Read → Rose (S.faults source.old) (S.faults source.new) }
@@ -176,9 +174,9 @@ fn replay_script<S: Source, K: Sink>(
 {
     match replay_lines(alloc, source, sink) {
         Err(stop) => Err(stop),
-        Ok(ending) => match put_ending(sink, ending) {
+        Ok(decision) => match put_decision(sink, decision) {
             Err(_) => Err(Stop::Write),
-            Ok(()) => Ok(ending),
+            Ok(()) => Ok(decision),
         },
     }
 }
@@ -206,9 +204,9 @@ pub fn replay<S: Source, K: Sink>(alloc: Global, source: &mut S, sink: &mut K) -
     ensures statuses { (result ≡ 0) ⊎ ((result ≡ 3) ⊎ ((result ≡ 4) ⊎ ((result ≡ 5) ⊎ ((result ≡ 6) ⊎ (result ≡ 7))))) }
 {
     match replay_script(alloc, source, sink) {
-        Ok(Ending::Whole(_)) => 0,
-        Ok(Ending::Bad(..)) => 3,
-        Ok(Ending::Limit(_)) => 6,
+        Ok(Decision::Whole(_)) => 0,
+        Ok(Decision::Bad(..)) => 3,
+        Ok(Decision::Limit(_)) => 6,
         Err(Stop::Read) => 4,
         Err(Stop::Write) => 5,
         Err(Stop::NoMemory) => 7,

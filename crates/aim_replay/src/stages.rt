@@ -1,16 +1,15 @@
 //! How far a script has come, line by line.
 
-ghost use Rattle.std.specs.Prelude.{◌≡◌, ◌≤◌, ◌||◌, ◌==◌, not, List, [], length, Ok, Err, IfOk, option_map};
+ghost use Rattle.std.specs.Prelude.{◌≡◌, ◌≤◌, ◌||◌, ◌==◌, not, List, [], length, Ok, Err, IfOk};
 ghost use Rattle.aim_msg.specs.declared.script.Line.{Line};
 ghost use Rattle.aim_msg.specs.declared.script.Name.{Name};
 ghost use Rattle.aim_book.specs.Serving.{IsPlain};
 ghost use Rattle.aim_replay.specs.Said.{grid_of as grid_from, times_of as times_from, shape_of as shape_from};
-ghost use Rattle.aim_replay.specs.Endings.{Tells, kind_text, limit_text};
 ghost use Rattle.aim_replay.specs.Kinds.{vehicles_limit as limit_on};
 ghost use Rattle.aim_replay.specs.Verdicts.{at_end};
 ghost use Rattle.aim_replay.specs.Stages.{Grows, Judged, MayTake, Opens, Stands, Takes, is_missing_request, journal_at, move_kind_of, request_kind};
 
-use crate::endings::{Ending, Kind, Limit};
+use crate::decisions::{Decision, Kind, Limit};
 use aim_book::{Book, Full, OpenFault, bad_field, has_called};
 use aim_geometry::{Grid, Ground, GroundFault, Times};
 use aim_msg::{Body, Entry, Grid6, Line, Message, MoveShape, Params, Times5, Turn, read_line};
@@ -155,7 +154,7 @@ fn request_fault(
     params: &Params,
 ) -> Option<Kind>
     requires { IsPlain book.now.layout }
-    ensures { option_map kind_text result ≡ request_kind book.now vehicles vehicle moment params.now }
+    ensures { result ≡ request_kind book.now vehicles vehicle moment params.now }
 {
     let is_second = has_called(book.journal(), vehicle);
     let is_missing = is_missing(book, params);
@@ -172,7 +171,7 @@ fn request_fault(
 
 // The limit that so many vehicles go past, where a vehicle's sheet has so many spans.
 fn vehicles_limit(spans: u32, vehicles: u32) -> Option<Limit>
-    ensures { option_map limit_text result ≡ limit_on spans vehicles }
+    ensures { result ≡ limit_on spans vehicles }
 {
     if vehicles > MOST_VEHICLES {
         Some(Limit::Vehicles)
@@ -210,7 +209,7 @@ fn closed(alloc: Global, builder: Builder, vehicles: u32) -> Result<Stage, Refus
 
 // The kind of a line whose move is refused.
 fn move_kind(fault: LayoutFault) -> Kind
-    ensures { kind_text result ≡ move_kind_of fault }
+    ensures { result ≡ move_kind_of fault }
 {
     match fault {
         LayoutFault::Spacing { .. } => Kind::Spacing,
@@ -435,14 +434,14 @@ impl Stage {
     }
 
     /// What the script comes to if its input ends here, behind so many lines.
-    pub fn at_end(&self, lines: u32) -> Ending
+    pub fn at_end(&self, lines: u32) -> Decision
         requires lines { lines ≤ 262144 }
         requires entries { length (journal_at self.now) ≤ 262144 }
-        ensures { (before : List Line) → Stands before self.now → length before ≡ lines → Tells (at_end before) (length (journal_at self.now)) result }
+        ensures { (before : List Line) → Stands before self.now → length before ≡ lines → result ≡ at_end before }
     {
         match self {
-            Stage::Over(book) => Ending::Whole(book.journal().len() as u32),
-            _ => Ending::Bad(lines + 1, Kind::End),
+            Stage::Over(book) => Decision::Whole(book.journal().len() as u32),
+            _ => Decision::Bad(lines + 1, Kind::End),
         }
     }
 

@@ -1,9 +1,8 @@
 use Rattle.std.proofs.Common.{arith, ◌+◌, ap, sym, ◌∙◌, refl, Err}
 use Rattle.aim_io.specs.declared.lines.LineFault.TheVariants as line_fault
 use Rattle.aim_io.specs.Reader.{Reader}
-use Rattle.aim_replay.specs.declared.endings.Ending.TheVariants as ending
-use Rattle.aim_replay.specs.declared.endings.Kind.TheVariants as kind
-use Rattle.aim_replay.proofs.SessionLemmas.{Gives, on_true, sound_start, knows_start, reached_start, reached_more, front_reached, short_reached, fault_told, fault_written, end_told, end_written, bad_told, bad_written, limit_told, stops_inside, memory_front}
+use Rattle.aim_replay.specs.declared.decisions.Decision.TheVariants as decision
+use Rattle.aim_replay.proofs.SessionLemmas.{Gives, on_true, sound_start, knows_start, reached_start, reached_more, front_reached, short_reached, fault_told, fault_written, end_told, end_written, bad_told, bad_written, line_told, stops_inside, memory_front}
 use Rattle.aim_replay.proofs.session.replay_lines.Goals as goal
 
 pub lines-init : goal.lines-init
@@ -30,7 +29,7 @@ pub returns-in-Err-Long-clause-verdict : goal.returns-in-Err-Long-clause-verdict
 returns-in-Err-Long-clause-verdict g c =
     let i = c.lines.invariant in
     let step = rw c.in-Err-Long.field-0-is at (c.in-Err-Long.ensures.step i.knows i.no_fault) in
-    rw c.in-Err-Long.line-is (fault_told _ _ _ _ _ _ c.advance.new.self _ (line_fault.Long c.in-Err-Long.line) (ending.Bad c.in-Err-Long.line kind.Long) i.reached tt step refl)
+    rw c.in-Err-Long.line-is (fault_told _ _ _ _ _ _ c.advance.new.self _ (line_fault.Long c.in-Err-Long.line) i.reached tt step)
 
 pub returns-in-Err-Long-clause-written : goal.returns-in-Err-Long-clause-written
 returns-in-Err-Long-clause-written g c =
@@ -81,7 +80,7 @@ returns-in-Err-Limit-clause-verdict g c =
     let i = c.lines.invariant in
     let step = rw c.in-Ok-true.field-0-test at (c.in-Ok-true.ensures.step i.knows i.no_fault) in
     let responds = rw (c.in-Err-Limit.field-0-is, c.line.ensures) at (c.in-Err-Limit.ensures.responds i.reached.before i.reached.stands) in
-    rw c.in-Err-Limit.limit-is (limit_told _ _ _ _ _ _ c.advance.new.self _ c.in-Err-Limit.limit i.reached step responds.0)
+    rw c.in-Err-Limit.limit-is (line_told _ _ _ _ _ _ c.advance.new.self _ (decision.Limit c.in-Err-Limit.limit) i.reached step responds.0)
 
 pub returns-in-Err-Limit-clause-written : goal.returns-in-Err-Limit-clause-written
 returns-in-Err-Limit-clause-written g c =
