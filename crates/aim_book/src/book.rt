@@ -22,7 +22,7 @@ pub enum OpenFault {
 pub struct Full;
 
 /// A manager for one thread. Its journal has room for a fixed number of entries, and is always a legal history.
-#[derive(Debug, Drop)]
+#[derive(Drop)]
 pub struct Book {
     layout: Layout,
     vehicles: u32,

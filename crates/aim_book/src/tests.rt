@@ -126,9 +126,9 @@ fn behind_another(rt: HostRuntime) -> Result<(), Fail> {
     ];
     for (arrive, reply) in rows {
         let mut book = Book::open(rt.alloc(), crossing(rt.alloc())?, 8, 2)?;
-        assert_eq!(rt; ask(&rt, &mut book, 0, 0, 0, 10)?, confirmed(0, 10));
-        assert_eq!(rt; ask(&rt, &mut book, 1, 0, 1, arrive)?, reply);
-        assert_eq!(rt; ask(&rt, &mut book, 2, 0, 1, 40), Err(Full));
+        assert!(rt; ask(&rt, &mut book, 0, 0, 0, 10)? == confirmed(0, 10));
+        assert!(rt; ask(&rt, &mut book, 1, 0, 1, arrive)? == reply);
+        assert!(rt; ask(&rt, &mut book, 2, 0, 1, 40) == Err(Full));
         assert_eq!(rt; book.into_journal().len(), 2);
     }
     Ok(())
@@ -137,31 +137,22 @@ fn behind_another(rt: HostRuntime) -> Result<(), Fail> {
 #[test]
 fn late_and_far(rt: HostRuntime) -> Result<(), Fail> {
     let mut book = Book::open(rt.alloc(), crossing(rt.alloc())?, 8, 8)?;
-    assert_eq!(rt;
-        ask(&rt, &mut book, 0, 10, 0, 10)?,
-        refused(Reason::Late(10), 11)
-    );
-    assert_eq!(rt; ask(&rt, &mut book, 1, 10, 0, 11)?, confirmed(1, 11));
+    assert!(rt; ask(&rt, &mut book, 0, 10, 0, 10)? == refused(Reason::Late(10), 11));
+    assert!(rt; ask(&rt, &mut book, 1, 10, 0, 11)? == confirmed(1, 11));
     let mut book = Book::open(rt.alloc(), crossing(rt.alloc())?, 8, 8)?;
-    assert_eq!(rt;
-        ask(&rt, &mut book, 0, 0, 0, 1490)?,
-        refused(Reason::Far(1500), 25)
-    );
-    assert_eq!(rt; ask(&rt, &mut book, 1, 0, 0, 1489)?, confirmed(1, 1489));
+    assert!(rt; ask(&rt, &mut book, 0, 0, 0, 1490)? == refused(Reason::Far(1500), 25));
+    assert!(rt; ask(&rt, &mut book, 1, 0, 0, 1489)? == confirmed(1, 1489));
     Ok(())
 }
 
 #[test]
 fn distance(rt: HostRuntime) -> Result<(), Fail> {
     let mut book = Book::open(rt.alloc(), crossing(rt.alloc())?, 8, 8)?;
-    assert_eq!(rt; ask(&rt, &mut book, 0, 0, 0, 10)?, confirmed(0, 10));
-    assert_eq!(rt; ask(&rt, &mut book, 1, 0, 1, 10)?, refused(taken(13), 5));
-    assert_eq!(rt;
-        ask(&rt, &mut book, 2, 0, 1, 12)?,
-        refused(Reason::Distance(5000), 6)
-    );
-    assert_eq!(rt; ask(&rt, &mut book, 3, 8, 1, 18)?, confirmed(3, 18));
-    assert_eq!(rt; ask(&rt, &mut book, 4, 12, 1, 24)?, confirmed(4, 24));
+    assert!(rt; ask(&rt, &mut book, 0, 0, 0, 10)? == confirmed(0, 10));
+    assert!(rt; ask(&rt, &mut book, 1, 0, 1, 10)? == refused(taken(13), 5));
+    assert!(rt; ask(&rt, &mut book, 2, 0, 1, 12)? == refused(Reason::Distance(5000), 6));
+    assert!(rt; ask(&rt, &mut book, 3, 8, 1, 18)? == confirmed(3, 18));
+    assert!(rt; ask(&rt, &mut book, 4, 12, 1, 24)? == confirmed(4, 24));
     Ok(())
 }
 

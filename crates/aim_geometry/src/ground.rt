@@ -7,7 +7,7 @@ ghost use Rattle.aim_geometry.specs.Sites.{IsGrid, IsTimes, has_bad_buffers as h
 use std::marker::Model;
 
 /// The grid of tiles and the buffers in space. Lengths are in millimetres.
-#[derive(Clone, Copy, Debug, PartialEq, Eq)]
+#[derive(Clone, Copy)]
 pub struct Grid {
     /// The side of the square ground, 1 to 1,000,000.
     pub side: u32,
@@ -23,8 +23,27 @@ pub struct Grid {
     pub spans: u32,
 }
 
+impl Grid {
+    /// Whether a number of the grid is out of its range, or the number of rows doesn't divide the side.
+    pub fn is_bad(&self) -> bool
+        ensures { result ≡ has_bad_numbers self.now }
+    {
+        self.side == 0
+            || self.side > 1_000_000
+            || self.n == 0
+            || self.n > 64
+            || self.side % self.n != 0
+            || self.spacing == 0
+            || self.spacing > 10_000
+            || self.fixed > 10_000
+            || self.half > 100_000
+            || self.spans == 0
+            || self.spans > 131_072
+    }
+}
+
 /// The times that a manager keeps, in steps.
-#[derive(Clone, Copy, Debug, PartialEq, Eq)]
+#[derive(Clone, Copy)]
 pub struct Times {
     /// The steps from now on in which tiles can be reserved, 1 to 8,192.
     pub horizon: u32,
@@ -41,7 +60,7 @@ pub struct Times {
 }
 
 /// Why numbers make no ground.
-#[derive(Clone, Copy, Debug, PartialEq, Eq)]
+#[derive(Clone, Copy)]
 pub enum GroundFault {
     /// A number of the grid is out of its range, or the number of rows doesn't divide the side.
     Grid,
@@ -52,7 +71,7 @@ pub enum GroundFault {
 }
 
 /// A grid and times of which all numbers are in their ranges.
-#[derive(Clone, Copy, Debug, PartialEq, Eq)]
+#[derive(Clone, Copy)]
 pub struct Ground {
     grid: Grid,
     times: Times,
@@ -76,7 +95,7 @@ impl Ground {
         ensures fault { result_err result ≡ ground_fault grid times }
         ensures ground { IfOk result (λ g. g ≡ record { grid = grid; times = times }) }
     {
-        if has_bad_grid(&grid) {
+        if grid.is_bad() {
             return Err(GroundFault::Grid);
         }
         if has_bad_buffers(&times) {
@@ -105,31 +124,14 @@ impl Ground {
     }
 }
 
-/// Whether a number of the grid is out of its range, or the number of rows doesn't divide the side.
-fn has_bad_grid(grid: &Grid) -> bool
-    ensures { result ≡ has_bad_numbers grid.now }
-{
-    grid.side == 0
-        || grid.side > 1_000_000
-        || grid.n == 0
-        || grid.n > 64
-        || grid.side % grid.n != 0
-        || grid.spacing == 0
-        || grid.spacing > 10_000
-        || grid.fixed > 10_000
-        || grid.half > 100_000
-        || grid.spans == 0
-        || grid.spans > 131_072
-}
-
-/// Whether the early or the late buffer exceeds the edge buffer.
+// Whether the early or the late buffer exceeds the edge buffer.
 fn has_bad_buffers(times: &Times) -> bool
     ensures { result ≡ has_bad_buffers_of times.now }
 {
     times.early > times.edge || times.late > times.edge
 }
 
-/// Whether one of the times is out of its range.
+// Whether one of the times is out of its range.
 fn has_bad_times(times: &Times) -> bool
     ensures { result ≡ has_bad_times_of times.now }
 {

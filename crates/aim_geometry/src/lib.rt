@@ -12,6 +12,3 @@ pub use ground::{Grid, Ground, GroundFault, Times};
 pub use masks::{columns, join};
 pub use stations::{Station, curve_station, line_station};
 pub use tiles::{TileRect, is_edge, tile_rect};
-
-#[cfg(test)]
-mod tests;

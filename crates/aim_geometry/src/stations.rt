@@ -4,7 +4,7 @@ ghost use Rattle.std.specs.Prelude.{◌≡◌, ◌≤◌, ◌<◌};
 ghost use Rattle.aim_geometry.specs.Stations.{on_line, on_curve};
 
 /// A place on the ground, in millimetres to the east and to the north of the south-west corner.
-#[derive(Clone, Copy, Debug, PartialEq, Eq)]
+#[derive(Clone, Copy)]
 pub struct Station {
     pub x: u32,
     pub y: u32,

@@ -7,7 +7,7 @@ ghost use Rattle.aim_geometry.specs.Rects.{has_bit, in_columns, in_rect, tile_at
 use crate::ground::Ground;
 
 /// Tiles from a row and column to a row and column, both ends included. Row 0 is the south row, column 0 the west column.
-#[derive(Clone, Copy, Debug, PartialEq, Eq)]
+#[derive(Clone, Copy)]
 pub struct TileRect {
     pub row0: u8,
     pub row1: u8,

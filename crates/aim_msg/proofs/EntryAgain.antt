@@ -16,7 +16,8 @@ use Rattle.aim_msg.specs.declared.replies.Reply.TheVariants as reply
 use Rattle.aim_msg.specs.declared.script.LineKind.{LineKind}
 use Rattle.aim_msg.specs.declared.reading.forms.ReasonForm.{ReasonForm}
 use Rattle.aim_msg.specs.declared.reading.forms.ReasonForm.TheVariants as why
-use Rattle.aim_msg.specs.Texts.{Words, spaced, body_words, act_words, field_word, reason_words, held_word, pace_word, reply_words, reply_text, caller_word, entry_words, entry_text, IsCallerOf}
+use Rattle.aim_msg.specs.Texts.{Words, spaced, body_words, act_words, field_word, reason_words, held_word, pace_word, reply_words, reply_text, caller_word, entry_words, entry_text}
+use Rattle.aim_msg.specs.Actors.{IsCallerOf}
 use Rattle.aim_msg.specs.Faults.{either, just, rest, words_of, begins_with_digit, fault_at}
 use Rattle.aim_msg.specs.Entries.{callers, caller_of, paces, is_fast, fields, field_of, helds, held_of, entry_in, entry_at}
 use Rattle.aim_msg.specs.Ranges.{Is32, IsBody, IsAct, IsReason, IsReply, IsEntry}
@@ -25,7 +26,7 @@ use Rattle.aim_msg.specs.EntrySteps.{word_in, nothing, end_in, order_in, act_in,
 use Rattle.aim_msg.proofs.Numbers.{number_good, value_decimal, decimal_number, number_begins}
 use Rattle.aim_msg.proofs.WordLaws.{IsWord, AreWords, words_spaced, words_append}
 use Rattle.aim_msg.proofs.LineWords.{w32, w8, message_are_words}
-use Rattle.aim_msg.proofs.Numbers.{decimal_no_space}
+use Rattle.aim_msg.proofs.Numbers.{decimal_visible}
 use Rattle.aim_msg.proofs.Again.{word_again, number_again, n32, n8, message_again}
 use Rattle.aim_msg.proofs.ListsAgain.{not_letter}
 use Rattle.aim_msg.proofs.EntryStepLaws.{entry_is}
@@ -192,7 +193,7 @@ reason_are_words (reason.TooSoon next) r = (refl, (w32 next r, tt))
 reason_are_words (reason.Bad f) r = (refl, (field_is_word f, tt))
 reason_are_words (reason.Late now) r = (refl, (w32 now r, tt))
 reason_are_words (reason.Far reach) r = (refl, (w32 reach r, tt))
-reason_are_words (reason.Distance d) r = (refl, (decimal_no_space d r, tt))
+reason_are_words (reason.Distance d) r = (refl, (decimal_visible d r, tt))
 reason_are_words (reason.Emergency lane) r = (refl, (w8 lane r, tt))
 reason_are_words (reason.Green row col step lane) r = (refl, (w8 row r.0, (w8 col r.1, (w32 step r.2, (w8 lane r.3, tt)))))
 reason_are_words (reason.Taken row col step by) r = (refl, (w8 row r.0, (w8 col r.1, (w32 step r.2, (w32 by r.3, tt)))))
@@ -202,7 +203,7 @@ pace_is_word : (fast : Bool) → IsWord (pace_word fast)
 pace_is_word true = refl
 pace_is_word false = refl
 
-reply_are_words : (r : Reply) → IsReply r → AreWords (reply_words r)
+pub reply_are_words : (r : Reply) → IsReply r → AreWords (reply_words r)
 reply_are_words (reply.Confirm id start before after accelerate end) r =
     (refl, (w32 id r.0, (w32 start r.1, (w32 before r.2, (w32 after r.3, (pace_is_word accelerate, (w32 end r.4, tt)))))))
 reply_are_words (reply.Reject because next held) r =
@@ -218,17 +219,20 @@ act_are_words (act.Message m) r = message_are_words m r
 act_are_words (act.Order (order.Switch policy)) r = (refl, (w8 policy r, tt))
 act_are_words (act.Order order.Stop) r = (refl, tt)
 
-caller_is_word : (caller : ℕ) (a : Act) → IsCallerOf caller a → IsWord (caller_word caller a)
-caller_is_word caller (act.Message m) c = decimal_no_space caller (omega arith)
+caller_is_word : (caller : ℕ) (a : Act) → Is32 caller → IsWord (caller_word caller a)
+caller_is_word caller (act.Message m) c = w32 caller c
 caller_is_word caller (act.Order o) c = refl
+
+pub entry_are_words : (place : ℕ) (e : Entry) → Is32 place → IsEntry e → AreWords (entry_words place e)
+entry_are_words place e p r =
+    (w32 place p, (caller_is_word e.caller e.act r.caller, (w32 e.moment r.moment, words_append (act_words e.act) _ (act_are_words e.act r.act) (refl, reply_are_words e.reply r.reply))))
 
 pub entry_again : (place : ℕ) (e : Entry) → Is32 place → IsEntry e → IsCallerOf e.caller e.act → entry_at (entry_text place e) ≡ Ok (place, e)
 unfolding entry_steps end_in
 entry_again place e p r c =
     let tail : Words = act_words e.act ++ codes "->" ∷ reply_words e.reply in
-    let more = words_append (act_words e.act) _ (act_are_words e.act r.act) (refl, reply_are_words e.reply r.reply) in
     let split : words_of (entry_text place e) ≡ entry_words place e =
-    words_spaced (decimal place) (caller_word e.caller e.act ∷ decimal e.moment ∷ tail) (w32 place p, (caller_is_word e.caller e.act c, (w32 e.moment r.moment, more))) in
+    words_spaced (decimal place) (caller_word e.caller e.act ∷ decimal e.moment ∷ tail) (entry_are_words place e p r) in
     ap entry_in split ∙ sym (entry_is (entry_words place e))
     ∙ rw (n32 place _ p, call_again e.caller e.moment e.act e.reply c r.moment r.act r.reply) refl
 

@@ -18,7 +18,8 @@ use Rattle.aim_msg.specs.declared.reading.forms.ReplyForm.{ReplyForm}
 use Rattle.aim_msg.specs.declared.reading.forms.ReplyForm.TheVariants as answer
 use Rattle.aim_msg.specs.declared.reading.forms.ReasonForm.{ReasonForm}
 use Rattle.aim_msg.specs.declared.reading.forms.ReasonForm.TheVariants as why
-use Rattle.aim_msg.specs.Texts.{Words, spaced, message_words, act_words, field_word, reason_words, held_word, pace_word, reply_words, caller_word, entry_words, entry_text, IsCallerOf}
+use Rattle.aim_msg.specs.Texts.{Words, spaced, message_words, act_words, field_word, reason_words, held_word, pace_word, reply_words, caller_word, entry_words, entry_text}
+use Rattle.aim_msg.specs.Actors.{IsCallerOf}
 use Rattle.aim_msg.specs.Faults.{Place, chosen, keyword, name, number, either, just, first, rest, from, word_at, words_of, begins_with_digit, number_fault, value_of, fault_at, first_fault, behind, surplus_fault, text_fault, number32}
 use Rattle.aim_msg.specs.Forms.{message_form, order_form, reply_form, reason_form, reply_forms, reason_forms, message_places}
 use Rattle.aim_msg.specs.Reading.{at, unless, message_of}

@@ -21,7 +21,8 @@ use Rattle.aim_msg.specs.declared.reading.forms.ReasonForm.{ReasonForm}
 use Rattle.aim_msg.specs.declared.reading.forms.ReasonForm.TheVariants as why
 use Rattle.aim_msg.specs.Texts.{Words}
 use Rattle.aim_msg.specs.Faults.{Place, just, first, rest, from, word_at, fault_at, first_fault, behind, surplus_fault, text_fault, number32}
-use Rattle.aim_msg.specs.Forms.{look_up, message_forms, order_forms, reply_forms, reason_forms, message_form, order_form, reply_form, reason_form, message_places}
+use Rattle.aim_msg.specs.Tables.{look_up}
+use Rattle.aim_msg.specs.Forms.{message_forms, order_forms, reply_forms, reason_forms, message_form, order_form, reply_form, reason_form, message_places}
 use Rattle.aim_msg.specs.Reading.{at, unless, message_of}
 use Rattle.aim_msg.specs.Entries.{callers, caller_of, reason_places, reason_of, standing_places, reject_of, refusal_places, refusal_of, reply_places, reply_of, answer_places, answer_of, order_places, order_of, order_act_places, order_act_of, message_act_places, message_act_of, act_places, act_of, entry_places, entry_of, entry_in}
 use Rattle.aim_msg.specs.Steps.{◌>>=◌, message_in}

@@ -3,6 +3,7 @@ pub mod EntryReadingExamples
 pub mod Words
 pub mod Splits
 pub mod Numbers
+pub mod Tables
 pub mod StepLaws
 pub mod ListLaws
 pub mod TextExamples
@@ -19,3 +20,6 @@ pub mod LineSpelled
 pub mod EntryAgain
 pub mod EntrySpelled
 pub mod SameLemmas
+pub mod OneLine
+pub mod KindLaws
+pub mod ActorLaws

@@ -16,7 +16,7 @@ use Rattle.aim_msg.specs.declared.script.LineKind.{LineKind}
 use Rattle.aim_msg.specs.declared.reading.forms.OrderForm.TheVariants as order
 use Rattle.aim_msg.specs.declared.reading.forms.LineForm.{LineForm}
 use Rattle.aim_msg.specs.declared.reading.forms.LineForm.TheVariants as form
-use Rattle.aim_msg.specs.Texts.{Words, spaced, vehicle_words, body_words, message_words}
+use Rattle.aim_msg.specs.Texts.{Words, spaced, vehicle_words, body_words, message_words, message_text}
 use Rattle.aim_msg.specs.Lines.{fate_word, fate_words, window_words, has_lane, all_lanes, lane_words, shape_words, line_words, line_text, IsFateList, KeepsRanges}
 use Rattle.aim_msg.specs.Faults.{words_of, first, rest, begins_with_digit}
 use Rattle.aim_msg.specs.Forms.{message_form, shape_form, plan_form, line_form, has_count}
@@ -25,7 +25,7 @@ use Rattle.aim_msg.specs.Ranges.{Is32, AreParams, IsMessage, IsLine}
 use Rattle.aim_msg.specs.Steps.{vehicle_in, message_in, grid_in, times_in, times6_in, move_in, policy_in, lanes_in, phase_in, event_in, switch_in, stop_in, plan_in, change_plan_in, cancel_plan_in, up_in, down_in, behind_keyword, steps_in}
 use Rattle.aim_msg.proofs.Numbers.{decimal_number, number_begins}
 use Rattle.aim_msg.proofs.WordLaws.{AreWords, words_spaced}
-use Rattle.aim_msg.proofs.LineWords.{line_are_words}
+use Rattle.aim_msg.proofs.LineWords.{message_are_words, line_are_words}
 use Rattle.aim_msg.proofs.LaneLaws.{lanes_again}
 use Rattle.aim_msg.proofs.Again.{n32, n8, turn_again, window_again, vehicle_again, form_of_body, message_again, form_of_shape, shape_again, name_again}
 use Rattle.aim_msg.proofs.ListsAgain.{kind_again, fates_again}
@@ -263,3 +263,23 @@ line_alone version a b ra ka rb kb same =
     value : Line → Result Line LineKind → Line
     value other (Ok l) = l
     value other (Err k) = other
+
+-- no two messages have one text: lines of the same vehicle and moment would have one too
+pub message_one : (m n : Message) → IsMessage m → IsMessage n → message_text m ≡ message_text n → m ≡ n
+message_one m n rm rn same =
+    let words : message_words m ≡ message_words n = sym (words_split (message_words m) (message_are_words m rm) (some m.seq m.body)) ∙ ap words_of same ∙ words_split (message_words n) (message_are_words n rn) (some n.seq n.body) in
+    let lines = line_alone 1 (line.Event 0 0 m) (line.Event 0 0 n) (small, small, rm) tt (small, small, rn) tt (ap (λ (ws : Words). spaced (decimal 0 ∷ decimal 0 ∷ ws)) words) in
+    ap (value m) lines
+  where
+    small : Is32 0
+    small = omega arith
+
+    some : (seq : ℕ) (b : Body) → 0 < length (body_words seq b)
+    some seq (body.Request p) = omega arith
+    some seq (body.Change id p) = omega arith
+    some seq (body.Cancel id) = omega arith
+    some seq (body.Done id) = omega arith
+
+    value : Message → Line → Message
+    value other (line.Event vehicle moment m) = m
+    value other _ = other

@@ -20,7 +20,8 @@ use Rattle.aim_msg.specs.declared.reading.forms.LineForm.TheVariants as form
 use Rattle.aim_msg.specs.Texts.{Words, spaced}
 use Rattle.aim_msg.specs.Lines.{fate_word, fate_words, line_words, line_text, IsFateList, KeepsRanges}
 use Rattle.aim_msg.specs.Faults.{Place, first, rest, from, word_at, words_of, begins_with_digit, value_of, number_fault, word_fault, fault_at, first_fault, number32, number8}
-use Rattle.aim_msg.specs.Forms.{look_up, message_forms, order_forms, shape_forms, plain_forms, message_form, order_form, shape_form, plain_form, times_form, plan_form, line_form, map_ok, fate, fate_places, line_places, has_count}
+use Rattle.aim_msg.specs.Tables.{look_up}
+use Rattle.aim_msg.specs.Forms.{message_forms, order_forms, shape_forms, plain_forms, message_form, order_form, shape_form, plain_form, times_form, plan_form, line_form, map_ok, fate, fate_places, line_places, has_count}
 use Rattle.aim_msg.specs.Reading.{unless, kind_of, fate_of, fates_of, line_of, form_fault, line_in, line_at}
 use Rattle.aim_msg.specs.Ranges.{Is32, Is8, IsLine}
 use Rattle.aim_msg.proofs.Numbers.{IsNumberIn, number_in_from, decimal_value}

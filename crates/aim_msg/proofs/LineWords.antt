@@ -1,7 +1,7 @@
 -- The words of lines and entries have no space.
-use Rattle.std.proofs.Common.{◌≡◌, ℕ, zero, suc, ◌+◌, ◌≤◌, ◌==◌, nat_le, Bool, true, false, not, List, [], ◌∷◌, map, filter, take, decimal, refl, ap, sym, arith, inl, inr}
+use Rattle.std.proofs.Common.{◌≡◌, ℕ, zero, suc, ◌+◌, ◌≤◌, ◌==◌, nat_le, Bool, true, false, not, List, [], ◌∷◌, map, filter, take, decimal, refl, arith, inl, inr}
 use Rattle.std.specs.List.{list_all, range_with_len}
-use Rattle.std.proofs.lemmas.Bool.{cases_Bool, and_parts, eqb-true, leb-true}
+use Rattle.std.proofs.lemmas.Bool.{cases_Bool, and_parts, eqb-true, leb-true, lt-ltb}
 use Rattle.aim_msg.specs.declared.messages.Turn.{Turn}
 use Rattle.aim_msg.specs.declared.messages.Turn.TheVariants.{Left, Straight, Right}
 use Rattle.aim_msg.specs.declared.messages.Params.{Params}
@@ -16,14 +16,14 @@ use Rattle.aim_msg.specs.declared.script.Line.TheVariants as line
 use Rattle.aim_msg.specs.Texts.{turn_word, class_word, vehicle_words, params_words, body_words, message_words}
 use Rattle.aim_msg.specs.Lines.{name_word, kind_word, fate_word, window_word, window_words, has_lane, all_lanes, lane_words, shape_words, line_words, IsName, is_name_byte, KeepsRanges}
 use Rattle.aim_msg.specs.Ranges.{Is32, Is8, AreParams, IsBody, IsMessage, IsShape, IsLine}
-use Rattle.aim_msg.proofs.Numbers.{is_no_space, decimal_no_space}
+use Rattle.aim_msg.proofs.Numbers.{is_visible, decimal_visible}
 use Rattle.aim_msg.proofs.WordLaws.{IsWord, AreWords, words_append}
 
 pub w32 : (n : ℕ) → Is32 n → IsWord (decimal n)
-w32 n is = decimal_no_space n (omega arith)
+w32 n is = decimal_visible n (omega arith)
 
 pub w8 : (n : ℕ) → Is8 n → IsWord (decimal n)
-w8 n is = decimal_no_space n (omega arith)
+w8 n is = decimal_visible n (omega arith)
 
 turn_is_word : (t : Turn) → IsWord (turn_word t)
 turn_is_word Left = refl
@@ -54,16 +54,19 @@ shape_are_words (shape.Line x0 y0 x1 y1 m) r = (refl, (w32 x0 r.0, (w32 y0 r.1, 
 shape_are_words (shape.Curve x0 y0 x1 y1 x2 y2 m) r =
     (refl, (w32 x0 r.0, (w32 y0 r.1, (w32 x1 r.2, (w32 y1 r.3, (w32 x2 r.4, (w32 y2 r.5, (w32 m r.6, tt))))))))
 
-name_bytes : (bs : List ℕ) → list_all is_name_byte bs ≡ true → list_all is_no_space bs ≡ true
+name_bytes : (bs : List ℕ) → list_all is_name_byte bs ≡ true → list_all is_visible bs ≡ true
 name_bytes [] h = refl
 name_bytes (b ∷ bs) h =
     let both = and_parts (is_name_byte b) (list_all is_name_byte bs) h in
-    rw (no_space b both.0, name_bytes bs both.1) refl
+    rw (visible b both.0, name_bytes bs both.1) refl
   where
-    no_space : (b : ℕ) → is_name_byte b ≡ true → is_no_space b ≡ true
-    no_space b h = elim (cases_Bool (b == 32)) [
-      | inl space ↦ absurd (cc (ap is_name_byte (sym (eqb-true b 32 space)), h))
-      | inr other ↦ rw other refl
+    visible : (b : ℕ) → is_name_byte b ≡ true → is_visible b ≡ true
+    visible b h = elim (cases_Bool (nat_le 97 b)) [
+      | inl letter ↦ let least : 97 ≤ b = leb-true 97 b letter in lt-ltb 32 b (omega arith)
+      | inr no_letter ↦ elim (cases_Bool (nat_le 48 b)) [
+        | inl digit ↦ let least : 48 ≤ b = leb-true 48 b digit in lt-ltb 32 b (omega arith)
+        | inr no_digit ↦ let dash : b ≡ 45 = eqb-true b 45 (rw (no_letter, no_digit) at h) in lt-ltb 32 b (omega arith)
+      ]
     ]
 
 name_is_word : (n : Name) → IsName n → IsWord (name_word n)
@@ -88,7 +91,7 @@ fate_is_word f most = elim (cases_Bool (f == 0)) [
     | inl l ↦ rw (not_d, l) refl
     | inr not_l ↦ elim (cases_Bool (f == 257)) [
       | inl r ↦ rw (not_d, not_l, r) refl
-      | inr not_r ↦ rw (not_d, not_l, not_r) (decimal_no_space f (omega arith))
+      | inr not_r ↦ rw (not_d, not_l, not_r) (decimal_visible f (omega arith))
     ]
   ]
 ]
@@ -102,7 +105,7 @@ fates_are_words (f ∷ fs) h =
 lanes_are_words : (n i lanes : ℕ) → i + n ≡ 16 → AreWords (map decimal (filter (has_lane lanes) (range_with_len i n)))
 lanes_are_words zero i lanes end = tt
 lanes_are_words (suc n) i lanes end = elim (cases_Bool (has_lane lanes i)) [
-  | inl on ↦ rw on (decimal_no_space i (omega arith), lanes_are_words n (i + 1) lanes (omega arith))
+  | inl on ↦ rw on (decimal_visible i (omega arith), lanes_are_words n (i + 1) lanes (omega arith))
   | inr off ↦ rw off (lanes_are_words n (i + 1) lanes (omega arith))
 ]
 

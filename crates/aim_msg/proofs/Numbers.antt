@@ -1,15 +1,15 @@
 -- Numbers and the digits that write them.
-use Rattle.std.proofs.Common.{◌≡◌, ℕ, zero, suc, ◌+◌, ◌-◌, ◌*◌, ◌^◌, ◌<◌, ◌≤◌, Bool, true, false, not, ◌||◌, ◌==◌, nat_lt, cond, List, [], ◌∷◌, length, get_or, Some, None, decimal, refl, sym, ap, arith, rules, inl, inr}
+use Rattle.std.proofs.Common.{◌≡◌, ℕ, zero, suc, ◌+◌, ◌-◌, ◌*◌, ◌^◌, ◌<◌, ◌≤◌, Bool, true, false, not, ◌||◌, ◌==◌, nat_lt, nat_le, cond, List, [], ◌∷◌, length, get_or, Some, None, decimal, refl, arith, rules, inl, inr}
 use Rattle.std.specs.List.{list_all}
-use Rattle.std.proofs.lemmas.Bool.{and_parts, cases_Bool, eqb-true, eq-eqb, le-ltb, ltb-false}
+use Rattle.std.proofs.lemmas.Bool.{and_parts, cases_Bool, eqb-true, eq-eqb, le-ltb, ltb-false, leb-true, lt-ltb}
 use Rattle.std.proofs.lemmas.Str.Parse.{IsNumeralModel, numerals_by_fold}
 use Rattle.std.proofs.lemmas.Fmt.{digits_decimal, decimal_nonempty, decimal_digit, first_decimal, digits_value-decimal, decimal-digits_value}
 use Rattle.aim_msg.specs.declared.script.LineKind.TheVariants as kind
 use Rattle.aim_msg.specs.Faults.{is_digit, is_number, begins_with_digit, value_after, value_of, number_fault}
 
--- not a space
-abbrev pub is_no_space : ℕ → Bool
-is_no_space b = not (b == 32)
+-- behind the space, so neither a space nor the end of a line
+abbrev pub is_visible : ℕ → Bool
+is_visible b = nat_lt 32 b
 
 -- digits that follow make it no smaller
 pub value_grows : (n : ℕ) (digits : List ℕ) → n ≤ value_after n digits
@@ -80,21 +80,20 @@ number_in_from low high w h = by_tests (is_number w) refl (nat_lt (value_of w) l
 pub decimal_value : (w : List ℕ) → is_number w ≡ true → value_of w < 2 ^ 64 → decimal (value_of w) ≡ w
 decimal_value w h small = let is = is_number_to w h in decimal-digits_value numerals w is.digits is.some is.lead small
 
--- a digit is no space, and digits begin with one
-pub digits_no_space : (w : List ℕ) → list_all is_digit w ≡ true → list_all is_no_space w ≡ true
-digits_no_space [] h = refl
-digits_no_space (b ∷ w) h =
+-- a digit is no space
+pub digits_visible : (w : List ℕ) → list_all is_digit w ≡ true → list_all is_visible w ≡ true
+digits_visible [] h = refl
+digits_visible (b ∷ w) h =
     let digit : is_digit b ≡ true = (and_parts (is_digit b) (list_all is_digit w) h).0 in
-    rw (digit_no_space b digit, digits_no_space w ((and_parts (is_digit b) (list_all is_digit w) h).1)) refl
+    rw (digit_visible b digit, digits_visible w ((and_parts (is_digit b) (list_all is_digit w) h).1)) refl
   where
-    digit_no_space : (b : ℕ) → is_digit b ≡ true → is_no_space b ≡ true
-    digit_no_space b h = elim (cases_Bool (b == 32)) [
-      | inl space ↦ absurd (cc (ap is_digit (sym (eqb-true b 32 space)), h))
-      | inr other ↦ rw other refl
-    ]
+    digit_visible : (b : ℕ) → is_digit b ≡ true → is_visible b ≡ true
+    digit_visible b h =
+        let least : 48 ≤ b = leb-true 48 b (and_parts (nat_le 48 b) (nat_le b 57) h).0 in
+        lt-ltb 32 b (omega arith)
 
-pub decimal_no_space : (n : ℕ) → n < 2 ^ 64 → list_all is_no_space (decimal n) ≡ true
-decimal_no_space n small = digits_no_space (decimal n) (is_number_to (decimal n) (decimal_number n small)).digits
+pub decimal_visible : (n : ℕ) → n < 2 ^ 64 → list_all is_visible (decimal n) ≡ true
+decimal_visible n small = digits_visible (decimal n) (is_number_to (decimal n) (decimal_number n small)).digits
 
 pub number_begins : (w : List ℕ) → is_number w ≡ true → begins_with_digit w ≡ true
 number_begins [] h = h

@@ -1,27 +1,26 @@
 -- Words have no space, so a text is split into the words that it was made of.
-use Rattle.std.proofs.Common.{◌≡◌, ℕ, true, false, not, ◌==◌, List, [], ◌∷◌, ◌++◌, refl, ap, ◌∙◌, inl, inr}
+use Rattle.std.proofs.Common.{◌≡◌, ℕ, ◌<◌, true, false, ◌==◌, List, [], ◌∷◌, ◌++◌, refl, ap, ◌∙◌, arith}
 use Rattle.std.specs.List.{list_all}
-use Rattle.std.proofs.lemmas.Bool.{and_parts, cases_Bool}
+use Rattle.std.proofs.lemmas.Bool.{and_parts, ltb-true, ne_eqb}
 use Rattle.aim_msg.specs.Texts.{Words, spaced}
 use Rattle.aim_msg.specs.Faults.{words_of}
-use Rattle.aim_msg.proofs.Numbers.{is_no_space}
+use Rattle.aim_msg.proofs.Numbers.{is_visible}
 
--- a word without a space
+-- a word without a space, and without the end of a line
 abbrev pub IsWord : List ℕ → Type 0
-IsWord w = list_all is_no_space w ≡ true
+IsWord w = list_all is_visible w ≡ true
 
 abbrev pub AreWords : Words → Type 0
 AreWords [] = Unit {0}
 AreWords (w ∷ ws) = IsWord w × AreWords ws
 
 no_space_first : (b : ℕ) (w : List ℕ) → IsWord (b ∷ w) → (b == 32) ≡ false
-no_space_first b w h = elim (cases_Bool (b == 32)) [
-  | inl space ↦ absurd (cc (ap not space, (and_parts (is_no_space b) (list_all is_no_space w) h).0))
-  | inr other ↦ other
-]
+no_space_first b w h =
+    let behind : 32 < b = ltb-true 32 b (and_parts (is_visible b) (list_all is_visible w) h).0 in
+    ne_eqb b 32 (λ is. absurd (omega (arith, is)))
 
 no_space_rest : (b : ℕ) (w : List ℕ) → IsWord (b ∷ w) → IsWord w
-no_space_rest b w h = (and_parts (is_no_space b) (list_all is_no_space w) h).1
+no_space_rest b w h = (and_parts (is_visible b) (list_all is_visible w) h).1
 
 word_only : (w : List ℕ) → IsWord w → words_of w ≡ w ∷ []
 word_only [] h = refl

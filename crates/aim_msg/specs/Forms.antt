@@ -15,12 +15,8 @@ use Rattle.aim_msg.specs.declared.reading.forms.ShapeForm.TheVariants as shape
 use Rattle.aim_msg.specs.declared.reading.forms.LineForm.{LineForm}
 use Rattle.aim_msg.specs.declared.reading.forms.LineForm.TheVariants as form
 use Rattle.aim_msg.specs.Texts.{Words}
+use Rattle.aim_msg.specs.Tables.{look_up}
 use Rattle.aim_msg.specs.Faults.{Place, chosen, keyword, name, number, either, from, word_at, begins_with_digit, value_of, number32, number8, turns, classes}
-
--- the form in the row of that word, or that kind of fault where no row has it
-abbrev pub look_up : {F : Type 0} → LineKind → List (List ℕ × F) → List ℕ → Result F LineKind
-look_up fault [] word = Err fault
-look_up fault (row ∷ rows) word = if bytes_eq word row.0 then Ok row.1 else look_up fault rows word
 
 -- by the first word of a message
 abbrev pub message_forms : List (List ℕ × MessageForm)
@@ -90,17 +86,11 @@ times_form version = if version == 1 then form.Times else form.Times6
 abbrev pub plan_form : ℕ → LineForm
 plan_form version = if version == 3 then form.PlanInWindow else form.Plan
 
--- by the first word, in a script's body
-abbrev pub body_forms : ℕ → List (List ℕ × LineForm)
-body_forms version =
-    (codes "until", form.Until)
-    ∷ (codes "plan", plan_form version)
-    ∷ (codes "change", form.ChangePlan)
-    ∷ (codes "cancel", form.CancelPlan)
-    ∷ (codes "up", form.Up)
-    ∷ (codes "down", form.Down)
-    ∷ (codes "end", form.End)
-    ∷ []
+-- the form that a line of version 1 has in a version
+abbrev pub in_version : ℕ → LineForm → LineForm
+in_version version form.Times = times_form version
+in_version version form.Plan = plan_form version
+in_version version f = f
 
 -- by the first word
 abbrev pub plain_forms : ℕ → List (List ℕ × LineForm)
@@ -113,10 +103,14 @@ plain_forms version =
     ∷ (codes "phase", form.Phase)
     ∷ (codes "vehicles", form.Vehicles)
     ∷ (codes "begin", form.Begin)
-    ∷ body_forms version
-
-abbrev pub body_form : ℕ → List ℕ → Result LineForm LineKind
-body_form version word = look_up kind.Unknown (body_forms version) word
+    ∷ (codes "until", form.Until)
+    ∷ (codes "plan", plan_form version)
+    ∷ (codes "change", form.ChangePlan)
+    ∷ (codes "cancel", form.CancelPlan)
+    ∷ (codes "up", form.Up)
+    ∷ (codes "down", form.Down)
+    ∷ (codes "end", form.End)
+    ∷ []
 
 abbrev pub plain_form : ℕ → List ℕ → Result LineForm LineKind
 plain_form version word = look_up kind.Unknown (plain_forms version) word

@@ -1,7 +1,9 @@
 pub mod Texts
+pub mod Actors
 pub mod Lines
 pub mod Same
 pub mod Faults
+pub mod Tables
 pub mod Forms
 pub mod Reading
 pub mod Entries

@@ -1,4 +1,5 @@
--- Reading word by word: a value and the words behind it, or the kind of the first fault.
+-- Reading word by word: a value and the words behind it, or the kind of the first fault. Only contracts of private
+-- functions cite it.
 use Rattle.std.specs.Prelude.{ℕ, ◌+◌, ◌-◌, ◌^◌, ◌≡◌, Bool, true, false, List, [], ◌∷◌, ◌++◌, length, replicate, Option, Some, None, Result, Ok, Err, if◌then◌else◌}
 use Rattle.std.specs.Borrow.{Bor}
 use Rattle.aim_msg.specs.declared.messages.Turn.{Turn}

@@ -1,6 +1,6 @@
 -- How messages, replies and entries are spelled: a text is its words with a space between each two.
-use Rattle.std.specs.Prelude.{◌≡◌, ◌<◌, ℕ, Bool, List, [], ◌∷◌, ◌++◌, Option, Some, None, codes, decimal, if◌then◌else◌}
-use Rattle.std.specs.List.{join_with_byte}
+use Rattle.std.specs.Prelude.{◌≡◌, ◌==◌, ℕ, Bool, false, List, [], ◌∷◌, ◌++◌, Option, Some, None, codes, decimal, if◌then◌else◌}
+use Rattle.std.specs.List.{join_with_byte, list_any}
 use Rattle.aim_msg.specs.declared.messages.Turn.{Turn}
 use Rattle.aim_msg.specs.declared.messages.Turn.TheVariants.{Left, Straight, Right}
 use Rattle.aim_msg.specs.declared.messages.Params.{Params}
@@ -104,11 +104,6 @@ abbrev pub caller_word : ℕ → Act → List ℕ
 caller_word caller (act.Message m) = decimal caller
 caller_word caller (act.Order o) = codes "operator"
 
--- which caller may be an act's: the operator gives orders, a vehicle sends messages
-abbrev pub IsCallerOf : ℕ → Act → Type 0
-IsCallerOf caller (act.Message m) = caller < 65536
-IsCallerOf caller (act.Order o) = caller ≡ 65536
-
 abbrev pub entry_words : ℕ → Entry → Words
 entry_words place e =
     decimal place ∷ caller_word e.caller e.act ∷ decimal e.moment ∷ (act_words e.act ++ codes "->" ∷ reply_words e.reply)
@@ -122,3 +117,7 @@ reply_text r = spaced (reply_words r)
 
 abbrev pub message_text : Message → List ℕ
 message_text m = spaced (message_words m)
+
+-- no byte of it ends a line
+abbrev pub IsOneLine : List ℕ → Type 0
+IsOneLine text = list_any (λ b. b == 10) text ≡ false

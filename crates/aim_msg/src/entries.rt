@@ -4,7 +4,7 @@ use crate::messages::Message;
 use crate::replies::Reply;
 
 /// An order of the operator.
-#[derive(Clone, Copy, Debug, PartialEq, Eq)]
+#[derive(Clone, Copy)]
 pub enum Order {
     /// Put the policy of that number in force.
     Switch(u8),
@@ -13,14 +13,14 @@ pub enum Order {
 }
 
 /// What a caller did.
-#[derive(Clone, Copy, Debug, PartialEq, Eq)]
+#[derive(Clone, Copy)]
 pub enum Act {
     Message(Message),
     Order(Order),
 }
 
 /// One call of the manager and its answer.
-#[derive(Clone, Copy, Debug, PartialEq, Eq)]
+#[derive(Clone, Copy)]
 pub struct Entry {
     /// The vehicle's number, or `OPERATOR`.
     pub caller: u32,
@@ -32,3 +32,12 @@ pub struct Entry {
 
 /// The operator's caller number. A vehicle's number is below it.
 pub const OPERATOR: u32 = 65_536;
+
+/// The latest moment at which a call may come.
+pub const LATEST_MOMENT: u32 = 1_073_741_824;
+
+/// The most entries that a journal has.
+pub const MOST_ENTRIES: u32 = 262_144;
+
+/// The most vehicles that an intersection serves.
+pub const MOST_VEHICLES: u32 = 65_536;

@@ -1,16 +1,21 @@
 //! Laws of the texts: what is spelled is read again, what is read is spelled so, and no two values have one spelling.
-//! And one of messages: which are the same. Each is the contract of a function that does nothing.
-ghost use Rattle.std.specs.Prelude.{◌≡◌, ◌↔◌, ℕ, true, List, Ok};
+//! And two more: which messages are the same, and who may act. Each is the contract of a function that does nothing.
+ghost use Rattle.std.specs.Prelude.{◌≡◌, ◌↔◌, ℕ, true, List, Ok, Err};
 ghost use Rattle.aim_msg.specs.declared.messages.Message.{Message};
 ghost use Rattle.aim_msg.specs.Same.{same_message};
 ghost use Rattle.aim_msg.specs.declared.script.Line.{Line};
 ghost use Rattle.aim_msg.specs.Lines.{line_text, KeepsRanges};
 ghost use Rattle.aim_msg.specs.declared.replies.Reply.{Reply};
+ghost use Rattle.aim_msg.specs.declared.entries.Act.{Act};
 ghost use Rattle.aim_msg.specs.declared.entries.Entry.{Entry};
-ghost use Rattle.aim_msg.specs.Texts.{reply_text, entry_text, IsCallerOf};
+ghost use Rattle.aim_msg.specs.Texts.{message_text, reply_text, entry_text, IsOneLine};
+ghost use Rattle.aim_msg.specs.Actors.{IsCallerOf, IsOrder};
 ghost use Rattle.aim_msg.specs.Entries.{entry_at};
-ghost use Rattle.aim_msg.specs.Ranges.{Is32, IsLine, IsReply, IsEntry};
+ghost use Rattle.aim_msg.specs.Ranges.{Is32, IsMessage, IsLine, IsReply, IsEntry};
 ghost use Rattle.aim_msg.specs.Reading.{line_at};
+
+use crate::entries::OPERATOR;
+use crate::script::LineKind;
 
 /// Reading the text of a line that keeps its ranges gives the line back.
 pub fn line_is_read_again()
@@ -51,4 +56,27 @@ pub fn entry_has_one_text()
 /// Two messages are the same exactly where the test of the definitions says so.
 pub fn same_messages_are_equal()
     ensures { (m n : Message) → (same_message m n ≡ true ↔ m ≡ n) }
+{}
+
+/// No two messages have one text.
+pub fn message_has_one_text()
+    ensures { (m n : Message) → IsMessage m → IsMessage n → message_text m ≡ message_text n → m ≡ n }
+{}
+
+/// No text has a byte 10 in it.
+pub fn text_is_one_line()
+    ensures message { (m : Message) → IsMessage m → IsOneLine (message_text m) }
+    ensures reply { (reply : Reply) → IsReply reply → IsOneLine (reply_text reply) }
+    ensures entry { (position : ℕ) (entry : Entry) → Is32 position → IsEntry entry → IsOneLine (entry_text position entry) }
+    ensures line { (version : ℕ) (line : Line) → IsLine line → KeepsRanges version line → IsOneLine (line_text version line) }
+{}
+
+/// Bytes that spell no entry are never of the kind `Unknown`.
+pub fn entry_is_never_unknown()
+    ensures { (bytes : List ℕ) → entry_at bytes ≡ Err LineKind.Unknown → ⊥ }
+{}
+
+/// A caller that may act is `OPERATOR` exactly where the act is an order.
+pub fn operator_gives_orders()
+    ensures { (caller : ℕ) (act : Act) → IsCallerOf caller act → (caller ≡ OPERATOR ↔ IsOrder act) }
 {}

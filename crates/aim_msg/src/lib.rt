@@ -10,7 +10,7 @@ pub mod replies;
 pub mod script;
 pub mod writing;
 
-pub use entries::{Act, Entry, OPERATOR, Order};
+pub use entries::{Act, Entry, LATEST_MOMENT, MOST_ENTRIES, MOST_VEHICLES, OPERATOR, Order};
 pub use messages::{Body, Message, Params, Turn};
 pub use reading::{read_entry, read_line};
 pub use replies::{Field, Reason, Reply};

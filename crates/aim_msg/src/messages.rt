@@ -9,7 +9,7 @@ pub enum Turn {
 }
 
 /// What a vehicle says of itself and of the crossing that it asks for.
-#[derive(Clone, Copy, Debug, PartialEq, Eq)]
+#[derive(Clone, Copy, PartialEq, Eq)]
 pub struct Params {
     /// The lane's number, from 0.
     pub lane: u8,
@@ -31,7 +31,7 @@ pub struct Params {
 }
 
 /// What a message asks or tells.
-#[derive(Clone, Copy, Debug, PartialEq, Eq)]
+#[derive(Clone, Copy, PartialEq, Eq)]
 pub enum Body {
     /// REQUEST: reserve this crossing.
     Request(Params),
@@ -44,7 +44,7 @@ pub enum Body {
 }
 
 /// A message of a vehicle. Its sequence number tells a new message from a repeat.
-#[derive(Clone, Copy, Debug, PartialEq, Eq)]
+#[derive(Clone, Copy, PartialEq, Eq)]
 pub struct Message {
     pub seq: u32,
     pub body: Body,

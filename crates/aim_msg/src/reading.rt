@@ -12,8 +12,7 @@ mod lines;
 mod lists;
 mod numbers;
 mod replies;
-#[cfg(test)]
-mod tests;
+mod tables;
 mod words;
 
 use crate::entries::Entry;

@@ -1,7 +1,7 @@
 //! What the manager answers.
 
 /// The field of a request for which it can't be simulated.
-#[derive(Clone, Copy, Debug, PartialEq, Eq)]
+#[derive(Clone, Copy, PartialEq, Eq)]
 pub enum Field {
     Lane,
     Turn,
@@ -16,7 +16,7 @@ pub enum Field {
 }
 
 /// Why a request is refused, numbered 1 to 12 in this order.
-#[derive(Clone, Copy, Debug, PartialEq, Eq)]
+#[derive(Clone, Copy, PartialEq, Eq)]
 pub enum Reason {
     /// The vehicle holds the reservation of that id.
     Holds(u32),
@@ -55,7 +55,7 @@ pub enum Reason {
 }
 
 /// An answer of the manager.
-#[derive(Clone, Copy, Debug, PartialEq, Eq)]
+#[derive(Clone, Copy, PartialEq, Eq)]
 pub enum Reply {
     /// The crossing is reserved.
     Confirm {

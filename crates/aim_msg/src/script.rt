@@ -3,7 +3,7 @@
 use crate::messages::{Message, Params, Turn};
 
 /// `grid`: the ground and the room of a sheet. Lengths are in millimetres.
-#[derive(Clone, Copy, Debug, PartialEq, Eq)]
+#[derive(Clone, Copy)]
 pub struct Grid6 {
     pub side: u32,
     pub n: u32,
@@ -15,7 +15,7 @@ pub struct Grid6 {
 }
 
 /// `times` of version 1, in steps. The time buffer of inner tiles is the same before and after.
-#[derive(Clone, Copy, Debug, PartialEq, Eq)]
+#[derive(Clone, Copy)]
 pub struct Times5 {
     pub horizon: u32,
     pub longest: u32,
@@ -25,7 +25,7 @@ pub struct Times5 {
 }
 
 /// `times` of versions 2 and 3, in steps.
-#[derive(Clone, Copy, Debug, PartialEq, Eq)]
+#[derive(Clone, Copy)]
 pub struct Times6 {
     pub horizon: u32,
     pub longest: u32,
@@ -36,7 +36,7 @@ pub struct Times6 {
 }
 
 /// The way of a move, in `m` parts. Coordinates are in millimetres.
-#[derive(Clone, Copy, Debug, PartialEq, Eq)]
+#[derive(Clone, Copy)]
 pub enum MoveShape {
     Line {
         x0: u32,
@@ -57,7 +57,7 @@ pub enum MoveShape {
 }
 
 /// A policy's name: `len` bytes, 1 to 16, each a lower-case letter, a digit or `-`. The rest of the array is 0.
-#[derive(Clone, Copy, Debug, PartialEq, Eq)]
+#[derive(Clone, Copy, PartialEq, Eq)]
 pub struct Name {
     pub bytes: [u8; 16],
     pub len: u8,
@@ -65,14 +65,14 @@ pub struct Name {
 
 /// The fates of a link's first messages: `len` numbers, 1 to 64. Here 0 delivers, 256 loses, 257 repeats, and 1 to
 /// 255 delays by so many steps. The rest of the array is 0.
-#[derive(Clone, Copy, Debug, PartialEq, Eq)]
+#[derive(Clone, Copy)]
 pub struct FateList {
     pub fates: [u16; 64],
     pub len: u8,
 }
 
 /// A line of a script.
-#[derive(Clone, Copy, Debug, PartialEq, Eq)]
+#[derive(Clone, Copy)]
 pub enum Line {
     /// `aim N`
     Version(u32),

@@ -6,8 +6,6 @@ ghost use Rattle.aim_msg.specs.Texts.{entry_text, reply_text, message_text};
 
 mod entries;
 mod lines;
-#[cfg(test)]
-mod tests;
 mod text;
 mod words;
 

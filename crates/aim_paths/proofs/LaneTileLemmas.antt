@@ -1,6 +1,5 @@
 -- The tiles of a lane, as paths are added to a layout.
-use Rattle.std.proofs.Common.{◌≡◌, ℕ, ◌<◌, inl, inr, ◌⊎◌, ◌∷◌, Bool, true, false, ◌&&◌, ◌||◌, List, [], length, slice_get, get_or, set, replicate, Option, Some, None, arith, refl, sym, ◌∙◌, ap, nat_lt}
-use Rattle.std.specs.List.{list_any}
+use Rattle.std.proofs.Common.{◌≡◌, ℕ, ◌<◌, inl, inr, Bool, true, false, ◌||◌, List, [], length, slice_get, get_or, set, replicate, Option, Some, None, arith, refl, sym, ◌∙◌, ap}
 use Rattle.std.proofs.lemmas.Bool.{cases_eq}
 use Rattle.std.proofs.lemmas.List.{length-set, length-replicate, get_or-set_same, get_or-set_other, get_or-replicate}
 use Rattle.std.proofs.lemmas.Option.{slice_get-get_or}
@@ -139,9 +138,9 @@ lane_inside : (i : Intersection) (o : Option Lane) (row col : ℕ) → is_on_lan
 lane_inside i None row col h = absurd (cc)
 lane_inside i (Some l) row col h = elim (either (is_on_path i l.left row col || is_on_path i l.straight row col) (is_on_path i l.right row col) h) [
   | inl e ↦ elim (either (is_on_path i l.left row col) (is_on_path i l.straight row col) e) [
-      | inl f ↦ path_inside i l.left row col f
-      | inr f ↦ path_inside i l.straight row col f
-    ]
+    | inl f ↦ path_inside i l.left row col f
+    | inr f ↦ path_inside i l.straight row col f
+  ]
   | inr e ↦ path_inside i l.right row col e
 ]
 

@@ -6,3 +6,4 @@ pub mod LaneTileLemmas
 pub mod SoundLemmas
 pub mod ShareLemmas
 pub mod AddedLemmas
+pub mod MadeLemmas

@@ -1,10 +1,10 @@
 -- Lanes that share a tile, and words that share a bit.
-use Rattle.std.proofs.Common.{◌≡◌, ℕ, ◌/◌, ◌^◌, ◌<◌, ◌≤◌, true, false, ◌&&◌, not, arith, refl, sym, ◌∙◌, List, w64, nat_lt, lt-ltb, eqb}
+use Rattle.std.proofs.Common.{◌≡◌, ℕ, ◌/◌, ◌^◌, ◌<◌, ◌≤◌, true, false, ◌&&◌, not, arith, refl, sym, ◌∙◌, List, w64, eqb}
 use Rattle.std.specs.Prelude.{bit_and, slice_index, nat_le}
 use Rattle.std.specs.Int.{trailing_zeros}
 use Rattle.std.proofs.Math.Decide.{dec_lt}
 use Rattle.std.proofs.Math.Nat.{div-eq_of_lt}
-use Rattle.std.proofs.lemmas.Bool.{and_parts, lt-leb, le-leb, ltb-true, ne_eqb}
+use Rattle.std.proofs.lemmas.Bool.{and_parts, lt-leb, le-leb, ne_eqb}
 use Rattle.std.proofs.lemmas.Nat.{and_le_l, le-div}
 use Rattle.std.proofs.lemmas.Nat.Bits.{bit_at-trailing_zeros, bit_at-zero}
 use Rattle.aim_geometry.specs.Bounded.{some_below}

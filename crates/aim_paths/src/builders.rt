@@ -6,7 +6,6 @@ ghost use Rattle.std.specs.List.{fold};
 ghost use Rattle.std.specs.Result.{result_err};
 ghost use Rattle.aim_geometry.specs.Bounded.{is_outside, some_below};
 ghost use Rattle.aim_geometry.specs.Sites.{Site};
-ghost use Rattle.aim_paths.specs.Added.{Added, AreTaken, added, layout_of};
 ghost use Rattle.aim_paths.specs.Building.{bare, finish_fault, has_bad_lanes as has_bad_lanes_of, is_bad_move, is_bad_phase_of, lacks_phase as lacks_phase_of, last_policy, move_fault, no_paths, phase_count as phase_count_of, phase_fault, policy_fault, share_tile as share_tile_of, with_move, with_phase, with_policy};
 ghost use Rattle.aim_paths.specs.Intersection.{path};
 ghost use Rattle.aim_paths.specs.Policies.{has_lane as has_lane_of};
@@ -21,7 +20,7 @@ use std::alloc::Global;
 use std::marker::Model;
 
 /// Why a line of a layout is refused.
-#[derive(Clone, Copy, Debug, PartialEq, Eq)]
+#[derive(Clone, Copy)]
 pub enum LayoutFault {
     /// There are no lanes, or more than 16.
     Lane,
@@ -36,7 +35,7 @@ pub enum LayoutFault {
 }
 
 /// A layout in the making. It has all the room that a layout takes.
-#[derive(Debug, Drop)]
+#[derive(Drop)]
 pub struct Builder {
     ground: Ground,
     lanes: Vec<LanePaths>,
@@ -349,8 +348,3 @@ fn no_tiles(alloc: Global, lanes: u32) -> Result<Vec<[u64; 64]>, NoMemory>
     }
     Ok(tiles)
 }
-
-/// A law: calls that are taken, one after another, make the layout of their lines.
-pub fn layout_is_its_lines()
-    ensures { (s : Site) (lanes : ℕ) (lines : List Added) → AreTaken (bare s lanes) lines → fold added (bare s lanes) lines ≡ layout_of s lanes lines }
-{}

@@ -19,7 +19,7 @@ use std::marker::Model;
 pub const STATIONS: usize = 4097;
 
 /// The paths of a lane, with room for one of each turn. A turn that isn't offered has no station.
-#[derive(Debug, Drop)]
+#[derive(Drop)]
 pub struct LanePaths {
     left: Vec<Station>,
     straight: Vec<Station>,

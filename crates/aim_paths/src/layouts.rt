@@ -16,7 +16,7 @@ use std::alloc::Global;
 use std::marker::Model;
 
 /// A ground, lanes with their paths, and policies, to which no refusal applies.
-#[derive(Debug, Drop)]
+#[derive(Drop)]
 pub struct Layout {
     ground: Ground,
     lanes: Vec<LanePaths>,

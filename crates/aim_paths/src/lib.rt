@@ -3,6 +3,7 @@
 
 pub mod builders;
 mod lanes;
+pub mod laws;
 pub mod layouts;
 pub mod paths;
 pub mod policies;
@@ -14,6 +15,3 @@ pub use paths::Path;
 pub use policies::{Kind, Phase};
 pub use shapes::Shape;
 pub use std::alloc::AllocError as NoMemory;
-
-#[cfg(test)]
-mod tests;

@@ -9,7 +9,7 @@ use aim_msg::Turn;
 use std::marker::Model;
 
 /// A path of a layout. Station j lies at the distance of j times the grid's spacing from its start.
-#[derive(Debug, Drop)]
+#[derive(Drop)]
 pub struct Path<'a> {
     stations: &'a [Station],
 }

@@ -8,7 +8,7 @@ ghost use Rattle.aim_paths.specs.Policies.{has_lights as has_lights_of};
 use std::marker::Model;
 
 /// How requests are answered while the policy is in force.
-#[derive(Clone, Copy, Debug, PartialEq, Eq)]
+#[derive(Clone, Copy)]
 pub enum Kind {
     /// FCFS: first come, first served.
     Fcfs,
@@ -21,7 +21,7 @@ pub enum Kind {
 }
 
 /// A phase of lights: first red for all lanes, then green for some.
-#[derive(Clone, Copy, Debug, PartialEq, Eq)]
+#[derive(Clone, Copy)]
 pub struct Phase {
     /// The steps of red, from the layout's clearance to 65,536.
     pub red: u32,
@@ -44,7 +44,7 @@ impl Kind {
 }
 
 /// A policy as a layout stores it, with room for 16 phases.
-#[derive(Debug, Drop)]
+#[derive(Drop)]
 pub(crate) struct StoredPolicy {
     kind: Kind,
     phases: [Phase; 16],

@@ -7,7 +7,7 @@ ghost use Rattle.aim_paths.specs.Shapes.{are_wide as are_wide_of, is_bad_shape, 
 use aim_geometry::{Station, curve_station, line_station};
 
 /// How a path goes from its start to its end, in m equal parts of its parameter. Coordinates are in millimetres.
-#[derive(Clone, Copy, Debug, PartialEq, Eq)]
+#[derive(Clone, Copy)]
 pub enum Shape {
     /// Straight from (x0, y0) to (x1, y1).
     Line {

@@ -2,6 +2,7 @@
 use Rattle.std.proofs.Common.{◌≡◌, ℕ, ◌<◌, ◌≤◌, Bool, true, false, ◌&&◌, ◌||◌, nat_lt, nat_le, length, Option, Some, None, is_none, arith, refl, if◌then◌else◌}
 use Rattle.std.proofs.lemmas.Bool.Decides.{nat_tests}
 use Rattle.aim_msg.specs.declared.messages.Params.{Params}
+use Rattle.aim_msg.specs.declared.entries.TheConstants.{LATEST_MOMENT}
 use Rattle.aim_msg.specs.declared.replies.Field.TheVariants as field
 use Rattle.aim_geometry.specs.Bounded.{is_outside}
 use Rattle.aim_paths.specs.Intersection.{Intersection, path}
@@ -36,11 +37,11 @@ good_params i p h =
     let r4 = if nat_lt 1000 p.accel then Some field.Accel else r5 in
     let r3 = if is_outside p.speed p.max_speed then Some field.Speed else r4 in
     let r2 = if is_outside p.max_speed 4000 then Some field.Max else r3 in
-    let r1 = if nat_lt 1073741824 p.arrive then Some field.Arrive else r2 in
+    let r1 = if nat_lt LATEST_MOMENT p.arrive then Some field.Arrive else r2 in
     let r0 = if is_none (path i p.lane p.turn) then Some field.Turn else r1 in
     let a = if_none (nat_le (length i.lanes) p.lane) field.Lane r0 h in
     let b = if_none (is_none (path i p.lane p.turn)) field.Turn r1 a.1 in
-    let c = if_none (nat_lt 1073741824 p.arrive) field.Arrive r2 b.1 in
+    let c = if_none (nat_lt LATEST_MOMENT p.arrive) field.Arrive r2 b.1 in
     let d = if_none (is_outside p.max_speed 4000) field.Max r3 c.1 in
     let e = if_none (is_outside p.speed p.max_speed) field.Speed r4 d.1 in
     let f = if_none (nat_lt 1000 p.accel) field.Accel r5 e.1 in
@@ -52,7 +53,7 @@ good_params i p h =
     record {
       lane = more_than (length i.lanes) p.lane a.0;
       turn = b.0;
-      arrive = not_less 1073741824 p.arrive c.0;
+      arrive = not_less LATEST_MOMENT p.arrive c.0;
       greatest = outside p.max_speed 4000 d.0;
       speed = outside p.speed p.max_speed e.0;
       accel = not_less 1000 p.accel f.0;
@@ -84,8 +85,8 @@ pub no_field : (i : Intersection) (p : Params) → IsGood i p → bad i p ≡ No
 no_field i p g =
     let fast = fits_if (is_fast_made p) (nat_lt i.grid.spans (span_count i p true)) (λ made. lt_false i.grid.spans (span_count i p true) (g.fast made)) in
     let spans : needs_too_many_spans i p ≡ false = no_spans (nat_lt i.grid.spans (span_count i p false)) (is_fast_made p && nat_lt i.grid.spans (span_count i p true)) (lt_false i.grid.spans (span_count i p false) g.steady) fast in
-    chain (nat_le (length i.lanes) p.lane) (is_none (path i p.lane p.turn)) (nat_lt 1073741824 p.arrive) (is_outside p.max_speed 4000) (is_outside p.speed p.max_speed) (nat_lt 1000 p.accel) (is_outside p.length 30000) (is_outside p.width 30000) (nat_lt 2048 (crossing_steps i p false)) (needs_too_many_spans i p)
-    (le_false (length i.lanes) p.lane g.lane) g.turn (lt_false 1073741824 p.arrive g.arrive) (inside p.max_speed 4000 g.greatest.0 g.greatest.1) (inside p.speed p.max_speed g.speed.0 g.speed.1) (lt_false 1000 p.accel g.accel)
+    chain (nat_le (length i.lanes) p.lane) (is_none (path i p.lane p.turn)) (nat_lt LATEST_MOMENT p.arrive) (is_outside p.max_speed 4000) (is_outside p.speed p.max_speed) (nat_lt 1000 p.accel) (is_outside p.length 30000) (is_outside p.width 30000) (nat_lt 2048 (crossing_steps i p false)) (needs_too_many_spans i p)
+    (le_false (length i.lanes) p.lane g.lane) g.turn (lt_false LATEST_MOMENT p.arrive g.arrive) (inside p.max_speed 4000 g.greatest.0 g.greatest.1) (inside p.speed p.max_speed g.speed.0 g.speed.1) (lt_false 1000 p.accel g.accel)
     (inside p.length 30000 g.length.0 g.length.1) (inside p.width 30000 g.width.0 g.width.1) (lt_false 2048 (crossing_steps i p false) g.steps) spans
   where
     chain : (a b c d e f g h k s : Bool) → a ≡ false → b ≡ false → c ≡ false → d ≡ false → e ≡ false → f ≡ false → g ≡ false → h ≡ false → k ≡ false → s ≡ false →

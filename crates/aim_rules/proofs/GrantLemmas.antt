@@ -52,7 +52,7 @@ not_so true why h = absurd (cc)
 not_so false why h = refl
 
 -- what it says that none of the tests gives a reason
-tests_passed : (a : Asked) (p : Params) → first_reason a p ≡ None →
+pub tests_passed : (a : Asked) (p : Params) → first_reason a p ≡ None →
     (bad a.layout p ≡ None) × (nat_le p.arrive (a.now + a.layout.times.edge) ≡ false)
     × (list_any (λ c. nat_le (a.now + a.layout.times.horizon) c.step) (cells a.layout p false) ≡ false)
 tests_passed a p h =

@@ -10,3 +10,13 @@ pub mod FreeLemmas
 pub mod GoodLemmas
 pub mod SlowerLemmas
 pub mod AheadLemmas
+pub mod Lists
+pub mod VehicleLaws
+pub mod HistoryLaws
+pub mod LaneLaws
+pub mod PolicyLaws
+pub mod TakenLaws
+pub mod AnswerLaws
+pub mod TimeLaws
+pub mod TableLaws
+pub mod RunLaws

@@ -2,6 +2,7 @@
 use Rattle.std.specs.Prelude.{◌≡◌, ◌<◌, ◌≤◌, ℕ, Bool, true, false, ◌&&◌, ◌||◌, nat_lt, nat_le, length, filter, flat_map, map, Option, Some, None, is_none, if◌then◌else◌}
 use Rattle.std.specs.List.{range_with_len}
 use Rattle.aim_msg.specs.declared.messages.Params.{Params}
+use Rattle.aim_msg.specs.declared.entries.TheConstants.{LATEST_MOMENT}
 use Rattle.aim_msg.specs.declared.replies.Field.{Field}
 use Rattle.aim_msg.specs.declared.replies.Field.TheVariants as field
 use Rattle.aim_geometry.specs.Bounded.{some_below, is_outside}
@@ -28,7 +29,7 @@ abbrev pub bad : Intersection → Params → Option Field
 bad i p =
     if nat_le (length i.lanes) p.lane then Some field.Lane
     else if is_none (path i p.lane p.turn) then Some field.Turn
-    else if nat_lt 1073741824 p.arrive then Some field.Arrive
+    else if nat_lt LATEST_MOMENT p.arrive then Some field.Arrive
     else if is_outside p.max_speed 4000 then Some field.Max
     else if is_outside p.speed p.max_speed then Some field.Speed
     else if nat_lt 1000 p.accel then Some field.Accel
@@ -46,7 +47,7 @@ FitsSheet i p fast = span_count i p fast ≤ i.grid.spans
 pub record IsGood (i : Intersection) (p : Params) : Type 0 where
   pub lane : p.lane < length i.lanes
   pub turn : is_none (path i p.lane p.turn) ≡ false
-  pub arrive : p.arrive ≤ 1073741824
+  pub arrive : p.arrive ≤ LATEST_MOMENT
   pub greatest : (1 ≤ p.max_speed) × (p.max_speed ≤ 4000)
   pub speed : (1 ≤ p.speed) × (p.speed ≤ p.max_speed)
   pub accel : p.accel ≤ 1000

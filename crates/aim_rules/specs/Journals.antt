@@ -3,6 +3,7 @@ use Rattle.std.specs.Prelude.{ℕ, ◌≤◌, List, [], ◌∷◌, ◌++◌, fol
 use Rattle.std.specs.List.{AllByRecursion}
 use Rattle.aim_msg.specs.declared.entries.Act.{Act}
 use Rattle.aim_msg.specs.declared.entries.Entry.{Entry}
+use Rattle.aim_msg.specs.declared.entries.TheConstants.{LATEST_MOMENT}
 use Rattle.aim_paths.specs.Intersection.{Intersection}
 use Rattle.aim_rules.specs.Answer.{answer}
 use Rattle.aim_rules.specs.Legal.{MayAct}
@@ -28,4 +29,4 @@ journal i calls = fold (λ h c. h ++ entry_of i h c ∷ []) [] calls
 
 -- whether each call may be made
 abbrev pub MayCall : Intersection → ℕ → List Call → Type 0
-MayCall i vehicles calls = AllByRecursion (λ c. (c.moment ≤ 1073741824) × MayAct i vehicles c.caller c.act) calls
+MayCall i vehicles calls = AllByRecursion (λ c. (c.moment ≤ LATEST_MOMENT) × MayAct i vehicles c.caller c.act) calls

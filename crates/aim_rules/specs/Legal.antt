@@ -4,18 +4,23 @@ use Rattle.aim_msg.specs.declared.entries.Act.{Act}
 use Rattle.aim_msg.specs.declared.entries.Act.TheVariants as act
 use Rattle.aim_msg.specs.declared.entries.Order.TheVariants as order
 use Rattle.aim_msg.specs.declared.entries.Entry.{Entry}
-use Rattle.aim_msg.specs.declared.entries.TheConstants.{OPERATOR}
+use Rattle.aim_msg.specs.declared.entries.TheConstants.{LATEST_MOMENT}
+use Rattle.aim_msg.specs.Actors.{IsCallerOf}
 use Rattle.aim_paths.specs.Intersection.{Intersection}
 use Rattle.aim_rules.specs.Answer.{answer}
 
--- whether the caller may act so: an order is the operator's, a message is a vehicle's, and a switch names a policy
+-- whether the act is one of the layout: its vehicle is there, and a switch names a policy
+abbrev pub IsOfLayout : Intersection → ℕ → ℕ → Act → Type 0
+IsOfLayout i vehicles caller (act.Message m) = caller < vehicles
+IsOfLayout i vehicles caller (act.Order (order.Switch policy)) = policy < length i.policies
+IsOfLayout i vehicles caller (act.Order order.Stop) = Unit {0}
+
+-- whether the caller may act so
 abbrev pub MayAct : Intersection → ℕ → ℕ → Act → Type 0
-MayAct i vehicles caller (act.Message m) = caller < vehicles
-MayAct i vehicles caller (act.Order (order.Switch policy)) = (caller ≡ OPERATOR) × (policy < length i.policies)
-MayAct i vehicles caller (act.Order order.Stop) = caller ≡ OPERATOR
+MayAct i vehicles caller what = IsCallerOf caller what × IsOfLayout i vehicles caller what
 
 pub record IsWellFormed (i : Intersection) (vehicles : ℕ) (e : Entry) : Type 0 where
-  pub moment : e.moment ≤ 1073741824
+  pub moment : e.moment ≤ LATEST_MOMENT
   pub caller : MayAct i vehicles e.caller e.act
 
 -- whether the entry's reply is the answer after the entries before it

@@ -14,3 +14,6 @@ pub mod Answer
 pub mod Legal
 pub mod Journals
 pub mod Charts
+pub mod Kept
+pub mod Known
+pub mod Tables

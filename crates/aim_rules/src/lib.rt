@@ -3,4 +3,5 @@
 //! nothing.
 #![tactic(auto)]
 
+pub mod growth;
 pub mod laws;

@@ -7,6 +7,7 @@ ghost use Rattle.aim_msg.specs.Steps.{Gives, read_in, vehicle_in, params_in, bod
 use crate::messages::{Body, Message, Params, Turn};
 use crate::reading::forms::MessageForm;
 use crate::reading::numbers::number;
+use crate::reading::tables::look_up;
 use crate::reading::words::Words;
 use crate::script::LineKind;
 
@@ -30,21 +31,19 @@ pub fn number8(words: &mut Words<'_>) -> Result<u8, LineKind>
     Ok(n as u8)
 }
 
+const TURNS: [(&[u8], Turn); 3] = [
+    (b"left", Turn::Left),
+    (b"straight", Turn::Straight),
+    (b"right", Turn::Right),
+];
+
 /// A turn.
-#[tactic(auto, unfolding(crate::specs::Steps::read_in))]
+#[tactic(auto, using(crate::proofs::Tables::turn_said), unfolding(crate::specs::Steps::read_in))]
 pub fn turn(words: &mut Words<'_>) -> Result<Turn, LineKind>
     ensures { Gives result words.new (read_in turns turn_of words.old) }
 {
     let word = words.word()?;
-    if word == b"left".as_slice() {
-        Ok(Turn::Left)
-    } else if word == b"straight".as_slice() {
-        Ok(Turn::Straight)
-    } else if word == b"right".as_slice() {
-        Ok(Turn::Right)
-    } else {
-        Err(LineKind::Words)
-    }
+    look_up(&TURNS, LineKind::Words, word)
 }
 
 #[tactic(auto, unfolding(crate::specs::Steps::read_in))]

@@ -1,9 +1,10 @@
 // The forms that texts have, each of which a word chooses.
 ghost use Rattle.std.specs.Prelude.{◌≡◌, ◌==◌, ◌&&◌, ◌+◌, ◌<◌, ◌^◌, count_by, nat_le, length, bytes_eq, codes};
 ghost use Rattle.aim_msg.specs.Faults.{words_of};
-ghost use Rattle.aim_msg.specs.Forms.{message_form, order_form, reply_form, reason_form, shape_form, times_form, plan_form, body_form, plain_form, line_form, has_count};
+ghost use Rattle.aim_msg.specs.Forms.{message_form, order_form, reply_form, reason_form, shape_form, times_form, plan_form, in_version, plain_form, line_form, has_count};
 
 use crate::reading::numbers::begins_with_digit;
+use crate::reading::tables::look_up;
 use crate::reading::words::Words;
 use crate::script::LineKind;
 
@@ -84,102 +85,96 @@ pub enum LineForm {
     End,
 }
 
+const MESSAGES: [(&[u8], MessageForm); 4] = [
+    (b"request", MessageForm::Request),
+    (b"change", MessageForm::Change),
+    (b"cancel", MessageForm::Cancel),
+    (b"done", MessageForm::Done),
+];
+
+const ORDERS: [(&[u8], OrderForm); 2] = [
+    (b"switch", OrderForm::Switch),
+    (b"stop", OrderForm::Stop),
+];
+
+const REPLIES: [(&[u8], ReplyForm); 7] = [
+    (b"confirm", ReplyForm::Confirm),
+    (b"reject", ReplyForm::Reject),
+    (b"ack", ReplyForm::Ack),
+    (b"emergency-stop", ReplyForm::EmergencyStop),
+    (b"stale", ReplyForm::Stale),
+    (b"switched", ReplyForm::Switched),
+    (b"stopped", ReplyForm::Stopped),
+];
+
+const REASONS: [(&[u8], ReasonForm); 12] = [
+    (b"holds", ReasonForm::Holds),
+    (b"no-reservation", ReasonForm::NoReservation),
+    (b"begun", ReasonForm::Begun),
+    (b"too-soon", ReasonForm::TooSoon),
+    (b"bad", ReasonForm::Bad),
+    (b"late", ReasonForm::Late),
+    (b"far", ReasonForm::Far),
+    (b"distance", ReasonForm::Distance),
+    (b"emergency", ReasonForm::Emergency),
+    (b"green", ReasonForm::Green),
+    (b"taken", ReasonForm::Taken),
+    (b"reused", ReasonForm::Reused),
+];
+
+const SHAPES: [(&[u8], ShapeForm); 2] = [(b"line", ShapeForm::Line), (b"curve", ShapeForm::Curve)];
+
+// The lines of version 1 that only their first word chooses.
+const LINES: [(&[u8], LineForm); 15] = [
+    (b"aim", LineForm::Version),
+    (b"grid", LineForm::Grid),
+    (b"times", LineForm::Times),
+    (b"lanes", LineForm::Lanes),
+    (b"policy", LineForm::Policy),
+    (b"phase", LineForm::Phase),
+    (b"vehicles", LineForm::Vehicles),
+    (b"begin", LineForm::Begin),
+    (b"until", LineForm::Until),
+    (b"plan", LineForm::Plan),
+    (b"change", LineForm::ChangePlan),
+    (b"cancel", LineForm::CancelPlan),
+    (b"up", LineForm::Up),
+    (b"down", LineForm::Down),
+    (b"end", LineForm::End),
+];
+
 /// The form of a message that begins with that word.
 pub fn message_form(word: &[u8]) -> Result<MessageForm, LineKind>
     ensures { result ≡ message_form word.now }
 {
-    if word == b"request".as_slice() {
-        Ok(MessageForm::Request)
-    } else if word == b"change".as_slice() {
-        Ok(MessageForm::Change)
-    } else if word == b"cancel".as_slice() {
-        Ok(MessageForm::Cancel)
-    } else if word == b"done".as_slice() {
-        Ok(MessageForm::Done)
-    } else {
-        Err(LineKind::Words)
-    }
+    look_up(&MESSAGES, LineKind::Words, word)
 }
 
 /// The form of an order that begins with that word.
 pub fn order_form(word: &[u8]) -> Result<OrderForm, LineKind>
     ensures { result ≡ order_form word.now }
 {
-    if word == b"switch".as_slice() {
-        Ok(OrderForm::Switch)
-    } else if word == b"stop".as_slice() {
-        Ok(OrderForm::Stop)
-    } else {
-        Err(LineKind::Words)
-    }
+    look_up(&ORDERS, LineKind::Words, word)
 }
 
 /// The form of a reply that begins with that word.
 pub fn reply_form(word: &[u8]) -> Result<ReplyForm, LineKind>
     ensures { result ≡ reply_form word.now }
 {
-    if word == b"confirm".as_slice() {
-        Ok(ReplyForm::Confirm)
-    } else if word == b"reject".as_slice() {
-        Ok(ReplyForm::Reject)
-    } else if word == b"ack".as_slice() {
-        Ok(ReplyForm::Ack)
-    } else if word == b"emergency-stop".as_slice() {
-        Ok(ReplyForm::EmergencyStop)
-    } else if word == b"stale".as_slice() {
-        Ok(ReplyForm::Stale)
-    } else if word == b"switched".as_slice() {
-        Ok(ReplyForm::Switched)
-    } else if word == b"stopped".as_slice() {
-        Ok(ReplyForm::Stopped)
-    } else {
-        Err(LineKind::Words)
-    }
+    look_up(&REPLIES, LineKind::Words, word)
 }
 
 /// The form of a reason that begins with that word.
 pub fn reason_form(word: &[u8]) -> Result<ReasonForm, LineKind>
     ensures { result ≡ reason_form word.now }
 {
-    if word == b"holds".as_slice() {
-        Ok(ReasonForm::Holds)
-    } else if word == b"no-reservation".as_slice() {
-        Ok(ReasonForm::NoReservation)
-    } else if word == b"begun".as_slice() {
-        Ok(ReasonForm::Begun)
-    } else if word == b"too-soon".as_slice() {
-        Ok(ReasonForm::TooSoon)
-    } else if word == b"bad".as_slice() {
-        Ok(ReasonForm::Bad)
-    } else if word == b"late".as_slice() {
-        Ok(ReasonForm::Late)
-    } else if word == b"far".as_slice() {
-        Ok(ReasonForm::Far)
-    } else if word == b"distance".as_slice() {
-        Ok(ReasonForm::Distance)
-    } else if word == b"emergency".as_slice() {
-        Ok(ReasonForm::Emergency)
-    } else if word == b"green".as_slice() {
-        Ok(ReasonForm::Green)
-    } else if word == b"taken".as_slice() {
-        Ok(ReasonForm::Taken)
-    } else if word == b"reused".as_slice() {
-        Ok(ReasonForm::Reused)
-    } else {
-        Err(LineKind::Words)
-    }
+    look_up(&REASONS, LineKind::Words, word)
 }
 
 fn shape_form(word: &[u8]) -> Result<ShapeForm, LineKind>
     ensures { result ≡ shape_form word.now }
 {
-    if word == b"line".as_slice() {
-        Ok(ShapeForm::Line)
-    } else if word == b"curve".as_slice() {
-        Ok(ShapeForm::Curve)
-    } else {
-        Err(LineKind::Words)
-    }
+    look_up(&SHAPES, LineKind::Words, word)
 }
 
 fn times_form(version: u8) -> LineForm
@@ -202,52 +197,24 @@ fn plan_form(version: u8) -> LineForm
     }
 }
 
-// The form of a line that only its first word chooses.
-fn plain_form(word: &[u8], version: u8) -> Result<LineForm, LineKind>
-    ensures { result ≡ plain_form version word.now }
+// The form that a line of version 1 has in that version.
+fn in_version(form: LineForm, version: u8) -> LineForm
+    ensures { result ≡ in_version version form }
 {
-    if word == b"aim".as_slice() {
-        Ok(LineForm::Version)
-    } else if word == b"grid".as_slice() {
-        Ok(LineForm::Grid)
-    } else if word == b"times".as_slice() {
-        Ok(times_form(version))
-    } else if word == b"lanes".as_slice() {
-        Ok(LineForm::Lanes)
-    } else if word == b"policy".as_slice() {
-        Ok(LineForm::Policy)
-    } else if word == b"phase".as_slice() {
-        Ok(LineForm::Phase)
-    } else if word == b"vehicles".as_slice() {
-        Ok(LineForm::Vehicles)
-    } else if word == b"begin".as_slice() {
-        Ok(LineForm::Begin)
-    } else {
-        body_form(word, version)
+    match form {
+        LineForm::Times => times_form(version),
+        LineForm::Plan => plan_form(version),
+        _ => form,
     }
 }
 
-// The form of such a line behind `begin`.
-fn body_form(word: &[u8], version: u8) -> Result<LineForm, LineKind>
-    ensures { result ≡ body_form version word.now }
+// The form of a line that only its first word chooses.
+#[tactic(auto, using(crate::proofs::Tables::mapped))]
+fn plain_form(word: &[u8], version: u8) -> Result<LineForm, LineKind>
+    ensures { result ≡ plain_form version word.now }
 {
-    if word == b"until".as_slice() {
-        Ok(LineForm::Until)
-    } else if word == b"plan".as_slice() {
-        Ok(plan_form(version))
-    } else if word == b"change".as_slice() {
-        Ok(LineForm::ChangePlan)
-    } else if word == b"cancel".as_slice() {
-        Ok(LineForm::CancelPlan)
-    } else if word == b"up".as_slice() {
-        Ok(LineForm::Up)
-    } else if word == b"down".as_slice() {
-        Ok(LineForm::Down)
-    } else if word == b"end".as_slice() {
-        Ok(LineForm::End)
-    } else {
-        Err(LineKind::Unknown)
-    }
+    let form = look_up(&LINES, LineKind::Unknown, word)?;
+    Ok(in_version(form, version))
 }
 
 /// The form that a line's words choose: the first word, and the third of an event and of an order, and the fourth of

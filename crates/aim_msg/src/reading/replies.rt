@@ -8,6 +8,7 @@ ghost use Rattle.aim_msg.specs.EntrySteps.{green_in, taken_in, reason_in, confir
 use crate::reading::fields::{number8, number32};
 use crate::reading::forms::{ReasonForm, ReplyForm, reason_form, reply_form};
 use crate::reading::numbers::{begins_with_digit, number};
+use crate::reading::tables::look_up;
 use crate::reading::words::Words;
 use crate::replies::{Field, Reason, Reply};
 use crate::script::LineKind;
@@ -20,34 +21,25 @@ fn number64(words: &mut Words<'_>) -> Result<u64, LineKind>
     number(word, 0, u64::MAX)
 }
 
-#[tactic(auto, unfolding(crate::specs::Steps::read_in))]
+const FIELDS: [(&[u8], Field); 10] = [
+    (b"lane", Field::Lane),
+    (b"turn", Field::Turn),
+    (b"arrive", Field::Arrive),
+    (b"max", Field::Max),
+    (b"speed", Field::Speed),
+    (b"accel", Field::Accel),
+    (b"length", Field::Length),
+    (b"width", Field::Width),
+    (b"steps", Field::Steps),
+    (b"spans", Field::Spans),
+];
+
+#[tactic(auto, using(crate::proofs::Tables::field_said), unfolding(crate::specs::Steps::read_in))]
 fn field(words: &mut Words<'_>) -> Result<Field, LineKind>
     ensures { Gives result words.new (read_in fields field_of words.old) }
 {
     let word = words.word()?;
-    if word == b"lane".as_slice() {
-        Ok(Field::Lane)
-    } else if word == b"turn".as_slice() {
-        Ok(Field::Turn)
-    } else if word == b"arrive".as_slice() {
-        Ok(Field::Arrive)
-    } else if word == b"max".as_slice() {
-        Ok(Field::Max)
-    } else if word == b"speed".as_slice() {
-        Ok(Field::Speed)
-    } else if word == b"accel".as_slice() {
-        Ok(Field::Accel)
-    } else if word == b"length".as_slice() {
-        Ok(Field::Length)
-    } else if word == b"width".as_slice() {
-        Ok(Field::Width)
-    } else if word == b"steps".as_slice() {
-        Ok(Field::Steps)
-    } else if word == b"spans".as_slice() {
-        Ok(Field::Spans)
-    } else {
-        Err(LineKind::Words)
-    }
+    look_up(&FIELDS, LineKind::Words, word)
 }
 
 // ROW COL STEP LANE

@@ -1,0 +1,7 @@
+//! Tests of the calls that read and write texts, and of those that read lines and write bytes.
+#![tactic(auto)]
+
+#[cfg(test)]
+mod lines;
+#[cfg(test)]
+mod texts;
