@@ -20,7 +20,7 @@ use Rattle.aim_replay.specs.declared.decisions.Decision.TheVariants as decision
 use Rattle.aim_replay.specs.declared.decisions.Kind.{Kind}
 use Rattle.aim_replay.specs.declared.stages.Stage.{Stage}
 use Rattle.aim_replay.specs.declared.stages.Stage.TheVariants as stage
-use Rattle.aim_replay.specs.Said.{layout_of, calls_of, names_of}
+use Rattle.aim_replay.specs.Said.{Described, layout_of, calls_of, names_of}
 use Rattle.aim_replay.specs.Verdicts.{Judgement, Verdict, number_after, judge, decides, goes_on, of_fault, at_end, verdict_from, verdict}
 use Rattle.aim_replay.specs.Texts.{entry_lines, printed, journal_of, decision_words, replay_text, status_of}
 use Rattle.aim_replay.specs.Today.{today}
@@ -37,16 +37,16 @@ gained_after old new (inr (e, more)) =
     rw (more, drop_at old (e ∷ []) (length old) refl) (entry_lines-append 0 old (e ∷ []) ∙ ap (λ n. entry_lines 0 old ++ entry_lines n (e ∷ [])) (omega arith))
 
 -- the journal of the lines is that of the stage
-header_journal : (before : List Line) (i : Intersection) → IsHeader before i → journal (layout_of before) (calls_of before) ≡ []
-header_journal before i h = ap (journal (layout_of before)) (h.no_calls (names_of before))
+header_journal : (before : List Line) (d : Described) → IsHeader before d → journal (layout_of before) (calls_of before) ≡ []
+header_journal before d h = ap (journal (layout_of before)) (h.no_calls (names_of before))
 
 pub journal_is : (before : List Line) (s : Stage) → Says before s → journal (layout_of before) (calls_of before) ≡ journal_at s
 journal_is before stage.Version says = header_journal before _ says
 journal_is before stage.Grid says = header_journal before _ says
 journal_is before (stage.Times g) says = header_journal before _ says.0
 journal_is before (stage.Lanes g) says = header_journal before _ says.0
-journal_is before (stage.Moves b) says = header_journal before _ says.0
-journal_is before (stage.Policies b) says = header_journal before _ says.0
+journal_is before (stage.Moves b) says = header_journal before _ says.0.header
+journal_is before (stage.Policies b) says = header_journal before _ says.0.header
 journal_is before (stage.Begin k n) says = rw says.0.layout says.0.journal
 journal_is before (stage.Body k n) says = rw says.0.layout says.0.journal
 journal_is before (stage.Over k) says = rw says.layout says.journal
@@ -223,7 +223,7 @@ pub reached_start : (bytes held : Option (List ℕ)) → Reached bytes (input fr
 unfolding outcomes_from
 reached_start bytes held = record {
   before = [];
-  stands = record { part = refl; over = refl; says = record { version = refl; layout = refl; names = refl; no_vehicles = refl; no_calls = λ names. refl; no_events = λ v. refl } };
+  stands = record { part = refl; over = refl; says = record { version = refl; said = refl; no_vehicles = refl; no_calls = λ names. refl; no_events = λ v. refl } };
   count = refl;
   decides = decides_start bytes;
   took = λ going. took_start bytes;

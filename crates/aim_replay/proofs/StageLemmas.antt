@@ -1,5 +1,5 @@
 -- What a line comes to at the stage where it belongs.
-use Rattle.std.proofs.Common.{◌≡◌, inl, inr, ℕ, ◌<◌, ◌==◌, Bool, true, false, ◌||◌, not, nat_lt, nat_le, is_some, List, [], ◌∷◌, ◌++◌, length, Option, Some, None, option_map, Result, Ok, Err, refl, sym, ap, ◌∙◌, subst, arith, ◌+◌, fold, length-append, if◌then◌else◌}
+use Rattle.std.proofs.Common.{◌≡◌, inl, inr, ℕ, ◌<◌, ◌==◌, Bool, true, false, ◌||◌, not, nat_lt, nat_le, is_some, map, List, [], ◌∷◌, ◌++◌, length, Option, Some, None, option_map, Result, Ok, Err, refl, sym, ap, ◌∙◌, subst, arith, ◌+◌, fold, length-append, if◌then◌else◌}
 use Rattle.std.specs.List.{list_any}
 use Rattle.std.proofs.lemmas.Bool.{cases_Bool, eq-eqb, eqb-true, ltb-false, leb-false}
 use Rattle.std.specs.Bool.{IsTrue}
@@ -25,10 +25,11 @@ use Rattle.aim_geometry.specs.declared.ground.Times.{Times}
 use Rattle.aim_geometry.specs.declared.ground.GroundFault.TheVariants as ground_fault_of
 use Rattle.aim_geometry.specs.Sites.{Site, has_bad_numbers, has_bad_buffers, has_bad_times, ground_fault}
 use Rattle.aim_geometry.specs.Bounded.{is_outside}
-use Rattle.aim_paths.specs.Intersection.{Intersection}
+use Rattle.aim_paths.specs.Intersection.{Intersection, Policy}
 use Rattle.aim_paths.specs.declared.builders.LayoutFault.{LayoutFault}
 use Rattle.aim_paths.specs.declared.builders.LayoutFault.TheVariants as layout_fault
 use Rattle.aim_paths.specs.Shapes.{stations_of, wide_step}
+use Rattle.aim_paths.specs.Added.{AddMove, AddPolicy}
 use Rattle.aim_paths.specs.Building.{bare, is_bad_move, move_fault, with_move, policy_fault, finish_fault, with_policy}
 use Rattle.aim_rules.specs.Journals.{Call, entry_of, journal}
 use Rattle.aim_book.specs.State.{State}
@@ -42,14 +43,14 @@ use Rattle.aim_replay.specs.declared.stages.Stage.TheVariants as stage
 use Rattle.aim_replay.specs.declared.stages.Refusal.{Refusal}
 use Rattle.aim_replay.specs.declared.stages.Refusal.TheVariants as refusal
 use Rattle.aim_replay.specs.Order.{part_after, belongs, is_end}
-use Rattle.aim_replay.specs.Said.{version_after, nowhere, grid_of, times_of, names_of, calls_of, shape_of}
+use Rattle.aim_replay.specs.Said.{Described, version_after, grid_of, times_of, names_of, calls_of, shape_of}
 use Rattle.aim_replay.specs.Kinds.{kind_of_fault, limit_of, vehicles_limit}
 use Rattle.aim_replay.specs.Verdicts.{judge, of_read, goes_on, decides, number_after, at_end}
 use Rattle.aim_replay.specs.Today.{today, is_missing_form}
 use Rattle.aim_replay.specs.Stands.{IsBody}
-use Rattle.aim_replay.specs.Stages.{Stands, Says, Takes, Judged, MayTake, Opens, move_kind_of, part_of, is_over, IsUnbuffered, IsDesk, is_missing_request, request_kind}
-use Rattle.aim_replay.proofs.AppendLemmas.{last_of_more, header_more, body_same, body_event, body_first, event_call}
-use Rattle.aim_replay.proofs.KindLemmas.{out_of_order, version_kind, grid_kind, times_kind, lanes_kind, move_kind, policy_kind, vehicles_kind, begin_kind, end_kind, event_kind}
+use Rattle.aim_replay.specs.Stages.{Stands, Says, unsaid, Takes, Judged, MayTake, Opens, move_kind_of, part_of, is_over, IsUnbuffered, IsDesk, is_missing_request, request_kind}
+use Rattle.aim_replay.proofs.AppendLemmas.{last_of_more, header_more, built_more, layout_built, names_are_policies, body_same, body_event, body_first, event_call}
+use Rattle.aim_replay.proofs.KindLemmas.{out_of_order, version_kind, grid_kind, times_kind, lanes_kind, move_kind, policy_kind, second_policy_kind, vehicles_kind, begin_kind, end_kind, event_kind}
 
 -- a line without a kind and a limit goes on
 goes : (before : List Line) (l : Line) → kind_of_fault today before l ≡ None → limit_of before l ≡ None → of_read today before (Ok l) ≡ goes_on l
@@ -85,7 +86,7 @@ version_taken before s n at one st =
     let l = line.Version 1 in
     let taken : Takes before l (Ok stage.Grid) = (
       goes before l (version_kind before 1 st.part) refl,
-      stands_after before l stage.Grid refl refl (header_more before nowhere l st.says (record { version = refl; vehicles = refl; call = λ _. refl; event = λ _. refl }) refl),
+      stands_after before l stage.Grid refl refl (header_more before unsaid l st.says (record { version = refl; vehicles = refl; call = λ _. refl; event = λ _. refl })),
     ) in
     subst (λ n. Takes before (line.Version n) (Ok stage.Grid)) (sym one) taken
 
@@ -96,7 +97,7 @@ grid_taken before s g h at fixed good same st =
     let l = line.Grid g in
     let taken : Takes before l (Ok (stage.Times (grid_of g))) = (
       goes before l (grid_kind before g st.part ∙ rw (eq-eqb g.fixed 0 fixed, good) refl) refl,
-      stands_after before l (stage.Times (grid_of g)) refl refl (header_more before nowhere l st.says (record { version = refl; vehicles = refl; call = λ _. refl; event = λ _. refl }) refl, good),
+      stands_after before l (stage.Times (grid_of g)) refl refl (header_more before unsaid l st.says (record { version = refl; vehicles = refl; call = λ _. refl; event = λ _. refl }), good),
     ) in
     subst (λ h. Takes before l (Ok (stage.Times h))) (sym same) taken
 
@@ -108,12 +109,12 @@ times_taken before s g t site at unbuffered buffers times same st =
     let edge : t.edge ≡ 0 = eqb-true t.edge 0 (not_true (t.edge == 0) both.1) in
     let st : Stands before (stage.Times g) = subst (Stands before) at st in
     let l = line.Times t in
-    let i : Intersection = record nowhere { grid = g } in
+    let d : Described = record unsaid { grid = Some g } in
     let all : Site = record { grid = g; times = times_of t } in
     let taken : Takes before l (Ok (stage.Lanes all)) = (
       goes before l (times_kind before t st.part ∙ rw (unbuffered, buffers, times) refl) refl,
       stands_after before l (stage.Lanes all) refl refl
-          (header_more before i l st.says.0 (record { version = refl; vehicles = refl; call = λ _. refl; event = λ _. refl }) refl, record { early = internal; late = internal; edge = edge }),
+          (header_more before d l st.says.0 (record { version = refl; vehicles = refl; call = λ _. refl; event = λ _. refl }), record { early = internal; late = internal; edge = edge }),
     ) in
     subst (λ x. Takes before l (Ok (stage.Lanes x))) (sym same) taken
 
@@ -121,11 +122,11 @@ pub lanes_taken : (before : List Line) (s : Stage) (site : Site) (n : ℕ) (b : 
 lanes_taken before s site n b at inside same st =
     let st : Stands before (stage.Lanes site) = subst (Stands before) at st in
     let l = line.Lanes n in
-    let i : Intersection = record nowhere { grid = site.grid; times = site.times } in
+    let d : Described = record unsaid { grid = Some site.grid; times = Some site.times } in
     let taken : Takes before l (Ok (stage.Moves (bare site n))) = (
       goes before l (lanes_kind before n st.part ∙ rw inside refl) refl,
       stands_after before l (stage.Moves (bare site n)) refl refl
-          (header_more before i l st.says.0 (record { version = refl; vehicles = refl; call = λ _. refl; event = λ _. refl }) refl, st.says.1, refl),
+          (record { lanes = n; lines = []; header = header_more before d l st.says.0 (record { version = refl; vehicles = refl; call = λ _. refl; event = λ _. refl }); taken = tt; made = refl }, st.says.1, refl),
     ) in
     subst (λ x. Takes before l (Ok (stage.Moves x))) (sym same) taken
 
@@ -146,12 +147,12 @@ move_taken before s b new lane turn shape at fault same st =
     let step = wide_step b.grid.spacing (stations_of path) in
     let good = unguarded (is_bad_move b lane turn path) (layout_fault.Move lane turn) (option_map (λ j. layout_fault.Spacing lane turn j) step) fault in
     let near : is_some step ≡ false = unmapped (λ j. layout_fault.Spacing lane turn j) step good.1 in
-    let some : length b.policies ≡ 0 = ap length st.says.2 in
+    let added_here = AddMove lane turn path in
     let next = with_move b lane turn (shape_of shape) in
     let taken : Takes before l (Ok (stage.Moves next)) = (
-      goes before l (move_kind before lane turn shape st.part ∙ rw (st.says.0.layout, good.0, near) refl) refl,
+      goes before l (move_kind before lane turn shape st.part ∙ rw (layout_built before b st.says.0, good.0, near) refl) refl,
       stands_after before l (stage.Moves next) refl refl
-          (header_more before b l st.says.0 (record { version = refl; vehicles = refl; call = λ _. refl; event = λ _. refl }) (omega arith), st.says.1, st.says.2),
+          (built_more before b l added_here st.says.0 (record { version = refl; vehicles = refl; call = λ _. refl; event = λ _. refl }) refl (sym fault) refl refl, st.says.1, st.says.2),
     ) in
     subst (λ x. Takes before l (Ok (stage.Moves x))) (sym same) taken
 
@@ -160,18 +161,21 @@ pub policy_taken : (before : List Line) (s : Stage) (b new : Intersection) (name
 policy_taken before s b new name k at zero same st =
     let st : Stands before (stage.Moves b) = subst (Stands before) at st in
     let l = line.Policy name 0 in
-    let none : length (names_of before) ≡ 0 = st.says.0.names ∙ ap length st.says.2 in
+    let none : length (names_of before) ≡ 0 = names_are_policies before b (layout_built before b st.says.0) ∙ ap length st.says.2 in
     let next = with_policy b kind.Fcfs in
     let fault : is_some (policy_fault b) ≡ false = no_fault b st.says.2 in
     let taken : Takes before l (Ok (stage.Policies next)) = (
-      goes before l (policy_kind before name 0 st.part none (rw st.says.0.layout fault)) refl,
+      goes before l (policy_kind before name 0 st.part none (rw (layout_built before b st.says.0) fault)) refl,
       stands_after before l (stage.Policies next) refl refl
-          (header_more before b l st.says.0 (record { version = refl; vehicles = refl; call = λ _. refl; event = λ _. refl }) (sym (length-append b.policies (record { kind = kind.Fcfs; phases = [] } ∷ []))), only b st.says.1 st.says.2),
+          (built_more before b l (AddPolicy kind.Fcfs) st.says.0 (record { version = refl; vehicles = refl; call = λ _. refl; event = λ _. refl }) refl (no_fault_at b st.says.2) refl refl, only b st.says.1 st.says.2),
     ) in
     subst (λ k. Takes before (line.Policy name k) (Ok (stage.Policies new))) (sym zero) (subst (λ x. Takes before l (Ok (stage.Policies x))) (sym same) taken)
   where
     no_fault : (b : Intersection) → b.policies ≡ [] → is_some (policy_fault b) ≡ false
     no_fault b none = rw none refl
+
+    no_fault_at : (b : Intersection) → b.policies ≡ [] → policy_fault b ≡ None
+    no_fault_at b none = rw none refl
 
     only : (b : Intersection) → IsUnbuffered b.times → b.policies ≡ [] → IsPlain (with_policy b kind.Fcfs)
     only b t none = record { policies = rw none refl; early = t.early; late = t.late; edge = t.edge }
@@ -182,14 +186,14 @@ begin_taken before s k n at st =
     let l = line.Begin in (
       goes before l (begin_kind before st.part) refl,
       stands_after before l (stage.Body k n) refl refl
-          (body_same before k.layout n k.journal l st.says.0 (record { version = refl; vehicles = refl; call = λ _. refl; event = λ _. refl }) refl refl, st.says.1),
+          (body_same before k.layout n k.journal l st.says.0 (record { version = refl; vehicles = refl; call = λ _. refl; event = λ _. refl }) (record { grid = refl; times = refl; lanes = refl; added = refl }) refl, st.says.1),
     )
 
 pub end_taken : (before : List Line) (s : Stage) (k : State) (n : ℕ) → s ≡ stage.Body k n → Stands before s → Takes before line.End (Ok (stage.Over k))
 end_taken before s k n at st =
     let st : Stands before (stage.Body k n) = subst (Stands before) at st in
     let l = line.End in
-    let says = body_same before k.layout n k.journal l st.says.0 (record { version = refl; vehicles = refl; call = λ _. refl; event = λ _. refl }) refl refl in (
+    let says = body_same before k.layout n k.journal l st.says.0 (record { version = refl; vehicles = refl; call = λ _. refl; event = λ _. refl }) (record { grid = refl; times = refl; lanes = refl; added = refl }) refl in (
       goes before l (end_kind before st.part) refl,
       stands_after before l (stage.Over k) refl refl (subst (λ m. IsBody (before ++ l ∷ []) k.layout m k.journal) (sym st.says.1.vehicles) says),
     )
@@ -219,7 +223,7 @@ request_taken before s k new n v at m p is asks good same st =
 
 -- the vehicles of a header that lacks a policy
 pub vehicles_kind_in_moves : (before : List Line) (b : Intersection) (n : ℕ) → Stands before (stage.Moves b) → kind_of_fault today before (line.Vehicles n) ≡ Some why.Phase
-vehicles_kind_in_moves before b n st = vehicles_kind before n (inl st.part) ∙ rw (st.says.0.layout, unfinished b st.says.2) refl
+vehicles_kind_in_moves before b n st = vehicles_kind before n (inl st.part) ∙ rw (layout_built before b st.says.0, unfinished b st.says.2) refl
   where
     unfinished : (b : Intersection) → b.policies ≡ [] → is_some (finish_fault b) ≡ true
     unfinished b none = rw none refl
@@ -227,7 +231,7 @@ vehicles_kind_in_moves before b n st = vehicles_kind before n (inl st.part) ∙ 
 -- the vehicles of a header that has one
 pub vehicles_kind_in_policies : (before : List Line) (b : Intersection) (n : ℕ) → Stands before (stage.Policies b)
     → kind_of_fault today before (line.Vehicles n) ≡ (if is_some (finish_fault b) then Some why.Phase else if n == 0 then Some why.Vehicle else None)
-vehicles_kind_in_policies before b n st = vehicles_kind before n (inr st.part) ∙ rw st.says.0.layout refl
+vehicles_kind_in_policies before b n st = vehicles_kind before n (inr st.part) ∙ rw (layout_built before b st.says.0) refl
 
 -- a number of vehicles, of which the layout allows as many as there are
 vehicles_fit : (before : List Line) (b : Intersection) (n : ℕ) → None ≡ finish_fault b → (n == 0) ≡ false → Stands before (stage.Policies b) → kind_of_fault today before (line.Vehicles n) ≡ None
@@ -242,7 +246,7 @@ vehicles_taken before s b k n at within some fault same st =
     let l = line.Vehicles n in
     let book : State = record { layout = b; vehicles = n; room = 262144; journal = [] } in
     let taken : Takes before l (Ok (stage.Begin book n)) = (
-      goes before l (vehicles_fit before b n fault some st) (rw st.says.0.layout within),
+      goes before l (vehicles_fit before b n fault some st) (rw (layout_built before b st.says.0) within),
       stands_after before l (stage.Begin book n) refl refl (body_first before b n st.says.0, record { plain = st.says.1; vehicles = refl; room = refl }, refl),
     ) in
     subst (λ x. Takes before l (Ok (stage.Begin x n))) (sym same) taken
@@ -257,7 +261,7 @@ pub move_falls : (before : List Line) (s : Stage) (b : Intersection) (lane : ℕ
     → of_read today before (Ok (line.Move lane turn shape)) ≡ decides (decision.Bad (number_after before) (move_kind_of f))
 move_falls before s b lane turn shape f at fault st =
     let st : Stands before (stage.Moves b) = subst (Stands before) at st in
-    falls before (line.Move lane turn shape) (move_kind_of f) (move_kind before lane turn shape st.part ∙ rw st.says.0.layout (refused (is_bad_move b lane turn (shape_of shape)) (wide_step b.grid.spacing (stations_of (shape_of shape))) fault))
+    falls before (line.Move lane turn shape) (move_kind_of f) (move_kind before lane turn shape st.part ∙ rw (layout_built before b st.says.0) (refused (is_bad_move b lane turn (shape_of shape)) (wide_step b.grid.spacing (stations_of (shape_of shape))) fault))
   where
     same : (f g : LayoutFault) → Some f ≡ Some g → Some (move_kind_of g) ≡ Some (move_kind_of f)
     same f g is = let e : f ≡ g = cc in ap (λ h. Some (move_kind_of h)) (sym e)
@@ -338,7 +342,7 @@ vehicles_opened before s b i n r at fault same opens st =
         let whole : is_some (finish_fault b) ≡ false = rw (sym fault) refl in
         falls before (line.Vehicles n) kind (vehicles_kind_in_policies before b n st ∙ rw (whole, opens.0, opens.1) refl)
     go (Err (refusal.Limit which)) opens st =
-        passes before (line.Vehicles n) which (vehicles_fit before b n fault opens.0 st) (rw st.says.0.layout opens.1)
+        passes before (line.Vehicles n) which (vehicles_fit before b n fault opens.0 st) (rw (layout_built before b st.says.0) opens.1)
     go (Err refusal.NoMemory) opens st = tt
 
 -- the lines so far are of version 1
@@ -347,8 +351,8 @@ version_at before stage.Version says = says.version
 version_at before stage.Grid says = says.version
 version_at before (stage.Times g) says = says.0.version
 version_at before (stage.Lanes g) says = says.0.version
-version_at before (stage.Moves b) says = says.0.version
-version_at before (stage.Policies b) says = says.0.version
+version_at before (stage.Moves b) says = says.0.header.version
+version_at before (stage.Policies b) says = says.0.header.version
 version_at before (stage.Begin k n) says = says.0.version
 version_at before (stage.Body k n) says = says.0.version
 version_at before (stage.Over k) says = says.version
@@ -375,3 +379,30 @@ ends_whole before s k n at count st =
     let st : Stands before (stage.Over k) = subst (Stands before) at st in
     let entries : length (calls_of before) ≡ length k.journal = omega (arith, entries_of_calls k.layout [] (calls_of before), ap (λ (h : List Entry). length h) st.says.journal) in
     rw (st.over, entries, count) refl
+
+some_policy : (ps : List Policy) → map (λ p. p.kind) ps ≡ kind.Fcfs ∷ [] → 0 < length ps
+some_policy [] is = absurd (cc)
+some_policy (p ∷ ps) is = omega arith
+
+-- a policy behind another
+pub second_policy_falls : (before : List Line) (s : Stage) (b : Intersection) (name : Name) (k : ℕ) → s ≡ stage.Policies b → Stands before s
+    → of_read today before (Ok (line.Policy name k)) ≡ decides (decision.Bad (number_after before) why.Unsupported)
+second_policy_falls before s b name k at st =
+    let st : Stands before (stage.Policies b) = subst (Stands before) at st in
+    let some = some_policy b.policies st.says.1.policies in
+    let names = names_are_policies before b (layout_built before b st.says.0) in
+    falls before (line.Policy name k) why.Unsupported (second_policy_kind before name k st.part (omega arith))
+
+-- vehicles of a layout without a policy
+pub vehicles_fall_in_moves : (before : List Line) (s : Stage) (b : Intersection) (n : ℕ) → s ≡ stage.Moves b → Stands before s
+    → of_read today before (Ok (line.Vehicles n)) ≡ decides (decision.Bad (number_after before) why.Phase)
+vehicles_fall_in_moves before s b n at st =
+    let st : Stands before (stage.Moves b) = subst (Stands before) at st in
+    falls before (line.Vehicles n) why.Phase (vehicles_kind_in_moves before b n st)
+
+-- vehicles of a layout that can't be finished
+pub vehicles_fall : (before : List Line) (b : Intersection) (n : ℕ) (f : LayoutFault) → Some f ≡ finish_fault b → Stands before (stage.Policies b)
+    → of_read today before (Ok (line.Vehicles n)) ≡ decides (decision.Bad (number_after before) why.Phase)
+vehicles_fall before b n f fault st =
+    let some : is_some (finish_fault b) ≡ true = rw (sym fault) refl in
+    falls before (line.Vehicles n) why.Phase (vehicles_kind_in_policies before b n st ∙ rw some refl)

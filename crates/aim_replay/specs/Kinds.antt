@@ -1,6 +1,6 @@
 -- Why a line that reads may not stand where it stands: the table of the kinds of bad lines, in their order, and the
 -- limits on a script.
-use Rattle.std.specs.Prelude.{ℕ, ◌*◌, ◌==◌, Bool, false, not, nat_lt, nat_le, List, [], ◌∷◌, Option, Some, None, option_map, find, is_some, if◌then◌else◌}
+use Rattle.std.specs.Prelude.{ℕ, ◌*◌, ◌==◌, Bool, false, not, nat_lt, nat_le, List, [], ◌∷◌, Option, Some, None, option_map, option_and_then, find, is_some, if◌then◌else◌}
 use Rattle.aim_msg.specs.declared.script.Line.{Line}
 use Rattle.aim_msg.specs.declared.script.Line.TheVariants as line
 use Rattle.aim_msg.specs.Lines.{name_word}
@@ -13,7 +13,7 @@ use Rattle.aim_replay.specs.declared.decisions.Kind.TheVariants as kind
 use Rattle.aim_replay.specs.declared.decisions.Limit.{Limit}
 use Rattle.aim_replay.specs.declared.decisions.Limit.TheVariants as limit
 use Rattle.aim_replay.specs.Order.{may_follow}
-use Rattle.aim_replay.specs.Said.{shape_of, grid_of, times_of, times6_of, layout_of, is_named, vehicles_of, last_of}
+use Rattle.aim_replay.specs.Said.{shape_of, grid_of, times_of, times6_of, layout_of, is_named, vehicles_in, vehicles_of, last_of}
 
 abbrev pub is_bad_version : List Line → Line → Bool
 is_bad_version before (line.Version n) = is_outside n 3
@@ -113,5 +113,4 @@ vehicles_limit spans n = if nat_lt 65536 n then Some limit.Vehicles else if nat_
 
 -- the limit that a line without a fault goes past
 abbrev pub limit_of : List Line → Line → Option Limit
-limit_of before (line.Vehicles n) = let i = layout_of before in vehicles_limit i.grid.spans n
-limit_of before _ = None
+limit_of before l = let i = layout_of before in option_and_then (vehicles_limit i.grid.spans) (vehicles_in l)

@@ -21,11 +21,11 @@ use Rattle.aim_replay.specs.declared.decisions.Kind.{Kind}
 use Rattle.aim_replay.specs.declared.decisions.Kind.TheVariants as kind
 use Rattle.aim_io.specs.Lines.{Line as LineOf}
 use Rattle.aim_replay.specs.Order.{Part, part_after, is_end, to_version, to_ground, to_times, to_lanes, in_moves, in_policies, to_begin, in_body, nothing}
-use Rattle.aim_replay.specs.Said.{nowhere, last_of}
+use Rattle.aim_replay.specs.Said.{Described, last_of}
 use Rattle.aim_replay.specs.Verdicts.{judge, of_read, goes_on, decides, number_after}
 use Rattle.aim_replay.specs.Today.{today}
 use Rattle.aim_replay.specs.Kinds.{vehicles_limit}
-use Rattle.aim_replay.specs.Stands.{IsHeader, IsBody}
+use Rattle.aim_replay.specs.Stands.{IsHeader, IsBuilt, IsBody}
 
 -- the part of the script that goes on at the stage
 abbrev pub part_of : Stage → Part
@@ -62,14 +62,18 @@ pub record IsDesk (k : State) (n : ℕ) : Type 0 where
   pub vehicles : k.vehicles ≡ n
   pub room : k.room ≡ 262144
 
+-- nothing is said of a layout
+abbrev pub unsaid : Described
+unsaid = record { grid = None; times = None; lanes = None; added = [] }
+
 -- the layout so far, or the book, is what the lines say
 abbrev pub Says : List Line → Stage → Type 0
-Says before stage.Version = IsHeader before nowhere
-Says before stage.Grid = IsHeader before nowhere
-Says before (stage.Times g) = IsHeader before (record nowhere { grid = g }) × (has_bad_numbers g ≡ false)
-Says before (stage.Lanes s) = IsHeader before (record nowhere { grid = s.grid; times = s.times }) × IsUnbuffered s.times
-Says before (stage.Moves b) = IsHeader before b × IsUnbuffered b.times × (b.policies ≡ [])
-Says before (stage.Policies b) = IsHeader before b × IsPlain b
+Says before stage.Version = IsHeader before unsaid
+Says before stage.Grid = IsHeader before unsaid
+Says before (stage.Times g) = IsHeader before (record unsaid { grid = Some g }) × (has_bad_numbers g ≡ false)
+Says before (stage.Lanes s) = IsHeader before (record unsaid { grid = Some s.grid; times = Some s.times }) × IsUnbuffered s.times
+Says before (stage.Moves b) = IsBuilt before b × IsUnbuffered b.times × (b.policies ≡ [])
+Says before (stage.Policies b) = IsBuilt before b × IsPlain b
 Says before (stage.Begin k n) = IsBody before k.layout n k.journal × IsDesk k n × (k.journal ≡ [])
 Says before (stage.Body k n) = IsBody before k.layout n k.journal × IsDesk k n
 Says before (stage.Over k) = IsBody before k.layout k.vehicles k.journal
