@@ -84,9 +84,18 @@ pub layout_same : (before : List Line) (l : Line) → IsSilent l → layout_of (
 unfolding layout_of
 layout_same before l s =
     rw (
-      find_map-one grid_in before l, find_map-one times_in before l, find_map-one lanes_in before l, filter_map-one added_in before l,
-      s.grid, s.times, s.lanes, s.added,
-      or_none (find_map grid_in before), or_none (find_map times_in before), or_none (find_map lanes_in before), append-nil (filter_map added_in before),
+      find_map-one grid_in before l,
+      find_map-one times_in before l,
+      find_map-one lanes_in before l,
+      filter_map-one added_in before l,
+      s.grid,
+      s.times,
+      s.lanes,
+      s.added,
+      or_none (find_map grid_in before),
+      or_none (find_map times_in before),
+      or_none (find_map lanes_in before),
+      append-nil (filter_map added_in before),
     ) refl
 
 -- one more line that says something of the layout alone

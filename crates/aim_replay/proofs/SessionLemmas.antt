@@ -1,16 +1,15 @@
 -- How a replay goes on with one more line, and how it ends.
-use Rattle.std.proofs.Common.{◌≡◌, inl, inr, ℕ, ◌+◌, ◌<◌, ◌≤◌, Bool, true, false, List, [], ◌∷◌, ◌++◌, length, Option, Some, None, IfSome, Ok, Err, refl, sym, ap, ◌∙◌, subst, arith, append_assoc, append-nil, length-append}
+use Rattle.std.proofs.Common.{◌≡◌, ℕ, ◌+◌, ◌<◌, ◌≤◌, Bool, true, false, List, [], ◌∷◌, ◌++◌, length, Option, Some, None, IfSome, Ok, Err, refl, sym, ap, ◌∙◌, subst, arith, append_assoc, append-nil, length-append}
 use Rattle.std.specs.List.{AllByRecursion}
 use Rattle.std.specs.Bool.{OnTrue, OnFalse}
 use Rattle.std.specs.Io.KnownBytes.{Appends, Consumes, Keeps, IsAtEnd, prepend_known}
 use Rattle.std.proofs.KnownBytes.{Appends-nil, Appends-trans, Consumes-trans}
-use Rattle.std.proofs.lemmas.List.{drop_at, drop_all}
 use Rattle.aim_io.specs.declared.lines.LineFault.{LineFault}
 use Rattle.aim_io.specs.declared.lines.LineFault.TheVariants as line_fault
 use Rattle.aim_io.specs.Known.{AppendsFront}
 use Rattle.aim_io.specs.Lines.{Outcome, Line as LineOf, Stop, outcomes_from, IsOpen, ShowsNothing, with_end}
 use Rattle.aim_io.specs.Reader.{Reader, fresh, input, coming, Answers, Stops, KnowsEnd, IsSound, after_call}
-use Rattle.aim_msg.specs.Texts.{spaced}
+use Rattle.aim_msg.specs.Texts.{entry_text, spaced}
 use Rattle.aim_msg.specs.declared.entries.Entry.{Entry}
 use Rattle.aim_msg.specs.declared.script.Line.{Line}
 use Rattle.aim_paths.specs.Intersection.{Intersection}
@@ -18,6 +17,7 @@ use Rattle.aim_rules.specs.Journals.{journal}
 use Rattle.aim_replay.specs.declared.decisions.Decision.{Decision}
 use Rattle.aim_replay.specs.declared.decisions.Decision.TheVariants as decision
 use Rattle.aim_replay.specs.declared.decisions.Kind.{Kind}
+use Rattle.aim_replay.specs.declared.stages.Made.{Made}
 use Rattle.aim_replay.specs.declared.stages.Stage.{Stage}
 use Rattle.aim_replay.specs.declared.stages.Stage.TheVariants as stage
 use Rattle.aim_replay.specs.Said.{Described, layout_of, calls_of, names_of}
@@ -25,16 +25,18 @@ use Rattle.aim_replay.specs.Verdicts.{Judgement, Verdict, number_after, judge, d
 use Rattle.aim_replay.specs.Texts.{entry_lines, printed, journal_of, decision_words, replay_text, status_of}
 use Rattle.aim_replay.specs.Today.{today}
 use Rattle.aim_replay.specs.Stands.{IsHeader}
-use Rattle.aim_replay.specs.Stages.{Stands, Says, Judged, Grows, MayTake, journal_at}
-use Rattle.aim_replay.specs.Replays.{Replays, StopsShort, Writes, WritesFront, ended, script_after, unless_decided, entries_text, gained}
+use Rattle.aim_replay.specs.Stages.{Stands, Says, Judged, Makes, MayTake, journal_at}
+use Rattle.aim_replay.specs.Replays.{Replays, StopsShort, Writes, WritesFront, ended, script_after, unless_decided, entries_text, made_line}
 use Rattle.aim_replay.specs.Sessions.{Decides, Took, Reached, Responds, Comes}
 use Rattle.aim_replay.proofs.TextLemmas.{entry_lines-append, Begins, journal_of_begins, nothing_begins}
 
--- the lines of what a journal has gained come behind those of the journal
-pub gained_after : (old new : List Entry) → Grows old new → entry_lines 0 new ≡ entry_lines 0 old ++ gained old new
-gained_after old new (inl same) = rw (same, drop_all (length old) old (omega arith)) (sym (append-nil (entry_lines 0 old)))
-gained_after old new (inr (e, more)) =
-    rw (more, drop_at old (e ∷ []) (length old) refl) (entry_lines-append 0 old (e ∷ []) ∙ ap (λ n. entry_lines 0 old ++ entry_lines n (e ∷ [])) (omega arith))
+-- the line of the entry that was made comes behind those of the journal
+pub made_after : (old new : List Entry) (made : Option Made) → Makes old new made → entry_lines 0 new ≡ entry_lines 0 old ++ made_line made
+made_after old new None same = rw same (sym (append-nil (entry_lines 0 old)))
+made_after old new (Some m) (at, more) =
+    let place : 0 + length old ≡ m.position = omega arith in
+    rw more (entry_lines-append 0 old (m.entry ∷ []) ∙ ap (λ n. entry_lines 0 old ++ entry_lines n (m.entry ∷ [])) place
+    ∙ ap (λ (t : List ℕ). entry_lines 0 old ++ t) (append-nil (printed (entry_text m.position m.entry))))
 
 -- the journal of the lines is that of the stage
 header_journal : (before : List Line) (d : Described) → IsHeader before d → journal (layout_of before) (calls_of before) ≡ []
@@ -47,8 +49,8 @@ journal_is before (stage.Times g) says = header_journal before _ says.0
 journal_is before (stage.Lanes g) says = header_journal before _ says.0
 journal_is before (stage.Moves b) says = header_journal before _ says.0.header
 journal_is before (stage.Policies b) says = header_journal before _ says.0.header
-journal_is before (stage.Begin k n) says = rw says.0.layout says.0.journal
-journal_is before (stage.Body k n) says = rw says.0.layout says.0.journal
+journal_is before (stage.Begin k) says = rw says.0.layout says.0.journal
+journal_is before (stage.Body k) says = rw says.0.layout says.0.journal
 journal_is before (stage.Over k) says = rw says.layout says.journal
 
 -- the journal so far is the first of that of the whole script
@@ -59,8 +61,8 @@ begins before (stage.Times g) os st = nothing_begins (verdict_from today before 
 begins before (stage.Lanes g) os st = nothing_begins (verdict_from today before os)
 begins before (stage.Moves b) os st = nothing_begins (verdict_from today before os)
 begins before (stage.Policies b) os st = nothing_begins (verdict_from today before os)
-begins before (stage.Begin k n) os st = journal_of_begins today before os k.journal (rw st.part refl) (journal_is before (stage.Begin k n) st.says)
-begins before (stage.Body k n) os st = journal_of_begins today before os k.journal (rw st.part refl) (journal_is before (stage.Body k n) st.says)
+begins before (stage.Begin k) os st = journal_of_begins today before os k.journal (rw st.part refl) (journal_is before (stage.Begin k) st.says)
+begins before (stage.Body k) os st = journal_of_begins today before os k.journal (rw st.part refl) (journal_is before (stage.Body k) st.says)
 begins before (stage.Over k) os st = journal_of_begins today before os k.journal (rw st.part refl) (journal_is before (stage.Over k) st.says)
 
 -- a verdict is made, behind these lines
@@ -151,11 +153,11 @@ stops_whole before s reader bytes rest old new st decided written = stops before
 
 -- what was written of a line whose entry's line the sink didn't take whole
 pub stops_inside : (before : List Line) (s : Stage) (old new : Reader) (bytes rest left start mid now : Option (List ℕ)) → Decides before old bytes rest → Answers old new rest left (Ok true) → Appends start mid (entry_lines 0 (journal_at s))
-    → (next : Stage) × Judged before new.line (Ok next) × Grows (journal_at s) (journal_at next) × AppendsFront mid now (gained (journal_at s) (journal_at next)) → WritesFront bytes start now (entries_text today)
-stops_inside before s old new bytes rest left start mid now decided step written (next, (l, is, st), grows, front) =
+    → (next : Stage) × Judged before new.line (Ok next) × (made : Option Made) × Makes (journal_at s) (journal_at next) made × AppendsFront mid now (made_line made) → WritesFront bytes start now (entries_text today)
+stops_inside before s old new bytes rest left start mid now decided step written (next, (l, is, st), made, makes, front) =
     let done = Appends-trans start mid now _ _ written front.added in
     let first = entry_lines 0 (journal_at s) in
-    let split = gained_after (journal_at s) (journal_at next) grows ∙ ap (λ (t : List ℕ). first ++ t) front.whole ∙ sym (append_assoc first front.front front.rest) in
+    let split = made_after (journal_at s) (journal_at next) made makes ∙ ap (λ (t : List ℕ). first ++ t) front.whole ∙ sym (append_assoc first front.front front.rest) in
     stops (before ++ l ∷ []) next new bytes left start now (first ++ front.front) front.rest st (decides_more before l old new bytes rest left is decided step) split done
 
 ended_more : (lines : List (List ℕ)) (line : List ℕ) → ended (lines ++ line ∷ []) ≡ ended lines ++ (line ++ 10 ∷ [])
@@ -216,7 +218,7 @@ reached_more bytes rest left start mid now old new s next r gives responds =
       count = length-append r.before (l ∷ []) ∙ ap (λ n. n + 1) r.count ∙ sym (ap (λ (x : Reader). x.given) gives.after);
       decides = decides_more r.before l old new bytes rest left is r.decides gives.step;
       took = λ going. took_more r.before l old new bytes rest left is gives going (r.took gives.going);
-      written = subst (Appends start now) (sym (gained_after (journal_at s) (journal_at next) responds.1)) (Appends-trans start mid now _ _ r.written responds.2);
+      written = subst (Appends start now) (sym (made_after (journal_at s) (journal_at next) responds.1 responds.2)) (Appends-trans start mid now _ _ r.written responds.3);
     }
 
 pub reached_start : (bytes held : Option (List ℕ)) → Reached bytes (input fresh bytes) held held fresh stage.Version
@@ -267,8 +269,8 @@ few_entries before (stage.Times g) says = omega arith
 few_entries before (stage.Lanes g) says = omega arith
 few_entries before (stage.Moves b) says = omega arith
 few_entries before (stage.Policies b) says = omega arith
-few_entries before (stage.Begin k n) says = says.0.few
-few_entries before (stage.Body k n) says = says.0.few
+few_entries before (stage.Begin k) says = says.0.few
+few_entries before (stage.Body k) says = says.0.few
 few_entries before (stage.Over k) says = says.few
 
 -- the journal has no more entries than lines were given
@@ -282,8 +284,8 @@ may_take before (stage.Times g) says few = tt
 may_take before (stage.Lanes g) says few = tt
 may_take before (stage.Moves b) says few = tt
 may_take before (stage.Policies b) says few = tt
-may_take before (stage.Begin k n) says few = tt
-may_take before (stage.Body k n) says few = (says.1, omega (arith, says.0.few))
+may_take before (stage.Begin k) says few = tt
+may_take before (stage.Body k) says few = (says.1, omega (arith, says.0.few))
 may_take before (stage.Over k) says few = tt
 
 pub may_reached : (bytes rest start now : Option (List ℕ)) (reader : Reader) (s : Stage) → Reached bytes rest start now reader s → reader.given < 262144 → MayTake s

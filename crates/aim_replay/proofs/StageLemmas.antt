@@ -180,46 +180,46 @@ policy_taken before s b new name k at zero same st =
     only : (b : Intersection) → IsUnbuffered b.times → b.policies ≡ [] → IsPlain (with_policy b kind.Fcfs)
     only b t none = record { policies = rw none refl; early = t.early; late = t.late; edge = t.edge }
 
-pub begin_taken : (before : List Line) (s : Stage) (k : State) (n : ℕ) → s ≡ stage.Begin k n → Stands before s → Takes before line.Begin (Ok (stage.Body k n))
-begin_taken before s k n at st =
-    let st : Stands before (stage.Begin k n) = subst (Stands before) at st in
+pub begin_taken : (before : List Line) (s : Stage) (k : State) → s ≡ stage.Begin k → Stands before s → Takes before line.Begin (Ok (stage.Body k))
+begin_taken before s k at st =
+    let st : Stands before (stage.Begin k) = subst (Stands before) at st in
     let l = line.Begin in (
       goes before l (begin_kind before st.part) refl,
-      stands_after before l (stage.Body k n) refl refl
-          (body_same before k.layout n k.journal l st.says.0 (record { version = refl; vehicles = refl; call = λ _. refl; event = λ _. refl }) (record { grid = refl; times = refl; lanes = refl; added = refl }) refl, st.says.1),
+      stands_after before l (stage.Body k) refl refl
+          (body_same before k.layout k.vehicles k.journal l st.says.0 (record { version = refl; vehicles = refl; call = λ _. refl; event = λ _. refl }) (record { grid = refl; times = refl; lanes = refl; added = refl }) refl, st.says.1),
     )
 
-pub end_taken : (before : List Line) (s : Stage) (k : State) (n : ℕ) → s ≡ stage.Body k n → Stands before s → Takes before line.End (Ok (stage.Over k))
-end_taken before s k n at st =
-    let st : Stands before (stage.Body k n) = subst (Stands before) at st in
+pub end_taken : (before : List Line) (s : Stage) (k : State) → s ≡ stage.Body k → Stands before s → Takes before line.End (Ok (stage.Over k))
+end_taken before s k at st =
+    let st : Stands before (stage.Body k) = subst (Stands before) at st in
     let l = line.End in
-    let says = body_same before k.layout n k.journal l st.says.0 (record { version = refl; vehicles = refl; call = λ _. refl; event = λ _. refl }) (record { grid = refl; times = refl; lanes = refl; added = refl }) refl in (
+    let says = body_same before k.layout k.vehicles k.journal l st.says.0 (record { version = refl; vehicles = refl; call = λ _. refl; event = λ _. refl }) (record { grid = refl; times = refl; lanes = refl; added = refl }) refl in (
       goes before l (end_kind before st.part) refl,
-      stands_after before l (stage.Over k) refl refl (subst (λ m. IsBody (before ++ l ∷ []) k.layout m k.journal) (sym st.says.1.vehicles) says),
+      stands_after before l (stage.Over k) refl refl says,
     )
 
 -- what a request's kind is, by the book
-request_kind_is : (before : List Line) (k : State) (n v at : ℕ) (m : Message) (p : Params) → m.body ≡ body.Request p → Stands before (stage.Body k n) → kind_of_fault today before (line.Event v at m) ≡ request_kind k n v at p
-request_kind_is before k n v at m p asks st =
+request_kind_is : (before : List Line) (k : State) (v at : ℕ) (m : Message) (p : Params) → m.body ≡ body.Request p → Stands before (stage.Body k) → kind_of_fault today before (line.Event v at m) ≡ request_kind k v at p
+request_kind_is before k v at m p asks st =
     event_kind before v at m p asks st.part ∙ rw (st.says.0.events v, st.says.0.declared, st.says.0.layout) refl
 
-pub request_falls : (before : List Line) (s : Stage) (k : State) (n v at : ℕ) (m : Message) (p : Params) (kind : Kind) → s ≡ stage.Body k n → m.body ≡ body.Request p → request_kind k n v at p ≡ Some kind → Stands before s
+pub request_falls : (before : List Line) (s : Stage) (k : State) (v at : ℕ) (m : Message) (p : Params) (kind : Kind) → s ≡ stage.Body k → m.body ≡ body.Request p → request_kind k v at p ≡ Some kind → Stands before s
     → of_read today before (Ok (line.Event v at m)) ≡ decides (decision.Bad (number_after before) kind)
-request_falls before s k n v at m p kind is asks fault st =
-    falls before (line.Event v at m) kind (request_kind_is before k n v at m p asks (subst (Stands before) is st) ∙ fault)
+request_falls before s k v at m p kind is asks fault st =
+    falls before (line.Event v at m) kind (request_kind_is before k v at m p asks (subst (Stands before) is st) ∙ fault)
 
-pub request_taken : (before : List Line) (s : Stage) (k new : State) (n v at : ℕ) (m : Message) (p : Params) → s ≡ stage.Body k n → m.body ≡ body.Request p → request_kind k n v at p ≡ None
+pub request_taken : (before : List Line) (s : Stage) (k new : State) (v at : ℕ) (m : Message) (p : Params) → s ≡ stage.Body k → m.body ≡ body.Request p → request_kind k v at p ≡ None
     → new ≡ record k { journal = k.journal ++ entry_of k.layout k.journal (event_call v at m) ∷ [] } → Stands before s
-    → Takes before (line.Event v at m) (Ok (stage.Body new n))
-request_taken before s k new n v at m p is asks good same st =
-    let st : Stands before (stage.Body k n) = subst (Stands before) is st in
+    → Takes before (line.Event v at m) (Ok (stage.Body new))
+request_taken before s k new v at m p is asks good same st =
+    let st : Stands before (stage.Body k) = subst (Stands before) is st in
     let l = line.Event v at m in
     let next : State = record k { journal = k.journal ++ entry_of k.layout k.journal (event_call v at m) ∷ [] } in
-    let taken : Takes before l (Ok (stage.Body next n)) = (
-      goes before l (request_kind_is before k n v at m p asks st ∙ good) refl,
-      stands_after before l (stage.Body next n) refl refl (body_event before k.layout n k.journal v at m st.says.0, record { plain = st.says.1.plain; vehicles = st.says.1.vehicles; room = st.says.1.room }),
+    let taken : Takes before l (Ok (stage.Body next)) = (
+      goes before l (request_kind_is before k v at m p asks st ∙ good) refl,
+      stands_after before l (stage.Body next) refl refl (body_event before k.layout k.vehicles k.journal v at m st.says.0, record { plain = st.says.1.plain; room = st.says.1.room }),
     ) in
-    subst (λ x. Takes before l (Ok (stage.Body x n))) (sym same) taken
+    subst (λ x. Takes before l (Ok (stage.Body x))) (sym same) taken
 
 -- the vehicles of a header that lacks a policy
 pub vehicles_kind_in_moves : (before : List Line) (b : Intersection) (n : ℕ) → Stands before (stage.Moves b) → kind_of_fault today before (line.Vehicles n) ≡ Some why.Phase
@@ -240,16 +240,16 @@ vehicles_fit before b n fault some st =
     vehicles_kind_in_policies before b n st ∙ rw (whole, some) refl
 
 pub vehicles_taken : (before : List Line) (s : Stage) (b : Intersection) (k : State) (n : ℕ) → s ≡ stage.Policies b → vehicles_limit b.grid.spans n ≡ None → (n == 0) ≡ false → None ≡ finish_fault b
-    → k ≡ record { layout = b; vehicles = n; room = 262144; journal = [] } → Stands before s → Takes before (line.Vehicles n) (Ok (stage.Begin k n))
+    → k ≡ record { layout = b; vehicles = n; room = 262144; journal = [] } → Stands before s → Takes before (line.Vehicles n) (Ok (stage.Begin k))
 vehicles_taken before s b k n at within some fault same st =
     let st : Stands before (stage.Policies b) = subst (Stands before) at st in
     let l = line.Vehicles n in
     let book : State = record { layout = b; vehicles = n; room = 262144; journal = [] } in
-    let taken : Takes before l (Ok (stage.Begin book n)) = (
+    let taken : Takes before l (Ok (stage.Begin book)) = (
       goes before l (vehicles_fit before b n fault some st) (rw (layout_built before b st.says.0) within),
-      stands_after before l (stage.Begin book n) refl refl (body_first before b n st.says.0, record { plain = st.says.1; vehicles = refl; room = refl }, refl),
+      stands_after before l (stage.Begin book) refl refl (body_first before b n st.says.0, record { plain = st.says.1; room = refl }, refl),
     ) in
-    subst (λ x. Takes before l (Ok (stage.Begin x n))) (sym same) taken
+    subst (λ x. Takes before l (Ok (stage.Begin x))) (sym same) taken
 
 -- a line without a kind that goes past a limit
 passes : (before : List Line) (l : Line) (which : Limit) → kind_of_fault today before l ≡ None → limit_of before l ≡ Some which → of_read today before (Ok l) ≡ decides (decision.Limit which)
@@ -289,42 +289,31 @@ lanes_inside n b f only = elim (cases_Bool (is_outside n 16)) [
   | inr inside ↦ inside
 ]
 
--- the message of a request is its sequence number and what it asks
-pub event_of_request : (before : List Line) (v at : ℕ) (m : Message) (p : Params) (r : Result Stage Refusal) → m.body ≡ body.Request p
-    → Takes before (line.Event v at (record { seq = m.seq; body = body.Request p })) r → Takes before (line.Event v at m) r
-event_of_request before v at m p r is takes = subst (λ b. Takes before (line.Event v at (record { seq = m.seq; body = b })) r) (sym is) takes
-
 none_of : {X : Type 0} (o : Option X) → is_some o ≡ false → o ≡ None
 none_of None is = refl
 none_of (Some x) is = absurd (cc)
 
 -- a request of no kind may be served
-pub may_serve : (k : State) (n v at seq : ℕ) (p : Params) → IsDesk k n → None ≡ request_kind k n v at p → MayServe k.layout k.vehicles k.journal v at (record { seq = seq; body = body.Request p })
-may_serve k n v at seq p desk is =
-    let a = unguarded (list_any (λ (e : Entry). e.caller == v) k.journal || is_missing_request k.layout p) why.Unsupported (if nat_le n v then Some why.Vehicle else if nat_lt 1073741824 at then Some why.Moment else None) is in
-    let b = unguarded (nat_le n v) why.Vehicle (if nat_lt 1073741824 at then Some why.Moment else None) (sym a.1) in
+pub may_serve : (k : State) (v at : ℕ) (m : Message) (p : Params) → m.body ≡ body.Request p → IsDesk k → None ≡ request_kind k v at p → MayServe k.layout k.vehicles k.journal v at m
+may_serve k v at m p asks desk is =
+    let a = unguarded (list_any (λ (e : Entry). e.caller == v) k.journal || is_missing_request k.layout p) why.Unsupported (if nat_le k.vehicles v then Some why.Vehicle else if nat_lt 1073741824 at then Some why.Moment else None) is in
+    let b = unguarded (nat_le k.vehicles v) why.Vehicle (if nat_lt 1073741824 at then Some why.Moment else None) (sym a.1) in
     let c = unguarded (nat_lt 1073741824 at) why.Moment None (sym b.1) in
     let fresh = or_parts (list_any (λ (e : Entry). e.caller == v) k.journal) (is_missing_request k.layout p) a.0 in
     let good = or_parts (not (p.accel == 0) || not (p.speed == p.max_speed)) (is_some (bad_field k.layout p)) fresh.1 in
     let steady = or_parts (not (p.accel == 0)) (not (p.speed == p.max_speed)) good.0 in
-    let below : v < n = leb-false n v b.0 in
+    let below : v < k.vehicles = leb-false k.vehicles v b.0 in
     record {
       layout = desk.plain;
-      vehicle = rw desk.vehicles below;
+      vehicle = below;
       moment = ltb-false 1073741824 at c.0;
       first = fresh.0;
-      request = record {
+      request = rw asks (record {
         accel = eqb-true p.accel 0 (not_true (p.accel == 0) steady.0);
         speed = eqb-true p.speed p.max_speed (not_true (p.speed == p.max_speed) steady.1);
         good = none_of (bad_field k.layout p) good.1;
-      };
+      });
     }
-
--- the same, at the stage where requests come
-pub may_serve_at : (s : Stage) (k : State) (n v at seq : ℕ) (p : Params) → s ≡ stage.Body k n → MayTake s → None ≡ request_kind k n v at p → MayServe k.layout k.vehicles k.journal v at (record { seq = seq; body = body.Request p })
-may_serve_at s k n v at seq p is may kind =
-    let may : MayTake (stage.Body k n) = subst MayTake is may in
-    may_serve k n v at seq p may.0 kind
 
 -- the book is opened, or there is no vehicle, or there are too many
 pub vehicles_opened : (before : List Line) (s : Stage) (b i : Intersection) (n : ℕ) (r : Result Stage Refusal) → s ≡ stage.Policies b → None ≡ finish_fault b → i ≡ b → Opens i n r → Stands before s
@@ -353,8 +342,8 @@ version_at before (stage.Times g) says = says.0.version
 version_at before (stage.Lanes g) says = says.0.version
 version_at before (stage.Moves b) says = says.0.header.version
 version_at before (stage.Policies b) says = says.0.header.version
-version_at before (stage.Begin k n) says = says.0.version
-version_at before (stage.Body k n) says = says.0.version
+version_at before (stage.Begin k) says = says.0.version
+version_at before (stage.Body k) says = says.0.version
 version_at before (stage.Over k) says = says.version
 
 -- what bytes come to is what their line comes to

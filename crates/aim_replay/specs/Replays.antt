@@ -1,16 +1,17 @@
 -- What a replay takes out of its source and adds to its sink.
-use Rattle.std.specs.Prelude.{◌≡◌, ℕ, ◌≤◌, List, [], ◌∷◌, ◌++◌, length, drop, Option, Some, None, IfSome}
+use Rattle.std.specs.Prelude.{◌≡◌, ℕ, ◌≤◌, List, [], ◌∷◌, ◌++◌, length, Option, Some, None, IfSome}
 use Rattle.std.specs.List.{AllByRecursion}
 use Rattle.std.specs.Io.KnownBytes.{Appends, Consumes}
 use Rattle.aim_io.specs.Known.{AppendsFront}
 use Rattle.aim_io.specs.Lines.{Line as LineOf, IsOpen}
-use Rattle.aim_msg.specs.declared.entries.Entry.{Entry}
+use Rattle.aim_msg.specs.Texts.{entry_text}
 use Rattle.aim_msg.specs.declared.script.Line.{Line}
 use Rattle.aim_rules.specs.Journals.{journal}
+use Rattle.aim_replay.specs.declared.stages.Made.{Made}
 use Rattle.aim_replay.specs.Said.{layout_of, calls_of}
 use Rattle.aim_replay.specs.Kinds.{Missing}
 use Rattle.aim_replay.specs.Verdicts.{Judgement, decides, goes_on, judge, verdict}
-use Rattle.aim_replay.specs.Texts.{entry_lines, journal_of, replay_text, replay_status}
+use Rattle.aim_replay.specs.Texts.{entry_lines, journal_of, printed, replay_text, replay_status}
 
 -- these lines, each with its byte 10
 abbrev pub ended : List (List ℕ) → List ℕ
@@ -61,6 +62,7 @@ pub record Replays (missing : Missing) (asked : Option ℕ) (bytes : List ℕ) (
 abbrev pub entries_text : Missing → List ℕ → List ℕ
 entries_text missing bytes = entry_lines 0 (journal_of (verdict missing bytes))
 
--- the lines of the entries that a journal has gained
-abbrev pub gained : List Entry → List Entry → List ℕ
-gained old new = entry_lines (length old) (drop (length old) new)
+-- the line of an entry that was made, if one was
+abbrev pub made_line : Option Made → List ℕ
+made_line None = []
+made_line (Some m) = printed (entry_text m.position m.entry)

@@ -8,13 +8,14 @@ use Rattle.aim_replay.specs.declared.decisions.Decision.{Decision}
 use Rattle.aim_replay.specs.declared.decisions.Decision.TheVariants as decision
 use Rattle.aim_replay.specs.declared.session.Halt.{Halt}
 use Rattle.aim_replay.specs.declared.session.Halt.TheVariants as halt
+use Rattle.aim_replay.specs.declared.stages.Made.{Made}
 use Rattle.aim_replay.specs.declared.stages.Stage.{Stage}
 use Rattle.aim_replay.specs.declared.stages.Refusal.TheVariants as refusal
 use Rattle.aim_replay.specs.Verdicts.{verdict_from, verdict}
 use Rattle.aim_replay.specs.Texts.{entry_lines, printed}
 use Rattle.aim_replay.specs.Today.{today}
-use Rattle.aim_replay.specs.Stages.{Stands, Judged, Grows, journal_at}
-use Rattle.aim_replay.specs.Replays.{AreWhole, ended, gained}
+use Rattle.aim_replay.specs.Stages.{Stands, Judged, Makes, journal_at}
+use Rattle.aim_replay.specs.Replays.{AreWhole, ended, made_line}
 
 -- the bytes are those of a line, its byte 10 included
 abbrev pub IsWholeLine : List ℕ → Type 0
@@ -45,10 +46,12 @@ pub record Reached (bytes rest old now : Option (List ℕ)) (reader : Reader) (s
 
 -- what a line comes to, and what was written of it
 abbrev pub Responds : List Line → Stage → List ℕ → Option (List ℕ) → Option (List ℕ) → Result Stage Halt → Type 0
-Responds before s line old new (Ok next) = Judged before line (Ok next) × Grows (journal_at s) (journal_at next) × Appends old new (gained (journal_at s) (journal_at next))
+Responds before s line old new (Ok next) =
+    Judged before line (Ok next) × (made : Option Made) × Makes (journal_at s) (journal_at next) made × Appends old new (made_line made)
 Responds before s line old new (Err (halt.Bad kind)) = Judged before line (Err (refusal.Bad kind)) × Appends old new []
 Responds before s line old new (Err (halt.Limit which)) = Judged before line (Err (refusal.Limit which)) × Appends old new []
-Responds before s line old new (Err halt.Write) = (next : Stage) × Judged before line (Ok next) × Grows (journal_at s) (journal_at next) × AppendsFront old new (gained (journal_at s) (journal_at next))
+Responds before s line old new (Err halt.Write) =
+    (next : Stage) × Judged before line (Ok next) × (made : Option Made) × Makes (journal_at s) (journal_at next) made × AppendsFront old new (made_line made)
 Responds before s line old new (Err halt.NoMemory) = (journal_at s ≡ []) × Appends old new []
 
 -- where the source tells its bytes, they come to the decision

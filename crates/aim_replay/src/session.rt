@@ -4,17 +4,16 @@ ghost use Rattle.std.specs.Prelude.{◌≡◌, ◌⊎◌, ◌<◌, ◌≤◌, �
 ghost use Rattle.std.specs.Io.KnownBytes.{Appends, IsAtEnd};
 ghost use Rattle.aim_io.specs.Causes.{HasCause, Rose};
 ghost use Rattle.aim_io.specs.Known.{AppendsFront};
-ghost use Rattle.aim_msg.specs.declared.entries.Entry.{Entry};
 ghost use Rattle.aim_msg.specs.declared.script.Line.{Line};
 ghost use Rattle.aim_msg.specs.Texts.{entry_text as text_of, spaced};
 ghost use Rattle.aim_replay.specs.Texts.{decision_words, printed, replay_text};
 ghost use Rattle.aim_replay.specs.Today.{today};
-ghost use Rattle.aim_replay.specs.Stages.{Grows, MayTake, Stands, journal_at};
-ghost use Rattle.aim_replay.specs.Replays.{Replays, StopsShort, Writes, WritesFront, entries_text, gained};
+ghost use Rattle.aim_replay.specs.Stages.{MayTake, Stands, journal_at};
+ghost use Rattle.aim_replay.specs.Replays.{Replays, StopsShort, Writes, WritesFront, entries_text, made_line};
 ghost use Rattle.aim_replay.specs.Sessions.{Comes, IsWholeLine, Responds, is_whole};
 
 use crate::decisions::{Decision, Kind, Limit, last_line};
-use crate::stages::{Refusal, Stage};
+use crate::stages::{Made, Refusal, Stage, Taken};
 use aim_io::{Failed, LineFault, LineReader, Sink, Source, put_all};
 use aim_msg::{Entry, entry_text};
 use std::alloc::Global;
@@ -65,17 +64,16 @@ fn put_entry<K: Sink>(sink: &mut K, position: u32, entry: &Entry) -> Result<(), 
     put_line(sink, &line[..len + 1])
 }
 
-// Writes the line of the entry that a journal has gained, if it has.
-fn put_gained<K: Sink>(sink: &mut K, journal: &[Entry], count: usize) -> Result<(), Failed>
-    requires { length journal.now ≤ 262144 }
-    ensures ok { (old : List Entry) → count ≡ length old → Grows old journal.now → OnOk result (Appends (K.held sink.old) (K.held sink.new) (gained old journal.now)) }
-    ensures err { (old : List Entry) → count ≡ length old → Grows old journal.now → OnErr result (AppendsFront (K.held sink.old) (K.held sink.new) (gained old journal.now)) }
+// Writes the line of the entry that was made, if one was.
+fn put_made<K: Sink>(sink: &mut K, made: Option<Made>) -> Result<(), Failed>
+    ensures ok { OnOk result (Appends (K.held sink.old) (K.held sink.new) (made_line made)) }
+    ensures err { OnErr result (AppendsFront (K.held sink.old) (K.held sink.new) (made_line made)) }
     ensures cause { HasCause (K.faults sink.old) (K.faults sink.new) result }
 {
-    if count < journal.len() {
-        put_entry(sink, count as u32, &journal[count])?;
+    match made {
+        Some(Made { position, entry }) => put_entry(sink, position, &entry),
+        None => Ok(()),
     }
-    Ok(())
 }
 
 // Takes a line, and writes the line of its entry, if it makes one.
@@ -86,17 +84,15 @@ fn answer_line<K: Sink>(
     line: &[u8],
 ) -> Result<Stage, Halt>
     requires may { MayTake stage }
-    requires few { length (journal_at stage) < 262144 }
     ensures responds { (before : List Line) → Stands before stage → Responds before stage line.now (K.held sink.old) (K.held sink.new) result }
     ensures write { result ≡ Err Halt.Write → Rose (K.faults sink.old) (K.faults sink.new) }
     ensures later { K.faults sink.old ≤ K.faults sink.new }
 {
-    let count = stage.journal().len();
     match stage.take(alloc, line) {
         Err(Refusal::Bad(kind)) => Err(Halt::Bad(kind)),
         Err(Refusal::Limit(limit)) => Err(Halt::Limit(limit)),
         Err(Refusal::NoMemory) => Err(Halt::NoMemory),
-        Ok(next) => match put_gained(sink, next.journal(), count) {
+        Ok(Taken { stage: next, made }) => match put_made(sink, made) {
             Ok(()) => Ok(next),
             Err(_) => Err(Halt::Write),
         },

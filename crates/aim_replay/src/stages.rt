@@ -1,18 +1,18 @@
 //! How far a script has come, line by line.
 
-ghost use Rattle.std.specs.Prelude.{◌≡◌, ◌≤◌, ◌||◌, ◌==◌, not, List, [], length, Ok, Err, IfOk};
+ghost use Rattle.std.specs.Prelude.{◌≡◌, ◌≤◌, ◌||◌, ◌==◌, not, List, [], length, None, Ok, Err, IfOk};
 ghost use Rattle.aim_msg.specs.declared.script.Line.{Line};
 ghost use Rattle.aim_msg.specs.declared.script.Name.{Name};
 ghost use Rattle.aim_book.specs.Serving.{IsPlain};
 ghost use Rattle.aim_replay.specs.Said.{grid_of as grid_from, times_of as times_from, shape_of as shape_from};
 ghost use Rattle.aim_replay.specs.Kinds.{vehicles_limit as limit_on};
 ghost use Rattle.aim_replay.specs.Verdicts.{at_end};
-ghost use Rattle.aim_replay.specs.Stages.{Grows, Judged, MayTake, Opens, Stands, Takes, is_missing_request, journal_at, move_kind_of, request_kind};
+ghost use Rattle.aim_replay.specs.Stages.{Judged, Makes, MayTake, Opens, Stands, Takes, is_missing_request, journal_at, move_kind_of, request_kind, stage_of};
 
 use crate::decisions::{Decision, Kind, Limit};
 use aim_book::{Book, Full, OpenFault, bad_field, has_called};
 use aim_geometry::{Grid, Ground, GroundFault, Times};
-use aim_msg::{Body, Entry, Grid6, Line, Message, MoveShape, Params, Times5, Turn, read_line};
+use aim_msg::{Act, Body, Entry, Grid6, Line, Message, MoveShape, Params, Times5, Turn, read_line};
 use aim_paths::builders::{Builder, LayoutFault};
 use aim_paths::{Kind as PolicyKind, Layout, Shape};
 use std::alloc::Global;
@@ -32,12 +32,26 @@ pub enum Stage {
     Moves(Builder),
     /// Policies come, or the line of the vehicles.
     Policies(Builder),
-    /// `begin` comes next. There are so many vehicles.
-    Begin(Book, u32),
-    /// Events come, or `end`. There are so many vehicles.
-    Body(Book, u32),
+    /// `begin` comes next.
+    Begin(Book),
+    /// Events come, or `end`.
+    Body(Book),
     /// Nothing comes any more.
     Over(Book),
+}
+
+/// An entry that a line made, and its position in the journal.
+#[derive(Clone, Copy)]
+pub struct Made {
+    pub position: u32,
+    pub entry: Entry,
+}
+
+/// What taking a line comes to: how far the script has come, and the entry that the line made.
+#[derive(Drop)]
+pub struct Taken {
+    pub stage: Stage,
+    pub made: Option<Made>,
 }
 
 /// Why a line isn't taken.
@@ -50,16 +64,6 @@ pub enum Refusal {
     /// Memory has run out.
     NoMemory,
 }
-
-// Times with which any grid makes a ground that makes one with others.
-const SHORTEST: Times = Times {
-    horizon: 1,
-    longest: 1,
-    clearance: 0,
-    early: 0,
-    late: 0,
-    edge: 0,
-};
 
 // The room of a journal: one entry for every line of the longest script.
 const ROOM: u32 = 262_144;
@@ -145,22 +149,16 @@ fn is_missing(book: &Book, params: &Params) -> bool
     bad_field(book.layout(), params).is_some()
 }
 
-// What is wrong with a request of a vehicle, one of so many.
-fn request_fault(
-    book: &Book,
-    vehicles: u32,
-    vehicle: u32,
-    moment: u32,
-    params: &Params,
-) -> Option<Kind>
+// What is wrong with a request of a vehicle.
+fn request_fault(book: &Book, vehicle: u32, moment: u32, params: &Params) -> Option<Kind>
     requires { IsPlain book.now.layout }
-    ensures { result ≡ request_kind book.now vehicles vehicle moment params.now }
+    ensures { result ≡ request_kind book.now vehicle moment params.now }
 {
     let is_second = has_called(book.journal(), vehicle);
     let is_missing = is_missing(book, params);
     if is_second || is_missing {
         Some(Kind::Unsupported)
-    } else if vehicle >= vehicles {
+    } else if vehicle >= book.vehicles() {
         Some(Kind::Vehicle)
     } else if moment > LATEST {
         Some(Kind::Moment)
@@ -190,7 +188,7 @@ fn opened(alloc: Global, layout: Layout, vehicles: u32) -> Result<Stage, Refusal
         return Err(Refusal::Limit(limit));
     }
     match Book::open(alloc, layout, vehicles, ROOM) {
-        Ok(book) => Ok(Stage::Begin(book, vehicles)),
+        Ok(book) => Ok(Stage::Begin(book)),
         Err(OpenFault::NoMemory) => Err(Refusal::NoMemory),
         Err(_) => Err(Refusal::Bad(Kind::Vehicle)),
     }
@@ -217,11 +215,57 @@ fn move_kind(fault: LayoutFault) -> Kind
     }
 }
 
+// What a line that makes no entry comes to.
+fn without_entry(next: Result<Stage, Refusal>) -> Result<Taken, Refusal>
+    ensures stage { stage_of result ≡ next }
+    ensures none { IfOk result (λ t. t.made ≡ None) }
+{
+    match next {
+        Ok(stage) => Ok(Taken { stage, made: None }),
+        Err(why) => Err(why),
+    }
+}
+
+// Serves a request of a vehicle.
+fn served(
+    mut book: Book,
+    vehicle: u32,
+    moment: u32,
+    message: &Message,
+    params: &Params,
+) -> Result<Taken, Refusal>
+    requires may { MayTake (Stage.Body book) }
+    requires asks { message.now.body ≡ Body.Request params.now }
+    ensures takes { (before : List Line) → Stands before (Stage.Body book) → Takes before (Line.Event vehicle moment message.now) (stage_of result) }
+    ensures makes { IfOk result (λ t. Makes book.journal (journal_at t.stage) t.made) }
+    ensures memory { result ≡ Err Refusal.NoMemory → ⊥ }
+{
+    if let Some(kind) = request_fault(&book, vehicle, moment, params) {
+        return Err(Refusal::Bad(kind));
+    }
+    let position = book.journal().len() as u32;
+    match book.serve(vehicle, moment, *message) {
+        Ok(reply) => {
+            let act = Act::Message(*message);
+            let entry = Entry {
+                caller: vehicle,
+                moment,
+                act,
+                reply,
+            };
+            let made = Some(Made { position, entry });
+            let stage = Stage::Body(book);
+            Ok(Taken { stage, made })
+        }
+        Err(Full) => unreachable!(),
+    }
+}
+
 impl Stage {
     // Takes the line of the version.
     fn version(&self, version: u32) -> Result<Stage, Refusal>
         ensures takes { (before : List Line) → Stands before self.now → Takes before (Line.Version version) result }
-        ensures grows { IfOk result (λ next. Grows (journal_at self.now) (journal_at next)) }
+        ensures same { IfOk result (λ next. journal_at next ≡ journal_at self.now) }
         ensures memory { result ≡ Err Refusal.NoMemory → ⊥ }
     {
         match self {
@@ -237,15 +281,18 @@ impl Stage {
     // Takes the line of the grid.
     fn grid(&self, grid: &Grid6) -> Result<Stage, Refusal>
         ensures takes { (before : List Line) → Stands before self.now → Takes before (Line.Grid grid.now) result }
-        ensures grows { IfOk result (λ next. Grows (journal_at self.now) (journal_at next)) }
+        ensures same { IfOk result (λ next. journal_at next ≡ journal_at self.now) }
         ensures memory { result ≡ Err Refusal.NoMemory → ⊥ }
     {
         match self {
             Stage::Grid if grid.fixed != 0 => Err(Refusal::Bad(Kind::Unsupported)),
-            Stage::Grid => match Ground::build(grid_of(grid), SHORTEST) {
-                Ok(ground) => Ok(Stage::Times(ground.grid())),
-                Err(_) => Err(Refusal::Bad(Kind::Grid)),
-            },
+            Stage::Grid => {
+                let read = grid_of(grid);
+                if read.is_bad() {
+                    return Err(Refusal::Bad(Kind::Grid));
+                }
+                Ok(Stage::Times(read))
+            }
             _ => Err(Refusal::Bad(Kind::Order)),
         }
     }
@@ -253,7 +300,7 @@ impl Stage {
     // Takes the line of the times.
     fn times(&self, times: &Times5) -> Result<Stage, Refusal>
         ensures takes { (before : List Line) → Stands before self.now → Takes before (Line.Times times.now) result }
-        ensures grows { IfOk result (λ next. Grows (journal_at self.now) (journal_at next)) }
+        ensures same { IfOk result (λ next. journal_at next ≡ journal_at self.now) }
         ensures memory { result ≡ Err Refusal.NoMemory → ⊥ }
     {
         match self {
@@ -271,7 +318,7 @@ impl Stage {
     // Takes the line of the lanes.
     fn lanes(&self, alloc: Global, lanes: u32) -> Result<Stage, Refusal>
         ensures takes { (before : List Line) → Stands before self.now → Takes before (Line.Lanes lanes) result }
-        ensures grows { IfOk result (λ next. Grows (journal_at self.now) (journal_at next)) }
+        ensures same { IfOk result (λ next. journal_at next ≡ journal_at self.now) }
         ensures memory { result ≡ Err Refusal.NoMemory → journal_at self.now ≡ [] }
     {
         match self {
@@ -287,7 +334,7 @@ impl Stage {
     // Takes the line of a move.
     fn turn(self, lane: u8, turn: Turn, shape: &MoveShape) -> Result<Stage, Refusal>
         ensures takes { (before : List Line) → Stands before self → Takes before (Line.Move lane turn shape.now) result }
-        ensures grows { IfOk result (λ next. Grows (journal_at self) (journal_at next)) }
+        ensures same { IfOk result (λ next. journal_at next ≡ journal_at self) }
         ensures memory { result ≡ Err Refusal.NoMemory → ⊥ }
     {
         match self {
@@ -304,7 +351,7 @@ impl Stage {
     // Takes the line of a policy.
     fn policy(self, kind: u8) -> Result<Stage, Refusal>
         ensures takes { (before : List Line) (name : Name) → Stands before self → Takes before (Line.Policy name kind) result }
-        ensures grows { IfOk result (λ next. Grows (journal_at self) (journal_at next)) }
+        ensures same { IfOk result (λ next. journal_at next ≡ journal_at self) }
         ensures memory { result ≡ Err Refusal.NoMemory → ⊥ }
     {
         match self {
@@ -321,7 +368,7 @@ impl Stage {
     // Takes the line of the vehicles.
     fn vehicles(self, alloc: Global, vehicles: u32) -> Result<Stage, Refusal>
         ensures takes { (before : List Line) → Stands before self → Takes before (Line.Vehicles vehicles) result }
-        ensures grows { IfOk result (λ next. Grows (journal_at self) (journal_at next)) }
+        ensures same { IfOk result (λ next. journal_at next ≡ journal_at self) }
         ensures memory { result ≡ Err Refusal.NoMemory → journal_at self ≡ [] }
     {
         match self {
@@ -334,48 +381,27 @@ impl Stage {
     // Takes `begin`.
     fn begin(self) -> Result<Stage, Refusal>
         ensures takes { (before : List Line) → Stands before self → Takes before Line.Begin result }
-        ensures grows { IfOk result (λ next. Grows (journal_at self) (journal_at next)) }
+        ensures same { IfOk result (λ next. journal_at next ≡ journal_at self) }
         ensures memory { result ≡ Err Refusal.NoMemory → ⊥ }
     {
         match self {
-            Stage::Begin(book, vehicles) => Ok(Stage::Body(book, vehicles)),
+            Stage::Begin(book) => Ok(Stage::Body(book)),
             _other => Err(Refusal::Bad(Kind::Order)),
         }
     }
 
-    // Takes a request of a vehicle, and answers it.
-    fn request(self, vehicle: u32, moment: u32, seq: u32, params: Params) -> Result<Stage, Refusal>
+    // Takes a message of a vehicle, and answers it.
+    fn event(self, vehicle: u32, moment: u32, message: &Message) -> Result<Taken, Refusal>
         requires { MayTake self }
-        ensures takes { (before : List Line) → Stands before self → Takes before (Line.Event vehicle moment (record { seq = seq; body = Body.Request params })) result }
-        ensures grows { IfOk result (λ next. Grows (journal_at self) (journal_at next)) }
-        ensures memory { result ≡ Err Refusal.NoMemory → ⊥ }
-    {
-        match self {
-            Stage::Body(mut book, vehicles) => {
-                match request_fault(&book, vehicles, vehicle, moment, &params) {
-                    Some(kind) => Err(Refusal::Bad(kind)),
-                    None => {
-                        let body = Body::Request(params);
-                        match book.serve(vehicle, moment, Message { seq, body }) {
-                            Ok(_) => Ok(Stage::Body(book, vehicles)),
-                            Err(Full) => unreachable!(),
-                        }
-                    }
-                }
-            }
-            _other => Err(Refusal::Bad(Kind::Order)),
-        }
-    }
-
-    // Takes a message of a vehicle.
-    fn event(self, vehicle: u32, moment: u32, message: &Message) -> Result<Stage, Refusal>
-        requires { MayTake self }
-        ensures takes { (before : List Line) → Stands before self → Takes before (Line.Event vehicle moment message.now) result }
-        ensures grows { IfOk result (λ next. Grows (journal_at self) (journal_at next)) }
+        ensures takes { (before : List Line) → Stands before self → Takes before (Line.Event vehicle moment message.now) (stage_of result) }
+        ensures makes { IfOk result (λ t. Makes (journal_at self) (journal_at t.stage) t.made) }
         ensures memory { result ≡ Err Refusal.NoMemory → ⊥ }
     {
         match message.body {
-            Body::Request(params) => self.request(vehicle, moment, message.seq, params),
+            Body::Request(params) => match self {
+                Stage::Body(book) => served(book, vehicle, moment, message, &params),
+                _other => Err(Refusal::Bad(Kind::Order)),
+            },
             _ => Err(Refusal::Bad(Kind::Unsupported)),
         }
     }
@@ -383,46 +409,46 @@ impl Stage {
     // Takes `end`.
     fn end(self) -> Result<Stage, Refusal>
         ensures takes { (before : List Line) → Stands before self → Takes before Line.End result }
-        ensures grows { IfOk result (λ next. Grows (journal_at self) (journal_at next)) }
+        ensures same { IfOk result (λ next. journal_at next ≡ journal_at self) }
         ensures memory { result ≡ Err Refusal.NoMemory → ⊥ }
     {
         match self {
-            Stage::Body(book, _) => Ok(Stage::Over(book)),
+            Stage::Body(book) => Ok(Stage::Over(book)),
             _other => Err(Refusal::Bad(Kind::Order)),
         }
     }
 
     // Takes a line.
-    fn after(self, alloc: Global, line: &Line) -> Result<Stage, Refusal>
+    fn after(self, alloc: Global, line: &Line) -> Result<Taken, Refusal>
         requires { MayTake self }
-        ensures takes { (before : List Line) → Stands before self → Takes before line.now result }
-        ensures grows { IfOk result (λ next. Grows (journal_at self) (journal_at next)) }
+        ensures takes { (before : List Line) → Stands before self → Takes before line.now (stage_of result) }
+        ensures makes { IfOk result (λ t. Makes (journal_at self) (journal_at t.stage) t.made) }
         ensures memory { result ≡ Err Refusal.NoMemory → journal_at self ≡ [] }
     {
         match line {
-            Line::Version(version) => self.version(*version),
-            Line::Grid(grid) => self.grid(grid),
-            Line::Times(times) => self.times(times),
-            Line::Lanes(lanes) => self.lanes(alloc, *lanes),
-            Line::Move { lane, turn, shape } => self.turn(*lane, *turn, shape),
-            Line::Policy { kind, .. } => self.policy(*kind),
-            Line::Vehicles(vehicles) => self.vehicles(alloc, *vehicles),
-            Line::Begin => self.begin(),
+            Line::Version(version) => without_entry(self.version(*version)),
+            Line::Grid(grid) => without_entry(self.grid(grid)),
+            Line::Times(times) => without_entry(self.times(times)),
+            Line::Lanes(lanes) => without_entry(self.lanes(alloc, *lanes)),
+            Line::Move { lane, turn, shape } => without_entry(self.turn(*lane, *turn, shape)),
+            Line::Policy { kind, .. } => without_entry(self.policy(*kind)),
+            Line::Vehicles(vehicles) => without_entry(self.vehicles(alloc, *vehicles)),
+            Line::Begin => without_entry(self.begin()),
             Line::Event {
                 vehicle,
                 moment,
                 message,
             } => self.event(*vehicle, *moment, message),
-            Line::End => self.end(),
+            Line::End => without_entry(self.end()),
             _ => Err(Refusal::Bad(Kind::Unsupported)),
         }
     }
 
     /// Takes the next line of a script, without its byte 10, and answers its event, if it is one.
-    pub fn take(self, alloc: Global, bytes: &[u8]) -> Result<Stage, Refusal>
+    pub fn take(self, alloc: Global, bytes: &[u8]) -> Result<Taken, Refusal>
         requires { MayTake self }
-        ensures judged { (before : List Line) → Stands before self → Judged before bytes.now result }
-        ensures grows { IfOk result (λ next. Grows (journal_at self) (journal_at next)) }
+        ensures judged { (before : List Line) → Stands before self → Judged before bytes.now (stage_of result) }
+        ensures makes { IfOk result (λ t. Makes (journal_at self) (journal_at t.stage) t.made) }
 
         // Memory is taken before the first event alone.
         ensures memory { result ≡ Err Refusal.NoMemory → journal_at self ≡ [] }
@@ -442,16 +468,6 @@ impl Stage {
         match self {
             Stage::Over(book) => Decision::Whole(book.journal().len() as u32),
             _ => Decision::Bad(lines + 1, Kind::End),
-        }
-    }
-
-    /// The entries of the events so far.
-    pub fn journal(&self) -> &[Entry]
-        ensures { result.now ≡ journal_at self.now }
-    {
-        match self {
-            Stage::Begin(book, _) | Stage::Body(book, _) | Stage::Over(book) => book.journal(),
-            _ => &[],
         }
     }
 }
