@@ -8,7 +8,7 @@ use Rattle.aim_io.specs.declared.lines.LineFault.{LineFault}
 use Rattle.aim_io.specs.declared.lines.LineFault.TheVariants as line_fault
 use Rattle.aim_io.specs.Known.{AppendsFront}
 use Rattle.aim_io.specs.Lines.{Outcome, Line as LineOf, Stop, outcomes_from, IsOpen, ShowsNothing, with_end}
-use Rattle.aim_io.specs.Reader.{Reader, fresh, input, coming, Answers, Stops, KnowsEnd, IsSound, after_call}
+use Rattle.aim_io.specs.Reader.{Reader, fresh, input, coming, taken_by, Answers, Stops, KnowsEnd, IsSound, after_call}
 use Rattle.aim_msg.specs.Texts.{entry_text, spaced}
 use Rattle.aim_msg.specs.declared.entries.Entry.{Entry}
 use Rattle.aim_msg.specs.declared.script.Line.{Line}
@@ -26,8 +26,8 @@ use Rattle.aim_replay.specs.Texts.{entry_lines, printed, journal_of, decision_wo
 use Rattle.aim_replay.specs.Today.{today}
 use Rattle.aim_replay.specs.Stands.{IsHeader}
 use Rattle.aim_replay.specs.Stages.{Stands, Says, Judged, Makes, MayTake, journal_at}
-use Rattle.aim_replay.specs.Replays.{Replays, StopsShort, Writes, WritesFront, ended, script_after, unless_decided, entries_text, made_line}
-use Rattle.aim_replay.specs.Sessions.{Decides, Took, Reached, Responds, Comes}
+use Rattle.aim_replay.specs.Replays.{Replays, StopsShort, TakesAtMost, Writes, WritesFront, ended, script_after, unless_decided, entries_text, made_line}
+use Rattle.aim_replay.specs.Sessions.{Decides, Placed, Took, Reached, Responds, Comes}
 use Rattle.aim_replay.proofs.TextLemmas.{entry_lines-append, Begins, journal_of_begins, nothing_begins}
 
 -- the line of the entry that was made comes behind those of the journal
@@ -206,6 +206,44 @@ took_more before l old new bytes rest left is gives going took =
       place = ap (λ (t : List ℕ). length t) (ended_more took.lines line) ∙ length-append (ended took.lines) (line ++ 10 ∷ []) ∙ ap (λ n. n + length (line ++ 10 ∷ [])) took.place ∙ sym size;
     }
 
+-- what was taken where the source failed
+held_back : (bytes rest left : Option (List ℕ)) (all held : List ℕ) → Consumes bytes rest all → Keeps rest (prepend_known held left) → Consumes bytes left (all ++ held)
+held_back None rest left all held taken kept = tt
+held_back (Some bytes) None left all held taken kept = absurd taken
+held_back (Some bytes) (Some xs) None all held taken kept = absurd kept
+held_back (Some bytes) (Some xs) (Some ys) all held taken kept = taken ∙ ap (λ (t : List ℕ). all ++ t) (sym kept) ∙ sym (append_assoc all held ys)
+
+-- so many bytes are gone after a call that gave a line, or none at the end
+placed_call : (start rest left : Option (List ℕ)) (old new : Reader) (more : Bool) → Placed start rest old.place → Consumes rest left (taken_by new more) → new ≡ after_call old new more → Placed start left new.place
+placed_call start rest left old new more placed taken after = record {
+  gone = placed.gone ++ taken_by new more;
+  taken = Consumes-trans start rest left _ _ placed.taken taken;
+  count = length-append placed.gone (taken_by new more) ∙ ap (λ n. n + length (taken_by new more)) placed.count ∙ sym (ap (λ (r : Reader). r.place) after);
+}
+
+keeps_same : (bytes : Option (List ℕ)) → Keeps bytes bytes
+keeps_same None = tt
+keeps_same (Some bytes) = refl
+
+most_held : (start rest left : Option (List ℕ)) (reader : Reader) → Placed start rest reader.place → Keeps rest (input reader left) → IsSound reader → TakesAtMost 67108865 start left
+most_held start rest left reader placed kept sound = record {
+  bytes = placed.gone ++ reader.held;
+  taken = held_back start rest left placed.gone reader.held placed.taken kept;
+  within = omega (arith, length-append placed.gone reader.held, placed.count, sound.read);
+}
+
+-- no more bytes were taken than a reader takes, after a line, at the end, and after a fault
+pub most_call : (start left after old_held now : Option (List ℕ)) (old new : Reader) (s : Stage) (more : Bool) → Reached start (input old left) old_held now old s → Consumes (input old left) (input new after) (taken_by new more) → new ≡ after_call old new more → IsSound new
+    → TakesAtMost 67108865 start after
+most_call start left after old_held now old new s more r taken is sound =
+    most_held start (input new after) after new (placed_call start (input old left) (input new after) old new more r.placed taken is) (keeps_same (input new after)) sound
+
+pub most_fault : (start left after old_held now : Option (List ℕ)) (old new : Reader) (s : Stage) (f : LineFault) → Reached start (input old left) old_held now old s → new ≡ record old { held = new.held; line = []; fault = Some f } → Keeps (input old left) (input new after) → IsSound new
+    → TakesAtMost 67108865 start after
+most_fault start left after old_held now old new s f r is kept sound =
+    let place : old.place ≡ new.place = sym (ap (λ (x : Reader). x.place) is) in
+    most_held start (input old left) after new (subst (Placed start (input old left)) place r.placed) kept sound
+
 pub reached_more : (bytes rest left start mid now : Option (List ℕ)) (old new : Reader) (s next : Stage) (r : Reached bytes rest start mid old s) → Gives old new rest left → Responds r.before s new.line mid now (Ok next)
     → Reached bytes left start now new next
 reached_more bytes rest left start mid now old new s next r gives responds =
@@ -217,6 +255,7 @@ reached_more bytes rest left start mid now old new s next r gives responds =
       stands = responds.0.2;
       count = length-append r.before (l ∷ []) ∙ ap (λ n. n + 1) r.count ∙ sym (ap (λ (x : Reader). x.given) gives.after);
       decides = decides_more r.before l old new bytes rest left is r.decides gives.step;
+      placed = placed_call bytes rest left old new true r.placed gives.taken gives.after;
       took = λ going. took_more r.before l old new bytes rest left is gives going (r.took gives.going);
       written = subst (Appends start now) (sym (made_after (journal_at s) (journal_at next) responds.1 responds.2)) (Appends-trans start mid now _ _ r.written responds.3);
     }
@@ -228,6 +267,7 @@ reached_start bytes held = record {
   stands = record { part = refl; over = refl; says = record { version = refl; said = refl; no_vehicles = refl; no_calls = λ names. refl; no_events = λ v. refl } };
   count = refl;
   decides = decides_start bytes;
+  placed = placed_start bytes;
   took = λ going. took_start bytes;
   written = Appends-nil held;
 }
@@ -236,16 +276,13 @@ reached_start bytes held = record {
     decides_start None = tt
     decides_start (Some bytes) = refl
 
+    placed_start : (bytes : Option (List ℕ)) → Placed bytes (input fresh bytes) 0
+    placed_start None = record { gone = []; taken = tt; count = refl }
+    placed_start (Some bytes) = record { gone = []; taken = refl; count = refl }
+
     took_start : (bytes : Option (List ℕ)) → Took [] fresh bytes (input fresh bytes)
     took_start None = record { lines = []; taken = tt; whole = record { each = tt; few = omega arith; script = refl }; count = refl; place = refl }
     took_start (Some bytes) = record { lines = []; taken = refl; whole = record { each = tt; few = omega arith; script = refl }; count = refl; place = refl }
-
--- what was taken where the source failed
-held_back : (bytes rest left : Option (List ℕ)) (all held : List ℕ) → Consumes bytes rest all → Keeps rest (prepend_known held left) → Consumes bytes left (all ++ held)
-held_back None rest left all held taken kept = tt
-held_back (Some bytes) None left all held taken kept = absurd taken
-held_back (Some bytes) (Some xs) None all held taken kept = absurd kept
-held_back (Some bytes) (Some xs) (Some ys) all held taken kept = taken ∙ ap (λ (t : List ℕ). all ++ t) (sym kept) ∙ sym (append_assoc all held ys)
 
 pub stops_short : (bytes rest left start now : Option (List ℕ)) (old new : Reader) (s : Stage) → Reached bytes rest start now old s → old.ended ≡ false → new.given ≡ old.given → new.place ≡ old.place → ShowsNothing new.given new.place new.held
     → Keeps rest (input new left) → StopsShort today bytes left start now
@@ -257,6 +294,7 @@ stops_short bytes rest left start now old new s r going given place shows kept =
       taken = held_back bytes rest left (ended took.lines) new.held took.taken kept;
       within = omega (arith, length-append (ended took.lines) new.held, took.place, place, shows.within);
       is_open = shows.is_open;
+      undecided = λ some. rw (took.count, ← given) (shows.few some);
       before = r.before;
       whole = took.whole;
       written = subst (λ (h : List Entry). Appends start now (entry_lines 0 h)) (sym (journal_is r.before s r.stands.says)) r.written;

@@ -1,5 +1,5 @@
 -- What a replay takes out of its source and adds to its sink.
-use Rattle.std.specs.Prelude.{◌≡◌, ℕ, ◌≤◌, List, [], ◌∷◌, ◌++◌, length, Option, Some, None, IfSome}
+use Rattle.std.specs.Prelude.{◌≡◌, ℕ, ◌<◌, ◌≤◌, List, [], ◌∷◌, ◌++◌, length, Option, Some, None, IfSome}
 use Rattle.std.specs.List.{AllByRecursion}
 use Rattle.std.specs.Io.KnownBytes.{Appends, Consumes}
 use Rattle.aim_io.specs.Known.{AppendsFront}
@@ -33,14 +33,21 @@ pub record AreWhole (missing : Missing) (lines : List (List ℕ)) (before : List
   pub few : length lines ≤ 262144
   pub script : script_after missing [] lines ≡ Some before
 
+-- where the source tells its bytes, no more than these were taken
+pub record TakesAtMost (most : ℕ) (left_old left_new : Option (List ℕ)) : Type 0 where
+  pub bytes : List ℕ
+  pub taken : Consumes left_old left_new bytes
+  pub within : length bytes ≤ most
+
 -- The source failed: the bytes that were read are whole lines, none of which decides, and the beginning of a further
--- line, and what was written are the lines of the entries of these lines' events and orders.
+-- line, which doesn't decide either, and what was written are the lines of the entries of these lines' events and orders.
 pub record StopsShort (missing : Missing) (left_old left_new held_old held_new : Option (List ℕ)) : Type 0 where
   pub lines : List (List ℕ)
   pub part : List ℕ
   pub taken : Consumes left_old left_new (ended lines ++ part)
   pub within : length (ended lines ++ part) ≤ 67108864
   pub is_open : IsOpen part
+  pub undecided : 0 < length part → length lines < 262144
   pub before : List Line
   pub whole : AreWhole missing lines before
   pub written : Appends held_old held_new (entry_lines 0 (journal (layout_of before) (calls_of before)))

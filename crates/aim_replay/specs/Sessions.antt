@@ -27,6 +27,12 @@ Decides before reader None rest = Unit {0}
 Decides before reader (Some bytes) None = ⊥
 Decides before reader (Some bytes) (Some rest) = verdict_from today before (coming reader rest) ≡ verdict today bytes
 
+-- so many bytes are gone, up to those that are to come
+pub record Placed (bytes rest : Option (List ℕ)) (place : ℕ) : Type 0 where
+  pub gone : List ℕ
+  pub taken : Consumes bytes rest gone
+  pub count : length gone ≡ place
+
 -- whole lines were taken that make this script
 pub record Took (before : List Line) (reader : Reader) (bytes rest : Option (List ℕ)) : Type 0 where
   pub lines : List (List ℕ)
@@ -41,6 +47,7 @@ pub record Reached (bytes rest old now : Option (List ℕ)) (reader : Reader) (s
   pub stands : Stands before s
   pub count : length before ≡ reader.given
   pub decides : Decides before reader bytes rest
+  pub placed : Placed bytes rest reader.place
   pub took : reader.ended ≡ false → Took before reader bytes rest
   pub written : Appends old now (entry_lines 0 (journal_at s))
 

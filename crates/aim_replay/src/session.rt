@@ -9,7 +9,7 @@ ghost use Rattle.aim_msg.specs.Texts.{entry_text as text_of, spaced};
 ghost use Rattle.aim_replay.specs.Texts.{decision_words, printed, replay_text};
 ghost use Rattle.aim_replay.specs.Today.{today};
 ghost use Rattle.aim_replay.specs.Stages.{MayTake, Stands, journal_at};
-ghost use Rattle.aim_replay.specs.Replays.{Replays, StopsShort, Writes, WritesFront, entries_text, made_line};
+ghost use Rattle.aim_replay.specs.Replays.{Replays, StopsShort, TakesAtMost, Writes, WritesFront, entries_text, made_line};
 ghost use Rattle.aim_replay.specs.Sessions.{Comes, IsWholeLine, Responds, is_whole};
 
 use crate::decisions::{Decision, Kind, Limit, last_line};
@@ -109,6 +109,7 @@ fn replay_lines<S: Source, K: Sink>(
     ensures written { OnOk result (Writes (S.left source.old) (K.held sink.old) (K.held sink.new) (entries_text today)) }
     ensures front { OnErr result (WritesFront (S.left source.old) (K.held sink.old) (K.held sink.new) (entries_text today)) }
     ensures ended { IfOk result (λ decision. is_whole decision ≡ true → IsAtEnd (S.left source.new)) }
+    ensures most { TakesAtMost 67108865 (S.left source.old) (S.left source.new) }
     ensures short { result ≡ Err Stop.Read → StopsShort today (S.left source.old) (S.left source.new) (K.held sink.old) (K.held sink.new) }
     ensures memory { result ≡ Err Stop.NoMemory → Appends (K.held sink.old) (K.held sink.new) [] }
     ensures read { result ≡ Err Stop.Read → Rose (S.faults source.old) (S.faults source.new) }
@@ -161,6 +162,7 @@ fn replay_script<S: Source, K: Sink>(
     ensures written { OnOk result (Writes (S.left source.old) (K.held sink.old) (K.held sink.new) (replay_text today None)) }
     ensures front { OnErr result (WritesFront (S.left source.old) (K.held sink.old) (K.held sink.new) (replay_text today None)) }
     ensures ended { IfOk result (λ decision. is_whole decision ≡ true → IsAtEnd (S.left source.new)) }
+    ensures most { TakesAtMost 67108865 (S.left source.old) (S.left source.new) }
     ensures short { result ≡ Err Stop.Read → StopsShort today (S.left source.old) (S.left source.new) (K.held sink.old) (K.held sink.new) }
     ensures memory { result ≡ Err Stop.NoMemory → Appends (K.held sink.old) (K.held sink.new) [] }
     ensures read { result ≡ Err Stop.Read → Rose (S.faults source.old) (S.faults source.new) }
@@ -186,6 +188,9 @@ pub fn replay<S: Source, K: Sink>(alloc: Global, source: &mut S, sink: &mut K) -
     ensures whole { (result ≡ 0) ⊎ ((result ≡ 3) ⊎ (result ≡ 6)) → IfSome (S.left source.old)
         (λ bytes. Replays today None bytes (K.held sink.old) (K.held sink.new) result) }
     ensures ended { result ≡ 0 → IsAtEnd (S.left source.new) }
+
+    // No more than one byte past the greatest input is taken, whatever the status.
+    ensures most { TakesAtMost 67108865 (S.left source.old) (S.left source.new) }
 
     // With another status what is written is a front of that text.
     ensures front { (result ≡ 4) ⊎ ((result ≡ 5) ⊎ (result ≡ 7)) → WritesFront (S.left source.old) (K.held sink.old) (K.held sink.new) (replay_text today None) }

@@ -1,8 +1,8 @@
-use Rattle.std.proofs.Common.{arith, ◌+◌, ap, sym, ◌∙◌, refl, Err}
+use Rattle.std.proofs.Common.{arith, ◌+◌, ap, sym, ◌∙◌, refl, Err, true, false}
 use Rattle.aim_io.specs.declared.lines.LineFault.TheVariants as line_fault
 use Rattle.aim_io.specs.Reader.{Reader}
 use Rattle.aim_replay.specs.declared.decisions.Decision.TheVariants as decision
-use Rattle.aim_replay.proofs.SessionLemmas.{Gives, on_true, sound_start, knows_start, reached_start, reached_more, front_reached, short_reached, fault_told, fault_written, end_told, end_written, bad_told, bad_written, line_told, stops_inside, memory_front}
+use Rattle.aim_replay.proofs.SessionLemmas.{Gives, on_true, sound_start, knows_start, reached_start, reached_more, front_reached, short_reached, fault_told, fault_written, end_told, end_written, bad_told, bad_written, line_told, stops_inside, memory_front, most_call, most_fault}
 use Rattle.aim_replay.proofs.session.replay_lines.Goals as goal
 
 pub lines-init : goal.lines-init
@@ -125,3 +125,57 @@ lines-preserved g c =
       source = omega (arith, i.source, c.advance.ensures.later);
       sink = omega (arith, i.sink, c.answer_line.ensures.later);
     }
+
+pub returns-in-Err-Read-clause-most : goal.returns-in-Err-Read-clause-most
+returns-in-Err-Read-clause-most g c =
+    let i = c.lines.invariant in
+    let e = c.in-Err-Read.ensures in
+    most_fault _ _ _ _ _ _ _ _ _ i.reached (e.fault i.no_fault) e.keeps e.sound
+
+pub returns-in-Err-Long-clause-most : goal.returns-in-Err-Long-clause-most
+returns-in-Err-Long-clause-most g c =
+    let i = c.lines.invariant in
+    let e = c.in-Err-Long.ensures in
+    most_fault _ _ _ _ _ _ _ _ _ i.reached (e.fault i.no_fault) e.keeps e.sound
+
+pub returns-in-Err-Bytes-clause-most : goal.returns-in-Err-Bytes-clause-most
+returns-in-Err-Bytes-clause-most g c =
+    let i = c.lines.invariant in
+    let e = c.in-Err-Bytes.ensures in
+    most_fault _ _ _ _ _ _ _ _ _ i.reached (e.fault i.no_fault) e.keeps e.sound
+
+pub returns-in-Err-Lines-clause-most : goal.returns-in-Err-Lines-clause-most
+returns-in-Err-Lines-clause-most g c =
+    let i = c.lines.invariant in
+    let e = c.in-Err-Lines.ensures in
+    most_fault _ _ _ _ _ _ _ _ _ i.reached (e.fault i.no_fault) e.keeps e.sound
+
+pub returns-in-Ok-false-clause-most : goal.returns-in-Ok-false-clause-most
+returns-in-Ok-false-clause-most g c =
+    let e = c.in-Ok-false.ensures in
+    let t = c.in-Ok-false.field-0-test in
+    most_call _ _ _ _ _ _ _ _ false c.lines.invariant.reached (rw t at e.taken) (rw t at e.after) e.sound
+
+pub returns-in-Err-Bad-clause-most : goal.returns-in-Err-Bad-clause-most
+returns-in-Err-Bad-clause-most g c =
+    let e = c.in-Ok-true.ensures in
+    let t = c.in-Ok-true.field-0-test in
+    most_call _ _ _ _ _ _ _ _ true c.lines.invariant.reached (rw t at e.taken) (rw t at e.after) e.sound
+
+pub returns-in-Err-Limit-clause-most : goal.returns-in-Err-Limit-clause-most
+returns-in-Err-Limit-clause-most g c =
+    let e = c.in-Ok-true.ensures in
+    let t = c.in-Ok-true.field-0-test in
+    most_call _ _ _ _ _ _ _ _ true c.lines.invariant.reached (rw t at e.taken) (rw t at e.after) e.sound
+
+pub returns-in-Err-Write-clause-most : goal.returns-in-Err-Write-clause-most
+returns-in-Err-Write-clause-most g c =
+    let e = c.in-Ok-true.ensures in
+    let t = c.in-Ok-true.field-0-test in
+    most_call _ _ _ _ _ _ _ _ true c.lines.invariant.reached (rw t at e.taken) (rw t at e.after) e.sound
+
+pub returns-in-Err-NoMemory-clause-most : goal.returns-in-Err-NoMemory-clause-most
+returns-in-Err-NoMemory-clause-most g c =
+    let e = c.in-Ok-true.ensures in
+    let t = c.in-Ok-true.field-0-test in
+    most_call _ _ _ _ _ _ _ _ true c.lines.invariant.reached (rw t at e.taken) (rw t at e.after) e.sound
