@@ -1,14 +1,16 @@
 -- The bytes that are still to come: those that a reader holds, and then those that its source has left.
-use Rattle.std.proofs.Common.{◌≡◌, ℕ, ◌+◌, ◌<◌, Bool, true, List, [], ◌∷◌, ◌++◌, length, take, drop, nat_lt, if◌then◌else◌, Some, None, Ok, Err, refl, sym, ap, ◌∙◌, arith}
-use Rattle.std.proofs.lemmas.Bool.{lt-ltb}
-use Rattle.std.proofs.lemmas.List.{append_assoc, append-nil, length-take}
+use Rattle.std.proofs.Common.{◌≡◌, ◌⊎◌, ℕ, ◌+◌, ◌<◌, ◌≤◌, Bool, true, false, inl, inr, subst, List, [], ◌∷◌, ◌++◌, length, take, drop, nat_lt, if◌then◌else◌, Some, None, Ok, Err, refl, sym, ap, ◌∙◌, arith}
+use Rattle.std.proofs.lemmas.Bool.{lt-ltb, cases_Bool}
+use Rattle.std.proofs.lemmas.List.{append_assoc, append-nil, length-take, length-drop, take-append-drop, take-take}
+use Rattle.std.specs.Prelude.{IfSome}
+use Rattle.std.proofs.KnownBytes.{Keeps-trans}
 use Rattle.std.specs.declared.option.Option.{Option}
 use Rattle.std.specs.Io.KnownBytes.{Consumes, IsAtEnd, Keeps, prepend_known}
 use Rattle.aim_io.specs.declared.lines.LineFault.{LineFault}
 use Rattle.aim_io.specs.declared.lines.LineFault.TheVariants.{Read, Long, Bytes, Lines}
 use Rattle.aim_io.specs.Lines.{Line, Stop, outcomes, IsOpen, ShowsNothing, ShowsFault}
 use Rattle.aim_io.specs.Look.{ShowsLine}
-use Rattle.aim_io.specs.Reader.{Reader, input, coming, Answers, Stops}
+use Rattle.aim_io.specs.Reader.{Reader, input, coming, Answers, Stops, Needed}
 use Rattle.aim_io.proofs.LinesLemmas.{outcomes_line, outcomes_last, outcomes_fault}
 
 -- what the source loses is held
@@ -22,6 +24,49 @@ keeps_more (Some xs) (Some ys) old piece new p e = ap (λ (l : List ℕ). l ++ y
 pub same_as_first : (old now new : Reader) → now ≡ record old { held = now.held; line = now.line } → new ≡ record now { held = new.held; line = new.line }
     → new ≡ record old { held = new.held; line = new.line }
 same_as_first old now new first second = second ∙ ap (λ (r : Reader). record r { held = new.held; line = new.line }) first
+
+pub begins_trans : (first now new : List ℕ) → take (length first) now ≡ first → take (length now) new ≡ now → take (length first) new ≡ first
+begins_trans first now new before after =
+    let short : length first ≤ length now = omega (arith, ap (λ (l : List ℕ). length l) before, length-take (length first) now) in
+    sym (take-take (length first) (length now) new short) ∙ ap (take (length first)) after ∙ before
+
+-- a read behind bytes that show nothing of the next answer was needed
+needed_more : (first now new : Reader) (left_first left_now left_new : Option (List ℕ)) (last : Option ℕ)
+    → now ≡ record first { held = now.held; line = now.line } → take (length first.held) now.held ≡ first.held
+    → Keeps (input first left_first) (input now left_now) → Keeps (input now left_now) (input new left_new)
+    → ShowsNothing now.given now.place now.held → take (length now.held) new.held ≡ now.held
+    → IfSome last (λ n. length new.held ≡ length now.held + n)
+    → Needed first left_first left_new last
+needed_more first now new left_first left_now left_new last same begins keeps more shows front size =
+    let given : now.given ≡ first.given = ap (λ (r : Reader). r.given) same in
+    let place : now.place ≡ first.place = ap (λ (r : Reader). r.place) same in
+    let whole : now.held ++ drop (length now.held) new.held ≡ new.held
+    = ap (λ (l : List ℕ). l ++ drop (length now.held) new.held) (sym front) ∙ take-append-drop (length now.held) new.held in
+    record {
+      part = now.held;
+      piece = drop (length now.held) new.held;
+      begins = begins;
+      shows = rw (← given, ← place) shows;
+      keeps = rw whole (Keeps-trans _ _ _ keeps more);
+      told = told last size;
+    }
+  where
+    told : (last : Option ℕ) → IfSome last (λ n. length new.held ≡ length now.held + n) → IfSome last (λ n. n ≡ length (drop (length now.held) new.held))
+    told None size = tt
+    told (Some n) size = omega (arith, length-drop (length now.held) new.held)
+
+-- no read since the start, or the last one was needed: so it is after a further piece, if one was read
+pub needed_now : {S : Type 0} (left : S → Option (List ℕ)) (last : S → Option ℕ) (first now new : Reader) (start before after : S)
+    → now ≡ record first { held = now.held; line = now.line } → take (length first.held) now.held ≡ first.held
+    → Keeps (input first (left start)) (input now (left before)) → Keeps (input now (left before)) (input new (left after))
+    → ShowsNothing now.given now.place now.held → take (length now.held) new.held ≡ now.held
+    → (now.ended ≡ true → after ≡ before) → (now.ended ≡ false → IfSome (last after) (λ n. length new.held ≡ length now.held + n))
+    → (before ≡ start) ⊎ Needed first (left start) (left before) (last before)
+    → (after ≡ start) ⊎ Needed first (left start) (left after) (last after)
+needed_now left last first now new start before after same begins keeps more shows front quiet size needed = elim (cases_Bool now.ended) [
+  | inl ended ↦ subst (λ s. (s ≡ start) ⊎ Needed first (left start) (left s) (last s)) (sym (quiet ended)) needed
+  | inr going ↦ inr (needed_more first now new (left start) (left before) (left after) (last after) same begins keeps more shows front (size going))
+]
 
 -- ---- what is answered of the bytes to come, by what a reader holds of them
 

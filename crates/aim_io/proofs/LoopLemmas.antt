@@ -10,8 +10,8 @@ use Rattle.aim_io.specs.declared.lines.LineFault.{LineFault}
 use Rattle.aim_io.specs.declared.lines.LineFault.TheVariants.{Read, Long, Bytes, Lines}
 use Rattle.aim_io.specs.Known.{WhereKnown}
 use Rattle.aim_io.specs.Lines.{Outcome, Line, Stop, HasNoEnd, joined_lines, whole_lines}
-use Rattle.aim_io.specs.Reader.{Reader, coming, Answers}
-use Rattle.aim_io.specs.Taken.{TookLines, TookWhole}
+use Rattle.aim_io.specs.Reader.{Reader, input, coming, Answers, Needed}
+use Rattle.aim_io.specs.Taken.{TookLines, TookWhole, LastNeeded}
 use Rattle.aim_io.proofs.LinesLemmas.{outcomes_none}
 
 -- ---- what is still to come decides the same as all
@@ -120,4 +120,16 @@ took_part all left held lines took none = record {
   bytes = joined_lines lines ++ held;
   taken = Consumes-trans all (prepend_known held left) left _ _ took.taken (held_consumes left held);
   is = whole_joined lines held took.no_end none;
+}
+
+-- where a call has read behind these lines, its last read was needed
+pub needed_behind : (start before after : Option (List ℕ)) (old : Reader) (lines : List (List ℕ)) (last : Option ℕ)
+    → TookLines start (input old before) lines → Needed old before after last → LastNeeded start after last lines
+needed_behind start before after old lines last took needed = record {
+  part = needed.part;
+  piece = needed.piece;
+  taken = Consumes-trans start _ after (joined_lines lines) _ (Consumes-kept start _ _ _ took.taken needed.keeps) (held_consumes after (needed.part ++ needed.piece));
+  no_end = took.no_end;
+  is_open = needed.shows.is_open;
+  told = needed.told;
 }

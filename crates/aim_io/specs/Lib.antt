@@ -1,9 +1,9 @@
 pub mod Causes
-pub mod Counting
 pub mod Known
 pub mod Lines
 pub mod Look
 pub mod Memory
+pub mod Pieces
 pub mod Reader
 pub mod Standard
 pub mod Taken

@@ -1,4 +1,4 @@
--- What the bytes that a reader holds say of the next line.
+-- What the bytes that a reader holds say of the next line. No public clause cites it: only contracts of private functions.
 use Rattle.std.specs.Prelude.{◌≤◌, ◌<◌, ℕ, ◌+◌, List}
 use Rattle.aim_io.specs.declared.lines.Look.{Look}
 use Rattle.aim_io.specs.declared.lines.Look.TheVariants as look

@@ -1,5 +1,5 @@
 -- What contracts see of a line reader, and what its calls answer.
-use Rattle.std.specs.Prelude.{◌≡◌, ◌≤◌, ◌<◌, ℕ, ◌+◌, List, [], ◌∷◌, length, Bool, true, false, Some, None, Result, Ok, Err, ⊤, ◌⊎◌, IfSome, if◌then◌else◌}
+use Rattle.std.specs.Prelude.{◌≡◌, ◌≤◌, ◌<◌, ℕ, ◌+◌, List, [], ◌∷◌, ◌++◌, length, take, Bool, true, false, Some, None, Result, Ok, Err, ⊤, ◌⊎◌, IfSome, if◌then◌else◌}
 use Rattle.std.specs.Bool.{OnTrue, OnFalse}
 use Rattle.std.specs.Borrow.{Bor}
 use Rattle.std.specs.declared.option.Option.{Option}
@@ -68,6 +68,17 @@ after_call old new more = record old {
   place = old.place + length (taken_by new more);
   ended = new.ended;
 }
+
+-- The last read of a call that asks for the next line was needed: `part`, which begins with what was held, had been read of
+-- the bytes to come before it, and shows nothing of the next answer yet, neither the end of the line nor its 401st byte.
+-- `piece` is what that read gave.
+pub record Needed (old : Reader) (left_old left_new : Option (List ℕ)) (last : Option ℕ) : Type 0 where
+  pub part : List ℕ
+  pub piece : List ℕ
+  pub begins : take (length old.held) part ≡ old.held
+  pub shows : ShowsNothing old.given old.place part
+  pub keeps : Keeps (input old left_old) (prepend_known (part ++ piece) left_new)
+  pub told : IfSome last (λ n. n ≡ length piece)
 
 -- a call gave a line, or none at the end
 pub record Gave (old new : Reader) (left_old left_new : Option (List ℕ)) (more : Bool) : Type 0 where

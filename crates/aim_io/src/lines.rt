@@ -5,6 +5,7 @@ ghost use Rattle.std.specs.Io.KnownBytes.{Consumes, IsAtEnd, Keeps};
 ghost use Rattle.aim_io.specs.Causes.{HasCause, Rose};
 ghost use Rattle.aim_io.specs.Lines.{HasNoEnd, EndsAt, IsOpen, ShowsNothing, ShowsFault};
 ghost use Rattle.aim_io.specs.Look.{SaysOf};
+ghost use Rattle.aim_io.specs.Pieces.{TellsLast};
 
 use crate::{Failed, Source};
 use std::marker::Model;
@@ -58,7 +59,7 @@ fn line_end(bytes: &[u8]) -> Option<usize>
     bytes.iter().position(|&byte| byte == LINE_END)
 }
 
-// The same, where the first `seen` bytes were looked at before.
+// Where the first line ends, if its end is there, where the first `seen` bytes were looked at before.
 fn line_end_past(bytes: &[u8], seen: usize) -> Option<usize>
     requires in_range { seen ≤ length bytes.now }
     requires no_end { HasNoEnd (take seen bytes.now) }
@@ -126,6 +127,7 @@ fn read_at<S: Source>(
     ensures end { IfOk result (λ n. n ≡ 0 → IsAtEnd (S.left source.new)) }
     ensures err { OnErr result (Keeps (S.left source.old) (S.left source.new)) }
     ensures cause { HasCause (S.faults source.old) (S.faults source.new) result }
+    ensures last { TellsLast (S.last_read source.new) result }
 {
     let to = at + most.min(bytes.len() - at);
     let count = source.read(&mut bytes[at..to])?;
@@ -164,7 +166,7 @@ impl LineReader {
     ghost use Rattle.std.specs.Borrow.{sem};
     ghost use Rattle.std.specs.Io.BufRead.{Rests};
     ghost use Rattle.aim_io.specs.contracts.lines.LineReader.{the_row};
-    ghost use Rattle.aim_io.specs.Reader.{fresh, input, IsSound, KnowsEnd, Answers, taken_by, after_call, GivesLine};
+    ghost use Rattle.aim_io.specs.Reader.{fresh, input, IsSound, KnowsEnd, Answers, Needed, taken_by, after_call, GivesLine};
 
     /// A reader that has read nothing.
     pub fn new() -> LineReader
@@ -272,6 +274,7 @@ impl LineReader {
         ensures end { KnowsEnd self.old (S.left source.old) → IfOk result (λ more. OnFalse more (IsAtEnd (S.left source.new))) }
         ensures err { OnErr result ((self.new.held ≡ self.old.held) × (self.old.ended ≡ false)) }
         ensures ended { self.old.ended ≡ true → source.new ≡ source.old }
+        ensures last { self.old.ended ≡ false → IfSome (S.last_read source.new) (λ n. length self.new.held ≡ length self.old.held + n) }
         ensures cause { HasCause (S.faults source.old) (S.faults source.new) result }
     {
         if self.ended {
@@ -327,6 +330,7 @@ impl LineReader {
         // When it reads.
         ensures later { S.faults source.old ≤ S.faults source.new }
         ensures lazy { (IsOpen self.old.held → ⊥) → source.new ≡ source.old }
+        ensures needed { (source.new ≡ source.old) ⊎ Needed self.old (S.left source.old) (S.left source.new) (S.last_read source.new) }
         ensures ended { self.old.ended ≡ true → source.new ≡ source.old }
     {
         if let Some(fault) = self.fault {
@@ -360,6 +364,7 @@ impl LineReader {
         ensures again { IfSome self.old.fault (λ _. source.new ≡ source.old) }
         ensures later { S.faults source.old ≤ S.faults source.new }
         ensures lazy { (IsOpen self.old.held → ⊥) → source.new ≡ source.old }
+        ensures needed { (source.new ≡ source.old) ⊎ Needed self.old (S.left source.old) (S.left source.new) (S.last_read source.new) }
         ensures ended { self.old.ended ≡ true → source.new ≡ source.old }
     {
         match self.advance(source) {

@@ -4,6 +4,7 @@ ghost use Rattle.std.specs.Io.{ReadsAtMost, WritesAtMost};
 ghost use Rattle.std.specs.Io.KnownBytes.{ReadConsumes, WriteAppends};
 ghost use Rattle.aim_io.specs.Causes.{HasCause, counted};
 ghost use Rattle.aim_io.specs.Memory.{Supply, Store, is_listed};
+ghost use Rattle.aim_io.specs.Pieces.{TellsLast};
 
 use crate::{Failed, Sink, Source};
 use std::alloc::{AllocError, Global};
@@ -20,6 +21,7 @@ pub struct MemSource {
     failing: Vec<u64>,
     calls: u64,
     faults: u64,
+    last: usize,
 }
 
 impl Model for MemSource {
@@ -28,7 +30,7 @@ impl Model for MemSource {
 
     ghost Value = { Supply };
 
-    ghost view = { λ s. record { left = drop s.at s.bytes.items; failing = s.failing.items; calls = s.calls; faults = s.faults } };
+    ghost view = { λ s. record { left = drop s.at s.bytes.items; failing = s.failing.items; calls = s.calls; faults = s.faults; last = s.last } };
 
     ghost invariant = { λ s. s.at ≤ vec_len s.bytes };
 }
@@ -37,7 +39,7 @@ impl MemSource {
     /// A source of `bytes`. The calls of `read` whose numbers, counted from 0, are in `failing`
     /// fail. Takes no memory of its own.
     pub fn new(bytes: Vec<u8>, failing: Vec<u64>) -> MemSource
-        ensures { result ≡ record { left = bytes.items; failing = failing.items; calls = 0; faults = 0 } }
+        ensures { result ≡ record { left = bytes.items; failing = failing.items; calls = 0; faults = 0; last = 0 } }
     {
         MemSource {
             bytes,
@@ -45,6 +47,7 @@ impl MemSource {
             failing,
             calls: 0,
             faults: 0,
+            last: 0,
         }
     }
 }
@@ -54,27 +57,33 @@ impl Source for MemSource {
 
     ghost faults = { λ s. s.faults };
 
-    // A call that fails changes nothing but the counts. Another takes as many bytes as fit.
+    ghost last_read = { λ s. Some s.last };
+
+    // A call that fails changes nothing but the counts and what it gave. Another takes as many bytes as fit.
     fn read(&mut self, buf: &mut [u8]) -> Result<usize, Failed>
         ensures bound { ReadsAtMost result buf.new }
         ensures bytes { ReadConsumes (Some self.old.left) (Some self.new.left) result buf.new }
         ensures cause { HasCause self.old.faults self.new.faults result }
+        ensures last { TellsLast (Some self.new.last) result }
         ensures fails { is_err result ≡ is_listed self.old.failing self.old.calls }
         ensures most { IfOk result (λ n. n ≡ min (length self.old.left) (length buf.new)) }
         ensures counts { self.new ≡ record self.old {
           left = self.new.left;
           calls = counted self.old.calls;
           faults = if is_err result then counted self.old.faults else self.old.faults;
+          last = self.new.last;
         } }
     {
         let call = self.calls;
         self.calls = call.saturating_add(1);
+        self.last = 0;
         if self.failing.contains(&call) {
             self.faults = self.faults.saturating_add(1);
             return Err(Failed);
         }
         let count = copy_front(&self.bytes, self.at, buf);
         self.at += count;
+        self.last = count;
         Ok(count)
     }
 }

@@ -1,4 +1,4 @@
--- The sheets of a chain.
+-- The sheets of a chain. No public clause cites it: only the models of `Pool` and `Sheet`.
 use Rattle.std.specs.Prelude.{ℕ, ◌+◌, ◌≡◌, [], Option, None, Some, Box}
 use Rattle.std.specs.declared.alloc.Global.{Global}
 use Rattle.aim_pool.specs.Sheets.{Spans}

@@ -8,8 +8,6 @@
 mod pools;
 mod sheets;
 mod spans;
-#[cfg(test)]
-mod tests;
 
 pub use pools::{NoSheet, Pool};
 pub use sheets::{Sheet, SheetFull};

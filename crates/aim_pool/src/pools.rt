@@ -8,7 +8,7 @@ use std::alloc::Global;
 use std::marker::Model;
 
 /// There is no sheet in the pool.
-#[derive(Clone, Copy, Debug, PartialEq, Eq)]
+#[derive(Clone, Copy, Debug)]
 pub struct NoSheet;
 
 /// Sheets with one room, each linked to the next one. None has a span.

@@ -10,7 +10,7 @@ use std::alloc::Global;
 use std::marker::Model;
 
 /// There is no room for a further span.
-#[derive(Clone, Copy, Debug, PartialEq, Eq)]
+#[derive(Clone, Copy, Debug)]
 pub struct SheetFull;
 
 /// Spans in order, in the room that was made for them.
@@ -31,7 +31,7 @@ impl Model for Slots {
     ghost invariant = { λ s. IsInOrder (record { spans = s.held.items; room = s.room }) × (s.room ≤ vec_capacity s.held) };
 }
 
-/// The place of a step and row among the spans: how many of them come before it.
+// The place of a step and row among the spans: how many of them come before it.
 fn place_of(spans: &[Span], step: u32, row: u8) -> usize
     requires { AreRising spans.now }
     ensures within { result ≤ length spans.now }
@@ -51,7 +51,7 @@ fn place_of(spans: &[Span], step: u32, row: u8) -> usize
     spans.partition_point(|span| span.precedes(step, row))
 }
 
-/// Where the span of a step and row is, or else its place.
+// Where the span of a step and row is, or else its place.
 fn find(spans: &[Span], step: u32, row: u8) -> Result<usize, usize>
     requires { AreRising spans.now }
     ensures found { IfOk result (λ at. (at < length spans.now) × ((d : Span) → is_at (slice_index_or spans.now at d) step row ≡ true)) }
@@ -68,7 +68,7 @@ fn find(spans: &[Span], step: u32, row: u8) -> Result<usize, usize>
     Err(at)
 }
 
-/// The mask of the span of a step and row, or else 0.
+// The mask of the span of a step and row, or else 0.
 fn mask_of(spans: &[Span], step: u32, row: u8) -> u64
     requires { AreRising spans.now }
     ensures { (column : ℕ) → has_bit result column ≡ in_spans spans.now (step, row, column) }
@@ -79,7 +79,7 @@ fn mask_of(spans: &[Span], step: u32, row: u8) -> u64
     }
 }
 
-/// Gives the span at this place another one's bits too.
+// Gives the span at this place another one's bits too.
 fn join(spans: &mut [Span], at: usize, span: Span)
     requires in_range { at < length spans.old }
     requires same { (d : Span) → is_at (slice_index_or spans.old at d) span.step span.row ≡ true }
@@ -90,7 +90,7 @@ fn join(spans: &mut [Span], at: usize, span: Span)
     spans[at].mask |= span.mask;
 }
 
-/// Puts a span at this place, in room that is there.
+// Puts a span at this place, in room that is there.
 fn insert(spans: &mut Vec<Span>, at: usize, span: Span)
     requires room { vec_len spans.old < vec_capacity spans.old }
     requires within { at ≤ vec_len spans.old }

@@ -4,7 +4,7 @@ ghost use Rattle.std.specs.Prelude.{◌≡◌};
 ghost use Rattle.aim_pool.specs.Spans.{is_at, precedes};
 
 /// Some tiles of a row in a step: column `c` where bit `c` of the mask is set.
-#[derive(Clone, Copy, Debug, PartialEq, Eq)]
+#[derive(Clone, Copy, PartialEq, Eq)]
 pub struct Span {
     pub step: u32,
     pub row: u8,

@@ -1,4 +1,4 @@
--- What the pages of a table mean.
+-- What the pages of a table mean. No public clause cites it: only the table's model and contracts of private functions.
 use Rattle.std.specs.Prelude.{ℕ, zero, suc, ◌+◌, ◌*◌, ◌%◌, Bool, ◌&&◌, List, [], ◌∷◌, ◌++◌, slice_index}
 use Rattle.std.specs.FinSet as set
 use Rattle.aim_pool.specs.Spans.{Cell, has_bit}

@@ -5,7 +5,7 @@ ghost use Rattle.aim_tiles.specs.Cells.{in_range};
 
 use aim_pool::Span;
 
-/// Whether the mask has no column from this one on.
+// Whether the mask has no column from this one on.
 fn is_below(mask: u64, size: usize) -> bool
     requires { size ≤ 64 }
     ensures { IsTrue result ↔ (mask < 2 ^ size) }
@@ -13,7 +13,7 @@ fn is_below(mask: u64, size: usize) -> bool
     size == 64 || mask >> size == 0
 }
 
-/// Whether the span's row and columns are below the size.
+// Whether the span's row and columns are below the size.
 fn is_tile(span: &Span, size: usize) -> bool
     requires { size ≤ 64 }
     ensures { IsTrue result ↔ ((span.now.row < size) × (span.now.mask < 2 ^ size)) }

@@ -5,8 +5,8 @@ ghost use Rattle.std.specs.Prelude.{◌≡◌, ◌+◌, ◌<◌};
 use std::marker::Model;
 use std::sync::ledger::{Blank, Book, Ledger, Share};
 
-/// How many words of a table were read or written. It takes no bytes, and only the table's own calls
-/// raise it.
+/// How many words of the tables of the ledger `L` were read or written. It takes no bytes, and only the calls of those
+/// tables raise it. No call of this crate can make one: the blank is the caller's.
 #[derive(Drop)]
 pub struct Steps<L: Ledger> {
     book: Book<L>,

@@ -5,10 +5,10 @@ ghost use Rattle.aim_tiles.specs.Words.{AreApart, Meet};
 
 use std::simd::prelude::*;
 
-/// How many words are tested at once.
+// How many words are tested at once.
 const LANES: usize = 4;
 
-/// Whether one of four words from `at` on shares a bit with the other list's.
+// Whether one of four words from `at` on shares a bit with the other list's.
 #[inline]
 fn do_four_meet(left: &[u64], right: &[u64], at: usize) -> bool
     requires left { at + 4 ≤ length left.now }
@@ -19,7 +19,7 @@ fn do_four_meet(left: &[u64], right: &[u64], at: usize) -> bool
     both.reduce_or() != 0
 }
 
-/// The first place from `at` on at which the words share a bit, one word after the other.
+// The first place from `at` on at which the words share a bit, one word after the other.
 #[inline]
 fn plain_meeting(left: &[u64], right: &[u64], at: usize) -> Option<usize>
     requires same { length left.now ≡ length right.now }

@@ -10,12 +10,8 @@ mod counters;
 mod lanes;
 mod marks;
 mod pages;
-#[cfg(test)]
-mod plain;
 mod searches;
 mod tables;
-#[cfg(test)]
-mod tests;
 
 pub use counters::Steps;
 pub use lanes::first_meeting;

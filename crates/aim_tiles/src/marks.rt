@@ -12,7 +12,7 @@ use aim_pool::Span;
 use std::sync::ledger::Ledger;
 
 /// Marks the cells of the spans.
-pub(crate) fn mark_spans<L: Ledger>(pages: &mut Pages, spans: &[Span], steps: &mut Steps<L>)
+pub(crate) fn mark_spans<L: Ledger>(pages: &mut Pages<L>, spans: &[Span], steps: &mut Steps<L>)
     requires marked { AreMarked spans.now }
     requires tiles { AreTiles pages.old.size spans.now }
     ensures marks { (now : ℕ) → AreAhead now pages.old.horizon spans.now → (cell : Cell) → in_box pages.old.size pages.old.horizon now cell ≡ true → has_mark pages.new.words.items pages.old.size pages.old.horizon cell ≡ (has_mark pages.old.words.items pages.old.size pages.old.horizon cell || in_spans spans.now cell) }
@@ -29,9 +29,9 @@ pub(crate) fn mark_spans<L: Ledger>(pages: &mut Pages, spans: &[Span], steps: &m
     }
 }
 
-/// Takes the marks from the span's cells, if its step has a page.
+// Takes the marks from the span's cells, if its step has a page.
 #[inline]
-fn unmark_span<L: Ledger>(pages: &mut Pages, now: u32, span: Span, steps: &mut Steps<L>)
+fn unmark_span<L: Ledger>(pages: &mut Pages<L>, now: u32, span: Span, steps: &mut Steps<L>)
     requires row { span.row < pages.old.size }
     requires last { now ≤ 1073741824 }
     ensures marks { (cell : Cell) → in_box pages.old.size pages.old.horizon now cell ≡ true → has_mark pages.new.words.items pages.old.size pages.old.horizon cell ≡ (has_mark pages.old.words.items pages.old.size pages.old.horizon cell && not (in_span span cell)) }
@@ -48,7 +48,7 @@ fn unmark_span<L: Ledger>(pages: &mut Pages, now: u32, span: Span, steps: &mut S
 
 /// Takes the marks from the cells of the spans.
 pub(crate) fn unmark_spans<L: Ledger>(
-    pages: &mut Pages,
+    pages: &mut Pages<L>,
     now: u32,
     spans: &[Span],
     steps: &mut Steps<L>,
@@ -69,7 +69,7 @@ pub(crate) fn unmark_spans<L: Ledger>(
 
 /// Takes the marks from all cells of so many steps from now on.
 pub(crate) fn clear_pages<L: Ledger>(
-    pages: &mut Pages,
+    pages: &mut Pages<L>,
     now: u32,
     leaving: u32,
     steps: &mut Steps<L>,

@@ -6,16 +6,19 @@ ghost use Rattle.std.specs.Int.{bit_not, w64};
 use crate::NoMemory;
 use crate::counters::Steps;
 use std::alloc::Global;
+use std::marker::PhantomData;
 use std::sync::ledger::Ledger;
 
-/// As many pages as the horizon has steps, each of one word for each row.
+/// As many pages as the horizon has steps, each of one word for each row. They belong to the ledger `L`.
 ///
-/// Only the calls here reach the words, and each counts those that it reads or writes.
+/// Only the calls here reach the words. Each takes the ledger's own count, which no other call can make, and counts
+/// the words that it reads or writes.
 #[derive(Drop)]
-pub(crate) struct Pages {
+pub(crate) struct Pages<L: Ledger> {
     words: Vec<u64>,
     size: usize,
     horizon: u32,
+    ledger: PhantomData<L>,
     pub(crate) ghost whole: { length words.items ≡ horizon * size },
     pub(crate) ghost some: { 0 < size },
     pub(crate) ghost few: { size ≤ 64 },
@@ -23,8 +26,8 @@ pub(crate) struct Pages {
     pub(crate) ghost near: { horizon ≤ 8192 },
 }
 
-impl Pages {
-    pub(crate) fn new(alloc: Global, size: u32, horizon: u32) -> Result<Pages, NoMemory>
+impl<L: Ledger> Pages<L> {
+    pub(crate) fn new(alloc: Global, size: u32, horizon: u32) -> Result<Pages<L>, NoMemory>
         requires some { 0 < size }
         requires few { size ≤ 64 }
         requires ahead { 0 < horizon }
@@ -35,6 +38,7 @@ impl Pages {
             words: vec![in alloc; 0; (horizon * size) as usize]?,
             size: size as usize,
             horizon,
+            ledger: PhantomData,
         })
     }
 
@@ -63,7 +67,7 @@ impl Pages {
         (step % self.horizon) as usize * self.size
     }
 
-    /// The same, where the page of the step before is known.
+    /// Where the page of a step begins, where that of the step before it in a list is known.
     #[inline]
     pub(crate) fn page_after(&self, page: usize, before: u32, step: u32) -> usize
         requires { page ≡ before % self.now.horizon * self.now.size }
@@ -79,7 +83,7 @@ impl Pages {
 
     /// The words of so many rows from a place on.
     #[inline]
-    pub(crate) fn read<L: Ledger>(&self, at: usize, count: usize, steps: &mut Steps<L>) -> &[u64]
+    pub(crate) fn read(&self, at: usize, count: usize, steps: &mut Steps<L>) -> &[u64]
         requires { at + count ≤ length self.now.words.items }
         ensures words { result.now ≡ slice_range self.now.words.items at (at + count) }
         ensures len { length result.now ≡ count }
@@ -91,7 +95,7 @@ impl Pages {
 
     /// Sets the mask's bits in one word.
     #[inline]
-    pub(crate) fn mark<L: Ledger>(&mut self, at: usize, mask: u64, steps: &mut Steps<L>)
+    pub(crate) fn mark(&mut self, at: usize, mask: u64, steps: &mut Steps<L>)
         requires { at < length self.old.words.items }
         ensures words { self.new.words.items ≡ slice_set self.old.words.items at (bit_or (slice_index self.old.words.items at) mask) }
         ensures size { self.new.size ≡ self.old.size }
@@ -104,7 +108,7 @@ impl Pages {
 
     /// Clears the mask's bits in one word.
     #[inline]
-    pub(crate) fn unmark<L: Ledger>(&mut self, at: usize, mask: u64, steps: &mut Steps<L>)
+    pub(crate) fn unmark(&mut self, at: usize, mask: u64, steps: &mut Steps<L>)
         requires { at < length self.old.words.items }
         ensures words { self.new.words.items ≡ slice_set self.old.words.items at (bit_and (slice_index self.old.words.items at) (bit_not w64 mask)) }
         ensures fits { mask < 2 ^ 64 }
@@ -117,7 +121,7 @@ impl Pages {
     }
 
     /// Clears the page that begins at a place.
-    pub(crate) fn clear<L: Ledger>(&mut self, page: usize, steps: &mut Steps<L>)
+    pub(crate) fn clear(&mut self, page: usize, steps: &mut Steps<L>)
         requires { page + self.old.size ≤ length self.old.words.items }
         ensures page { (k : ℕ) → page ≤ k → k < page + self.old.size → slice_index self.new.words.items k ≡ 0 }
         ensures below { (k : ℕ) → k < page → slice_index self.new.words.items k ≡ slice_index self.old.words.items k }

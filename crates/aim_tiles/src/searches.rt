@@ -12,8 +12,8 @@ use crate::pages::Pages;
 use aim_pool::{Sheet, Span};
 use std::sync::ledger::Ledger;
 
-/// Gathers the masks of the first spans, as far as they are of one step and of neighbouring rows, and
-/// says how many these are.
+// Gathers the masks of the first spans, as far as they are of one step and of neighbouring rows, and
+// says how many these are.
 fn gather(spans: &[Span], masks: &mut [u64; 64]) -> usize
     requires some { 0 < length spans.now }
     requires few { (k : ℕ) (d : Span) → k < length spans.now → (slice_index_or spans.now k d).row < 64 }
@@ -35,7 +35,7 @@ fn gather(spans: &[Span], masks: &mut [u64; 64]) -> usize
     count
 }
 
-/// The columns of the own sheet, if there is one, in a row of a step.
+// The columns of the own sheet, if there is one, in a row of a step.
 fn own_mask(own: Option<&Sheet>, step: u32, row: u8) -> u64
     ensures { (column : ℕ) → has_bit result column ≡ in_spans (spans_of (option_copied own.entry)) (step, row, column) }
 {
@@ -45,9 +45,9 @@ fn own_mask(own: Option<&Sheet>, step: u32, row: u8) -> u64
     }
 }
 
-/// The first taken cell of a run of spans, whose masks are given.
+// The first taken cell of a run of spans, whose masks are given.
 fn first_in_run<L: Ledger>(
-    pages: &Pages,
+    pages: &Pages<L>,
     now: u32,
     run: &[Span],
     masks: &[u64],
@@ -85,7 +85,7 @@ fn first_in_run<L: Ledger>(
 
 /// The first taken cell of the spans that is none of the own sheet's.
 pub(crate) fn first_in_spans<L: Ledger>(
-    pages: &Pages,
+    pages: &Pages<L>,
     now: u32,
     spans: &[Span],
     own: Option<&Sheet>,

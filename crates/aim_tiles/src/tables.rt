@@ -19,14 +19,15 @@ use std::alloc::Global;
 use std::marker::Model;
 use std::sync::ledger::Ledger;
 
-/// The cells that are taken in the steps from now on up to the horizon.
+/// The cells that are taken in the steps from now on up to the horizon. Its words are counted in the ledger `L`, and
+/// no call here can read or write one without that ledger's count.
 #[derive(Drop)]
-pub struct Table {
-    pages: Pages,
+pub struct Table<L: Ledger> {
+    pages: Pages<L>,
     current: u32,
 }
 
-impl Model for Table {
+impl<L: Ledger> Model for Table<L> {
     ghost use Rattle.std.specs.Prelude.{◌≤◌};
     ghost use Rattle.aim_tiles.specs.Cells.{TakenCells, taken_code};
 
@@ -41,9 +42,9 @@ impl Model for Table {
     ghost invariant = { λ t. t.current ≤ 1073741824 };
 }
 
-impl Table {
+impl<L: Ledger> Table<L> {
     /// A table of `n` rows and columns over so many steps. No cell is taken, and now is 0.
-    pub fn new(alloc: Global, n: u32, horizon: u32) -> Result<Table, NoMemory>
+    pub fn new(alloc: Global, n: u32, horizon: u32) -> Result<Table<L>, NoMemory>
         requires some { 0 < n }
         requires few { n ≤ 64 }
         requires ahead { 0 < horizon }
@@ -96,13 +97,12 @@ impl Table {
     }
 
     /// Goes on to a later step: the cells of the steps before it leave.
-    pub fn advance<L: Ledger>(&mut self, now: u32, steps: &mut Steps<L>)
+    pub fn advance(&mut self, now: u32, steps: &mut Steps<L>)
         requires later { self.old.current ≤ now }
         requires last { now ≤ 1073741824 }
         ensures cells { (cell : Cell) → has_cell self.new cell ≡ (has_cell self.old cell && nat_le now cell.0) }
         ensures rest { self.new ≡ record self.old { current = now; cells = self.new.cells } }
-        ensures cost { steps.new ≤ steps.old + self.old.size * min (now - self.old.current) self.old.horizon }
-        ensures counted { steps.old ≤ steps.new }
+        ensures cost { steps.new ≡ steps.old + self.old.size * min (now - self.old.current) self.old.horizon }
     {
         let leaving = (now - self.current).min(self.pages.horizon());
         clear_pages(&mut self.pages, self.current, leaving, steps);
@@ -111,7 +111,7 @@ impl Table {
 
     /// The least cell of the sheet, by step, then row, then column, that is taken and is none of the own
     /// sheet's.
-    pub fn first_taken<L: Ledger>(
+    pub fn first_taken(
         &self,
         sheet: &Sheet,
         own: Option<&Sheet>,
@@ -127,19 +127,18 @@ impl Table {
     }
 
     /// Takes the sheet's cells.
-    pub fn claim<L: Ledger>(&mut self, sheet: &Sheet, steps: &mut Steps<L>)
+    pub fn claim(&mut self, sheet: &Sheet, steps: &mut Steps<L>)
         requires tiles { AreTiles self.old.size sheet.now.spans }
         requires ahead { AreAhead self.old.current self.old.horizon sheet.now.spans }
         ensures cells { (cell : Cell) → has_cell self.new cell ≡ (has_cell self.old cell || in_spans sheet.now.spans cell) }
         ensures rest { self.new ≡ record self.old { cells = self.new.cells } }
-        ensures cost { steps.new ≤ steps.old + length sheet.now.spans }
-        ensures counted { steps.old ≤ steps.new }
+        ensures cost { steps.new ≡ steps.old + length sheet.now.spans }
     {
         mark_spans(&mut self.pages, sheet.spans(), steps);
     }
 
     /// Lets go of the sheet's cells. Those of steps that the table doesn't have are passed over.
-    pub fn release<L: Ledger>(&mut self, sheet: &Sheet, steps: &mut Steps<L>)
+    pub fn release(&mut self, sheet: &Sheet, steps: &mut Steps<L>)
         requires { AreTiles self.old.size sheet.now.spans }
         ensures cells { (cell : Cell) → has_cell self.new cell ≡ (has_cell self.old cell && not (in_spans sheet.now.spans cell)) }
         ensures rest { self.new ≡ record self.old { cells = self.new.cells } }

@@ -1,4 +1,5 @@
--- The rule of the turn, and what each step tells.
+-- The rule of the turn, and what each step tells. No public clause cites it: the rule, the models of passes and fronts, and
+-- contracts of private functions do.
 -- Word 0, TICKET, is the next ticket to draw. Word 1, SERVING, is the ticket that has its turn. Word 2, COUNT, is the length of the history. The one slot has the kept value.
 use Rattle.std.specs.Prelude.{◌≡◌, ◌≢◌, ◌⊎◌, ℕ, ◌+◌, ◌%◌, ◌^◌, ◌<◌, ◌≤◌, ◌==◌, if◌then◌else◌, nat_lt, Bool, true, false, List, [], ◌∷◌, ◌++◌, map, length, MatchBool, Option, Some, None}
 use mathlib.Core.Option.{some, none}

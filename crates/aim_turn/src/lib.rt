@@ -8,12 +8,11 @@
 mod kept;
 mod pass;
 mod rule;
-#[cfg(test)]
-mod tests;
 mod turnstile;
 mod view;
 
 pub use kept::Kept;
 pub use pass::{Front, Pass};
+pub use std::alloc::AllocError as NoMemory;
 pub use turnstile::Turnstile;
 pub use view::View;

@@ -1,4 +1,7 @@
 //! What a caller carries.
+ghost use Rattle.std.specs.Prelude.{◌≡◌};
+ghost use Rattle.aim_turn.specs.History.{entries_of};
+
 use crate::kept::Kept;
 use crate::rule::Chair;
 use std::marker::Model;
@@ -22,6 +25,16 @@ impl<K: Kept> Model for Pass<K> {
     ghost view = { λ p. record { table = p.seat.table_id; setting = p.seat.me.0.setting; number = p.number; seen = p.seat.me.0.seen; mine = p.seat.me.0.mine } };
 
     ghost invariant = { λ p. Sits K.caller_of p.number p.seat.me };
+}
+
+impl<K: Kept> Pass<K> {
+    /// The pass's number. What the pass has of its own entries is all entries of that number that it has seen.
+    pub fn number(&self) -> u32
+        ensures number { result ≡ self.now.number }
+        ensures mine { entries_of K.caller_of self.now.number self.now.seen ≡ self.now.mine }
+    {
+        self.number
+    }
 }
 
 /// A note of the history that a pass had seen. It has no bytes.

@@ -4,13 +4,14 @@ ghost use Rattle.aim_turn.specs.Turned.{meaning, Rests, Entered, Leaves, Left, o
 ghost use Rattle.aim_turn.specs.History.{entries_of};
 ghost use Rattle.aim_turn.specs.Models.{IsPassOf, IsSamePass, MakesCall, HasPass, MeetsFront, PassModel, new_pass};
 
+use crate::NoMemory;
 use crate::kept::Kept;
 use crate::pass::{Front, Pass};
 use crate::rule::{
     Arrive, Chair, Count, Deal, Desk, Draw, Gather, Look, Note, Opening, Refresh, ServeNext,
 };
 use atomic_table::Table;
-use std::alloc::{AllocError, Global};
+use std::alloc::Global;
 use std::marker::Model;
 use std::snapshot::Snapshot;
 use std::sync::Wait;
@@ -92,7 +93,7 @@ fn leave<K: Kept>(desk: &Desk<K>, seat: &mut Chair<K>, number: u32, kept: K, mad
 }
 
 // The table, with the seat that has all numbers to give.
-fn laid<K: Kept>(alloc: Global, kept: K, numbers: &[u32]) -> Result<(Desk<K>, Chair<K>), AllocError>
+fn laid<K: Kept>(alloc: Global, kept: K, numbers: &[u32]) -> Result<(Desk<K>, Chair<K>), NoMemory>
     requires distinct { AllPairs (λ m n. m ≢ n) numbers.now }
     requires empty { K.entries kept ≡ [] }
     ensures counts { IfOk result (λ r. (r.0.shared.table_id.words ≡ 3) × (r.0.shared.table_id.slots ≡ 1)) }
@@ -108,7 +109,7 @@ fn laid<K: Kept>(alloc: Global, kept: K, numbers: &[u32]) -> Result<(Desk<K>, Ch
     slots.push_reserved(Some(kept));
     match Table::new(alloc, &[0, 0, 0], slots, &about) {
         Ok((desk, seat)) => Ok((desk, seat)),
-        Err(_) => Err(AllocError),
+        Err(_) => Err(NoMemory),
     }
 }
 
@@ -171,7 +172,7 @@ impl<K: Kept> Turnstile<K> {
         alloc: Global,
         kept: K,
         numbers: &[u32],
-    ) -> Result<(Turnstile<K>, Vec<Pass<K>>), AllocError>
+    ) -> Result<(Turnstile<K>, Vec<Pass<K>>), NoMemory>
         requires some { 0 < length numbers.now }
         requires distinct { AllPairs (λ m n. m ≢ n) numbers.now }
         requires empty { K.entries kept ≡ [] }
@@ -245,7 +246,8 @@ impl<K: Kept> Turnstile<K> {
         finish(desk, main)
     }
 
-    /// The same, where one pass stands beside the others. It takes no memory, as a push onto `passes` might.
+    /// Ends the turns as `close` does, where one pass stands beside the others. It takes no memory, as a push onto
+    /// `passes` might.
     pub fn close_with(self, passes: Vec<Pass<K>>, last: Pass<K>) -> K
         requires own { All (λ p. p.table ≡ self.table) passes.items × (last.table ≡ self.table) }
         requires all { length passes.items + 1 ≡ length self.numbers }

@@ -17,10 +17,10 @@ use std::rt::Runtime;
 use std::sync::ledger::{Blank, Ledger};
 use std::time::Instant;
 
-/// How many sheets lie side by side, each in eight columns of 48.
+// How many sheets lie side by side, each in eight columns of 48.
 const SHEETS: u32 = 6;
 
-/// Fills a sheet with a thousand spans: seven rows in each step, which move up slowly.
+// Fills a sheet with a thousand spans: seven rows in each step, which move up slowly.
 fn fill(sheet: &mut Sheet, lane: u32)
     requires { lane < 8 }
 {
@@ -50,8 +50,8 @@ fn make_sheets(alloc: Global) -> Result<Vec<Sheet>> {
     Ok(sheets)
 }
 
-/// Whether the table has all cells of the sheets.
-fn are_ready(table: &Table, sheets: &[Sheet]) -> bool
+// Whether the table has all cells of the sheets.
+fn are_ready<L: Ledger>(table: &Table<L>, sheets: &[Sheet]) -> bool
     ensures { OnTrue result (AreReady table.now sheets.now) }
 {
     for sheet in sheets {
@@ -62,8 +62,8 @@ fn are_ready(table: &Table, sheets: &[Sheet]) -> bool
     true
 }
 
-/// Claims all sheets, and says how many were free.
-fn claim_all<L: Ledger>(table: &mut Table, sheets: &[Sheet], steps: &mut Steps<L>) -> u32
+// Claims all sheets, and says how many were free.
+fn claim_all<L: Ledger>(table: &mut Table<L>, sheets: &[Sheet], steps: &mut Steps<L>) -> u32
     requires ready { AreReady table.old sheets.now }
     requires few { length sheets.now < 2 ^ 32 }
     ensures rest { table.new ≡ record table.old { cells = table.new.cells } }
@@ -78,8 +78,8 @@ fn claim_all<L: Ledger>(table: &mut Table, sheets: &[Sheet], steps: &mut Steps<L
     free
 }
 
-/// Lets go of all sheets.
-fn release_all<L: Ledger>(table: &mut Table, sheets: &[Sheet], steps: &mut Steps<L>)
+// Lets go of all sheets.
+fn release_all<L: Ledger>(table: &mut Table<L>, sheets: &[Sheet], steps: &mut Steps<L>)
     requires ready { AreReady table.old sheets.now }
     ensures rest { table.new ≡ record table.old { cells = table.new.cells } }
 {
@@ -88,7 +88,7 @@ fn release_all<L: Ledger>(table: &mut Table, sheets: &[Sheet], steps: &mut Steps
     }
 }
 
-/// Claims the sheets so many times, and gives how many were free, and the nanoseconds.
+// Claims the sheets so many times, and gives how many were free, and the nanoseconds.
 fn measure<L: Ledger>(
     rt: &impl Runtime,
     alloc: Global,
@@ -101,7 +101,7 @@ fn measure<L: Ledger>(
 {
     let mut steps = Steps::<L>::new(blank);
     let sheets = make_sheets(alloc)?;
-    let mut table = Table::new(alloc, 48, 256)?;
+    let mut table = Table::<L>::new(alloc, 48, 256)?;
     if sheets.len() > 8 || !are_ready(&table, &sheets) {
         bail!("the sheets don't fit the table");
     }

@@ -9,10 +9,10 @@ mod register;
 ghost use Rattle.std.specs.Prelude.{◌≡◌, All, length, IfOk};
 ghost use Rattle.aim_turn.specs.Models.{IsPassOf, IsSamePass};
 
-use aim_turn::{Pass, Turnstile};
+use aim_turn::{NoMemory, Pass, Turnstile};
 use anyhow::Context;
 use register::{Register, Work, mixed};
-use std::alloc::{AllocError, Global};
+use std::alloc::Global;
 use std::sync::Wait;
 use std::thread::Threads;
 use std::time::{Clock, Instant};
@@ -20,7 +20,7 @@ use std::{env, thread};
 
 const CALLERS: u32 = 4;
 
-/// What is timed: how many calls each caller makes, and how many rounds of work it does in each and between two.
+// What is timed: how many calls each caller makes, and how many rounds of work it does in each and between two.
 #[derive(Drop)]
 struct Plan {
     calls: u32,
@@ -54,7 +54,7 @@ fn all_calls<R: Threads + Wait + Sync>(
     turnstile: &Turnstile<Register>,
     passes: Vec<Pass<Register>>,
     plan: &Plan,
-) -> Result<Vec<Pass<Register>>, AllocError>
+) -> Result<Vec<Pass<Register>>, NoMemory>
     requires own { All (λ p. IsPassOf turnstile.now p) passes.items }
     ensures same { IfOk result (λ v. All (λ p. p.table ≡ turnstile.now.table) v.items × (length v.items ≡ length passes.items)) }
 {

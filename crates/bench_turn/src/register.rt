@@ -1,8 +1,8 @@
 //! What stands under the turn while it is timed: a register that callers write marks into.
 ghost use Rattle.std.specs.Prelude.{◌≡◌, ◌≤◌, [], vec_capacity, is_some, IfOk};
 
-use aim_turn::Kept;
-use std::alloc::{AllocError, Global};
+use aim_turn::{Kept, NoMemory};
+use std::alloc::Global;
 
 /// One entry.
 #[derive(Clone, Copy)]
@@ -25,7 +25,7 @@ pub struct Register {
 }
 
 impl Register {
-    pub fn new(alloc: Global, room: u32) -> Result<Register, AllocError>
+    pub fn new(alloc: Global, room: u32) -> Result<Register, NoMemory>
         ensures { IfOk result (λ r. r.marks.items ≡ []) }
     {
         let marks = Vec::with_capacity(alloc, room as usize)?;

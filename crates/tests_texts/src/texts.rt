@@ -1,7 +1,7 @@
 //! Entries that come back, and texts that are appended to what stands there.
 use aim_msg::{
-    Act, Body, Entry, Line, LineKind, Message, Name, OPERATOR, Order, Params, Reason, Reply, Turn, entry_text,
-    put_number, read_entry, write_entry, write_line, write_message, write_reply,
+    Act, Body, Entry, Line, LineKind, Message, Name, OPERATOR, Order, Params, Reason, Reply, Turn,
+    entry_text, put_number, read_entry, write_entry, write_line, write_message, write_reply,
 };
 use std::test::Fail;
 

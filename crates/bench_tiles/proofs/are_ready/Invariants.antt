@@ -4,4 +4,4 @@ use Rattle.bench_tiles.specs.Ready.{IsReady}
 use Rattle.bench_tiles.proofs.are_ready.Given as goal
 
 abbrev pub invariant-loop-sheet : goal.invariant-loop-sheet
-invariant-loop-sheet l = (k : ℕ) (d : Spans) → k < l.sheet-index → IsReady l.table (slice_index_or l.sheets k d)
+invariant-loop-sheet g l = (k : ℕ) (d : Spans) → k < l.sheet-index → IsReady l.table (slice_index_or l.sheets k d)

@@ -37,6 +37,7 @@ returns-in-Err g c =
         again = source_same _ _ _ _ e.again;
         later = e.later;
         lazy = e.lazy;
+        needed = e.needed;
         ended = e.ended;
       },
     )
