@@ -1,14 +1,15 @@
 -- How a replay goes on with one more line, and how it ends.
-use Rattle.std.proofs.Common.{◌≡◌, ℕ, ◌+◌, ◌<◌, ◌≤◌, Bool, true, false, List, [], ◌∷◌, ◌++◌, length, Option, Some, None, IfSome, Ok, Err, refl, sym, ap, ◌∙◌, subst, arith, append_assoc, append-nil, length-append}
+use Rattle.std.proofs.Common.{◌≡◌, ◌⊎◌, inl, inr, ℕ, ◌+◌, ◌<◌, ◌≤◌, Bool, true, false, List, [], ◌∷◌, ◌++◌, length, Option, Some, None, IfSome, Ok, Err, refl, sym, ap, ◌∙◌, subst, arith, append_assoc, append-nil, length-append}
 use Rattle.std.specs.List.{AllByRecursion}
 use Rattle.std.specs.Bool.{OnTrue, OnFalse}
 use Rattle.std.specs.Io.KnownBytes.{Appends, Consumes, Keeps, IsAtEnd, prepend_known}
 use Rattle.std.proofs.KnownBytes.{Appends-nil, Appends-trans, Consumes-trans}
+use Rattle.std.proofs.lemmas.Bool.{cases_Bool}
 use Rattle.aim_io.specs.declared.lines.LineFault.{LineFault}
 use Rattle.aim_io.specs.declared.lines.LineFault.TheVariants as line_fault
 use Rattle.aim_io.specs.Known.{AppendsFront}
 use Rattle.aim_io.specs.Lines.{Outcome, Line as LineOf, Stop, outcomes_from, IsOpen, ShowsNothing, with_end}
-use Rattle.aim_io.specs.Reader.{Reader, fresh, input, coming, taken_by, Answers, Stops, KnowsEnd, IsSound, after_call}
+use Rattle.aim_io.specs.Reader.{Reader, fresh, input, coming, taken_by, Needed, Answers, Stops, KnowsEnd, IsSound, after_call}
 use Rattle.aim_msg.specs.Texts.{entry_text, spaced}
 use Rattle.aim_msg.specs.declared.entries.Entry.{Entry}
 use Rattle.aim_msg.specs.declared.script.Line.{Line}
@@ -26,7 +27,7 @@ use Rattle.aim_replay.specs.Texts.{entry_lines, printed, journal_of, decision_wo
 use Rattle.aim_replay.specs.Today.{today}
 use Rattle.aim_replay.specs.Stands.{IsHeader}
 use Rattle.aim_replay.specs.Stages.{Stands, Says, Judged, Makes, MayTake, journal_at}
-use Rattle.aim_replay.specs.Replays.{Replays, StopsShort, TakesAtMost, Writes, WritesFront, ended, script_after, unless_decided, entries_text, made_line}
+use Rattle.aim_replay.specs.Replays.{LastNeeded, Replays, StopsShort, TakesAtMost, Writes, WritesFront, ended, script_after, unless_decided, entries_text, made_line}
 use Rattle.aim_replay.specs.Sessions.{Decides, Placed, Took, Reached, Responds, Comes}
 use Rattle.aim_replay.proofs.TextLemmas.{entry_lines-append, Begins, journal_of_begins, nothing_begins}
 
@@ -243,6 +244,32 @@ pub most_fault : (start left after old_held now : Option (List ℕ)) (old new : 
 most_fault start left after old_held now old new s f r is kept sound =
     let place : old.place ≡ new.place = sym (ap (λ (x : Reader). x.place) is) in
     most_held start (input old left) after new (subst (Placed start (input old left)) place r.placed) kept sound
+
+-- after a call that has read, its last read was needed
+needed_read : (bytes before after start now : Option (List ℕ)) (old : Reader) (s : Stage) (last : Option ℕ) → Reached bytes (input old before) start now old s → old.ended ≡ false → Needed old before after last → LastNeeded today bytes after last
+needed_read bytes before after start now old s last r going needed =
+    let took = r.took going in
+    record {
+      lines = took.lines;
+      part = needed.part;
+      piece = needed.piece;
+      taken = held_back bytes (input old before) after (ended took.lines) (needed.part ++ needed.piece) took.taken needed.keeps;
+      before = r.before;
+      whole = took.whole;
+      is_open = needed.shows.is_open;
+      undecided = λ some. rw took.count (needed.shows.few some);
+      told = needed.told;
+    }
+
+-- the last of all reads was needed, if there was one
+pub needed_call : {S : Type 0} (left : S → Option (List ℕ)) (last : S → Option ℕ) (first before after : S) (start now : Option (List ℕ)) (old : Reader) (s : Stage) → Reached (left first) (input old (left before)) start now old s
+    → (old.ended ≡ true → after ≡ before) → (after ≡ before) ⊎ Needed old (left before) (left after) (last after)
+    → (before ≡ first) ⊎ LastNeeded today (left first) (left before) (last before) → (after ≡ first) ⊎ LastNeeded today (left first) (left after) (last after)
+needed_call {S = S} left last first before after start now old s r quiet (inl same) needed = subst (λ (x : S). (x ≡ first) ⊎ LastNeeded today (left first) (left x) (last x)) (sym same) needed
+needed_call {S = S} left last first before after start now old s r quiet (inr read) needed = elim (cases_Bool old.ended) [
+  | inl ended ↦ subst (λ (x : S). (x ≡ first) ⊎ LastNeeded today (left first) (left x) (last x)) (sym (quiet ended)) needed
+  | inr going ↦ inr (needed_read (left first) (left before) (left after) start now old s (last after) r going read)
+]
 
 pub reached_more : (bytes rest left start mid now : Option (List ℕ)) (old new : Reader) (s next : Stage) (r : Reached bytes rest start mid old s) → Gives old new rest left → Responds r.before s new.line mid now (Ok next)
     → Reached bytes left start now new next

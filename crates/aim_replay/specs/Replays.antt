@@ -52,6 +52,19 @@ pub record StopsShort (missing : Missing) (left_old left_new held_old held_new :
   pub whole : AreWhole missing lines before
   pub written : Appends held_old held_new (entry_lines 0 (journal (layout_of before) (calls_of before)))
 
+-- The last read was needed: what was read before it are whole lines, none of which decides, and the beginning of a further
+-- line, which doesn't decide either. `piece` is what that read gave, as far as the source tells it.
+pub record LastNeeded (missing : Missing) (left_old left_new : Option (List ℕ)) (last : Option ℕ) : Type 0 where
+  pub lines : List (List ℕ)
+  pub part : List ℕ
+  pub piece : List ℕ
+  pub taken : Consumes left_old left_new (ended lines ++ (part ++ piece))
+  pub before : List Line
+  pub whole : AreWhole missing lines before
+  pub is_open : IsOpen part
+  pub undecided : 0 < length part → length lines < 262144
+  pub told : IfSome last (λ n. n ≡ length piece)
+
 -- where the source tells its bytes, a front of their text was written
 abbrev pub WritesFront : Option (List ℕ) → Option (List ℕ) → Option (List ℕ) → (List ℕ → List ℕ) → Type 0
 WritesFront bytes old new text = IfSome bytes (λ bs. AppendsFront old new (text bs))

@@ -9,7 +9,7 @@ ghost use Rattle.aim_msg.specs.Texts.{entry_text as text_of, spaced};
 ghost use Rattle.aim_replay.specs.Texts.{decision_words, printed, replay_text};
 ghost use Rattle.aim_replay.specs.Today.{today};
 ghost use Rattle.aim_replay.specs.Stages.{MayTake, Stands, journal_at};
-ghost use Rattle.aim_replay.specs.Replays.{Replays, StopsShort, TakesAtMost, Writes, WritesFront, entries_text, made_line};
+ghost use Rattle.aim_replay.specs.Replays.{LastNeeded, Replays, StopsShort, TakesAtMost, Writes, WritesFront, entries_text, made_line};
 ghost use Rattle.aim_replay.specs.Sessions.{Comes, IsWholeLine, Responds, is_whole};
 
 use crate::decisions::{Decision, Kind, Limit, last_line};
@@ -110,6 +110,7 @@ fn replay_lines<S: Source, K: Sink>(
     ensures front { OnErr result (WritesFront (S.left source.old) (K.held sink.old) (K.held sink.new) (entries_text today)) }
     ensures ended { IfOk result (λ decision. is_whole decision ≡ true → IsAtEnd (S.left source.new)) }
     ensures most { TakesAtMost 67108865 (S.left source.old) (S.left source.new) }
+    ensures needed { (source.new ≡ source.old) ⊎ LastNeeded today (S.left source.old) (S.left source.new) (S.last_read source.new) }
     ensures short { result ≡ Err Stop.Read → StopsShort today (S.left source.old) (S.left source.new) (K.held sink.old) (K.held sink.new) }
     ensures memory { result ≡ Err Stop.NoMemory → Appends (K.held sink.old) (K.held sink.new) [] }
     ensures read { result ≡ Err Stop.Read → Rose (S.faults source.old) (S.faults source.new) }
@@ -163,6 +164,7 @@ fn replay_script<S: Source, K: Sink>(
     ensures front { OnErr result (WritesFront (S.left source.old) (K.held sink.old) (K.held sink.new) (replay_text today None)) }
     ensures ended { IfOk result (λ decision. is_whole decision ≡ true → IsAtEnd (S.left source.new)) }
     ensures most { TakesAtMost 67108865 (S.left source.old) (S.left source.new) }
+    ensures needed { (source.new ≡ source.old) ⊎ LastNeeded today (S.left source.old) (S.left source.new) (S.last_read source.new) }
     ensures short { result ≡ Err Stop.Read → StopsShort today (S.left source.old) (S.left source.new) (K.held sink.old) (K.held sink.new) }
     ensures memory { result ≡ Err Stop.NoMemory → Appends (K.held sink.old) (K.held sink.new) [] }
     ensures read { result ≡ Err Stop.Read → Rose (S.faults source.old) (S.faults source.new) }
@@ -189,8 +191,10 @@ pub fn replay<S: Source, K: Sink>(alloc: Global, source: &mut S, sink: &mut K) -
         (λ bytes. Replays today None bytes (K.held sink.old) (K.held sink.new) result) }
     ensures ended { result ≡ 0 → IsAtEnd (S.left source.new) }
 
-    // No more than one byte past the greatest input is taken, whatever the status.
+    // Whatever the status, no more than one byte past the greatest input is taken, and nothing is read behind bytes that
+    // decide.
     ensures most { TakesAtMost 67108865 (S.left source.old) (S.left source.new) }
+    ensures needed { (source.new ≡ source.old) ⊎ LastNeeded today (S.left source.old) (S.left source.new) (S.last_read source.new) }
 
     // With another status what is written is a front of that text.
     ensures front { (result ≡ 4) ⊎ ((result ≡ 5) ⊎ (result ≡ 7)) → WritesFront (S.left source.old) (K.held sink.old) (K.held sink.new) (replay_text today None) }

@@ -1,8 +1,8 @@
-use Rattle.std.proofs.Common.{arith, ◌+◌, ap, sym, ◌∙◌, refl, Err, true, false}
+use Rattle.std.proofs.Common.{arith, ◌+◌, ap, sym, ◌∙◌, refl, inl, Err, true, false}
 use Rattle.aim_io.specs.declared.lines.LineFault.TheVariants as line_fault
 use Rattle.aim_io.specs.Reader.{Reader}
 use Rattle.aim_replay.specs.declared.decisions.Decision.TheVariants as decision
-use Rattle.aim_replay.proofs.SessionLemmas.{Gives, on_true, sound_start, knows_start, reached_start, reached_more, front_reached, short_reached, fault_told, fault_written, end_told, end_written, bad_told, bad_written, line_told, stops_inside, memory_front, most_call, most_fault}
+use Rattle.aim_replay.proofs.SessionLemmas.{Gives, on_true, sound_start, knows_start, reached_start, reached_more, front_reached, short_reached, fault_told, fault_written, end_told, end_written, bad_told, bad_written, line_told, stops_inside, memory_front, most_call, most_fault, needed_call, left_at_end, on_false}
 use Rattle.aim_replay.proofs.session.replay_lines.Goals as goal
 
 pub lines-init : goal.lines-init
@@ -12,6 +12,7 @@ lines-init g c = record {
   no_fault = ap (λ (r : Reader). r.fault) c.new-reader.ensures;
   sound = rw c.new-reader.ensures sound_start;
   knows = rw c.new-reader.ensures (knows_start (g.S.Source.left c.args.source.now));
+  needed = inl refl;
   source = omega arith;
   sink = omega arith;
 }
@@ -122,6 +123,7 @@ lines-preserved g c =
       no_fault = ap (λ (r : Reader). r.fault) gives.after ∙ i.no_fault;
       sound = e.sound;
       knows = c.advance.ensures.knows i.knows;
+      needed = needed_call g.S.Source.left g.S.Source.last_read _ _ _ _ _ _ _ c.lines.invariant.reached c.advance.ensures.ended c.advance.ensures.needed c.lines.invariant.needed;
       source = omega (arith, i.source, c.advance.ensures.later);
       sink = omega (arith, i.sink, c.answer_line.ensures.later);
     }
@@ -179,3 +181,34 @@ returns-in-Err-NoMemory-clause-most g c =
     let e = c.in-Ok-true.ensures in
     let t = c.in-Ok-true.field-0-test in
     most_call _ _ _ _ _ _ _ _ true c.lines.invariant.reached (rw t at e.taken) (rw t at e.after) e.sound
+
+pub returns-in-Err-Read-clause-needed : goal.returns-in-Err-Read-clause-needed
+returns-in-Err-Read-clause-needed g c = needed_call g.S.Source.left g.S.Source.last_read _ _ _ _ _ _ _ c.lines.invariant.reached c.advance.ensures.ended c.advance.ensures.needed c.lines.invariant.needed
+
+pub returns-in-Err-Long-clause-needed : goal.returns-in-Err-Long-clause-needed
+returns-in-Err-Long-clause-needed g c = needed_call g.S.Source.left g.S.Source.last_read _ _ _ _ _ _ _ c.lines.invariant.reached c.advance.ensures.ended c.advance.ensures.needed c.lines.invariant.needed
+
+pub returns-in-Err-Bytes-clause-needed : goal.returns-in-Err-Bytes-clause-needed
+returns-in-Err-Bytes-clause-needed g c = needed_call g.S.Source.left g.S.Source.last_read _ _ _ _ _ _ _ c.lines.invariant.reached c.advance.ensures.ended c.advance.ensures.needed c.lines.invariant.needed
+
+pub returns-in-Err-Lines-clause-needed : goal.returns-in-Err-Lines-clause-needed
+returns-in-Err-Lines-clause-needed g c = needed_call g.S.Source.left g.S.Source.last_read _ _ _ _ _ _ _ c.lines.invariant.reached c.advance.ensures.ended c.advance.ensures.needed c.lines.invariant.needed
+
+pub returns-in-Ok-false-clause-needed : goal.returns-in-Ok-false-clause-needed
+returns-in-Ok-false-clause-needed g c = needed_call g.S.Source.left g.S.Source.last_read _ _ _ _ _ _ _ c.lines.invariant.reached c.advance.ensures.ended c.advance.ensures.needed c.lines.invariant.needed
+
+pub returns-in-Err-Bad-clause-needed : goal.returns-in-Err-Bad-clause-needed
+returns-in-Err-Bad-clause-needed g c = needed_call g.S.Source.left g.S.Source.last_read _ _ _ _ _ _ _ c.lines.invariant.reached c.advance.ensures.ended c.advance.ensures.needed c.lines.invariant.needed
+
+pub returns-in-Err-Limit-clause-needed : goal.returns-in-Err-Limit-clause-needed
+returns-in-Err-Limit-clause-needed g c = needed_call g.S.Source.left g.S.Source.last_read _ _ _ _ _ _ _ c.lines.invariant.reached c.advance.ensures.ended c.advance.ensures.needed c.lines.invariant.needed
+
+pub returns-in-Err-Write-clause-needed : goal.returns-in-Err-Write-clause-needed
+returns-in-Err-Write-clause-needed g c = needed_call g.S.Source.left g.S.Source.last_read _ _ _ _ _ _ _ c.lines.invariant.reached c.advance.ensures.ended c.advance.ensures.needed c.lines.invariant.needed
+
+pub returns-in-Err-NoMemory-clause-needed : goal.returns-in-Err-NoMemory-clause-needed
+returns-in-Err-NoMemory-clause-needed g c = needed_call g.S.Source.left g.S.Source.last_read _ _ _ _ _ _ _ c.lines.invariant.reached c.advance.ensures.ended c.advance.ensures.needed c.lines.invariant.needed
+
+pub returns-in-Ok-false-clause-ended : goal.returns-in-Ok-false-clause-ended
+returns-in-Ok-false-clause-ended g c _ =
+    left_at_end c.advance.new.self _ (c.advance.ensures.knows c.lines.invariant.knows) (on_false _ c.in-Ok-false.field-0-test c.in-Ok-false.ensures.end)

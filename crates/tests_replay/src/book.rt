@@ -1,8 +1,8 @@
-//! Worked requests over a crossing of two straight lanes.
+//! Worked requests over a crossing of two straight lanes: that a book is opened and serves, where memory is ample.
 
 ghost use Rattle.std.specs.Prelude.{◌≡◌, ◌<◌, ◌≤◌};
 
-use crate::{Book, Full, OpenFault, bad_field, has_called, is_plain};
+use aim_book::{Book, Full, OpenFault, bad_field, has_called, is_plain};
 use aim_geometry::{Grid, Ground, Times};
 use aim_msg::{Body, Message, Params, Reason, Reply, Turn};
 use aim_paths::{Builder, Kind, Layout, Shape};
