@@ -8,7 +8,7 @@ ghost use Rattle.aim_replay.specs.Texts.{decision_words, kind_text, limit_text, 
 use aim_msg::{LineKind, Text};
 
 /// Why a line of a script is at fault.
-#[derive(Clone, Copy, Debug, PartialEq, Eq)]
+#[derive(Clone, Copy)]
 pub enum Kind {
     /// It has more than 400 bytes.
     Long,
@@ -45,7 +45,7 @@ pub enum Kind {
 }
 
 /// What a script goes past.
-#[derive(Clone, Copy, Debug, PartialEq, Eq)]
+#[derive(Clone, Copy)]
 pub enum Limit {
     /// So many bytes.
     Bytes,
@@ -58,7 +58,7 @@ pub enum Limit {
 }
 
 /// What a script comes to.
-#[derive(Clone, Copy, Debug, PartialEq, Eq)]
+#[derive(Clone, Copy)]
 pub enum Decision {
     /// The line of this number, counted from 1, is the first at fault.
     Bad(u32, Kind),

@@ -19,7 +19,6 @@ use aim_msg::{Entry, entry_text};
 use std::alloc::Global;
 
 /// Why a line isn't answered.
-#[derive(Clone, Copy, Debug, PartialEq, Eq)]
 enum Halt {
     /// It is at fault.
     Bad(Kind),
@@ -32,7 +31,6 @@ enum Halt {
 }
 
 /// Why a replay stops before its text is whole.
-#[derive(Clone, Copy, Debug, PartialEq, Eq)]
 enum Stop {
     /// The source has failed.
     Read,

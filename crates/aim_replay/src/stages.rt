@@ -12,7 +12,10 @@ ghost use Rattle.aim_replay.specs.Stages.{Judged, Makes, MayTake, Opens, Stands,
 use crate::decisions::{Decision, Kind, Limit};
 use aim_book::{Book, Full, OpenFault, bad_field, has_called};
 use aim_geometry::{Grid, Ground, GroundFault, Times};
-use aim_msg::{Act, Body, Entry, Grid6, Line, Message, MoveShape, Params, Times5, Turn, read_line};
+use aim_msg::{
+    Act, Body, Entry, Grid6, LATEST_MOMENT, Line, MOST_ENTRIES, MOST_VEHICLES, Message, MoveShape,
+    Params, Times5, Turn, read_line,
+};
 use aim_paths::builders::{Builder, LayoutFault};
 use aim_paths::{Kind as PolicyKind, Layout, Shape};
 use std::alloc::Global;
@@ -41,21 +44,18 @@ pub enum Stage {
 }
 
 /// An entry that a line made, and its position in the journal.
-#[derive(Clone, Copy)]
 pub struct Made {
     pub position: u32,
     pub entry: Entry,
 }
 
 /// What taking a line comes to: how far the script has come, and the entry that the line made.
-#[derive(Drop)]
 pub struct Taken {
     pub stage: Stage,
     pub made: Option<Made>,
 }
 
 /// Why a line isn't taken.
-#[derive(Clone, Copy, Debug, PartialEq, Eq)]
 pub enum Refusal {
     /// It is at fault.
     Bad(Kind),
@@ -65,17 +65,8 @@ pub enum Refusal {
     NoMemory,
 }
 
-// The room of a journal: one entry for every line of the longest script.
-const ROOM: u32 = 262_144;
-
-// The most vehicles.
-const MOST_VEHICLES: u32 = 65_536;
-
 // The most spans in the sheets of all vehicles, one sheet for each.
 const MOST_SPANS: u64 = 16_777_216;
-
-// The greatest moment.
-const LATEST: u32 = 1_073_741_824;
 
 // The grid of a line.
 fn grid_of(grid: &Grid6) -> Grid
@@ -160,7 +151,7 @@ fn request_fault(book: &Book, vehicle: u32, moment: u32, params: &Params) -> Opt
         Some(Kind::Unsupported)
     } else if vehicle >= book.vehicles() {
         Some(Kind::Vehicle)
-    } else if moment > LATEST {
+    } else if moment > LATEST_MOMENT {
         Some(Kind::Moment)
     } else {
         None
@@ -187,7 +178,7 @@ fn opened(alloc: Global, layout: Layout, vehicles: u32) -> Result<Stage, Refusal
     if let Some(limit) = vehicles_limit(layout.ground().grid().spans, vehicles) {
         return Err(Refusal::Limit(limit));
     }
-    match Book::open(alloc, layout, vehicles, ROOM) {
+    match Book::open(alloc, layout, vehicles, MOST_ENTRIES) {
         Ok(book) => Ok(Stage::Begin(book)),
         Err(OpenFault::NoMemory) => Err(Refusal::NoMemory),
         Err(_) => Err(Refusal::Bad(Kind::Vehicle)),
