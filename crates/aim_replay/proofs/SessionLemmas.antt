@@ -254,6 +254,7 @@ needed_read bytes before after start now old s last r going needed =
       part = needed.part;
       piece = needed.piece;
       taken = held_back bytes (input old before) after (ended took.lines) (needed.part ++ needed.piece) took.taken needed.keeps;
+      within = omega (arith, length-append (ended took.lines) needed.part, took.place, needed.shows.within);
       before = r.before;
       whole = took.whole;
       is_open = needed.shows.is_open;

@@ -59,6 +59,7 @@ pub record LastNeeded (missing : Missing) (left_old left_new : Option (List ℕ)
   pub part : List ℕ
   pub piece : List ℕ
   pub taken : Consumes left_old left_new (ended lines ++ (part ++ piece))
+  pub within : length (ended lines ++ part) ≤ 67108864
   pub before : List Line
   pub whole : AreWhole missing lines before
   pub is_open : IsOpen part

@@ -1,4 +1,5 @@
 -- What is known between two lines of a replay.
+-- No public clause cites it: only contracts of private functions.
 use Rattle.std.specs.Prelude.{◌≡◌, ℕ, Bool, true, false, List, [], length, Option, Some, None, IfSome, Result, Ok, Err}
 use Rattle.std.specs.Io.KnownBytes.{Appends, Consumes}
 use Rattle.aim_io.specs.Known.{AppendsFront}

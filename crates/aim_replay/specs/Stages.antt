@@ -1,4 +1,5 @@
 -- What is known of the lines of a script so far, at each stage of its replay.
+-- No public clause cites it: only contracts of private functions.
 use Rattle.std.specs.Prelude.{◌≡◌, ℕ, ◌<◌, ◌==◌, Bool, true, false, List, [], ◌∷◌, ◌++◌, ◌||◌, not, nat_lt, nat_le, length, Option, Some, None, is_some, Result, Ok, Err, if◌then◌else◌}
 use Rattle.std.specs.List.{list_any}
 use Rattle.aim_msg.specs.declared.messages.Params.{Params}

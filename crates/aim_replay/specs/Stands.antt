@@ -1,4 +1,5 @@
 -- What is known of the lines of a script so far, from what the replay keeps of them.
+-- No public clause cites it: only contracts of private functions.
 use Rattle.std.specs.Prelude.{◌≡◌, ℕ, ◌≤◌, ◌==◌, false, List, [], length, filter_map, fold, Some, None}
 use Rattle.std.specs.List.{list_any}
 use Rattle.aim_msg.specs.declared.entries.Entry.{Entry}
