@@ -5,7 +5,7 @@ ghost use Rattle.std.specs.String.{string_bytes};
 ghost use Rattle.std.specs.Io.KnownBytes.{Appends, IsAtEnd};
 ghost use Rattle.aim_io.specs.Causes.{Rose};
 ghost use Rattle.aim_io.specs.Known.{AppendsFront};
-ghost use Rattle.aim_replay.specs.Replays.{Replays, StopsShort, WritesFront};
+ghost use Rattle.aim_replay.specs.Replays.{LastNeeded, Replays, StopsShort, TakesAtMost, WritesFront};
 ghost use Rattle.aim_replay.specs.Texts.{replay_text};
 ghost use Rattle.aim_replay.specs.Today.{today};
 ghost use Rattle.aim.specs.Commands.{command_of as command_in};
@@ -40,6 +40,11 @@ pub fn run<S: Source, K: Sink>(alloc: Global, words: &[String], source: &mut S, 
     ensures whole { (result ≡ 0) ⊎ ((result ≡ 3) ⊎ (result ≡ 6)) → IfSome (S.left source.old)
         (λ bytes. Replays today None bytes (K.held sink.old) (K.held sink.new) result) }
     ensures ended { result ≡ 0 → IsAtEnd (S.left source.new) }
+
+    // Whatever the status, no more than one byte past the greatest input is taken, and nothing is read behind bytes that
+    // decide.
+    ensures most { TakesAtMost 67108865 (S.left source.old) (S.left source.new) }
+    ensures needed { (source.new ≡ source.old) ⊎ LastNeeded today (S.left source.old) (S.left source.new) (S.last_read source.new) }
 
     // With status 4, 5 or 7 what is written is a front of that text.
     ensures front { command_in (map string_bytes words.now) ≡ Some Command.Replay → (result ≡ 4) ⊎ ((result ≡ 5) ⊎ (result ≡ 7))

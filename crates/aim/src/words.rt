@@ -5,7 +5,6 @@ ghost use Rattle.std.specs.String.{string_bytes};
 ghost use Rattle.aim.specs.Commands.{command_of as command_in};
 
 /// What the program can be asked to do.
-#[derive(Clone, Copy, Debug, PartialEq, Eq)]
 pub enum Command {
     /// `replay`: replay the script of the input.
     Replay,

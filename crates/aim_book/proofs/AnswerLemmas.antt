@@ -1,6 +1,7 @@
 -- The answer to a steady request over a plain layout, after a history of such requests.
-use Rattle.std.proofs.Common.{◌≡◌, ℕ, ◌+◌, ◌-◌, ◌^◌, Bool, true, false, ◌&&◌, not, nat_lt, nat_le, List, [], ◌∷◌, map, Option, Some, None, arith, refl, ◌∙◌, ap, unwrap_or, if◌then◌else◌, length}
-use Rattle.std.specs.Prelude.{◌==◌, option_map, slice_get}
+use Rattle.std.proofs.Common.{◌≡◌, ℕ, ◌+◌, ◌-◌, ◌^◌, Bool, true, false, ◌&&◌, not, nat_lt, List, [], ◌∷◌, map, Option, Some, None, arith, refl, ◌∙◌, ap, length}
+use Rattle.std.specs.Prelude.{◌==◌, option_map, option_and_then, slice_get}
+use Rattle.std.specs.Option.{option_or}
 use Rattle.std.specs.List.{list_any, range_with_len}
 use Rattle.std.proofs.Math.Bool.{and-false}
 use Rattle.std.proofs.Math.Nat.{zero-div}
@@ -10,14 +11,14 @@ use Rattle.aim_msg.specs.declared.messages.Message.{Message}
 use Rattle.aim_msg.specs.declared.messages.Body.TheVariants as body
 use Rattle.aim_msg.specs.declared.entries.Act.TheVariants as act
 use Rattle.aim_msg.specs.declared.entries.Entry.{Entry}
+use Rattle.aim_msg.specs.declared.replies.Reason.{Reason}
 use Rattle.aim_msg.specs.declared.replies.Reason.TheVariants as reason
 use Rattle.aim_msg.specs.declared.replies.Reply.{Reply}
 use Rattle.aim_paths.specs.declared.policies.Kind.TheVariants as kind
 use Rattle.aim_geometry.proofs.BoundedLemmas.{least_below_none}
 use Rattle.aim_paths.specs.Intersection.{Intersection, Policy}
 use Rattle.aim_rules.specs.Bad.{bad}
-use Rattle.aim_geometry.specs.Cells.{Cell}
-use Rattle.aim_rules.specs.Cells.{cells}
+use Rattle.aim_rules.specs.Cells.{Cell}
 use Rattle.aim_rules.specs.History.{fresh, now_of, is_fresh_seq}
 use Rattle.aim_rules.specs.Holds.{holds, reservations, taken_by}
 use Rattle.aim_rules.specs.Lights.{green_at, green_lanes}
@@ -25,9 +26,8 @@ use Rattle.aim_rules.specs.Claims.{green, is_claimed}
 use Rattle.aim_paths.specs.LaneTiles.{in_lane_tiles}
 use Rattle.aim_paths.specs.Policies.{has_lane}
 use Rattle.aim_rules.specs.Asking.{standing_next}
-use Rattle.aim_rules.specs.Distance.{asked_from, reservation_distance}
 use Rattle.aim_rules.specs.Approach.{approached}
-use Rattle.aim_rules.specs.Answer.{Asked, answer, answer_message, answer_fresh, answer_request, answer_asking, answer_params, answer_good, answer_free, answer_unless_emergency, is_stopped, is_giving_way, first_blocked, blocked_by, granted_or, refusal, exceeds}
+use Rattle.aim_rules.specs.Answer.{Asked, answer, answer_message, answer_fresh, answer_asking, answer_free, own_refusal, first_reason, too_soon, bad_field, too_late, too_far, too_distant, in_the_way, must_give_way, where_so, is_stopped, is_giving_way, first_blocked, blocked_by, refused_or, confirmation}
 use Rattle.aim_book.specs.Serving.{IsPlain, IsSteady, AreServed, has_called}
 use Rattle.aim_book.proofs.ServedLemmas.{is_fresh_seq-first, fresh-served, of_vehicle-none, is_stopped-served, policy_at-served}
 
@@ -38,34 +38,44 @@ message_new a m p new b = rw (new, b) refl
 not_before_0 : (n : ℕ) → nat_lt n 0 ≡ false
 not_before_0 n = le-ltb n 0 (omega arith)
 
--- a request of a vehicle that holds nothing and may ask, with params that are good
-request_good : (a : Asked) (p : Params) → is_stopped a.history ≡ false → holds a.layout a.served a.vehicle a.now ≡ None → standing_next a.served a.vehicle ≡ 0 → bad a.layout p ≡ None → answer_fresh a (body.Request p) ≡ answer_good a p
-request_good a p going free standing good =
-    going_on a p going ∙ ap (λ o. answer_request a p o) free ∙ may_ask a p (rw standing (not_before_0 a.now)) ∙ ap (λ o. answer_params a p o) good
+-- what is left of the tests where the vehicle holds nothing and may ask, the params are good, and none gives way
+left_of : (a : Asked) (p : Params) (own soon field late far distant way blocked : Option Reason) (r : Reply) → own ≡ None → soon ≡ None → field ≡ None → way ≡ None →
+    refused_or a p (option_or own (option_or soon (option_or field (option_or late (option_or far (option_or distant (option_or way None))))))) (refused_or a p blocked r)
+    ≡ refused_or a p (option_or late (option_or far (option_or distant blocked))) r
+left_of a p own soon field late far distant way blocked r w x y z = rw (w, x, y, z) (go late far distant)
   where
-    going_on : (a : Asked) (p : Params) → is_stopped a.history ≡ false → answer_fresh a (body.Request p) ≡ answer_request a p (holds a.layout a.served a.vehicle a.now)
-    going_on a p going = rw going refl
-
-    may_ask : (a : Asked) (p : Params) → nat_lt a.now (standing_next a.served a.vehicle) ≡ false → answer_asking a p ≡ answer_params a p (bad a.layout p)
-    may_ask a p early = rw early refl
+    go : (late far distant : Option Reason) → refused_or a p (option_or late (option_or far (option_or distant None))) (refused_or a p blocked r) ≡ refused_or a p (option_or late (option_or far (option_or distant blocked))) r
+    go None None None = refl
+    go None None (Some d) = refl
+    go None (Some f) distant = refl
+    go (Some l) far distant = refl
 
 -- the answer where no vehicle gives way to emergencies and the fast trial is not made
 abbrev pub answer_steady : Asked → Params → Reply
 answer_steady a p =
-    if nat_le p.arrive (a.now + a.layout.times.edge) then refusal a p.arrive (reason.Late a.now)
-    else if list_any (λ c. nat_le (a.now + a.layout.times.horizon) c.step) (cells a.layout p false) then refusal a p.arrive (reason.Far (a.now + a.layout.times.horizon))
-    else if exceeds (asked_from a.now p) (reservation_distance a.served p.lane) then refusal a p.arrive (reason.Distance (unwrap_or (reservation_distance a.served p.lane) 0))
-    else granted_or a p (first_blocked a p false)
+    refused_or a p (option_or (too_late a p) (option_or (too_far a p) (option_or (too_distant a p) (first_blocked a p false)))) (confirmation a p false)
 
-free_steady : (a : Asked) (p : Params) → p.accel ≡ 0 → answer_free a p ≡ granted_or a p (first_blocked a p false)
+free_steady : (a : Asked) (p : Params) → p.accel ≡ 0 → answer_free a p ≡ refused_or a p (first_blocked a p false) (confirmation a p false)
 free_steady a p zero = rw zero refl
 
-calm : (a : Asked) (p : Params) (o : Option ℕ) → is_giving_way a p.arrive ≡ false → answer_unless_emergency a p o ≡ answer_free a p
-calm a p None way = refl
-calm a p (Some lane) way = rw way refl
+calm : (a : Asked) (p : Params) → is_giving_way a p.arrive ≡ false → in_the_way a p ≡ None
+calm a p way = go (approached a.layout a.served a.vehicle p a.now)
+  where
+    go : (o : Option ℕ) → option_and_then (λ lane. where_so (must_give_way a p) (reason.Emergency lane)) o ≡ None
+    go None = refl
+    go (Some lane) = rw way refl
 
-good_steady : (a : Asked) (p : Params) → is_giving_way a p.arrive ≡ false → p.accel ≡ 0 → answer_good a p ≡ answer_steady a p
-good_steady a p way zero = rw (calm a p (approached a.layout a.served a.vehicle p a.now) way, free_steady a p zero) refl
+-- a request of a vehicle that holds nothing and may ask, with params that are good
+request_good : (a : Asked) (p : Params) → is_stopped a.history ≡ false → holds a.layout a.served a.vehicle a.now ≡ None → standing_next a.served a.vehicle ≡ 0 → bad a.layout p ≡ None → is_giving_way a p.arrive ≡ false → p.accel ≡ 0 →
+    answer_fresh a (body.Request p) ≡ answer_steady a p
+request_good a p going free standing good way zero =
+    going_on
+    ∙ ap (λ r. refused_or a p (option_or (own_refusal a (body.Request p)) (first_reason a p)) r) (free_steady a p zero)
+    ∙ left_of a p (own_refusal a (body.Request p)) (too_soon a p) (bad_field a p) (too_late a p) (too_far a p) (too_distant a p) (in_the_way a p) (first_blocked a p false) (confirmation a p false)
+    (rw free refl) (rw (standing, not_before_0 a.now) refl) (rw good refl) (calm a p way)
+  where
+    going_on : answer_fresh a (body.Request p) ≡ answer_asking a (body.Request p) p
+    going_on = rw going refl
 
 -- the first of the policies is FCFS
 first_policy : (policies : List Policy) → map (λ p. p.kind) policies ≡ kind.Fcfs ∷ [] → option_map (λ p. p.kind) (slice_get policies 0) ≡ Some kind.Fcfs
@@ -120,5 +130,4 @@ pub answer-served : (i : Intersection) (h : List Entry) (v moment : ℕ) (m : Me
     answer i h v moment (act.Message m) ≡ answer_steady (asked i h v moment) p
 answer-served i h v moment m p plain s first b steady =
     message_new (asked i h v moment) m p (is_fresh_seq-first h v m.seq first) b
-    ∙ request_good (asked i h v moment) p (is_stopped-served i [] h s) (holds-none i h v (now_of h moment) s first) (standing_next-none i h v s first) steady.good
-    ∙ good_steady (asked i h v moment) p (way_plain (asked i h v moment) p.arrive plain s) steady.accel
+    ∙ request_good (asked i h v moment) p (is_stopped-served i [] h s) (holds-none i h v (now_of h moment) s first) (standing_next-none i h v s first) steady.good (way_plain (asked i h v moment) p.arrive plain s) steady.accel

@@ -13,7 +13,7 @@ use Rattle.aim_rules.specs.Cells.{in_cells, cells}
 use Rattle.aim_rules.specs.History.{fresh, now_of}
 use Rattle.aim_rules.specs.Holds.{reservations}
 use Rattle.aim_rules.specs.Answer.{first_blocked, blocked_by}
-use Rattle.aim_rules.proofs.CellLemmas.{Before, find_map-cells, find_map-none, cells_needed}
+use Rattle.aim_rules.proofs.CellLemmas.{Before, find_map-cells, find_map-none, cells_needed, cells_inside}
 use Rattle.aim_book.specs.Serving.{IsPlain, AreServed, has_called}
 use Rattle.aim_book.specs.Takings.{takes, cell_at, is_shared, SharesNone, IsFirstShared}
 use Rattle.aim_book.proofs.TestLemmas.{and_true, or_false}
@@ -33,11 +33,11 @@ find-none test [] none = refl
 find-none test (x ∷ xs) none = let n = or_false (test x) (list_any test xs) none in rw (n.0) (find-none test xs n.1)
 
 -- why a cell of the crossing can't be had
-blocked_at : (i : Intersection) (h : List Entry) (v moment : ℕ) (p : Params) (c : Cell) → MayAsk i h v moment p → c.row < i.grid.n → c.col < i.grid.n → p.arrive ≤ c.step →
+blocked_at : (i : Intersection) (h : List Entry) (v moment : ℕ) (p : Params) (c : Cell) → MayAsk i h v moment p → p.arrive ≤ c.step →
     blocked_by (asked i h v moment) (reservations i (fresh h) (now_of h moment)) p c ≡ option_map (λ by. reason.Taken c.row c.col c.step by) (option_map (λ e. e.caller) (find (takes i c) h))
-blocked_at i h v moment p c may row col from =
+blocked_at i h v moment p c may from =
     blocked_by-plain (asked i h v moment) p c may.plain may.served
-    ∙ ap (option_map (λ by. reason.Taken c.row c.col c.step by)) (taken_by-served i h v (now_of h moment) c may.plain may.served may.first (let l = may.later in omega arith) row col)
+    ∙ ap (option_map (λ by. reason.Taken c.row c.col c.step by)) (taken_by-served i h v (now_of h moment) c may.plain may.served may.first (let l = may.later in omega arith))
 
 -- a cell of the crossing is in one of its steps
 in_step : (i : Intersection) (p : Params) (c : Cell) → IsPlain i → in_cells i p false c ≡ true → (p.arrive ≤ c.step) × (c.step < p.arrive + crossing_steps i p false)
@@ -50,15 +50,15 @@ in_step i p c plain needed = elim (dec_lt c.step p.arrive) [
 ]
 
 -- a tile that isn't shared in its step isn't blocked
-free_at : (i : Intersection) (h : List Entry) (v moment : ℕ) (p : Params) (c : Cell) → MayAsk i h v moment p → c.row < i.grid.n → c.col < i.grid.n → in_cells i p false c ≡ true → is_shared i h p (c.step - p.arrive) c.row c.col ≡ false →
+free_at : (i : Intersection) (h : List Entry) (v moment : ℕ) (p : Params) (c : Cell) → MayAsk i h v moment p → in_cells i p false c ≡ true → is_shared i h p (c.step - p.arrive) c.row c.col ≡ false →
     blocked_by (asked i h v moment) (reservations i (fresh h) (now_of h moment)) p c ≡ None
-free_at i h v moment p c may row col needed free =
+free_at i h v moment p c may needed free =
     let w = in_step i p c may.plain needed in
     let e : p.arrive + (c.step - p.arrive) ≡ c.step = omega arith in
     let same : cell_at p (c.step - p.arrive) c.row c.col ≡ c = (λ j. record { row = c.row; col = c.col; step = e j }) in
     let under : in_footprint i p false i.grid.fixed (c.step - p.arrive) c.row c.col ≡ true = sym (in_cells-at i p (c.step - p.arrive) c.row c.col may.plain (omega arith)) ∙ ap (in_cells i p false) same ∙ needed in
     let none : list_any (takes i c) h ≡ false = ap (λ d. list_any (takes i d) h) (sym same) ∙ second (in_footprint i p false i.grid.fixed (c.step - p.arrive) c.row c.col) (list_any (takes i (cell_at p (c.step - p.arrive) c.row c.col)) h) under free in
-    blocked_at i h v moment p c may row col w.0 ∙ rw (find-none (takes i c) h none) refl
+    blocked_at i h v moment p c may w.0 ∙ rw (find-none (takes i c) h none) refl
   where
     second : (a b : Bool) → a ≡ true → (a && b) ≡ false → b ≡ false
     second true b t f = f
@@ -68,7 +68,7 @@ free_at i h v moment p c may row col needed free =
 pub first_blocked-none : (i : Intersection) (h : List Entry) (v moment : ℕ) (p : Params) → MayAsk i h v moment p → ((k : ℕ) → k < crossing_steps i p false → SharesNone i h p k) → first_blocked (asked i h v moment) p false ≡ None
 first_blocked-none i h v moment p may none =
     find_map-none (blocked_by (asked i h v moment) (reservations i (fresh h) (now_of h moment)) p) (cells i p false)
-    (λ c m. let n = cells_needed i p false c m in let w = in_step i p c may.plain n.0 in free_at i h v moment p c may n.1 n.2 n.0 (none (c.step - p.arrive) (omega arith) c.row c.col n.1 n.2))
+    (λ c m. let needed = cells_needed i p false c m in let w = in_step i p c may.plain needed in let n = cells_inside i p false c needed in free_at i h v moment p c may needed (none (c.step - p.arrive) (omega arith) c.row c.col n.0 n.1))
 
 find-any : {X : Type 0} (test : X → Bool) (xs : List X) → list_any test xs ≡ true → (x : X) × (find test xs ≡ Some x)
 find-any test [] t = absurd (cc)
@@ -86,10 +86,10 @@ first_blocked-some i h v moment p k row col by may l none at holder =
     let c = cell_at p k row col in
     let both = and_true (in_footprint i p false i.grid.fixed k row col) (list_any (takes i c) h) at.shared in
     find_map-cells i p false (blocked_by (asked i h v moment) (reservations i (fresh h) (now_of h moment)) p) c (reason.Taken row col (p.arrive + k) by)
-    (let x = may.plain.early in let y = may.plain.edge in omega arith) (let x = may.plain.late in let y = may.plain.edge in omega arith) at.row_in at.column_in
+    (let x = may.plain.early in let y = may.plain.edge in omega arith) (let x = may.plain.late in let y = may.plain.edge in omega arith)
     (in_cells-at i p k row col may.plain l ∙ both.0)
-    (blocked_at i h v moment p c may at.row_in at.column_in (omega arith) ∙ rw holder refl)
-    (λ d r c needed before. let w = in_step i p d may.plain needed in free_at i h v moment p d may r c needed (earlier d r c w before))
+    (blocked_at i h v moment p c may (omega arith) ∙ rw holder refl)
+    (λ d needed before. let w = in_step i p d may.plain needed in let n = cells_inside i p false d needed in free_at i h v moment p d may needed (earlier d n.0 n.1 w before))
   where
     earlier : (d : Cell) → d.row < i.grid.n → d.col < i.grid.n → (p.arrive ≤ d.step) × (d.step < p.arrive + crossing_steps i p false) → Before d (cell_at p k row col) → is_shared i h p (d.step - p.arrive) d.row d.col ≡ false
     earlier d r c w (inl s) = none (d.step - p.arrive) (omega arith) d.row d.col r c

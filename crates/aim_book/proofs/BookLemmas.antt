@@ -24,10 +24,10 @@ legal_now i vehicles h m legal l = now_of_le h m 1073741824 l (λ k d b. (legal.
 abbrev pub entry_with : ℕ → ℕ → Message → Reply → Entry
 entry_with v moment m r = record { caller = v; moment = moment; act = act.Message m; reply = r }
 
-pub legal_more : (i : Intersection) (vehicles : ℕ) (h : List Entry) (v moment : ℕ) (m : Message) (r : Reply) → IsLegal i vehicles h → MayServe i vehicles h v moment m → r ≡ answer i h v moment (act.Message m) →
+pub legal_more : (i : Intersection) (vehicles : ℕ) (h : List Entry) (v moment : ℕ) (m : Message) (r : Reply) → vehicles ≤ 65536 → IsLegal i vehicles h → MayServe i vehicles h v moment m → r ≡ answer i h v moment (act.Message m) →
     IsLegal i vehicles (h ++ entry_with v moment m r ∷ [])
-legal_more i vehicles h v moment m r legal may answered =
-    IsLegal-append i vehicles h (entry_with v moment m r) legal (record { moment = may.moment; caller = may.vehicle }) answered
+legal_more i vehicles h v moment m r few legal may answered =
+    IsLegal-append i vehicles h (entry_with v moment m r) legal (record { moment = may.moment; caller = (let l = may.vehicle in omega arith, may.vehicle) }) answered
 
 pub served_more : (i : Intersection) (vehicles : ℕ) (h : List Entry) (v moment : ℕ) (m : Message) (r : Reply) → AreServed i [] h → MayServe i vehicles h v moment m → AreServed i [] (h ++ entry_with v moment m r ∷ [])
 served_more i vehicles h v moment m r served may = AreServed-append i [] h (entry_with v moment m r) served (record { first = may.first; request = may.request })

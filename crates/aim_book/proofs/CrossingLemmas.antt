@@ -121,7 +121,10 @@ pub station_touches : (g : Grid) (half : ℕ) (s : Station) → IsGrid g → s.x
 station_touches g half s grid x y =
     let a = tile_there g.n (tile_of g) half s.x grid.some_rows grid.tile (let e = grid.tiles in omega arith) in
     let b = tile_there g.n (tile_of g) half s.y grid.some_rows grid.tile (let e = grid.tiles in omega arith) in
-    (b.0, a.0, b.1, a.1, rw (a.2, b.2) refl)
+    (b.0, a.0, b.1, a.1, all (nat_lt b.0 g.n) (nat_lt a.0 g.n) (meets (tile_of g) half a.0 s.x) (meets (tile_of g) half b.0 s.y) (lt-ltb b.0 g.n b.1) (lt-ltb a.0 g.n a.1) a.2 b.2)
+  where
+    all : (p q r s : Bool) → p ≡ true → q ≡ true → r ≡ true → s ≡ true → (p && q && r && s) ≡ true
+    all p q r s w x y z = rw (w, x, y, z) refl
 
 -- the stations of a path lie on the side
 abbrev pub AreWithin : ℕ → List Station → Type 0
@@ -180,10 +183,10 @@ cells-from i p from plain grid some within h e =
           let t = foot_there i p last grid some within h e (omega arith) in
           let c : Cell = record { row = t.0; col = t.1; step = p.arrive + last } in
           list_any-IsIn (λ c. nat_le from c.step) (cells i p false) c
-          (cells_has i p false c (let x = plain.early in let y = plain.edge in omega arith) (let x = plain.late in let y = plain.edge in omega arith) t.2 t.3 (rw (in_cells-at i p last t.0 t.1 plain (omega arith)) t.4))
+          (cells_has i p false c (let x = plain.early in let y = plain.edge in omega arith) (let x = plain.late in let y = plain.edge in omega arith) (rw (in_cells-at i p last t.0 t.1 plain (omega arith)) t.4))
           (le-leb from (p.arrive + last) (omega arith))
           ∙ sym (le-leb from (p.arrive + crossing_steps i p false - 1) (omega arith)))
-      | yes b ↦ (list_any-none (λ c. nat_le from c.step) (cells i p false) (λ c m. early c (cells_needed i p false c m).0 b) ∙ sym (lt-leb from (p.arrive + crossing_steps i p false - 1) b))
+      | yes b ↦ (list_any-none (λ c. nat_le from c.step) (cells i p false) (λ c m. early c (cells_needed i p false c m) b) ∙ sym (lt-leb from (p.arrive + crossing_steps i p false - 1) b))
     ]
   where
     early : (c : Cell) → in_cells i p false c ≡ true → p.arrive + crossing_steps i p false - 1 < from → nat_le from c.step ≡ false

@@ -1,6 +1,6 @@
 -- Squares round stations, and feet.
 use Rattle.std.proofs.lemmas.List.{take_all}
-use Rattle.std.proofs.Common.{◌≡◌, ℕ, ◌+◌, ◌-◌, ◌<◌, ◌≤◌, min, drop, length-drop, Bool, true, false, ◌&&◌, ◌||◌, ◌*◌, ◌/◌, nat_lt, List, length, get_or, Some, arith, refl, sym, ◌∙◌, ap}
+use Rattle.std.proofs.Common.{◌≡◌, ℕ, ◌+◌, ◌-◌, ◌<◌, ◌≤◌, min, drop, length-drop, Bool, true, false, ◌||◌, ◌*◌, ◌/◌, List, length, get_or, Some, arith, refl, sym, ◌∙◌, ap}
 use Rattle.std.specs.Prelude.{slice_get}
 use Rattle.std.proofs.lemmas.Option.{get_or_from_slice_get}
 use Rattle.std.specs.List.{list_any, slice_range}
@@ -13,24 +13,22 @@ use Rattle.aim_msg.specs.declared.messages.Params.{Params}
 use Rattle.aim_geometry.specs.Bounded.{ceil_div}
 use Rattle.aim_paths.specs.Intersection.{Intersection, path}
 use Rattle.aim_rules.specs.Motion.{front}
-use Rattle.aim_rules.specs.Footprint.{crossing_steps, path_length}
-use Rattle.aim_book.specs.Feet.{is_under, is_under_some, is_footed}
+use Rattle.aim_rules.specs.Footprint.{crossing_steps, path_length, in_footprint}
 use Rattle.aim_book.specs.Moving.{IsMoving}
 use Rattle.aim_book.proofs.CrossingLemmas.{front-steady, rear_on_path}
 
-one_more : (t old a b some here : Bool) → t ≡ ((old || (a && b && some)) || (a && b && here)) → t ≡ (old || (a && b && (some || here)))
-one_more t true a b some here e = e
-one_more t false true true some here e = e
-one_more t false true false some here e = e
-one_more t false false b some here e = e
-
 -- one station more
-pub under_more : (g : Grid) (half : ℕ) (ss : List Station) (low j r c : ℕ) (d : Station) (t old : Bool) → low ≤ j → j < length ss →
-    t ≡ ((old || is_under_some g half (slice_range ss low j) r c) || is_under g half (get_or ss j d) r c) →
-    t ≡ (old || is_under_some g half (slice_range ss low (j + 1)) r c)
-under_more g half ss low j r c d t old a b e =
-    one_more t old (nat_lt r g.n) (nat_lt c g.n) (list_any (λ s. is_touched g half s r c) (slice_range ss low j)) (is_touched g half (get_or ss j d) r c) e
-    ∙ ap (λ x. old || (nat_lt r g.n && nat_lt c g.n && x)) (sym (list_any-slice_range_more (λ s. is_touched g half s r c) ss low j d a b))
+pub touched_more : (g : Grid) (half : ℕ) (ss : List Station) (low j r c : ℕ) (d : Station) (t old : Bool) → low ≤ j → j < length ss →
+    t ≡ ((old || list_any (λ s. is_touched g half s r c) (slice_range ss low j)) || is_touched g half (get_or ss j d) r c) →
+    t ≡ (old || list_any (λ s. is_touched g half s r c) (slice_range ss low (j + 1)))
+touched_more g half ss low j r c d t old a b e =
+    e
+    ∙ or-assoc old (list_any (λ s. is_touched g half s r c) (slice_range ss low j)) (is_touched g half (get_or ss j d) r c)
+    ∙ ap (λ x. old || x) (sym (list_any-slice_range_more (λ s. is_touched g half s r c) ss low j d a b))
+  where
+    or-assoc : (a b c : Bool) → ((a || b) || c) ≡ (a || (b || c))
+    or-assoc true b c = refl
+    or-assoc false b c = refl
 
 -- a part that ends past the list ends where the list does
 pub slice_range_cut : {X : Type 0} (xs : List X) (low high : ℕ) → slice_range xs low high ≡ slice_range xs low (min high (length xs))
@@ -41,11 +39,11 @@ slice_range_cut xs low high = elim (dec_lt (length xs) high) [
 ]
 
 -- the same where the station is read
-pub under_more_some : (g : Grid) (half : ℕ) (ss : List Station) (low j r c : ℕ) (s : Station) (t old : Bool) → low ≤ j → j < length ss → slice_get ss j ≡ Some s →
-    t ≡ ((old || is_under_some g half (slice_range ss low j) r c) || is_under g half s r c) →
-    t ≡ (old || is_under_some g half (slice_range ss low (j + 1)) r c)
-under_more_some g half ss low j r c s t old a b at e =
-    under_more g half ss low j r c s t old a b (rw (get_or_from_slice_get ss j s s at) e)
+pub touched_more_some : (g : Grid) (half : ℕ) (ss : List Station) (low j r c : ℕ) (s : Station) (t old : Bool) → low ≤ j → j < length ss → slice_get ss j ≡ Some s →
+    t ≡ ((old || list_any (λ s. is_touched g half s r c) (slice_range ss low j)) || is_touched g half s r c) →
+    t ≡ (old || list_any (λ s. is_touched g half s r c) (slice_range ss low (j + 1)))
+touched_more_some g half ss low j r c s t old a b at e =
+    touched_more g half ss low j r c s t old a b (rw (get_or_from_slice_get ss j s s at) e)
 
 -- the covered stations, as the code cuts them
 pub range_covers : (p : Params) (ss : List Station) (spacing k parts : ℕ) → p.speed ≡ p.max_speed → parts + 1 ≡ length ss →
@@ -68,12 +66,12 @@ reach_of i p ss k moving there l =
 -- the foot's tiles, by its stations
 pub footed_at : (i : Intersection) (p : Params) (ss : List Station) (k low next half r c : ℕ) → path i p.lane p.turn ≡ Some ss → half ≡ ceil_div p.width 2 + i.grid.spacing + i.grid.fixed →
     slice_range ss low next ≡ slice_range ss ((front p false k - p.length) / i.grid.spacing) (ceil_div (front p false (k + 1)) i.grid.spacing + 1) →
-    is_under_some i.grid half (slice_range ss low next) r c ≡ is_footed i p k r c
+    list_any (λ s. is_touched i.grid half s r c) (slice_range ss low next) ≡ in_footprint i p false i.grid.fixed k r c
 footed_at i p ss k low next half r c there wide part = rw (wide, part, there) refl
 
 -- a foot's tiles are set
 pub foot_set : (i : Intersection) (p : Params) (g ground : Grid) (ss : List Station) (k low next half r c : ℕ) (t old : Bool) → g ≡ i.grid → ground ≡ i.grid → path i p.lane p.turn ≡ Some ss → half ≡ ceil_div p.width 2 + g.spacing + g.fixed →
     slice_range ss low next ≡ slice_range ss ((front p false k - p.length) / g.spacing) (ceil_div (front p false (k + 1)) g.spacing + 1) →
-    t ≡ (old || is_under_some ground half (slice_range ss low next) r c) → t ≡ (old || is_footed i p k r c)
+    t ≡ (old || list_any (λ s. is_touched ground half s r c) (slice_range ss low next)) → t ≡ (old || in_footprint i p false i.grid.fixed k r c)
 foot_set i p g ground ss k low next half r c t old same there path_there wide part set =
     rw there at set ∙ ap (λ b. old || b) (footed_at i p ss k low next half r c path_there (rw same at wide) (rw same at part))

@@ -9,6 +9,7 @@ use Rattle.aim_msg.specs.declared.messages.Params.{Params}
 use Rattle.aim_msg.specs.declared.entries.Entry.{Entry}
 use Rattle.aim_msg.specs.declared.replies.Reason.{Reason}
 use Rattle.aim_msg.specs.declared.replies.Reason.TheVariants as reason
+use Rattle.aim_msg.specs.declared.replies.Reply.{Reply}
 use Rattle.aim_geometry.specs.declared.stations.Station.{Station}
 use Rattle.aim_paths.specs.Intersection.{Intersection, path, stations}
 use Rattle.aim_paths.specs.Valid.{IsValid}
@@ -25,32 +26,32 @@ use Rattle.aim_rules.specs.Footprint.{crossing_steps}
 use Rattle.aim_rules.specs.History.{fresh, now_of}
 use Rattle.aim_rules.specs.Holds.{holds}
 use Rattle.aim_rules.specs.Distance.{asked_from, reservation_distance}
-use Rattle.aim_rules.specs.Answer.{Asked, answer, exceeds, first_blocked, granted_or, refusal}
+use Rattle.aim_rules.specs.Answer.{Asked, answer, confirmation, exceeds, first_blocked, refused_or, refusal, where_so}
 use Rattle.aim_book.specs.Serving.{IsPlain, IsSteady, AreServed, has_called}
 use Rattle.aim_book.specs.Replies.{early_reason, settled, refused, confirmed}
 use Rattle.aim_book.proofs.AnswerLemmas.{asked, answer-served, holds-none}
 use Rattle.aim_book.proofs.CrossingLemmas.{AreWithin, cells-from}
 
 -- the answer by what is asked of the request, in order
-by_tests : (late far near : Bool) (l f d : Reason) (a : Asked) (p : Params) (i : Intersection) (h : List Entry) (now : ℕ) (blocked found : Option Reason) →
+by_tests : (late far near : Bool) (l f d : Reason) (a : Asked) (p : Params) (i : Intersection) (h : List Entry) (now : ℕ) (r : Reply) (blocked found : Option Reason) →
     refusal a p.arrive l ≡ refused i now p l → refusal a p.arrive f ≡ refused i now p f → refusal a p.arrive d ≡ refused i now p d →
-    ((if late then Some l else if far then Some f else if near then Some d else None) ≡ None → granted_or a p blocked ≡ settled i h now p found) →
-    (if late then refusal a p.arrive l else if far then refusal a p.arrive f else if near then refusal a p.arrive d else granted_or a p blocked)
+    ((if late then Some l else if far then Some f else if near then Some d else None) ≡ None → refused_or a p blocked r ≡ settled i h now p found) →
+    refused_or a p (option_or (where_so late l) (option_or (where_so far f) (option_or (where_so near d) blocked))) r
     ≡ settled i h now p (option_or (if late then Some l else if far then Some f else if near then Some d else None) found)
-by_tests true far near l f d a p i h now blocked found x y z w = x
-by_tests false true near l f d a p i h now blocked found x y z w = y
-by_tests false false true l f d a p i h now blocked found x y z w = z
-by_tests false false false l f d a p i h now blocked found x y z w = w refl
+by_tests true far near l f d a p i h now r blocked found x y z w = x
+by_tests false true near l f d a p i h now r blocked found x y z w = y
+by_tests false false true l f d a p i h now r blocked found x y z w = z
+by_tests false false false l f d a p i h now r blocked found x y z w = w refl
 
 -- why a request is refused for a tile
 abbrev pub taken : Option Conflict → Option Reason
 taken None = None
 taken (Some x) = Some (reason.Taken x.row x.col x.step x.by)
 
-granted_settled : (i : Intersection) (h : List Entry) (v moment : ℕ) (p : Params) (o : Option Conflict) → holds i (fresh h) v (now_of h moment) ≡ None →
-    granted_or (asked i h v moment) p (taken o) ≡ settled i h (now_of h moment) p (taken o)
-granted_settled i h v moment p None none = refl
-granted_settled i h v moment p (Some x) none = rw none refl
+free_settled : (i : Intersection) (h : List Entry) (v moment : ℕ) (p : Params) (o : Option Conflict) → holds i (fresh h) v (now_of h moment) ≡ None →
+    refused_or (asked i h v moment) p (taken o) (confirmation (asked i h v moment) p false) ≡ settled i h (now_of h moment) p (taken o)
+free_settled i h v moment p None none = refl
+free_settled i h v moment p (Some x) none = rw none refl
 
 -- a vehicle without an entry asks for a steady crossing
 pub record Asks (i : Intersection) (h : List Entry) (v : ℕ) (m : Message) (p : Params) : Type 0 where
@@ -84,8 +85,8 @@ answer_settled i h v moment m p o a blocked =
     let zero : now + i.times.edge ≡ now = (let e = a.plain.edge in omega arith) in
     answer-served i h v moment m p a.plain a.served a.first a.body a.steady
     ∙ rw (zero, cells-from i p (now + i.times.horizon) a.plain a.valid.sound.grid ss.0 ss.1 moves.moves a.steady.speed)
-    (by_tests (nat_le p.arrive now) (nat_le (now + i.times.horizon) (p.arrive + crossing_steps i p false - 1)) (exceeds (asked_from now p) (reservation_distance (fresh h) p.lane)) (reason.Late now) (reason.Far (now + i.times.horizon)) (reason.Distance (unwrap_or (reservation_distance (fresh h) p.lane) 0)) (asked i h v moment) p i h now (first_blocked (asked i h v moment) p false) (taken o)
-    (rw none refl) (rw none refl) (rw none refl) (λ e. ap (granted_or (asked i h v moment) p) (blocked e) ∙ granted_settled i h v moment p o none))
+    (by_tests (nat_le p.arrive now) (nat_le (now + i.times.horizon) (p.arrive + crossing_steps i p false - 1)) (exceeds (asked_from now p) (reservation_distance (fresh h) p.lane)) (reason.Late now) (reason.Far (now + i.times.horizon)) (reason.Distance (unwrap_or (reservation_distance (fresh h) p.lane) 0)) (asked i h v moment) p i h now (confirmation (asked i h v moment) p false) (first_blocked (asked i h v moment) p false) (taken o)
+    (rw none refl) (rw none refl) (rw none refl) (λ e. ap (λ b. refused_or (asked i h v moment) p b (confirmation (asked i h v moment) p false)) (blocked e) ∙ free_settled i h v moment p o none))
 
 -- what is refused early
 pub reply_early : (i : Intersection) (h : List Entry) (v moment now : ℕ) (m : Message) (p : Params) (why : Reason) → Asks i h v m p → now ≡ now_of h moment → early_reason i h now p ≡ Some why → refused i now p why ≡ answer i h v moment (act.Message m)

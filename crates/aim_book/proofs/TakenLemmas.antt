@@ -1,13 +1,12 @@
 -- The tiles that entries have in a step.
-use Rattle.std.proofs.Common.{◌≡◌, ℕ, suc, zero, ◌+◌, ◌/◌, ◌^◌, ◌<◌, ◌≤◌, Bool, true, false, ◌&&◌, ◌||◌, cond, nat_lt, List, [], ◌∷◌, length, take, get_or, Some, None, arith, refl, sym, ◌∙◌, ap, lt-ltb}
+use Rattle.std.proofs.Common.{◌≡◌, ℕ, suc, zero, ◌+◌, ◌/◌, ◌^◌, ◌<◌, ◌≤◌, Bool, true, false, ◌&&◌, ◌||◌, cond, List, [], ◌∷◌, length, take, get_or, Some, None, arith, refl, sym, ◌∙◌}
 use Rattle.std.specs.Prelude.{◌==◌, find, bit_and}
 use Rattle.std.specs.List.{list_any}
-use Rattle.std.proofs.Math.Bool.{and-false, or-false}
+use Rattle.std.proofs.Math.Bool.{or-false}
 use Rattle.std.proofs.lemmas.List.Folds.{list_any_more}
 use Rattle.std.proofs.lemmas.Nat.Bits.{bit_at-zero, shr_and_one}
 use Rattle.std.specs.Prelude.{replicate}
 use Rattle.std.proofs.lemmas.List.{get_or-replicate}
-use Rattle.std.proofs.lemmas.Bool.{ltb-true}
 use Rattle.aim_msg.specs.declared.messages.Params.{Params}
 use Rattle.aim_msg.specs.declared.messages.Body.{Body}
 use Rattle.aim_msg.specs.declared.messages.Body.TheVariants as body
@@ -18,10 +17,13 @@ use Rattle.aim_geometry.specs.Rects.{tile_at}
 use Rattle.aim_paths.specs.Intersection.{Intersection}
 use Rattle.aim_rules.specs.Footprint.{crossing_steps, in_footprint}
 use Rattle.aim_rules.specs.History.{is_confirm, params_of}
-use Rattle.aim_book.specs.Feet.{is_footed}
+use Rattle.aim_geometry.proofs.TouchLemmas.{any_touched_inside}
+use Rattle.aim_geometry.specs.Bounded.{ceil_div}
+use Rattle.aim_rules.specs.Footprint.{covered}
+use Rattle.aim_rules.specs.Cells.{in_cells}
 use Rattle.aim_book.specs.Moving.{IsMoving}
 use Rattle.aim_book.specs.Serving.{ActsSteady, AreServed, AsksSteady, IsPlain, IsSteady}
-use Rattle.aim_book.specs.Takings.{crosses, granted_to, is_crossed, is_taken, is_taken_by_some, is_shared, cell_at, params_in, takes, IsFirstShared, SharesNone}
+use Rattle.aim_book.specs.Takings.{crosses, granted_to, is_shared, cell_at, params_in, takes, IsFirstShared, SharesNone}
 use Rattle.aim_book.specs.Rows.{IsFirstCommon}
 use Rattle.aim_book.proofs.TestLemmas.{and_true, or_false}
 use Rattle.aim_book.proofs.MovingLemmas.{steady_moves}
@@ -29,13 +31,13 @@ use Rattle.aim_book.proofs.ServedLemmas.{IsServed-at}
 use Rattle.aim_book.proofs.CrossingLemmas.{in_cells-at, in_cells-none}
 
 -- what a crossing needs in one of its steps is its foot
-pub crossed_at : (i : Intersection) (p : Params) (k at r c : ℕ) → IsPlain i → k < crossing_steps i p false → at ≡ p.arrive + k → is_footed i p k r c ≡ is_crossed i p at r c
+pub crossed_at : (i : Intersection) (p : Params) (k at r c : ℕ) → IsPlain i → k < crossing_steps i p false → at ≡ p.arrive + k → in_footprint i p false i.grid.fixed k r c ≡ in_cells i p false (record { row = r; col = c; step = at })
 crossed_at i p k at r c plain l e = rw (e, in_cells-at i p k r c plain l) refl
 
 -- and in other steps it needs nothing
-pub crossed_none : (i : Intersection) (p : Params) (at r c : ℕ) (b : Bool) → IsPlain i → ((k : ℕ) → k < crossing_steps i p false → at ≡ p.arrive + k → ⊥) → b ≡ (b || is_crossed i p at r c)
+pub crossed_none : (i : Intersection) (p : Params) (at r c : ℕ) (b : Bool) → IsPlain i → ((k : ℕ) → k < crossing_steps i p false → at ≡ p.arrive + k → ⊥) → b ≡ (b || in_cells i p false (record { row = r; col = c; step = at }))
 crossed_none i p at r c b plain out =
-    rw (in_cells-none i p (record { row = r; col = c; step = at }) plain out, and-false (nat_lt r i.grid.n && nat_lt c i.grid.n)) (sym (or-false b))
+    rw (in_cells-none i p (record { row = r; col = c; step = at }) plain out) (sym (or-false b))
 
 steady_params : (i : Intersection) (a : Act) (p : Params) → ActsSteady i a → params_in a ≡ Some p → IsSteady i p
 steady_params i (act.Message m) p s e = go m.body s e
@@ -63,28 +65,18 @@ takes-granted i e at r c = go (is_confirm e.reply)
     go false = refl
 
 -- an entry has what it reserves
-pub taken_some : (i : Intersection) (e : Entry) (p : Params) (at r c : ℕ) → granted_to e ≡ Some p → is_crossed i p at r c ≡ is_taken i e at r c
+pub taken_some : (i : Intersection) (e : Entry) (p : Params) (at r c : ℕ) → granted_to e ≡ Some p → in_cells i p false (record { row = r; col = c; step = at }) ≡ takes i (record { row = r; col = c; step = at }) e
 taken_some i e p at r c h = rw (takes-granted i e at r c, h) refl
 
 -- each entry asks for a steady crossing
 pub steady_at : (i : Intersection) (h : List Entry) (k : ℕ) (d : Entry) → AreServed i [] h → k < length h → ActsSteady i (get_or h k d).act
 steady_at i h k d s l = (IsServed-at i [] h k d s l).request
 
-one_more : (t a b some here : Bool) → t ≡ ((a && b && some) || (a && b && here)) → t ≡ (a && b && (some || here))
-one_more t true true some here e = e
-one_more t true false some here e = e
-one_more t false b some here e = e
-
 -- one entry more
-pub taken_more : (i : Intersection) (h : List Entry) (at k r c : ℕ) (d : Entry) (old t : Bool) → k < length h → old ≡ is_taken_by_some i (take k h) at r c → t ≡ (old || is_taken i (get_or h k d) at r c) →
-    t ≡ is_taken_by_some i (take (k + 1) h) at r c
-taken_more i h at k r c d old t l was e =
-    one_more t (nat_lt r i.grid.n) (nat_lt c i.grid.n) (list_any (takes i (record { row = r; col = c; step = at })) (take k h)) (takes i (record { row = r; col = c; step = at }) (get_or h k d)) (rw was at e)
-    ∙ ap (λ b. nat_lt r i.grid.n && nat_lt c i.grid.n && b) (sym (list_any_more (takes i (record { row = r; col = c; step = at })) h k d l))
-
--- the tile of a grid
-pub taken_in : (i : Intersection) (e : Entry) (at r c : ℕ) → r < i.grid.n → c < i.grid.n → is_taken i e at r c ≡ takes i (record { row = r; col = c; step = at }) e
-taken_in i e at r c a b = rw (lt-ltb r i.grid.n a, lt-ltb c i.grid.n b) refl
+pub taken_more : (i : Intersection) (h : List Entry) (at k r c : ℕ) (d : Entry) (old t : Bool) → k < length h → old ≡ list_any (takes i (record { row = r; col = c; step = at })) (take k h) →
+    t ≡ (old || takes i (record { row = r; col = c; step = at }) (get_or h k d)) →
+    t ≡ list_any (takes i (record { row = r; col = c; step = at })) (take (k + 1) h)
+taken_more i h at k r c d old t l was e = rw was at e ∙ sym (list_any_more (takes i (record { row = r; col = c; step = at })) h k d l)
 
 -- the first element that passes
 pub find_first : {X : Type 0} (test : X → Bool) (xs : List X) (k : ℕ) (d : X) → list_any test (take k xs) ≡ false → k < length xs → test (get_or xs k d) ≡ true → find test xs ≡ Some (get_or xs k d)
@@ -98,50 +90,38 @@ find_first test (x ∷ xs) (suc k) d none l t =
 pub empty_rows : (r c : ℕ) → r < 64 → tile_at (replicate 64 0) r c ≡ false
 empty_rows r c l = rw (get_or-replicate {A = ℕ} 64 r 0 0 l, bit_at-zero c) refl
 
-pub nothing_taken : (i : Intersection) (at r c : ℕ) → r < 64 → tile_at (replicate 64 0) r c ≡ is_taken_by_some i [] at r c
-nothing_taken i at r c l = empty_rows r c l ∙ sym (and-false (nat_lt r i.grid.n && nat_lt c i.grid.n))
-
 -- the tile's bit, as the code reads it
-pub tile_is : (i : Intersection) (e : Entry) (at r c : ℕ) (ws : List ℕ) → r < 64 → r < i.grid.n → c < i.grid.n → tile_at ws r c ≡ (tile_at (replicate 64 0) r c || is_taken i e at r c) →
+pub tile_is : (i : Intersection) (e : Entry) (at r c : ℕ) (ws : List ℕ) → r < 64 → tile_at ws r c ≡ (tile_at (replicate 64 0) r c || takes i (record { row = r; col = c; step = at }) e) →
     (bit_and (get_or ws r 0 / 2 ^ c) 1 == 1) ≡ takes i (record { row = r; col = c; step = at }) e
-tile_is i e at r c ws l a b h = rw (shr_and_one (get_or ws r 0) c) (h ∙ rw (empty_rows r c l) (taken_in i e at r c a b))
-
-shared_bits : (a b t s : Bool) → ((a && b && t) && (a && b && s)) ≡ (a && b && (t && s))
-shared_bits true true t s = refl
-shared_bits true false t s = refl
-shared_bits false b t s = refl
+tile_is i e at r c ws l h = rw (shr_and_one (get_or ws r 0) c) (h ∙ rw (empty_rows r c l) refl)
 
 -- the tiles in both sets of rows are those that are shared
-common_is : (i : Intersection) (h : List Entry) (p : Params) (k r c : ℕ) (own taken : List ℕ) → r < 64 → tile_at own r c ≡ (tile_at (replicate 64 0) r c || is_footed i p k r c) → tile_at taken r c ≡ is_taken_by_some i h (p.arrive + k) r c →
-    (tile_at own r c && tile_at taken r c) ≡ (nat_lt r i.grid.n && nat_lt c i.grid.n && is_shared i h p k r c)
-common_is i h p k r c own taken l a b =
-    rw (a, empty_rows r c l, b) (shared_bits (nat_lt r i.grid.n) (nat_lt c i.grid.n) (in_footprint i p false i.grid.fixed k r c) (list_any (takes i (cell_at p k r c)) h))
+common_is : (i : Intersection) (h : List Entry) (p : Params) (k r c : ℕ) (own taken : List ℕ) → r < 64 → tile_at own r c ≡ (tile_at (replicate 64 0) r c || in_footprint i p false i.grid.fixed k r c) →
+    tile_at taken r c ≡ list_any (takes i (cell_at p k r c)) h → (tile_at own r c && tile_at taken r c) ≡ is_shared i h p k r c
+common_is i h p k r c own taken l a b = rw (a, empty_rows r c l, b) refl
 
 -- the rows show a foot, and what is taken in its step
 pub record ShowStep (i : Intersection) (h : List Entry) (p : Params) (k : ℕ) (left right : List ℕ) : Type 0 where
-  pub own : (r c : ℕ) → r < 64 → c < 64 → tile_at left r c ≡ (tile_at (replicate 64 0) r c || is_footed i p k r c)
-  pub taken : (r c : ℕ) → r < 64 → c < 64 → tile_at right r c ≡ is_taken_by_some i h (p.arrive + k) r c
-
-in_grid : (a b s : Bool) → a ≡ true → b ≡ true → (a && b && s) ≡ s
-in_grid a b s x y = rw (x, y) refl
+  pub own : (r c : ℕ) → r < 64 → c < 64 → tile_at left r c ≡ (tile_at (replicate 64 0) r c || in_footprint i p false i.grid.fixed k r c)
+  pub taken : (r c : ℕ) → r < 64 → c < 64 → tile_at right r c ≡ list_any (takes i (cell_at p k r c)) h
 
 -- where no tile is in both, none is shared
 pub shares_none : (i : Intersection) (h : List Entry) (p : Params) (k : ℕ) (own taken : List ℕ) → i.grid.n ≤ 64 → ShowStep i h p k own taken → ((r c : ℕ) → r < 64 → c < 64 → (tile_at own r c && tile_at taken r c) ≡ false) → SharesNone i h p k
 shares_none i h p k own taken few show none r c row col =
-    sym (common_is i h p k r c own taken (omega arith) (show.own r c (omega arith) (omega arith)) (show.taken r c (omega arith) (omega arith)) ∙ in_grid (nat_lt r i.grid.n) (nat_lt c i.grid.n) (is_shared i h p k r c) (lt-ltb r i.grid.n row) (lt-ltb c i.grid.n col))
+    sym (common_is i h p k r c own taken (omega arith) (show.own r c (omega arith) (omega arith)) (show.taken r c (omega arith) (omega arith)))
     ∙ none r c (omega arith) (omega arith)
 
 -- the first tile in both is the first that is shared
 pub first_shared_at : (i : Intersection) (h : List Entry) (p : Params) (k row col : ℕ) (own taken : List ℕ) → i.grid.n ≤ 64 → ShowStep i h p k own taken → IsFirstCommon own taken row col → IsFirstShared i h p k row col
 first_shared_at i h p k row col own taken few show at =
-    let all = sym (common_is i h p k row col own taken at.row_in (show.own row col at.row_in at.column_in) (show.taken row col at.row_in at.column_in)) ∙ at.common in
-    let grid = and_true (nat_lt row i.grid.n && nat_lt col i.grid.n) (is_shared i h p k row col) all in
-    let both = and_true (nat_lt row i.grid.n) (nat_lt col i.grid.n) grid.0 in
+    let shared = sym (common_is i h p k row col own taken at.row_in (show.own row col at.row_in at.column_in) (show.taken row col at.row_in at.column_in)) ∙ at.common in
+    let under = and_true (in_footprint i p false i.grid.fixed k row col) (list_any (takes i (cell_at p k row col)) h) shared in
+    let inside = any_touched_inside i.grid (ceil_div p.width 2 + i.grid.spacing + i.grid.fixed) (covered i p false k) row col under.0 in
     record {
-      row_in = ltb-true row i.grid.n both.0;
-      column_in = ltb-true col i.grid.n both.1;
-      shared = grid.1;
+      row_in = inside.0;
+      column_in = inside.1;
+      shared = shared;
       first = λ r c a b e.
-          sym (common_is i h p k r c own taken (omega arith) (show.own r c (omega arith) (omega arith)) (show.taken r c (omega arith) (omega arith)) ∙ in_grid (nat_lt r i.grid.n) (nat_lt c i.grid.n) (is_shared i h p k r c) (lt-ltb r i.grid.n a) (lt-ltb c i.grid.n b))
+          sym (common_is i h p k r c own taken (omega arith) (show.own r c (omega arith) (omega arith)) (show.taken r c (omega arith) (omega arith)))
           ∙ at.first r c (omega arith) (omega arith) e;
     }

@@ -1,5 +1,5 @@
 -- Who holds a cell, in a history of served messages.
-use Rattle.std.proofs.Common.{◌≡◌, ℕ, ◌<◌, ◌≤◌, Bool, true, false, ◌&&◌, not, cond, nat_le, List, [], ◌∷◌, ◌++◌, filter, Option, Some, None, arith, refl, sym, ◌∙◌, ap, append_assoc, eq-eqb, ◌⊎◌, inl, inr, if◌then◌else◌}
+use Rattle.std.proofs.Common.{◌≡◌, ℕ, ◌≤◌, Bool, true, false, ◌&&◌, not, cond, nat_le, List, [], ◌∷◌, ◌++◌, filter, Option, Some, None, arith, refl, sym, ◌∙◌, ap, append_assoc, eq-eqb, ◌⊎◌, inl, inr, if◌then◌else◌}
 use Rattle.std.specs.Prelude.{◌==◌, find, option_map, option_and_then}
 use Rattle.std.specs.List.{list_any}
 use Rattle.std.proofs.Math.Bool.{and-false}
@@ -61,17 +61,17 @@ gains_nothing i (act.Message m) s = go m.body s
 gains_nothing i (act.Order o) s = absurd s
 
 -- a cell that isn't past is held where it was granted
-taking : (i : Intersection) (r : Reply) (o : Option Params) (confirmed : Bool) (c : Cell) (now : ℕ) → IsPlain i → GainsNothing o → now ≤ c.step → c.row < i.grid.n → c.col < i.grid.n →
+taking : (i : Intersection) (r : Reply) (o : Option Params) (confirmed : Bool) (c : Cell) (now : ℕ) → IsPlain i → GainsNothing o → now ≤ c.step →
     ((confirmed && list_any (λ c. nat_le now c.step) (granted_with i r o)) && is_granted_with i r c o) ≡ (confirmed && crosses i c o)
-taking i r None true c now plain g later row col = refl
-taking i r None false c now plain g later row col = refl
-taking i r (Some p) false c now plain g later row col = refl
-taking i r (Some p) true c now plain g later row col = go (decided (in_cells i p (is_fast r) c))
+taking i r None true c now plain g later = refl
+taking i r None false c now plain g later = refl
+taking i r (Some p) false c now plain g later = refl
+taking i r (Some p) true c now plain g later = go (decided (in_cells i p (is_fast r) c))
   where
     go : (in_cells i p (is_fast r) c ≡ true) ⊎ (in_cells i p (is_fast r) c ≡ false) →
         (list_any (λ c. nat_le now c.step) (cells i p (is_fast r)) && in_cells i p (is_fast r) c) ≡ in_cells i p false c
     go (inl t) =
-        rw (list_any-IsIn (λ c. nat_le now c.step) (cells i p (is_fast r)) c (cells_has i p (is_fast r) c (let x = plain.early in let y = plain.edge in omega arith) (let x = plain.late in let y = plain.edge in omega arith) row col t) (le-leb now c.step later))
+        rw (list_any-IsIn (λ c. nat_le now c.step) (cells i p (is_fast r)) c (cells_has i p (is_fast r) c (let x = plain.early in let y = plain.edge in omega arith) (let x = plain.late in let y = plain.edge in omega arith) t) (le-leb now c.step later))
         (in_cells-one i p (is_fast r) c g)
     go (inr f) = rw f (and-false (list_any (λ c. nat_le now c.step) (cells i p (is_fast r)))) ∙ sym f ∙ in_cells-one i p (is_fast r) c g
 
@@ -79,12 +79,12 @@ taking i r (Some p) true c now plain g later row col = go (decided (in_cells i p
 abbrev has_it : Intersection → List Fresh → ℕ → ℕ → Cell → Fresh → Bool
 has_it i xs v now c x = is_number (holds i xs x.entry.caller now) x.place && (not (x.entry.caller == v) && is_granted i x c)
 
-has_it-served : (i : Intersection) (before es : List Entry) (e : Entry) (v now : ℕ) (c : Cell) → IsPlain i → AreServed i before (e ∷ es) → e.caller == v ≡ false → now ≤ c.step → c.row < i.grid.n → c.col < i.grid.n →
+has_it-served : (i : Intersection) (before es : List Entry) (e : Entry) (v now : ℕ) (c : Cell) → IsPlain i → AreServed i before (e ∷ es) → e.caller == v ≡ false → now ≤ c.step →
     has_it i (placed [] (before ++ e ∷ es)) v now c (served before e) ≡ takes i c e
-has_it-served i before es e v now c plain s other later row col =
+has_it-served i before es e v now c plain s other later =
     let own : holds i (placed [] (before ++ e ∷ es)) e.caller now ≡ holds_of i (served before e ∷ []) now = ap (λ xs. holds_of i xs now) (of_vehicle-one i before es e s) in
     rw (own, holds_one i (served before e) now, number_if (is_confirm e.reply && list_any (λ c. nat_le now c.step) (granted i (served before e))) (served before e).place, other)
-    (taking i e.reply (params_in e.act) (is_confirm e.reply) c now plain (gains_nothing i e.act s.0.request) later row col)
+    (taking i e.reply (params_in e.act) (is_confirm e.reply) c now plain (gains_nothing i e.act s.0.request) later)
 
 find-filter : {X : Type 0} (p q : X → Bool) (xs : List X) → find q (filter p xs) ≡ find (λ x. p x && q x) xs
 find-filter p q [] = refl
@@ -94,14 +94,14 @@ find-filter {X = X} p q (x ∷ xs) = filtered (p x) (q x) x (filter p xs) (find 
     filtered true b x ys o e = rw e refl
     filtered false b x ys o e = e
 
-find_has : (i : Intersection) (h before es : List Entry) (v now : ℕ) (c : Cell) → h ≡ before ++ es → IsPlain i → AreServed i before es → has_called v es ≡ false → now ≤ c.step → c.row < i.grid.n → c.col < i.grid.n →
+find_has : (i : Intersection) (h before es : List Entry) (v now : ℕ) (c : Cell) → h ≡ before ++ es → IsPlain i → AreServed i before es → has_called v es ≡ false → now ≤ c.step →
     option_map (λ x. x.entry.caller) (find (has_it i (placed [] h) v now c) (placed before es)) ≡ option_map (λ e. e.caller) (find (takes i c) es)
-find_has i h before [] v now c is plain s first later row col = refl
-find_has i h before (e ∷ es) v now c is plain s first later row col =
+find_has i h before [] v now c is plain s first later = refl
+find_has i h before (e ∷ es) v now c is plain s first later =
     let other = or_false (e.caller == v) (has_called v es) first in
-    let here : has_it i (placed [] h) v now c (served before e) ≡ takes i c e = rw is (has_it-served i before es e v now c plain s other.0 later row col) in
+    let here : has_it i (placed [] h) v now c (served before e) ≡ takes i c e = rw is (has_it-served i before es e v now c plain s other.0 later) in
     either (has_it i (placed [] h) v now c (served before e)) (takes i c e) (find (has_it i (placed [] h) v now c) (placed (before ++ e ∷ []) es)) (find (takes i c) es) here
-    (find_has i h (before ++ e ∷ []) es v now c (is ∙ sym (append_assoc before (e ∷ []) es)) plain s.1 other.1 later row col)
+    (find_has i h (before ++ e ∷ []) es v now c (is ∙ sym (append_assoc before (e ∷ []) es)) plain s.1 other.1 later)
   where
     either : (a b : Bool) (o : Option Fresh) (r : Option Entry) → a ≡ b → option_map (λ x. x.entry.caller) o ≡ option_map (λ e. e.caller) r →
         option_map (λ x. x.entry.caller) (cond a (Some (served before e)) o) ≡ option_map (λ e. e.caller) (cond b (Some e) r)
@@ -111,9 +111,9 @@ find_has i h before (e ∷ es) v now c is plain s first later row col =
     either false true o r same rest = absurd (cc)
 
 -- the vehicle that holds a cell is the first whose granted crossing needs it
-pub taken_by-served : (i : Intersection) (h : List Entry) (v now : ℕ) (c : Cell) → IsPlain i → AreServed i [] h → has_called v h ≡ false → now ≤ c.step → c.row < i.grid.n → c.col < i.grid.n →
+pub taken_by-served : (i : Intersection) (h : List Entry) (v now : ℕ) (c : Cell) → IsPlain i → AreServed i [] h → has_called v h ≡ false → now ≤ c.step →
     taken_by (reservations i (fresh h) now) i v c ≡ option_map (λ e. e.caller) (find (takes i c) h)
-taken_by-served i h v now c plain s first later row col =
+taken_by-served i h v now c plain s first later =
     ap (λ xs. taken_by (reservations i xs now) i v c) (fresh-served i h s)
     ∙ ap (λ o. option_map (λ x. x.entry.caller) o) (find-filter (λ x. is_number (holds i (placed [] h) x.entry.caller now) x.place) (λ x. not (x.entry.caller == v) && is_granted i x c) (placed [] h))
-    ∙ find_has i h [] h v now c refl plain s first later row col
+    ∙ find_has i h [] h v now c refl plain s first later

@@ -1,5 +1,5 @@
 -- The cells that the entries of a history have.
-use Rattle.std.specs.Prelude.{◌≡◌, ℕ, ◌+◌, ◌<◌, Bool, true, false, ◌&&◌, ◌⊎◌, List, nat_lt, Option, Some, None, option_and_then, if◌then◌else◌}
+use Rattle.std.specs.Prelude.{◌≡◌, ℕ, ◌+◌, ◌<◌, Bool, true, false, ◌&&◌, ◌⊎◌, List, Option, Some, None, option_and_then, if◌then◌else◌}
 use Rattle.std.specs.List.{list_any}
 use Rattle.aim_msg.specs.declared.messages.Params.{Params}
 use Rattle.aim_msg.specs.declared.entries.Act.{Act}
@@ -26,18 +26,6 @@ crosses i c (Some p) = in_cells i p false c
 -- whether the entry is a Confirm of a crossing that needs the cell
 abbrev pub takes : Intersection → Cell → Entry → Bool
 takes i c e = is_confirm e.reply && crosses i c (params_in e.act)
-
--- whether the tile is one of the grid's, and the crossing needs it in the step
-abbrev pub is_crossed : Intersection → Params → ℕ → ℕ → ℕ → Bool
-is_crossed i p at row col = nat_lt row i.grid.n && nat_lt col i.grid.n && in_cells i p false (record { row = row; col = col; step = at })
-
--- whether the tile is one of the grid's, and the entry has it in the step
-abbrev pub is_taken : Intersection → Entry → ℕ → ℕ → ℕ → Bool
-is_taken i e at row col = nat_lt row i.grid.n && nat_lt col i.grid.n && takes i (record { row = row; col = col; step = at }) e
-
--- the same for one of the entries
-abbrev pub is_taken_by_some : Intersection → List Entry → ℕ → ℕ → ℕ → Bool
-is_taken_by_some i h at row col = nat_lt row i.grid.n && nat_lt col i.grid.n && list_any (takes i (record { row = row; col = col; step = at })) h
 
 -- the cell of a tile in a step of the crossing
 abbrev pub cell_at : Params → ℕ → ℕ → ℕ → Cell

@@ -41,7 +41,7 @@ impl Model for Book {
 
     ghost view = { λ b. record { layout = b.layout; vehicles = b.vehicles; room = b.room; journal = b.journal.items } };
 
-    ghost invariant = { λ b. (IsLegal b.layout b.vehicles b.journal.items) × (AreServed b.layout [] b.journal.items) × (length b.journal.items ≤ b.room) × (b.room ≤ vec_capacity b.journal) × (b.room ≤ 262144) };
+    ghost invariant = { λ b. (IsLegal b.layout b.vehicles b.journal.items) × (AreServed b.layout [] b.journal.items) × (length b.journal.items ≤ b.room) × (b.room ≤ vec_capacity b.journal) × (b.room ≤ 262144) × (b.vehicles ≤ 65536) };
 }
 
 impl Book {
@@ -123,6 +123,13 @@ impl Book {
             journal,
         } = self;
         journal
+    }
+
+    /// The number of vehicles.
+    pub fn vehicles(&self) -> u32
+        ensures { result ≡ self.now.vehicles }
+    {
+        self.vehicles
     }
 
     /// The layout.

@@ -14,7 +14,7 @@ use aim_msg::{Entry, Params};
 use aim_paths::Layout;
 
 /// A tile that is taken in a step, and the vehicle that has it.
-#[derive(Clone, Copy, Debug, PartialEq, Eq)]
+#[derive(Drop)]
 pub struct Conflict {
     pub row: u8,
     pub col: u8,

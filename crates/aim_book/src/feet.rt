@@ -5,10 +5,10 @@ ghost use Rattle.std.specs.List.{list_any, slice_range};
 ghost use Rattle.aim_geometry.specs.declared.stations.Station.{Station};
 ghost use Rattle.aim_geometry.specs.Bounded.{ceil_div};
 ghost use Rattle.aim_geometry.specs.Rects.{tile_at};
-ghost use Rattle.aim_rules.specs.Footprint.{crossing_steps};
+ghost use Rattle.aim_geometry.specs.Ground.{is_touched};
+ghost use Rattle.aim_rules.specs.Footprint.{crossing_steps, in_footprint};
 ghost use Rattle.aim_paths.specs.Intersection.{stations};
 ghost use Rattle.aim_rules.specs.Motion.{front};
-ghost use Rattle.aim_book.specs.Feet.{is_footed, is_under, is_under_some};
 ghost use Rattle.aim_book.specs.Moving.{IsMoving};
 
 use aim_geometry::{Ground, join, tile_rect};
@@ -20,7 +20,7 @@ fn add_square(rows: &mut [u64; 64], ground: &Ground, half: u32, x: u32, y: u32)
     requires x { x ≤ ground.now.grid.side }
     requires y { y ≤ ground.now.grid.side }
     ensures { (r c : ℕ) → r < 64 → c < 64 → tile_at rows.new r c
-        ≡ (tile_at rows.old r c || is_under ground.now.grid half (record { x = x; y = y }) r c) }
+        ≡ (tile_at rows.old r c || is_touched ground.now.grid half (record { x = x; y = y }) r c) }
 {
     let _grid = ground.grid();
     join(rows, tile_rect(ground, x, y, half));
@@ -32,7 +32,7 @@ fn add_squares(rows: &mut [u64; 64], ground: &Ground, half: u32, path: &Path, lo
     requires order { low ≤ next }
     requires next { next ≤ length path.now }
     ensures { (r c : ℕ) → r < 64 → c < 64 → tile_at rows.new r c
-        ≡ (tile_at rows.old r c || is_under_some ground.now.grid half (slice_range path.now low next) r c) }
+        ≡ (tile_at rows.old r c || list_any (λ s. is_touched ground.now.grid half s r c) (slice_range path.now low next)) }
 {
     for j in low..next {
         let (x, y) = path.station(j);
@@ -85,7 +85,7 @@ fn foot_range(path: &Path, spacing: u32, params: &Params, step: u32) -> (u32, u3
 pub fn add_foot(rows: &mut [u64; 64], layout: &Layout, params: &Params, step: u32)
     requires moving { IsMoving params.now }
     requires step { step < crossing_steps layout.now params.now false }
-    ensures { (r c : ℕ) → r < 64 → c < 64 → tile_at rows.new r c ≡ (tile_at rows.old r c || is_footed layout.now params.now step r c) }
+    ensures { (r c : ℕ) → r < 64 → c < 64 → tile_at rows.new r c ≡ (tile_at rows.old r c || in_footprint layout.now params.now false layout.now.grid.fixed step r c) }
 {
     let ground = layout.ground();
     let grid = ground.grid();

@@ -17,6 +17,3 @@ pub use book::{Book, Full, OpenFault};
 pub use fields::bad_field;
 pub use journals::has_called;
 pub use plains::is_plain;
-
-#[cfg(test)]
-mod tests;

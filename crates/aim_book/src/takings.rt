@@ -3,10 +3,11 @@
 ghost use Rattle.std.specs.Prelude.{◌≡◌, ℕ, ◌+◌, ◌<◌, ◌||◌, true, false, [], find, option_map, IfSome, IfNone, Some};
 ghost use Rattle.std.specs.List.{list_any};
 ghost use Rattle.aim_geometry.specs.Rects.{tile_at};
+ghost use Rattle.aim_rules.specs.Cells.{in_cells};
 ghost use Rattle.aim_rules.specs.Footprint.{crossing_steps};
 ghost use Rattle.aim_book.specs.Moving.{IsMoving};
 ghost use Rattle.aim_book.specs.Serving.{ActsSteady, AreServed, IsPlain};
-ghost use Rattle.aim_book.specs.Takings.{is_crossed, is_taken, is_taken_by_some, takes};
+ghost use Rattle.aim_book.specs.Takings.{takes};
 
 use crate::feet::{add_foot, step_count};
 use crate::journals::granted;
@@ -34,7 +35,7 @@ fn step_at(layout: &Layout, params: &Params, step: u32) -> Option<u32>
 fn add_crossing(rows: &mut [u64; 64], layout: &Layout, params: &Params, step: u32)
     requires plain { IsPlain layout.now }
     requires moving { IsMoving params.now }
-    ensures { (r c : ℕ) → r < 64 → c < 64 → tile_at rows.new r c ≡ (tile_at rows.old r c || is_crossed layout.now params.now step r c) }
+    ensures { (r c : ℕ) → r < 64 → c < 64 → tile_at rows.new r c ≡ (tile_at rows.old r c || in_cells layout.now params.now false (record { row = r; col = c; step = step })) }
 {
     if let Some(k) = step_at(layout, params, step) {
         add_foot(rows, layout, params, k);
@@ -45,7 +46,7 @@ fn add_crossing(rows: &mut [u64; 64], layout: &Layout, params: &Params, step: u3
 fn add_taken(rows: &mut [u64; 64], layout: &Layout, entry: &Entry, step: u32)
     requires plain { IsPlain layout.now }
     requires steady { ActsSteady layout.now entry.now.act }
-    ensures { (r c : ℕ) → r < 64 → c < 64 → tile_at rows.new r c ≡ (tile_at rows.old r c || is_taken layout.now entry.now step r c) }
+    ensures { (r c : ℕ) → r < 64 → c < 64 → tile_at rows.new r c ≡ (tile_at rows.old r c || takes layout.now (record { row = r; col = c; step = step }) entry.now) }
 {
     if let Some(params) = granted(entry) {
         add_crossing(rows, layout, &params, step);
@@ -56,7 +57,7 @@ fn add_taken(rows: &mut [u64; 64], layout: &Layout, entry: &Entry, step: u32)
 pub fn taken_rows(layout: &Layout, entries: &[Entry], step: u32) -> [u64; 64]
     requires plain { IsPlain layout.now }
     requires served { AreServed layout.now [] entries.now }
-    ensures { (r c : ℕ) → r < 64 → c < 64 → tile_at result r c ≡ is_taken_by_some layout.now entries.now step r c }
+    ensures { (r c : ℕ) → r < 64 → c < 64 → tile_at result r c ≡ list_any (takes layout.now (record { row = r; col = c; step = step })) entries.now }
 {
     let mut rows = [0; 64];
     for entry in entries {

@@ -1,5 +1,5 @@
 -- How the questions about the lines of a script change with one more line.
-use Rattle.std.proofs.Common.{◌≡◌, ℕ, ◌+◌, ◌==◌, Bool, true, false, ◌||◌, List, [], ◌∷◌, ◌++◌, length, filter_map, Option, Some, None, refl, sym, ap, ◌∙◌, arith, length-append}
+use Rattle.std.proofs.Common.{◌≡◌, ℕ, suc, ◌+◌, ◌==◌, Bool, true, false, ◌||◌, List, [], ◌∷◌, ◌++◌, length, fold, filter_map, Option, Some, None, refl, sym, ap, subst, ◌∙◌, arith, length-append}
 use Rattle.std.specs.Option.{option_or, unwrap_or, option_to_list}
 use Rattle.std.specs.List.{list_any}
 use Rattle.std.proofs.lemmas.List.{reverse-append, append-nil}
@@ -12,17 +12,18 @@ use Rattle.aim_msg.specs.declared.messages.Message.{Message}
 use Rattle.aim_msg.specs.declared.entries.Act.TheVariants as act
 use Rattle.aim_msg.specs.declared.entries.Entry.{Entry}
 use Rattle.aim_geometry.specs.Bounded.{find_map}
+use Rattle.aim_geometry.specs.Sites.{Site}
+use Rattle.aim_paths.specs.Added.{Added, AddMove, AddPolicy, AddPhase, AreTaken, added, added_fault, policies_of, layout_of as layout_of_lines}
+use Rattle.aim_paths.specs.Building.{bare}
 use Rattle.aim_paths.specs.Intersection.{Intersection}
+use Rattle.aim_paths.proofs.AddedLemmas.{layout_is_its_lines}
 use Rattle.aim_rules.specs.Journals.{Call, journal, entry_of}
-use Rattle.aim_replay.specs.Said.{version_in, version_after, with_line, layout_of, nowhere, name_in, names_of, vehicles_in, vehicles_of, call_in, calls_of, last_of}
+use Rattle.aim_replay.specs.Said.{Described, described, site_of, grid_in, times_in, lanes_in, added_in, version_in, version_after, layout_of, name_in, names_of, vehicles_in, vehicles_of, call_in, calls_of, last_of}
 use Rattle.aim_replay.specs.Today.{is_event_of}
-use Rattle.aim_replay.specs.Stands.{IsHeader, IsBody}
+use Rattle.aim_replay.specs.Stands.{IsHeader, IsBuilt, IsBody}
 
 pub last_of_more : (before : List Line) (l : Line) → last_of (before ++ l ∷ []) ≡ Some l
 last_of_more before l = rw (reverse-append before (l ∷ [])) refl
-
-pub layout_more : (before : List Line) (l : Line) → layout_of (before ++ l ∷ []) ≡ with_line (layout_of before) l
-layout_more before l = fold-append with_line nowhere before (l ∷ [])
 
 find_map-append : {X Y : Type 0} (f : X → Option Y) (xs ys : List X) → find_map f (xs ++ ys) ≡ option_or (find_map f xs) (find_map f ys)
 find_map-append f [] ys = refl
@@ -52,6 +53,51 @@ version_more before l is one =
     single None e = e
     single (Some v) e = e
 
+or_none : {X : Type 0} (o : Option X) → option_or o None ≡ o
+or_none None = refl
+or_none (Some x) = refl
+
+find_map-one : {X Y : Type 0} (f : X → Option Y) (xs : List X) (x : X) → find_map f (xs ++ x ∷ []) ≡ option_or (find_map f xs) (f x)
+find_map-one f xs x = find_map-append f xs (x ∷ []) ∙ ap (option_or (find_map f xs)) (or_none (f x))
+
+-- what one more line says of a layout
+abbrev pub described_with : Described → Line → Described
+described_with d l = record {
+  grid = option_or d.grid (grid_in l);
+  times = option_or d.times (times_in l);
+  lanes = option_or d.lanes (lanes_in l);
+  added = d.added ++ option_to_list (added_in l);
+}
+
+described_more : (before : List Line) (l : Line) → described (before ++ l ∷ []) ≡ described_with (described before) l
+described_more before l =
+    rw (find_map-one grid_in before l, find_map-one times_in before l, find_map-one lanes_in before l, filter_map-one added_in before l) refl
+
+-- a line that says nothing of a layout
+pub record IsSilent (l : Line) : Type 0 where
+  pub grid : grid_in l ≡ None
+  pub times : times_in l ≡ None
+  pub lanes : lanes_in l ≡ None
+  pub added : added_in l ≡ None
+
+pub layout_same : (before : List Line) (l : Line) → IsSilent l → layout_of (before ++ l ∷ []) ≡ layout_of before
+unfolding layout_of
+layout_same before l s =
+    rw (
+      find_map-one grid_in before l,
+      find_map-one times_in before l,
+      find_map-one lanes_in before l,
+      filter_map-one added_in before l,
+      s.grid,
+      s.times,
+      s.lanes,
+      s.added,
+      or_none (find_map grid_in before),
+      or_none (find_map times_in before),
+      or_none (find_map lanes_in before),
+      append-nil (filter_map added_in before),
+    ) refl
+
 -- one more line that says something of the layout alone
 pub record Describes (l : Line) : Type 0 where
   pub version : unwrap_or (version_in l) 1 ≡ 1
@@ -59,21 +105,47 @@ pub record Describes (l : Line) : Type 0 where
   pub call : (names : List (List ℕ)) → call_in names l ≡ None
   pub event : (v : ℕ) → is_event_of v l ≡ false
 
-pub header_more : (before : List Line) (i : Intersection) (l : Line) → IsHeader before i → Describes l
-    → length i.policies + length (option_to_list (name_in l)) ≡ length (with_line i l).policies
-    → IsHeader (before ++ l ∷ []) (with_line i l)
-header_more before i l h d names = record {
-  version = version_more before l h.version d.version;
-  layout = layout_more before l ∙ ap (λ (j : Intersection). with_line j l) h.layout;
-  names = ap length (filter_map-one name_in before l) ∙ length-append (names_of before) (option_to_list (name_in l)) ∙ ap (λ n. n + length (option_to_list (name_in l))) h.names ∙ names;
-  no_vehicles = rw (find_map-append vehicles_in before (l ∷ []), h.no_vehicles, d.vehicles) refl;
-  no_calls = λ some. rw (filter_map-one (call_in some) before l, h.no_calls some, d.call some) refl;
-  no_events = λ v. rw (list_any-append (is_event_of v) before (l ∷ []), h.no_events v, d.event v) refl;
+pub header_more : (before : List Line) (d : Described) (l : Line) → IsHeader before d → Describes l → IsHeader (before ++ l ∷ []) (described_with d l)
+header_more before d l h says = record {
+  version = version_more before l h.version says.version;
+  said = described_more before l ∙ ap (λ (e : Described). described_with e l) h.said;
+  no_vehicles = rw (find_map-append vehicles_in before (l ∷ []), h.no_vehicles, says.vehicles) refl;
+  no_calls = λ some. rw (filter_map-one (call_in some) before l, h.no_calls some, says.call some) refl;
+  no_events = λ v. rw (list_any-append (is_event_of v) before (l ∷ []), h.no_events v, says.event v) refl;
 }
 
-or_none : {X : Type 0} (o : Option X) → option_or o None ≡ o
-or_none None = refl
-or_none (Some x) = refl
+-- the lines of a builder describe what it holds
+pub layout_built : (before : List Line) (i : Intersection) → IsBuilt before i → layout_of before ≡ i
+unfolding layout_of
+layout_built before i b =
+    let s : Site = record { grid = i.grid; times = i.times } in
+    ap (λ (d : Described). layout_of_lines (site_of d) (unwrap_or d.lanes 0) d.added) b.header.said
+    ∙ sym (layout_is_its_lines s b.lanes b.lines b.taken)
+    ∙ b.made
+
+taken_more : (i : Intersection) (xs : List Added) (x : Added) → AreTaken i xs → added_fault (fold added i xs) x ≡ None → AreTaken i (xs ++ x ∷ [])
+taken_more i [] x t good = (good, tt)
+taken_more i (y ∷ xs) x t good = (t.0, taken_more (added i y) xs x t.1 good)
+
+-- a line more that is added to the lanes
+pub built_more : (before : List Line) (i : Intersection) (l : Line) (x : Added) → IsBuilt before i → Describes l → added_in l ≡ Some x → added_fault i x ≡ None →
+    (added i x).grid ≡ i.grid → (added i x).times ≡ i.times → IsBuilt (before ++ l ∷ []) (added i x)
+built_more before i l x b says is good same_grid same_times =
+    let s : Site = record { grid = i.grid; times = i.times } in
+    let header = header_more before _ l b.header says in
+    let same : Site = record { grid = (added i x).grid; times = (added i x).times } in
+    let at : same ≡ s = rw (same_grid, same_times) refl in
+    let more = b.lines ++ x ∷ [] in
+    let taken : AreTaken (bare s b.lanes) more = taken_more (bare s b.lanes) b.lines x b.taken (rw b.made good) in
+    let made : fold added (bare s b.lanes) more ≡ added i x = fold-append added (bare s b.lanes) b.lines (x ∷ []) ∙ ap (λ (j : Intersection). added j x) b.made in
+    let said : IsHeader (before ++ l ∷ []) (record { grid = Some i.grid; times = Some i.times; lanes = Some b.lanes; added = more }) = rw is at header in
+    record {
+      lanes = b.lanes;
+      lines = more;
+      header = subst (λ (g : Site). IsHeader (before ++ l ∷ []) (record { grid = Some g.grid; times = Some g.times; lanes = Some b.lanes; added = more })) (sym at) said;
+      taken = subst (λ (g : Site). AreTaken (bare g b.lanes) more) (sym at) taken;
+      made = subst (λ (g : Site). fold added (bare g b.lanes) more ≡ added i x) (sym at) made;
+    }
 
 vehicles_same : (before : List Line) (l : Line) → vehicles_in l ≡ None → vehicles_of (before ++ l ∷ []) ≡ vehicles_of before
 vehicles_same before l none = rw (find_map-append vehicles_in before (l ∷ []), none, or_none (find_map vehicles_in before)) refl
@@ -95,11 +167,11 @@ false_or true b is = refl
 false_or false b is = is
 
 -- a line that says nothing
-pub body_same : (before : List Line) (i : Intersection) (n : ℕ) (h : List Entry) (l : Line) → IsBody before i n h → Describes l → with_line i l ≡ i → name_in l ≡ None
+pub body_same : (before : List Line) (i : Intersection) (n : ℕ) (h : List Entry) (l : Line) → IsBody before i n h → Describes l → IsSilent l → name_in l ≡ None
     → IsBody (before ++ l ∷ []) i n h
-body_same before i n h l b d same none = record {
+body_same before i n h l b d silent none = record {
   version = version_more before l b.version d.version;
-  layout = layout_more before l ∙ ap (λ (j : Intersection). with_line j l) b.layout ∙ same;
+  layout = layout_same before l silent ∙ b.layout;
   declared = vehicles_same before l d.vehicles ∙ b.declared;
   journal = ap (journal i) (calls_same before l none (d.call (names_of before))) ∙ b.journal;
   events = λ v. list_any-append (is_event_of v) before (l ∷ []) ∙ rw (d.event v) (false_or (list_any (is_event_of v) before) false refl) ∙ b.events v;
@@ -120,7 +192,7 @@ body_event before i n h v at m b =
     let e = entry_of i h (event_call v at m) in
     record {
       version = version_more before l b.version refl;
-      layout = layout_more before l ∙ b.layout;
+      layout = layout_same before l (record { grid = refl; times = refl; lanes = refl; added = refl }) ∙ b.layout;
       declared = vehicles_same before l refl ∙ b.declared;
       journal = ap (journal i) (calls_more before l refl) ∙ journal_more i (calls_of before) (event_call v at m) ∙ ap (λ (g : List Entry). g ++ entry_of i g (event_call v at m) ∷ []) b.journal;
       events = λ w. list_any-append (is_event_of w) before (l ∷ []) ∙ ap (λ x. x || list_any (is_event_of w) (l ∷ [])) (b.events w) ∙ sym (list_any-append (λ (x : Entry). x.caller == w) h (e ∷ []));
@@ -128,14 +200,43 @@ body_event before i n h v at m b =
     }
 
 -- the line of the vehicles
-pub body_first : (before : List Line) (i : Intersection) (n : ℕ) → IsHeader before i → IsBody (before ++ line.Vehicles n ∷ []) i n []
-body_first before i n h =
+pub body_first : (before : List Line) (i : Intersection) (n : ℕ) → IsBuilt before i → IsBody (before ++ line.Vehicles n ∷ []) i n []
+body_first before i n b =
+    let h = b.header in
     let l = line.Vehicles n in
     record {
       version = version_more before l h.version refl;
-      layout = layout_more before l ∙ h.layout;
+      layout = layout_same before l (record { grid = refl; times = refl; lanes = refl; added = refl }) ∙ layout_built before i b;
       declared = rw (find_map-append vehicles_in before (l ∷ []), h.no_vehicles) refl;
       journal = ap (journal i) (calls_same before l refl refl ∙ h.no_calls (names_of before));
       events = λ v. list_any-append (is_event_of v) before (l ∷ []) ∙ rw (h.no_events v) refl;
       few = omega arith;
     }
+
+-- there are as many policies as names
+policies_named : (lines : List Line) → length (policies_of (filter_map added_in lines)) ≡ length (names_of lines)
+policies_named [] = refl
+policies_named (line.Policy name k ∷ ls) = ap suc (policies_named ls)
+policies_named (line.Phase red green lanes ∷ ls) = policies_named ls
+policies_named (line.Version n ∷ ls) = policies_named ls
+policies_named (line.Grid g ∷ ls) = policies_named ls
+policies_named (line.Times t ∷ ls) = policies_named ls
+policies_named (line.Times6 t ∷ ls) = policies_named ls
+policies_named (line.Lanes n ∷ ls) = policies_named ls
+policies_named (line.Move lane turn s ∷ ls) = policies_named ls
+policies_named (line.Vehicles n ∷ ls) = policies_named ls
+policies_named (line.Begin ∷ ls) = policies_named ls
+policies_named (line.Event vehicle moment message ∷ ls) = policies_named ls
+policies_named (line.SwitchTo moment name ∷ ls) = policies_named ls
+policies_named (line.StopAt moment ∷ ls) = policies_named ls
+policies_named (line.Until step ∷ ls) = policies_named ls
+policies_named (line.PlanFor vehicle first lead resend params ahead ∷ ls) = policies_named ls
+policies_named (line.ChangeAt vehicle step lead ∷ ls) = policies_named ls
+policies_named (line.CancelAt vehicle step ∷ ls) = policies_named ls
+policies_named (line.Up vehicle fates ∷ ls) = policies_named ls
+policies_named (line.Down vehicle fates ∷ ls) = policies_named ls
+policies_named (line.End ∷ ls) = policies_named ls
+
+pub names_are_policies : (lines : List Line) (i : Intersection) → layout_of lines ≡ i → length (names_of lines) ≡ length i.policies
+unfolding layout_of
+names_are_policies lines i is = sym (policies_named lines) ∙ ap (λ (j : Intersection). length j.policies) is

@@ -1,5 +1,5 @@
 -- The calls of the lines before a verdict may be made on the layout of these lines.
-use Rattle.std.proofs.Common.{◌≡◌, ℕ, suc, ◌+◌, ◌-◌, ◌<◌, ◌≤◌, Bool, true, false, cond, not, nat_lt, nat_le, List, [], ◌∷◌, ◌++◌, length, take, drop, slice_get, Option, Some, None, arith, refl, sym, subst, ◌∙◌, unwrap_or, length-append, fold}
+use Rattle.std.proofs.Common.{◌≡◌, ℕ, suc, ◌+◌, ◌*◌, ◌<◌, ◌≤◌, Bool, true, false, cond, not, nat_lt, nat_le, List, [], ◌∷◌, ◌++◌, length, take, drop, slice_get, Option, Some, None, arith, refl, sym, subst, ◌∙◌, unwrap_or, length-append, if◌then◌else◌}
 use Rattle.std.specs.Prelude.{filter_map, bytes_eq}
 use Rattle.std.specs.List.{AllByRecursion, list_any, position_or_len, cons_option}
 use Rattle.std.specs.Option.{option_or}
@@ -11,65 +11,17 @@ use Rattle.aim_msg.specs.declared.script.Line.{Line}
 use Rattle.aim_msg.specs.declared.script.Line.TheVariants as line
 use Rattle.aim_msg.specs.Lines.{name_word}
 use Rattle.aim_geometry.specs.Bounded.{find_map}
-use Rattle.aim_paths.specs.declared.policies.Phase.{Phase}
-use Rattle.aim_paths.specs.Intersection.{Intersection, Policy}
-use Rattle.aim_paths.specs.Building.{last_policy, with_phase_of}
 use Rattle.aim_rules.specs.Journals.{Call, MayCall}
 use Rattle.aim_rules.specs.Legal.{IsLegal, MayAct}
 use Rattle.aim_rules.proofs.LegalLemmas.{IsLegal-journal}
-use Rattle.aim_replay.specs.Said.{with_line, nowhere, layout_of, name_in, names_of, is_named, number_of, vehicles_in, vehicles_of, call_in, calls_of}
-use Rattle.aim_replay.specs.Kinds.{Missing}
+use Rattle.aim_replay.specs.declared.decisions.Limit.TheVariants as limit
+use Rattle.aim_replay.specs.Said.{layout_of, name_in, names_of, is_named, number_of, vehicles_in, vehicles_of, call_in, calls_of}
+use Rattle.aim_replay.specs.Kinds.{Missing, vehicles_limit}
 use Rattle.aim_replay.specs.Verdicts.{Verdict}
 use Rattle.aim_replay.specs.First.{IsOfTheFirst}
 use Rattle.aim_replay.specs.Texts.{journal_of}
+use Rattle.aim_replay.proofs.AppendLemmas.{names_are_policies}
 use Rattle.aim_replay.proofs.LineLemmas.{GoesOn, goes_on_says, passes}
-
--- there are as many policies as names
-
-phase_keeps : (i : Intersection) (p : Phase) (o : Option Policy) → length (with_phase_of i p o).policies ≡ length i.policies
-phase_keeps i p None = refl
-phase_keeps i p (Some q) = length-set i.policies (length i.policies - 1) (record q { phases = q.phases ++ p ∷ [] })
-
-abbrev counts : Option (List ℕ) → ℕ
-counts None = 0
-counts (Some name) = 1
-
-line_counts : (i : Intersection) (l : Line) → length (with_line i l).policies ≡ length i.policies + counts (name_in l)
-line_counts i (line.Policy name k) = length-append i.policies (record { kind = _; phases = [] } ∷ [])
-line_counts i (line.Phase red green lanes) = phase_keeps i (record { red = red; green = green; lanes = lanes }) (last_policy i) ∙ omega arith
-line_counts i (line.Version n) = omega arith
-line_counts i (line.Grid g) = omega arith
-line_counts i (line.Times t) = omega arith
-line_counts i (line.Times6 t) = omega arith
-line_counts i (line.Lanes n) = omega arith
-line_counts i (line.Move lane turn s) = omega arith
-line_counts i (line.Vehicles n) = omega arith
-line_counts i line.Begin = omega arith
-line_counts i (line.Event vehicle moment message) = omega arith
-line_counts i (line.SwitchTo moment name) = omega arith
-line_counts i (line.StopAt moment) = omega arith
-line_counts i (line.Until step) = omega arith
-line_counts i (line.PlanFor vehicle first lead resend params ahead) = omega arith
-line_counts i (line.ChangeAt vehicle step lead) = omega arith
-line_counts i (line.CancelAt vehicle step) = omega arith
-line_counts i (line.Up vehicle fates) = omega arith
-line_counts i (line.Down vehicle fates) = omega arith
-line_counts i line.End = omega arith
-
-names_more : (l : Line) (ls : List Line) → length (names_of (l ∷ ls)) ≡ counts (name_in l) + length (names_of ls)
-names_more l ls = go (name_in l)
-  where
-    go : (o : Option (List ℕ)) → length (cons_option o (names_of ls)) ≡ counts o + length (names_of ls)
-    go None = omega arith
-    go (Some name) = omega arith
-
-policies_of : (i : Intersection) (ls : List Line) → length (fold with_line i ls).policies ≡ length i.policies + length (names_of ls)
-policies_of i [] = omega arith
-policies_of i (l ∷ ls) =
-    let a = policies_of (with_line i l) ls in
-    let b = line_counts i l in
-    let c = names_more l ls in
-    omega arith
 
 -- a name that was given has a number below the number of names
 number_below : (names : List (List ℕ)) (name : List ℕ) → 0 < length names → number_of names name < length names
@@ -129,33 +81,57 @@ switch_below before k name h =
     let some = some_name (names_of (take k before)) name (not_true (is_named (take k before) name) h) in
     let front = front_names before k in
     let n = number_below (names_of before) name (omega arith) in
-    let p = policies_of nowhere before in
+    let p = names_are_policies before (layout_of before) refl in
     omega arith
 
-call_may_be : (missing : Missing) (before : List Line) (k : ℕ) (l : Line) (c : Call) → GoesOn missing (take k before) l → call_in (names_of before) l ≡ Some c → MayBe before c
-call_may_be missing before k (line.Event vehicle moment message) c g e =
-    subst (MayBe before) (some_call _ c e) (in_time moment (passes missing (take k before) (line.Event vehicle moment message) 13 g), vehicle_below before k vehicle (passes missing (take k before) (line.Event vehicle moment message) 12 g))
-call_may_be missing before k (line.SwitchTo moment name) c g e =
+call_may_be : (missing : Missing) (before : List Line) (k : ℕ) (l : Line) (c : Call) → vehicles_of before ≤ 65536 → GoesOn missing (take k before) l → call_in (names_of before) l ≡ Some c → MayBe before c
+call_may_be missing before k (line.Event vehicle moment message) c few g e =
+    subst (MayBe before) (some_call _ c e) (in_time moment (passes missing (take k before) (line.Event vehicle moment message) 13 g), ((let m = vehicle_below before k vehicle (passes missing (take k before) (line.Event vehicle moment message) 12 g) in omega arith), vehicle_below before k vehicle (passes missing (take k before) (line.Event vehicle moment message) 12 g)))
+call_may_be missing before k (line.SwitchTo moment name) c few g e =
     subst (MayBe before) (some_call _ c e) (in_time moment (passes missing (take k before) (line.SwitchTo moment name) 13 g), (refl, switch_below before k (name_word name) (passes missing (take k before) (line.SwitchTo moment name) 10 g)))
-call_may_be missing before k (line.StopAt moment) c g e =
-    subst (MayBe before) (some_call _ c e) (in_time moment (passes missing (take k before) (line.StopAt moment) 13 g), refl)
-call_may_be missing before k (line.Version n) c g e = absurd (cc)
-call_may_be missing before k (line.Grid n) c g e = absurd (cc)
-call_may_be missing before k (line.Times t) c g e = absurd (cc)
-call_may_be missing before k (line.Times6 t) c g e = absurd (cc)
-call_may_be missing before k (line.Lanes n) c g e = absurd (cc)
-call_may_be missing before k (line.Move lane turn s) c g e = absurd (cc)
-call_may_be missing before k (line.Policy name n) c g e = absurd (cc)
-call_may_be missing before k (line.Phase red green lanes) c g e = absurd (cc)
-call_may_be missing before k (line.Vehicles n) c g e = absurd (cc)
-call_may_be missing before k line.Begin c g e = absurd (cc)
-call_may_be missing before k (line.Until step) c g e = absurd (cc)
-call_may_be missing before k (line.PlanFor vehicle first lead resend params ahead) c g e = absurd (cc)
-call_may_be missing before k (line.ChangeAt vehicle step lead) c g e = absurd (cc)
-call_may_be missing before k (line.CancelAt vehicle step) c g e = absurd (cc)
-call_may_be missing before k (line.Up vehicle fates) c g e = absurd (cc)
-call_may_be missing before k (line.Down vehicle fates) c g e = absurd (cc)
-call_may_be missing before k line.End c g e = absurd (cc)
+call_may_be missing before k (line.StopAt moment) c few g e =
+    subst (MayBe before) (some_call _ c e) (in_time moment (passes missing (take k before) (line.StopAt moment) 13 g), (refl, tt))
+call_may_be missing before k (line.Version n) c few g e = absurd (cc)
+call_may_be missing before k (line.Grid n) c few g e = absurd (cc)
+call_may_be missing before k (line.Times t) c few g e = absurd (cc)
+call_may_be missing before k (line.Times6 t) c few g e = absurd (cc)
+call_may_be missing before k (line.Lanes n) c few g e = absurd (cc)
+call_may_be missing before k (line.Move lane turn s) c few g e = absurd (cc)
+call_may_be missing before k (line.Policy name n) c few g e = absurd (cc)
+call_may_be missing before k (line.Phase red green lanes) c few g e = absurd (cc)
+call_may_be missing before k (line.Vehicles n) c few g e = absurd (cc)
+call_may_be missing before k line.Begin c few g e = absurd (cc)
+call_may_be missing before k (line.Until step) c few g e = absurd (cc)
+call_may_be missing before k (line.PlanFor vehicle first lead resend params ahead) c few g e = absurd (cc)
+call_may_be missing before k (line.ChangeAt vehicle step lead) c few g e = absurd (cc)
+call_may_be missing before k (line.CancelAt vehicle step) c few g e = absurd (cc)
+call_may_be missing before k (line.Up vehicle fates) c few g e = absurd (cc)
+call_may_be missing before k (line.Down vehicle fates) c few g e = absurd (cc)
+call_may_be missing before k line.End c few g e = absurd (cc)
+
+-- what is found is the first that an element gives
+first_of : {X : Type 0} (f : X → Option ℕ) (most : ℕ) (xs : List X) → ((k : ℕ) (x : X) (n : ℕ) → slice_get xs k ≡ Some x → f x ≡ Some n → n ≤ most) → unwrap_or (find_map f xs) 0 ≤ most
+first_of f most [] each = omega arith
+first_of f most (x ∷ xs) each = go (f x) refl (first_of f most xs (λ k y n at e. each (suc k) y n at e))
+  where
+    go : (o : Option ℕ) → f x ≡ o → unwrap_or (find_map f xs) 0 ≤ most → unwrap_or (option_or o (find_map f xs)) 0 ≤ most
+    go None e rest = rest
+    go (Some n) e rest = each 0 x n refl e
+
+within : (spans n : ℕ) → vehicles_limit spans n ≡ None → n ≤ 65536
+within spans n h = go (nat_lt 65536 n) refl h
+  where
+    go : (b : Bool) → nat_lt 65536 n ≡ b → (if b then Some limit.Vehicles else if nat_lt 16777216 (n * spans) then Some limit.Sheets else None) ≡ None → n ≤ 65536
+    go true e h = absurd (cc)
+    go false e h = grind (arith, nat_tests)
+
+-- a script whose lines go on declares as many vehicles as there may be
+few_vehicles : (missing : Missing) (input : List Outcome) (v : Verdict) → IsOfTheFirst missing input v → vehicles_of v.before ≤ 65536
+few_vehicles missing input v f =
+    first_of vehicles_in 65536 v.before (λ k l n at e.
+    let g = f.goes_on_at k l at in
+    let i = layout_of (take k v.before) in
+    within i.grid.spans n (rw e at ((goes_on_says missing (take k v.before) g.0 l g.2).no_limit)))
 
 -- a fact of what each element gives
 all_given : {X Y : Type 0} (f : X → Option Y) (P : Y → Type 0) (xs : List X) → ((k : ℕ) (x : X) (y : Y) → slice_get xs k ≡ Some x → f x ≡ Some y → P y) → AllByRecursion P (filter_map f xs)
@@ -169,7 +145,7 @@ all_given {Y = Y} f P (x ∷ xs) each = go (f x) refl (all_given f P xs (λ k y 
 pub calls_may_be : (missing : Missing) (input : List Outcome) (v : Verdict) → IsOfTheFirst missing input v → MayCall (layout_of v.before) (vehicles_of v.before) (calls_of v.before)
 calls_may_be missing input v f =
     all_given (call_in (names_of v.before)) (MayBe v.before) v.before
-    (λ k l c at e. let g = f.goes_on_at k l at in call_may_be missing v.before k l c (goes_on_says missing (take k v.before) g.0 l g.2) e)
+    (λ k l c at e. let g = f.goes_on_at k l at in call_may_be missing v.before k l c (few_vehicles missing input v f) (goes_on_says missing (take k v.before) g.0 l g.2) e)
 
 pub journal_legal : (missing : Missing) (input : List Outcome) (v : Verdict) → IsOfTheFirst missing input v → IsLegal (layout_of v.before) (vehicles_of v.before) (journal_of v)
 journal_legal missing input v f = IsLegal-journal (layout_of v.before) (vehicles_of v.before) (calls_of v.before) (calls_may_be missing input v f)

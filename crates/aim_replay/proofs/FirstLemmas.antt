@@ -3,8 +3,9 @@ use Rattle.std.proofs.Common.{◌≡◌, ◌⊎◌, inl, inr, ℕ, zero, suc, Li
 use Rattle.std.proofs.Math.Seq.{append_snoc}
 use Rattle.aim_io.specs.Lines.{Outcome}
 use Rattle.aim_msg.specs.declared.script.Line.{Line}
+use Rattle.aim_replay.specs.declared.decisions.Decision.{Decision}
 use Rattle.aim_replay.specs.Kinds.{Missing}
-use Rattle.aim_replay.specs.Verdicts.{Decision, Judgement, Verdict, judge, goes_on, decides, at_end, then_on, verdict_from}
+use Rattle.aim_replay.specs.Verdicts.{Judgement, Verdict, judge, goes_on, decides, at_end, then_on, verdict_from}
 use Rattle.aim_replay.specs.First.{IsOfTheFirst}
 
 -- the same from some lines on

@@ -1,5 +1,5 @@
 -- The kinds that each form of line can have, today.
-use Rattle.std.proofs.Common.{◌≡◌, ◌⊎◌, inl, inr, ℕ, ◌<◌, ◌==◌, Bool, true, false, ◌||◌, not, nat_lt, nat_le, is_some, List, [], ◌∷◌, length, find, Option, Some, None, option_map, refl, ◌∙◌, arith, codes, if◌then◌else◌}
+use Rattle.std.proofs.Common.{◌≡◌, ◌⊎◌, inl, inr, ℕ, ◌<◌, ◌==◌, Bool, true, false, ◌||◌, not, nat_lt, nat_le, is_some, List, [], ◌∷◌, length, find, Option, Some, None, option_map, refl, ◌∙◌, arith, if◌then◌else◌}
 use Rattle.std.specs.List.{list_any}
 use Rattle.std.proofs.lemmas.Bool.{cases_Bool, lt-ltb}
 use Rattle.std.specs.Str.{bytes_eq}
@@ -17,17 +17,21 @@ use Rattle.aim_msg.specs.declared.script.Line.TheVariants as line
 use Rattle.aim_geometry.specs.Bounded.{is_outside}
 use Rattle.aim_geometry.specs.Sites.{has_bad_numbers, has_bad_buffers, has_bad_times}
 use Rattle.aim_paths.specs.Building.{policy_fault, finish_fault}
+use Rattle.aim_replay.specs.declared.decisions.Decision.TheVariants as decision
+use Rattle.aim_replay.specs.declared.decisions.Kind.{Kind}
+use Rattle.aim_replay.specs.declared.decisions.Kind.TheVariants as why
+use Rattle.aim_replay.specs.declared.decisions.Limit.{Limit}
 use Rattle.aim_replay.specs.Order.{Part, part_after, belongs, to_version, to_ground, to_times, to_lanes, in_moves, in_policies, to_begin, in_body}
 use Rattle.aim_replay.specs.Said.{last_of, layout_of, grid_of, times_of, names_of, vehicles_of}
 use Rattle.aim_replay.specs.Kinds.{Test, kinds, kind_of_fault, is_wide, is_no_move}
 use Rattle.aim_replay.specs.Today.{today, is_missing_form, is_event_of, is_missing_body}
 
 -- the kind of the first row whose test holds
-abbrev first_kind : List (List ℕ × Test) → List Line → Line → Option (List ℕ)
+abbrev first_kind : List (Kind × Test) → List Line → Line → Option Kind
 first_kind [] before l = None
 first_kind (row ∷ rows) before l = if row.1 before l then Some row.0 else first_kind rows before l
 
-first_kind_is : (rows : List (List ℕ × Test)) (before : List Line) (l : Line) → option_map (λ row. row.0) (find (λ row. row.1 before l) rows) ≡ first_kind rows before l
+first_kind_is : (rows : List (Kind × Test)) (before : List Line) (l : Line) → option_map (λ row. row.0) (find (λ row. row.1 before l) rows) ≡ first_kind rows before l
 first_kind_is [] before l = refl
 first_kind_is (row ∷ rows) before l = elim (cases_Bool (row.1 before l)) [
   | inl is ↦ rw is refl
@@ -38,32 +42,32 @@ kind_is : (before : List Line) (l : Line) → kind_of_fault today before l ≡ f
 kind_is before l = first_kind_is (kinds today) before l
 
 -- a form that isn't replayed yet
-pub missing_form : (before : List Line) (l : Line) → is_missing_form before l ≡ true → kind_of_fault today before l ≡ Some (codes "unsupported")
+pub missing_form : (before : List Line) (l : Line) → is_missing_form before l ≡ true → kind_of_fault today before l ≡ Some why.Unsupported
 missing_form before l is = kind_is before l ∙ rw is refl
 
 -- a line that doesn't belong to the part that goes on
 pub out_of_order : (before : List Line) (l : Line) (p : Part) → part_after (last_of before) ≡ p → is_missing_form before l ≡ false → belongs p l ≡ false
-    → kind_of_fault today before l ≡ Some (codes "order")
+    → kind_of_fault today before l ≡ Some why.Order
 out_of_order before l p part form not_there = kind_is before l ∙ rw (form, part, not_there) refl
 
 pub version_kind : (before : List Line) (n : ℕ) → part_after (last_of before) ≡ to_version
-    → kind_of_fault today before (line.Version n) ≡ (if n == 2 || n == 3 then Some (codes "unsupported") else if is_outside n 3 then Some (codes "version") else None)
+    → kind_of_fault today before (line.Version n) ≡ (if n == 2 || n == 3 then Some why.Unsupported else if is_outside n 3 then Some why.Version else None)
 version_kind before n part = kind_is before (line.Version n) ∙ rw part refl
 
 pub grid_kind : (before : List Line) (g : Grid6) → part_after (last_of before) ≡ to_ground
-    → kind_of_fault today before (line.Grid g) ≡ (if not (g.fixed == 0) then Some (codes "unsupported") else if has_bad_numbers (grid_of g) then Some (codes "grid") else None)
+    → kind_of_fault today before (line.Grid g) ≡ (if not (g.fixed == 0) then Some why.Unsupported else if has_bad_numbers (grid_of g) then Some why.Grid else None)
 grid_kind before g part = kind_is before (line.Grid g) ∙ rw part refl
 
 pub times_kind : (before : List Line) (t : Times5) → part_after (last_of before) ≡ to_times
-    → kind_of_fault today before (line.Times t) ≡ (if not (t.internal == 0) || not (t.edge == 0) then Some (codes "unsupported") else if has_bad_buffers (times_of t) then Some (codes "buffers") else if has_bad_times (times_of t) then Some (codes "times") else None)
+    → kind_of_fault today before (line.Times t) ≡ (if not (t.internal == 0) || not (t.edge == 0) then Some why.Unsupported else if has_bad_buffers (times_of t) then Some why.Buffers else if has_bad_times (times_of t) then Some why.Times else None)
 times_kind before t part = kind_is before (line.Times t) ∙ rw part refl
 
 pub lanes_kind : (before : List Line) (n : ℕ) → part_after (last_of before) ≡ to_lanes
-    → kind_of_fault today before (line.Lanes n) ≡ (if is_outside n 16 then Some (codes "lane") else None)
+    → kind_of_fault today before (line.Lanes n) ≡ (if is_outside n 16 then Some why.Lane else None)
 lanes_kind before n part = kind_is before (line.Lanes n) ∙ rw part refl
 
 pub move_kind : (before : List Line) (lane : ℕ) (turn : Turn) (s : MoveShape) → part_after (last_of before) ≡ in_moves
-    → kind_of_fault today before (line.Move lane turn s) ≡ (if is_no_move before (line.Move lane turn s) then Some (codes "move") else if is_wide before (line.Move lane turn s) then Some (codes "spacing") else None)
+    → kind_of_fault today before (line.Move lane turn s) ≡ (if is_no_move before (line.Move lane turn s) then Some why.Move else if is_wide before (line.Move lane turn s) then Some why.Spacing else None)
 move_kind before lane turn s part = kind_is before (line.Move lane turn s) ∙ rw part refl
 
 or_false : (b : Bool) → (b || false) ≡ b
@@ -80,16 +84,16 @@ none_named (name ∷ names) test is = absurd (omega arith)
 
 -- the first policy
 pub policy_kind : (before : List Line) (name : Name) (k : ℕ) → part_after (last_of before) ≡ in_moves → length (names_of before) ≡ 0 → is_some (policy_fault (layout_of before)) ≡ false
-    → kind_of_fault today before (line.Policy name k) ≡ (if not (k == 0) then Some (codes "unsupported") else None)
+    → kind_of_fault today before (line.Policy name k) ≡ (if not (k == 0) then Some why.Unsupported else None)
 policy_kind before name k part none full = kind_is before (line.Policy name k) ∙ rw (part, none, none_named (names_of before) (bytes_eq (name_word name)) none, full, or_false (not (k == 0))) refl
 
 -- a further policy
 pub second_policy_kind : (before : List Line) (name : Name) (k : ℕ) → part_after (last_of before) ≡ in_policies → 0 < length (names_of before)
-    → kind_of_fault today before (line.Policy name k) ≡ Some (codes "unsupported")
+    → kind_of_fault today before (line.Policy name k) ≡ Some why.Unsupported
 second_policy_kind before name k part some = kind_is before (line.Policy name k) ∙ rw (part, lt-ltb 0 (length (names_of before)) some, or_true (not (k == 0))) refl
 
 pub vehicles_kind : (before : List Line) (n : ℕ) → (part_after (last_of before) ≡ in_moves) ⊎ (part_after (last_of before) ≡ in_policies)
-    → kind_of_fault today before (line.Vehicles n) ≡ (if is_some (finish_fault (layout_of before)) then Some (codes "phase") else if n == 0 then Some (codes "vehicle") else None)
+    → kind_of_fault today before (line.Vehicles n) ≡ (if is_some (finish_fault (layout_of before)) then Some why.Phase else if n == 0 then Some why.Vehicle else None)
 vehicles_kind before n (inl part) = kind_is before (line.Vehicles n) ∙ rw part refl
 vehicles_kind before n (inr part) = kind_is before (line.Vehicles n) ∙ rw part refl
 
@@ -100,5 +104,5 @@ pub end_kind : (before : List Line) → part_after (last_of before) ≡ in_body 
 end_kind before part = kind_is before line.End ∙ rw part refl
 
 pub event_kind : (before : List Line) (v at : ℕ) (m : Message) (p : Params) → m.body ≡ body.Request p → part_after (last_of before) ≡ in_body
-    → kind_of_fault today before (line.Event v at m) ≡ (if list_any (is_event_of v) before || is_missing_body before (body.Request p) then Some (codes "unsupported") else if nat_le (vehicles_of before) v then Some (codes "vehicle") else if nat_lt 1073741824 at then Some (codes "moment") else None)
+    → kind_of_fault today before (line.Event v at m) ≡ (if list_any (is_event_of v) before || is_missing_body before (body.Request p) then Some why.Unsupported else if nat_le (vehicles_of before) v then Some why.Vehicle else if nat_lt 1073741824 at then Some why.Moment else None)
 event_kind before v at m p asks part = kind_is before (line.Event v at m) ∙ rw (part, asks) refl

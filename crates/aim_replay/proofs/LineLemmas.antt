@@ -5,6 +5,8 @@ use Rattle.aim_io.specs.Lines.{Outcome, Line, Stop}
 use Rattle.aim_msg.specs.declared.script.Line.{Line as ScriptLine}
 use Rattle.aim_msg.specs.declared.script.LineKind.{LineKind}
 use Rattle.aim_msg.specs.Reading.{line_at}
+use Rattle.aim_replay.specs.declared.decisions.Kind.{Kind}
+use Rattle.aim_replay.specs.declared.decisions.Limit.{Limit}
 use Rattle.aim_replay.specs.Order.{may_follow}
 use Rattle.aim_replay.specs.Said.{version_after, last_of}
 use Rattle.aim_replay.specs.Kinds.{Missing, Test, kinds, kind_of_fault, limit_of}
@@ -19,11 +21,11 @@ pub record GoesOn (missing : Missing) (before : List ScriptLine) (l : ScriptLine
 same_line : (l m : ScriptLine) → goes_on l ≡ goes_on m → l ≡ m
 same_line l m e = cc
 
-limited : (missing : Missing) (before : List ScriptLine) (l m : ScriptLine) (o : Option (List ℕ)) → kind_of_fault missing before l ≡ None → limit_of before l ≡ o → unless_limited l o ≡ goes_on m → GoesOn missing before m
+limited : (missing : Missing) (before : List ScriptLine) (l m : ScriptLine) (o : Option Limit) → kind_of_fault missing before l ≡ None → limit_of before l ≡ o → unless_limited l o ≡ goes_on m → GoesOn missing before m
 limited missing before l m None f e h = rw (← same_line l m h) (record { no_fault = f; no_limit = e })
 limited missing before l m (Some which) f e h = absurd (cc)
 
-faulty : (missing : Missing) (before : List ScriptLine) (l m : ScriptLine) (o : Option (List ℕ)) → kind_of_fault missing before l ≡ o → unless_bad before l o ≡ goes_on m → GoesOn missing before m
+faulty : (missing : Missing) (before : List ScriptLine) (l m : ScriptLine) (o : Option Kind) → kind_of_fault missing before l ≡ o → unless_bad before l o ≡ goes_on m → GoesOn missing before m
 faulty missing before l m None f h = limited missing before l m (limit_of before l) f refl h
 faulty missing before l m (Some kind) f h = absurd (cc)
 
@@ -51,16 +53,16 @@ not_false : (b : Bool) → not b ≡ false → b ≡ true
 not_false true h = refl
 not_false false h = absurd (cc)
 
-abbrev holds_in : List ScriptLine → ScriptLine → (List ℕ × Test) → Bool
+abbrev holds_in : List ScriptLine → ScriptLine → (Kind × Test) → Bool
 holds_in before l row = row.1 before l
 
 -- the row at a place has no fault
-abbrev test_at : ℕ → List (List ℕ × Test) → Test
+abbrev test_at : ℕ → List (Kind × Test) → Test
 test_at n [] before l = false
 test_at zero (row ∷ rows) before l = row.1 before l
 test_at (suc n) (row ∷ rows) before l = test_at n rows before l
 
-row_none : (before : List ScriptLine) (l : ScriptLine) (n : ℕ) (rows : List (List ℕ × Test)) → find (holds_in before l) rows ≡ None → test_at n rows before l ≡ false
+row_none : (before : List ScriptLine) (l : ScriptLine) (n : ℕ) (rows : List (Kind × Test)) → find (holds_in before l) rows ≡ None → test_at n rows before l ≡ false
 row_none before l n [] h = nothing n
   where
     nothing : (n : ℕ) → test_at n [] before l ≡ false

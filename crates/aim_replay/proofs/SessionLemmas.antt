@@ -1,56 +1,57 @@
 -- How a replay goes on with one more line, and how it ends.
-use Rattle.std.proofs.Common.{◌≡◌, inl, inr, ℕ, ◌+◌, ◌<◌, ◌≤◌, Bool, true, false, List, [], ◌∷◌, ◌++◌, length, Option, Some, None, IfSome, Ok, Err, refl, sym, ap, ◌∙◌, subst, arith, append_assoc, append-nil, length-append, codes, decimal}
+use Rattle.std.proofs.Common.{◌≡◌, ◌⊎◌, inl, inr, ℕ, ◌+◌, ◌<◌, ◌≤◌, Bool, true, false, List, [], ◌∷◌, ◌++◌, length, Option, Some, None, IfSome, Ok, Err, refl, sym, ap, ◌∙◌, subst, arith, append_assoc, append-nil, length-append}
 use Rattle.std.specs.List.{AllByRecursion}
 use Rattle.std.specs.Bool.{OnTrue, OnFalse}
 use Rattle.std.specs.Io.KnownBytes.{Appends, Consumes, Keeps, IsAtEnd, prepend_known}
 use Rattle.std.proofs.KnownBytes.{Appends-nil, Appends-trans, Consumes-trans}
-use Rattle.std.proofs.lemmas.List.{drop_at, drop_all}
+use Rattle.std.proofs.lemmas.Bool.{cases_Bool}
 use Rattle.aim_io.specs.declared.lines.LineFault.{LineFault}
 use Rattle.aim_io.specs.declared.lines.LineFault.TheVariants as line_fault
 use Rattle.aim_io.specs.Known.{AppendsFront}
 use Rattle.aim_io.specs.Lines.{Outcome, Line as LineOf, Stop, outcomes_from, IsOpen, ShowsNothing, with_end}
-use Rattle.aim_io.specs.Reader.{Reader, fresh, input, coming, Answers, Stops, KnowsEnd, IsSound, after_call}
-use Rattle.aim_msg.specs.Texts.{Words, spaced}
+use Rattle.aim_io.specs.Reader.{Reader, fresh, input, coming, taken_by, Needed, Answers, Stops, KnowsEnd, IsSound, after_call}
+use Rattle.aim_msg.specs.Texts.{entry_text, spaced}
 use Rattle.aim_msg.specs.declared.entries.Entry.{Entry}
 use Rattle.aim_msg.specs.declared.script.Line.{Line}
 use Rattle.aim_paths.specs.Intersection.{Intersection}
 use Rattle.aim_rules.specs.Journals.{journal}
-use Rattle.aim_replay.specs.declared.endings.Ending.{Ending}
-use Rattle.aim_replay.specs.declared.endings.Ending.TheVariants as ending
-use Rattle.aim_replay.specs.declared.endings.Kind.{Kind}
-use Rattle.aim_replay.specs.declared.endings.Limit.{Limit}
+use Rattle.aim_replay.specs.declared.decisions.Decision.{Decision}
+use Rattle.aim_replay.specs.declared.decisions.Decision.TheVariants as decision
+use Rattle.aim_replay.specs.declared.decisions.Kind.{Kind}
+use Rattle.aim_replay.specs.declared.stages.Made.{Made}
 use Rattle.aim_replay.specs.declared.stages.Stage.{Stage}
 use Rattle.aim_replay.specs.declared.stages.Stage.TheVariants as stage
-use Rattle.aim_replay.specs.Said.{layout_of, calls_of, names_of}
-use Rattle.aim_replay.specs.Verdicts.{Decision, Judgement, bad, limit, number_after, judge, decides, goes_on, of_fault, at_end, verdict_from, verdict}
-use Rattle.aim_replay.specs.Texts.{entry_lines, printed, journal_of, last_words, replay_text, status_of}
+use Rattle.aim_replay.specs.Said.{Described, layout_of, calls_of, names_of}
+use Rattle.aim_replay.specs.Verdicts.{Judgement, Verdict, number_after, judge, decides, goes_on, of_fault, at_end, verdict_from, verdict}
+use Rattle.aim_replay.specs.Texts.{entry_lines, printed, journal_of, decision_words, replay_text, status_of}
 use Rattle.aim_replay.specs.Today.{today}
-use Rattle.aim_replay.specs.Endings.{Tells, kind_text, limit_text, ending_words}
 use Rattle.aim_replay.specs.Stands.{IsHeader}
-use Rattle.aim_replay.specs.Stages.{Stands, Says, Judged, Grows, MayTake, journal_at}
-use Rattle.aim_replay.specs.Replays.{Replays, StopsShort, Writes, WritesFront, ended, script_after, unless_decided, entries_text, gained}
-use Rattle.aim_replay.specs.Sessions.{Decides, Took, Reached, Responds, TellsVerdict}
+use Rattle.aim_replay.specs.Stages.{Stands, Says, Judged, Makes, MayTake, journal_at}
+use Rattle.aim_replay.specs.Replays.{LastNeeded, Replays, StopsShort, TakesAtMost, Writes, WritesFront, ended, script_after, unless_decided, entries_text, made_line}
+use Rattle.aim_replay.specs.Sessions.{Decides, Placed, Took, Reached, Responds, Comes}
 use Rattle.aim_replay.proofs.TextLemmas.{entry_lines-append, Begins, journal_of_begins, nothing_begins}
 
--- the lines of what a journal has gained come behind those of the journal
-pub gained_after : (old new : List Entry) → Grows old new → entry_lines 0 new ≡ entry_lines 0 old ++ gained old new
-gained_after old new (inl same) = rw (same, drop_all (length old) old (omega arith)) (sym (append-nil (entry_lines 0 old)))
-gained_after old new (inr (e, more)) =
-    rw (more, drop_at old (e ∷ []) (length old) refl) (entry_lines-append 0 old (e ∷ []) ∙ ap (λ n. entry_lines 0 old ++ entry_lines n (e ∷ [])) (omega arith))
+-- the line of the entry that was made comes behind those of the journal
+pub made_after : (old new : List Entry) (made : Option Made) → Makes old new made → entry_lines 0 new ≡ entry_lines 0 old ++ made_line made
+made_after old new None same = rw same (sym (append-nil (entry_lines 0 old)))
+made_after old new (Some m) (at, more) =
+    let place : 0 + length old ≡ m.position = omega arith in
+    rw more (entry_lines-append 0 old (m.entry ∷ []) ∙ ap (λ n. entry_lines 0 old ++ entry_lines n (m.entry ∷ [])) place
+    ∙ ap (λ (t : List ℕ). entry_lines 0 old ++ t) (append-nil (printed (entry_text m.position m.entry))))
 
 -- the journal of the lines is that of the stage
-header_journal : (before : List Line) (i : Intersection) → IsHeader before i → journal (layout_of before) (calls_of before) ≡ []
-header_journal before i h = ap (journal (layout_of before)) (h.no_calls (names_of before))
+header_journal : (before : List Line) (d : Described) → IsHeader before d → journal (layout_of before) (calls_of before) ≡ []
+header_journal before d h = ap (journal (layout_of before)) (h.no_calls (names_of before))
 
 pub journal_is : (before : List Line) (s : Stage) → Says before s → journal (layout_of before) (calls_of before) ≡ journal_at s
 journal_is before stage.Version says = header_journal before _ says
 journal_is before stage.Grid says = header_journal before _ says
 journal_is before (stage.Times g) says = header_journal before _ says.0
 journal_is before (stage.Lanes g) says = header_journal before _ says.0
-journal_is before (stage.Moves b) says = header_journal before _ says.0
-journal_is before (stage.Policies b) says = header_journal before _ says.0
-journal_is before (stage.Begin k n) says = rw says.0.layout says.0.journal
-journal_is before (stage.Body k n) says = rw says.0.layout says.0.journal
+journal_is before (stage.Moves b) says = header_journal before _ says.0.header
+journal_is before (stage.Policies b) says = header_journal before _ says.0.header
+journal_is before (stage.Begin k) says = rw says.0.layout says.0.journal
+journal_is before (stage.Body k) says = rw says.0.layout says.0.journal
 journal_is before (stage.Over k) says = rw says.layout says.journal
 
 -- the journal so far is the first of that of the whole script
@@ -61,8 +62,8 @@ begins before (stage.Times g) os st = nothing_begins (verdict_from today before 
 begins before (stage.Lanes g) os st = nothing_begins (verdict_from today before os)
 begins before (stage.Moves b) os st = nothing_begins (verdict_from today before os)
 begins before (stage.Policies b) os st = nothing_begins (verdict_from today before os)
-begins before (stage.Begin k n) os st = journal_of_begins today before os k.journal (rw st.part refl) (journal_is before (stage.Begin k n) st.says)
-begins before (stage.Body k n) os st = journal_of_begins today before os k.journal (rw st.part refl) (journal_is before (stage.Body k n) st.says)
+begins before (stage.Begin k) os st = journal_of_begins today before os k.journal (rw st.part refl) (journal_is before (stage.Begin k) st.says)
+begins before (stage.Body k) os st = journal_of_begins today before os k.journal (rw st.part refl) (journal_is before (stage.Body k) st.says)
 begins before (stage.Over k) os st = journal_of_begins today before os k.journal (rw st.part refl) (journal_is before (stage.Over k) st.says)
 
 -- a verdict is made, behind these lines
@@ -120,11 +121,10 @@ ends_fault before old new f (Some bytes) (Some xs) None other decided step = abs
 ends_fault before old new f (Some bytes) (Some xs) (Some ys) other decided step =
     sym decided ∙ ap (verdict_from today before) (stops_there old xs f other step.1) ∙ verdict_stops before (of_fault f) (Stop f) [] refl
 
--- the ending tells the verdict
-pub told : (before : List Line) (s : Stage) (d : Decision) (e : Ending) (bytes : Option (List ℕ)) → Says before s → IsVerdict before d bytes → Tells d (length (journal_at s)) e → IfSome bytes (λ bs. TellsVerdict e (verdict today bs))
-told before s d e None says is tells = tt
-told before s d e (Some bytes) says is tells =
-    subst (TellsVerdict e) (sym is) (subst (λ (h : List Entry). Tells d (length h) e) (sym (journal_is before s says)) tells)
+-- a verdict that is made is what the bytes come to
+pub told : (before : List Line) (d : Decision) (bytes : Option (List ℕ)) → IsVerdict before d bytes → Comes d bytes
+told before d None is = tt
+told before d (Some bytes) is = ap (λ (v : Verdict). v.decision) is
 
 -- all entries' lines were written
 pub written_all : (before : List Line) (s : Stage) (d : Decision) (bytes old new : Option (List ℕ)) → Says before s → IsVerdict before d bytes → Appends old new (entry_lines 0 (journal_at s)) → Writes bytes old new (entries_text today)
@@ -154,11 +154,11 @@ stops_whole before s reader bytes rest old new st decided written = stops before
 
 -- what was written of a line whose entry's line the sink didn't take whole
 pub stops_inside : (before : List Line) (s : Stage) (old new : Reader) (bytes rest left start mid now : Option (List ℕ)) → Decides before old bytes rest → Answers old new rest left (Ok true) → Appends start mid (entry_lines 0 (journal_at s))
-    → (next : Stage) × Judged before new.line (Ok next) × Grows (journal_at s) (journal_at next) × AppendsFront mid now (gained (journal_at s) (journal_at next)) → WritesFront bytes start now (entries_text today)
-stops_inside before s old new bytes rest left start mid now decided step written (next, (l, is, st), grows, front) =
+    → (next : Stage) × Judged before new.line (Ok next) × (made : Option Made) × Makes (journal_at s) (journal_at next) made × AppendsFront mid now (made_line made) → WritesFront bytes start now (entries_text today)
+stops_inside before s old new bytes rest left start mid now decided step written (next, (l, is, st), made, makes, front) =
     let done = Appends-trans start mid now _ _ written front.added in
     let first = entry_lines 0 (journal_at s) in
-    let split = gained_after (journal_at s) (journal_at next) grows ∙ ap (λ (t : List ℕ). first ++ t) front.whole ∙ sym (append_assoc first front.front front.rest) in
+    let split = made_after (journal_at s) (journal_at next) made makes ∙ ap (λ (t : List ℕ). first ++ t) front.whole ∙ sym (append_assoc first front.front front.rest) in
     stops (before ++ l ∷ []) next new bytes left start now (first ++ front.front) front.rest st (decides_more before l old new bytes rest left is decided step) split done
 
 ended_more : (lines : List (List ℕ)) (line : List ℕ) → ended (lines ++ line ∷ []) ≡ ended lines ++ (line ++ 10 ∷ [])
@@ -207,6 +207,71 @@ took_more before l old new bytes rest left is gives going took =
       place = ap (λ (t : List ℕ). length t) (ended_more took.lines line) ∙ length-append (ended took.lines) (line ++ 10 ∷ []) ∙ ap (λ n. n + length (line ++ 10 ∷ [])) took.place ∙ sym size;
     }
 
+-- what was taken where the source failed
+held_back : (bytes rest left : Option (List ℕ)) (all held : List ℕ) → Consumes bytes rest all → Keeps rest (prepend_known held left) → Consumes bytes left (all ++ held)
+held_back None rest left all held taken kept = tt
+held_back (Some bytes) None left all held taken kept = absurd taken
+held_back (Some bytes) (Some xs) None all held taken kept = absurd kept
+held_back (Some bytes) (Some xs) (Some ys) all held taken kept = taken ∙ ap (λ (t : List ℕ). all ++ t) (sym kept) ∙ sym (append_assoc all held ys)
+
+-- so many bytes are gone after a call that gave a line, or none at the end
+placed_call : (start rest left : Option (List ℕ)) (old new : Reader) (more : Bool) → Placed start rest old.place → Consumes rest left (taken_by new more) → new ≡ after_call old new more → Placed start left new.place
+placed_call start rest left old new more placed taken after = record {
+  gone = placed.gone ++ taken_by new more;
+  taken = Consumes-trans start rest left _ _ placed.taken taken;
+  count = length-append placed.gone (taken_by new more) ∙ ap (λ n. n + length (taken_by new more)) placed.count ∙ sym (ap (λ (r : Reader). r.place) after);
+}
+
+keeps_same : (bytes : Option (List ℕ)) → Keeps bytes bytes
+keeps_same None = tt
+keeps_same (Some bytes) = refl
+
+most_held : (start rest left : Option (List ℕ)) (reader : Reader) → Placed start rest reader.place → Keeps rest (input reader left) → IsSound reader → TakesAtMost 67108865 start left
+most_held start rest left reader placed kept sound = record {
+  bytes = placed.gone ++ reader.held;
+  taken = held_back start rest left placed.gone reader.held placed.taken kept;
+  within = omega (arith, length-append placed.gone reader.held, placed.count, sound.read);
+}
+
+-- no more bytes were taken than a reader takes, after a line, at the end, and after a fault
+pub most_call : (start left after old_held now : Option (List ℕ)) (old new : Reader) (s : Stage) (more : Bool) → Reached start (input old left) old_held now old s → Consumes (input old left) (input new after) (taken_by new more) → new ≡ after_call old new more → IsSound new
+    → TakesAtMost 67108865 start after
+most_call start left after old_held now old new s more r taken is sound =
+    most_held start (input new after) after new (placed_call start (input old left) (input new after) old new more r.placed taken is) (keeps_same (input new after)) sound
+
+pub most_fault : (start left after old_held now : Option (List ℕ)) (old new : Reader) (s : Stage) (f : LineFault) → Reached start (input old left) old_held now old s → new ≡ record old { held = new.held; line = []; fault = Some f } → Keeps (input old left) (input new after) → IsSound new
+    → TakesAtMost 67108865 start after
+most_fault start left after old_held now old new s f r is kept sound =
+    let place : old.place ≡ new.place = sym (ap (λ (x : Reader). x.place) is) in
+    most_held start (input old left) after new (subst (Placed start (input old left)) place r.placed) kept sound
+
+-- after a call that has read, its last read was needed
+needed_read : (bytes before after start now : Option (List ℕ)) (old : Reader) (s : Stage) (last : Option ℕ) → Reached bytes (input old before) start now old s → old.ended ≡ false → Needed old before after last → LastNeeded today bytes after last
+needed_read bytes before after start now old s last r going needed =
+    let took = r.took going in
+    record {
+      lines = took.lines;
+      part = needed.part;
+      piece = needed.piece;
+      taken = held_back bytes (input old before) after (ended took.lines) (needed.part ++ needed.piece) took.taken needed.keeps;
+      within = omega (arith, length-append (ended took.lines) needed.part, took.place, needed.shows.within);
+      before = r.before;
+      whole = took.whole;
+      is_open = needed.shows.is_open;
+      undecided = λ some. rw took.count (needed.shows.few some);
+      told = needed.told;
+    }
+
+-- the last of all reads was needed, if there was one
+pub needed_call : {S : Type 0} (left : S → Option (List ℕ)) (last : S → Option ℕ) (first before after : S) (start now : Option (List ℕ)) (old : Reader) (s : Stage) → Reached (left first) (input old (left before)) start now old s
+    → (old.ended ≡ true → after ≡ before) → (after ≡ before) ⊎ Needed old (left before) (left after) (last after)
+    → (before ≡ first) ⊎ LastNeeded today (left first) (left before) (last before) → (after ≡ first) ⊎ LastNeeded today (left first) (left after) (last after)
+needed_call {S = S} left last first before after start now old s r quiet (inl same) needed = subst (λ (x : S). (x ≡ first) ⊎ LastNeeded today (left first) (left x) (last x)) (sym same) needed
+needed_call {S = S} left last first before after start now old s r quiet (inr read) needed = elim (cases_Bool old.ended) [
+  | inl ended ↦ subst (λ (x : S). (x ≡ first) ⊎ LastNeeded today (left first) (left x) (last x)) (sym (quiet ended)) needed
+  | inr going ↦ inr (needed_read (left first) (left before) (left after) start now old s (last after) r going read)
+]
+
 pub reached_more : (bytes rest left start mid now : Option (List ℕ)) (old new : Reader) (s next : Stage) (r : Reached bytes rest start mid old s) → Gives old new rest left → Responds r.before s new.line mid now (Ok next)
     → Reached bytes left start now new next
 reached_more bytes rest left start mid now old new s next r gives responds =
@@ -218,17 +283,19 @@ reached_more bytes rest left start mid now old new s next r gives responds =
       stands = responds.0.2;
       count = length-append r.before (l ∷ []) ∙ ap (λ n. n + 1) r.count ∙ sym (ap (λ (x : Reader). x.given) gives.after);
       decides = decides_more r.before l old new bytes rest left is r.decides gives.step;
+      placed = placed_call bytes rest left old new true r.placed gives.taken gives.after;
       took = λ going. took_more r.before l old new bytes rest left is gives going (r.took gives.going);
-      written = subst (Appends start now) (sym (gained_after (journal_at s) (journal_at next) responds.1)) (Appends-trans start mid now _ _ r.written responds.2);
+      written = subst (Appends start now) (sym (made_after (journal_at s) (journal_at next) responds.1 responds.2)) (Appends-trans start mid now _ _ r.written responds.3);
     }
 
 pub reached_start : (bytes held : Option (List ℕ)) → Reached bytes (input fresh bytes) held held fresh stage.Version
 unfolding outcomes_from
 reached_start bytes held = record {
   before = [];
-  stands = record { part = refl; over = refl; says = record { version = refl; layout = refl; names = refl; no_vehicles = refl; no_calls = λ names. refl; no_events = λ v. refl } };
+  stands = record { part = refl; over = refl; says = record { version = refl; said = refl; no_vehicles = refl; no_calls = λ names. refl; no_events = λ v. refl } };
   count = refl;
   decides = decides_start bytes;
+  placed = placed_start bytes;
   took = λ going. took_start bytes;
   written = Appends-nil held;
 }
@@ -237,16 +304,13 @@ reached_start bytes held = record {
     decides_start None = tt
     decides_start (Some bytes) = refl
 
+    placed_start : (bytes : Option (List ℕ)) → Placed bytes (input fresh bytes) 0
+    placed_start None = record { gone = []; taken = tt; count = refl }
+    placed_start (Some bytes) = record { gone = []; taken = refl; count = refl }
+
     took_start : (bytes : Option (List ℕ)) → Took [] fresh bytes (input fresh bytes)
     took_start None = record { lines = []; taken = tt; whole = record { each = tt; few = omega arith; script = refl }; count = refl; place = refl }
     took_start (Some bytes) = record { lines = []; taken = refl; whole = record { each = tt; few = omega arith; script = refl }; count = refl; place = refl }
-
--- what was taken where the source failed
-held_back : (bytes rest left : Option (List ℕ)) (all held : List ℕ) → Consumes bytes rest all → Keeps rest (prepend_known held left) → Consumes bytes left (all ++ held)
-held_back None rest left all held taken kept = tt
-held_back (Some bytes) None left all held taken kept = absurd taken
-held_back (Some bytes) (Some xs) None all held taken kept = absurd kept
-held_back (Some bytes) (Some xs) (Some ys) all held taken kept = taken ∙ ap (λ (t : List ℕ). all ++ t) (sym kept) ∙ sym (append_assoc all held ys)
 
 pub stops_short : (bytes rest left start now : Option (List ℕ)) (old new : Reader) (s : Stage) → Reached bytes rest start now old s → old.ended ≡ false → new.given ≡ old.given → new.place ≡ old.place → ShowsNothing new.given new.place new.held
     → Keeps rest (input new left) → StopsShort today bytes left start now
@@ -258,6 +322,7 @@ stops_short bytes rest left start now old new s r going given place shows kept =
       taken = held_back bytes rest left (ended took.lines) new.held took.taken kept;
       within = omega (arith, length-append (ended took.lines) new.held, took.place, place, shows.within);
       is_open = shows.is_open;
+      undecided = λ some. rw (took.count, ← given) (shows.few some);
       before = r.before;
       whole = took.whole;
       written = subst (λ (h : List Entry). Appends start now (entry_lines 0 h)) (sym (journal_is r.before s r.stands.says)) r.written;
@@ -270,8 +335,8 @@ few_entries before (stage.Times g) says = omega arith
 few_entries before (stage.Lanes g) says = omega arith
 few_entries before (stage.Moves b) says = omega arith
 few_entries before (stage.Policies b) says = omega arith
-few_entries before (stage.Begin k n) says = says.0.few
-few_entries before (stage.Body k n) says = says.0.few
+few_entries before (stage.Begin k) says = says.0.few
+few_entries before (stage.Body k) says = says.0.few
 few_entries before (stage.Over k) says = says.few
 
 -- the journal has no more entries than lines were given
@@ -285,8 +350,8 @@ may_take before (stage.Times g) says few = tt
 may_take before (stage.Lanes g) says few = tt
 may_take before (stage.Moves b) says few = tt
 may_take before (stage.Policies b) says few = tt
-may_take before (stage.Begin k n) says few = tt
-may_take before (stage.Body k n) says few = (says.1, omega (arith, says.0.few))
+may_take before (stage.Begin k) says few = tt
+may_take before (stage.Body k) says few = (says.1, omega (arith, says.0.few))
 may_take before (stage.Over k) says few = tt
 
 pub may_reached : (bytes rest start now : Option (List ℕ)) (reader : Reader) (s : Stage) → Reached bytes rest start now reader s → reader.given < 262144 → MayTake s
@@ -328,32 +393,27 @@ short_reached bytes left after start now old new f P s r same shows kept =
     let going : old.ended ≡ false = sym (ap (λ (x : Reader). x.ended) same) ∙ shows.1 in
     stops_short bytes (input old left) after start now old new s r going (ap (λ (x : Reader). x.given) same) (ap (λ (x : Reader). x.place) same) shows.0 kept
 
-pub fault_told : (bytes rest left start now : Option (List ℕ)) (old new : Reader) (s : Stage) (f : LineFault) (e : Ending) → Reached bytes rest start now old s → IsOfInput f → Answers old new rest left (Err f) → Tells (of_fault f) (length (journal_at s)) e
-    → IfSome bytes (λ bs. TellsVerdict e (verdict today bs))
-fault_told bytes rest left start now old new s f e r other step tells = told r.before s (of_fault f) e bytes r.stands.says (ends_fault r.before old new f bytes rest left other r.decides step) tells
+pub fault_told : (bytes rest left start now : Option (List ℕ)) (old new : Reader) (s : Stage) (f : LineFault) → Reached bytes rest start now old s → IsOfInput f → Answers old new rest left (Err f) → Comes (of_fault f) bytes
+fault_told bytes rest left start now old new s f r other step = told r.before (of_fault f) bytes (ends_fault r.before old new f bytes rest left other r.decides step)
 
 pub fault_written : (bytes rest left start now : Option (List ℕ)) (old new : Reader) (s : Stage) (f : LineFault) → Reached bytes rest start now old s → IsOfInput f → Answers old new rest left (Err f) → Writes bytes start now (entries_text today)
 fault_written bytes rest left start now old new s f r other step = written_all r.before s (of_fault f) bytes start now r.stands.says (ends_fault r.before old new f bytes rest left other r.decides step) r.written
 
-pub end_told : (bytes rest left start now : Option (List ℕ)) (old new : Reader) (s : Stage) (e : Ending) (r : Reached bytes rest start now old s) → Answers old new rest left (Ok false) → Tells (at_end r.before) (length (journal_at s)) e
-    → IfSome bytes (λ bs. TellsVerdict e (verdict today bs))
-end_told bytes rest left start now old new s e r step tells = told r.before s (at_end r.before) e bytes r.stands.says (ends_input r.before old new bytes rest left r.decides step) tells
+pub end_told : (bytes rest left start now : Option (List ℕ)) (old new : Reader) (s : Stage) (d : Decision) (r : Reached bytes rest start now old s) → Answers old new rest left (Ok false) → d ≡ at_end r.before → Comes d bytes
+end_told bytes rest left start now old new s d r step is = subst (λ e. Comes e bytes) (sym is) (told r.before (at_end r.before) bytes (ends_input r.before old new bytes rest left r.decides step))
 
 pub end_written : (bytes rest left start now : Option (List ℕ)) (old new : Reader) (s : Stage) → Reached bytes rest start now old s → Answers old new rest left (Ok false) → Writes bytes start now (entries_text today)
 end_written bytes rest left start now old new s r step = written_all r.before s (at_end r.before) bytes start now r.stands.says (ends_input r.before old new bytes rest left r.decides step) r.written
 
-pub bad_told : (bytes rest left start now : Option (List ℕ)) (old new : Reader) (s : Stage) (number : ℕ) (kind : Kind) (r : Reached bytes rest start now old s) → Answers old new rest left (Ok true) → judge today r.before (LineOf new.line) ≡ decides (bad (number_after r.before) (kind_text kind))
-    → number ≡ old.given + 1 → IfSome bytes (λ bs. TellsVerdict (ending.Bad number kind) (verdict today bs))
+pub bad_told : (bytes rest left start now : Option (List ℕ)) (old new : Reader) (s : Stage) (number : ℕ) (kind : Kind) (r : Reached bytes rest start now old s) → Answers old new rest left (Ok true) → judge today r.before (LineOf new.line) ≡ decides (decision.Bad (number_after r.before) kind)
+    → number ≡ old.given + 1 → Comes (decision.Bad number kind) bytes
 bad_told bytes rest left start now old new s number kind r step is same =
-    let d = bad (number_after r.before) (kind_text kind) in
+    let d = decision.Bad (number_after r.before) kind in
     let count : number_after r.before ≡ number = omega (arith, r.count, same) in
-    told r.before s d (ending.Bad number kind) bytes r.stands.says (ends_line r.before d old new bytes rest left is r.decides step) (ap (λ n. bad n (kind_text kind)) count)
+    subst (λ n. Comes (decision.Bad n kind) bytes) count (told r.before d bytes (ends_line r.before d old new bytes rest left is r.decides step))
 
-pub limit_told : (bytes rest left start now : Option (List ℕ)) (old new : Reader) (s : Stage) (which : Limit) (r : Reached bytes rest start now old s) → Answers old new rest left (Ok true) → judge today r.before (LineOf new.line) ≡ decides (limit (limit_text which))
-    → IfSome bytes (λ bs. TellsVerdict (ending.Limit which) (verdict today bs))
-limit_told bytes rest left start now old new s which r step is =
-    let d = limit (limit_text which) in
-    told r.before s d (ending.Limit which) bytes r.stands.says (ends_line r.before d old new bytes rest left is r.decides step) refl
+pub line_told : (bytes rest left start now : Option (List ℕ)) (old new : Reader) (s : Stage) (d : Decision) (r : Reached bytes rest start now old s) → Answers old new rest left (Ok true) → judge today r.before (LineOf new.line) ≡ decides d → Comes d bytes
+line_told bytes rest left start now old new s d r step is = told r.before d bytes (ends_line r.before d old new bytes rest left is r.decides step)
 
 pub bad_written : (bytes rest left start mid now : Option (List ℕ)) (old new : Reader) (s : Stage) (d : Decision) (r : Reached bytes rest start mid old s) → Answers old new rest left (Ok true) → judge today r.before (LineOf new.line) ≡ decides d → Appends mid now []
     → Writes bytes start now (entries_text today)
@@ -363,32 +423,22 @@ bad_written bytes rest left start mid now old new s d r step is none =
 pub memory_front : (bytes rest start mid now : Option (List ℕ)) (reader : Reader) (s : Stage) → Reached bytes rest start mid reader s → Appends mid now [] → WritesFront bytes start now (entries_text today)
 memory_front bytes rest start mid now reader s r none = stops_whole r.before s reader bytes rest start now r.stands r.decides (written_kept start mid now (entry_lines 0 (journal_at s)) r.written none)
 
--- the last line of an ending is that of the verdict that it tells
-last_words_are : (d : Decision) (entries : ℕ) (e : Ending) → Tells d entries e → last_words entries d ≡ ending_words e
-last_words_are d entries (ending.Bad number k) tells = ap (last_words entries) tells
-last_words_are d entries (ending.Limit l) tells = ap (last_words entries) tells
-last_words_are d entries (ending.Whole n) tells = ap (last_words entries) tells.0 ∙ ap (λ m. codes "end" ∷ decimal m ∷ []) (sym tells.1)
-
 -- the text is the entries' lines and the last line
-text_is : (bytes : List ℕ) (e : Ending) → TellsVerdict e (verdict today bytes) → replay_text today None bytes ≡ entries_text today bytes ++ printed (spaced (ending_words e))
-text_is bytes e tells =
-    let v = verdict today bytes in
-    ap (λ (words : Words). entries_text today bytes ++ printed (spaced words)) (last_words_are v.decision (length (journal_of v)) e tells)
+text_is : (bytes : List ℕ) (d : Decision) → Comes d (Some bytes) → replay_text today None bytes ≡ entries_text today bytes ++ printed (spaced (decision_words d))
+text_is bytes d comes = ap (λ (e : Decision). entries_text today bytes ++ printed (spaced (decision_words e))) comes
 
 -- the last line was written behind the entries' lines
-pub all_written : (bytes start mid now : Option (List ℕ)) (e : Ending) → IfSome bytes (λ bs. TellsVerdict e (verdict today bs)) → Writes bytes start mid (entries_text today) → Appends mid now (printed (spaced (ending_words e)))
-    → Writes bytes start now (replay_text today None)
-all_written None start mid now e tells first last = tt
-all_written (Some bytes) start mid now e tells first last = subst (Appends start now) (sym (text_is bytes e tells)) (Appends-trans start mid now _ _ first last)
+pub all_written : (bytes start mid now : Option (List ℕ)) (d : Decision) → Comes d bytes → Writes bytes start mid (entries_text today) → Appends mid now (printed (spaced (decision_words d))) → Writes bytes start now (replay_text today None)
+all_written None start mid now d comes first last = tt
+all_written (Some bytes) start mid now d comes first last = subst (Appends start now) (sym (text_is bytes d comes)) (Appends-trans start mid now _ _ first last)
 
 -- a front of the last line was written behind them
-pub front_written : (bytes start mid now : Option (List ℕ)) (e : Ending) → IfSome bytes (λ bs. TellsVerdict e (verdict today bs)) → Writes bytes start mid (entries_text today) → AppendsFront mid now (printed (spaced (ending_words e)))
-    → WritesFront bytes start now (replay_text today None)
-front_written None start mid now e tells first last = tt
-front_written (Some bytes) start mid now e tells first last = record {
+pub front_written : (bytes start mid now : Option (List ℕ)) (d : Decision) → Comes d bytes → Writes bytes start mid (entries_text today) → AppendsFront mid now (printed (spaced (decision_words d))) → WritesFront bytes start now (replay_text today None)
+front_written None start mid now d comes first last = tt
+front_written (Some bytes) start mid now d comes first last = record {
   front = entries_text today bytes ++ last.front;
   rest = last.rest;
-  whole = text_is bytes e tells ∙ ap (λ (t : List ℕ). entries_text today bytes ++ t) last.whole ∙ sym (append_assoc (entries_text today bytes) last.front last.rest);
+  whole = text_is bytes d comes ∙ ap (λ (t : List ℕ). entries_text today bytes ++ t) last.whole ∙ sym (append_assoc (entries_text today bytes) last.front last.rest);
   added = Appends-trans start mid now _ _ first last.added;
 }
 
@@ -397,7 +447,7 @@ pub front_of_text : (bytes start now : Option (List ℕ)) → WritesFront bytes 
 front_of_text None start now front = tt
 front_of_text (Some bytes) start now front =
     let v = verdict today bytes in
-    let last = printed (spaced (last_words (length (journal_of v)) v.decision)) in
+    let last = printed (spaced (decision_words v.decision)) in
     record {
       front = front.front;
       rest = front.rest ++ last;
@@ -405,19 +455,6 @@ front_of_text (Some bytes) start now front =
       added = front.added;
     }
 
--- the status of an ending
-abbrev pub status_told : Ending → ℕ
-status_told (ending.Bad number k) = 3
-status_told (ending.Limit l) = 6
-status_told (ending.Whole n) = 0
-
-status_is : (d : Decision) (entries : ℕ) (e : Ending) → Tells d entries e → status_told e ≡ status_of d
-status_is d entries (ending.Bad number k) tells = ap status_of (sym tells)
-status_is d entries (ending.Limit l) tells = ap status_of (sym tells)
-status_is d entries (ending.Whole n) tells = ap status_of (sym tells.0)
-
-pub replays : (bytes old new : Option (List ℕ)) (e : Ending) → IfSome bytes (λ bs. TellsVerdict e (verdict today bs)) → Writes bytes old new (replay_text today None) → IfSome bytes (λ bs. Replays today None bs old new (status_told e))
-replays None old new e tells written = tt
-replays (Some bytes) old new e tells written =
-    let v = verdict today bytes in
-    record { text = written; status = status_is v.decision (length (journal_of v)) e tells }
+pub replays : (bytes old new : Option (List ℕ)) (d : Decision) → Comes d bytes → Writes bytes old new (replay_text today None) → IfSome bytes (λ bs. Replays today None bs old new (status_of d))
+replays None old new d comes written = tt
+replays (Some bytes) old new d comes written = record { text = written; status = ap status_of (sym comes) }

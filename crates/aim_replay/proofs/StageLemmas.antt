@@ -1,5 +1,5 @@
 -- What a line comes to at the stage where it belongs.
-use Rattle.std.proofs.Common.{◌≡◌, inl, inr, ℕ, ◌<◌, ◌==◌, Bool, true, false, ◌||◌, not, nat_lt, nat_le, is_some, List, [], ◌∷◌, ◌++◌, length, Option, Some, None, option_map, Result, Ok, Err, refl, sym, ap, ◌∙◌, subst, arith, codes, length-append, if◌then◌else◌}
+use Rattle.std.proofs.Common.{◌≡◌, inl, inr, ℕ, ◌<◌, ◌==◌, Bool, true, false, ◌||◌, not, nat_lt, nat_le, is_some, map, List, [], ◌∷◌, ◌++◌, length, Option, Some, None, option_map, Result, Ok, Err, refl, sym, ap, ◌∙◌, subst, arith, ◌+◌, fold, length-append, if◌then◌else◌}
 use Rattle.std.specs.List.{list_any}
 use Rattle.std.proofs.lemmas.Bool.{cases_Bool, eq-eqb, eqb-true, ltb-false, leb-false}
 use Rattle.std.specs.Bool.{IsTrue}
@@ -25,35 +25,39 @@ use Rattle.aim_geometry.specs.declared.ground.Times.{Times}
 use Rattle.aim_geometry.specs.declared.ground.GroundFault.TheVariants as ground_fault_of
 use Rattle.aim_geometry.specs.Sites.{Site, has_bad_numbers, has_bad_buffers, has_bad_times, ground_fault}
 use Rattle.aim_geometry.specs.Bounded.{is_outside}
-use Rattle.aim_paths.specs.Intersection.{Intersection}
+use Rattle.aim_paths.specs.Intersection.{Intersection, Policy}
 use Rattle.aim_paths.specs.declared.builders.LayoutFault.{LayoutFault}
 use Rattle.aim_paths.specs.declared.builders.LayoutFault.TheVariants as layout_fault
 use Rattle.aim_paths.specs.Shapes.{stations_of, wide_step}
+use Rattle.aim_paths.specs.Added.{AddMove, AddPolicy}
 use Rattle.aim_paths.specs.Building.{bare, is_bad_move, move_fault, with_move, policy_fault, finish_fault, with_policy}
-use Rattle.aim_rules.specs.Journals.{entry_of}
+use Rattle.aim_rules.specs.Journals.{Call, entry_of, journal}
 use Rattle.aim_book.specs.State.{State}
 use Rattle.aim_book.specs.Serving.{IsPlain, MayServe}
+use Rattle.aim_replay.specs.declared.decisions.Decision.TheVariants as decision
+use Rattle.aim_replay.specs.declared.decisions.Kind.{Kind}
+use Rattle.aim_replay.specs.declared.decisions.Kind.TheVariants as why
+use Rattle.aim_replay.specs.declared.decisions.Limit.{Limit}
 use Rattle.aim_replay.specs.declared.stages.Stage.{Stage}
 use Rattle.aim_replay.specs.declared.stages.Stage.TheVariants as stage
 use Rattle.aim_replay.specs.declared.stages.Refusal.{Refusal}
 use Rattle.aim_replay.specs.declared.stages.Refusal.TheVariants as refusal
 use Rattle.aim_replay.specs.Order.{part_after, belongs, is_end}
-use Rattle.aim_replay.specs.Said.{version_after, nowhere, grid_of, times_of, names_of, shape_of}
+use Rattle.aim_replay.specs.Said.{Described, version_after, grid_of, times_of, names_of, calls_of, shape_of}
 use Rattle.aim_replay.specs.Kinds.{kind_of_fault, limit_of, vehicles_limit}
-use Rattle.aim_replay.specs.Verdicts.{judge, of_read, goes_on, decides, bad, limit, number_after, kind_word}
-use Rattle.aim_replay.specs.Endings.{kind_text, limit_text}
+use Rattle.aim_replay.specs.Verdicts.{judge, of_read, goes_on, decides, number_after, at_end}
 use Rattle.aim_replay.specs.Today.{today, is_missing_form}
 use Rattle.aim_replay.specs.Stands.{IsBody}
-use Rattle.aim_replay.specs.Stages.{Stands, Says, Takes, Judged, MayTake, Opens, move_kind_of, part_of, is_over, IsUnbuffered, IsDesk, is_missing_request, request_kind}
-use Rattle.aim_replay.proofs.AppendLemmas.{last_of_more, header_more, body_same, body_event, body_first, event_call}
-use Rattle.aim_replay.proofs.KindLemmas.{out_of_order, version_kind, grid_kind, times_kind, lanes_kind, move_kind, policy_kind, vehicles_kind, begin_kind, end_kind, event_kind}
+use Rattle.aim_replay.specs.Stages.{Stands, Says, unsaid, Takes, Judged, MayTake, Opens, move_kind_of, part_of, is_over, IsUnbuffered, IsDesk, is_missing_request, request_kind}
+use Rattle.aim_replay.proofs.AppendLemmas.{last_of_more, header_more, built_more, layout_built, names_are_policies, body_same, body_event, body_first, event_call}
+use Rattle.aim_replay.proofs.KindLemmas.{out_of_order, version_kind, grid_kind, times_kind, lanes_kind, move_kind, policy_kind, second_policy_kind, vehicles_kind, begin_kind, end_kind, event_kind}
 
 -- a line without a kind and a limit goes on
 goes : (before : List Line) (l : Line) → kind_of_fault today before l ≡ None → limit_of before l ≡ None → of_read today before (Ok l) ≡ goes_on l
 goes before l no_kind no_limit = rw (no_kind, no_limit) refl
 
 -- a line with a kind decides
-pub falls : (before : List Line) (l : Line) (kind : List ℕ) → kind_of_fault today before l ≡ Some kind → of_read today before (Ok l) ≡ decides (bad (number_after before) kind)
+pub falls : (before : List Line) (l : Line) (kind : Kind) → kind_of_fault today before l ≡ Some kind → of_read today before (Ok l) ≡ decides (decision.Bad (number_after before) kind)
 falls before l kind is = rw is refl
 
 stands_after : (before : List Line) (l : Line) (s : Stage) → part_after (Some l) ≡ part_of s → is_end (Some l) ≡ is_over s → Says (before ++ l ∷ []) s → Stands (before ++ l ∷ []) s
@@ -65,8 +69,8 @@ stands_after before l s part over says = record {
 
 -- a line that doesn't belong to the stage
 pub order_falls : (before : List Line) (s : Stage) (l : Line) → Stands before s → is_missing_form before l ≡ false → belongs (part_of s) l ≡ false
-    → of_read today before (Ok l) ≡ decides (bad (number_after before) (codes "order"))
-order_falls before s l st form not_there = falls before l (codes "order") (out_of_order before l (part_of s) st.part form not_there)
+    → of_read today before (Ok l) ≡ decides (decision.Bad (number_after before) why.Order)
+order_falls before s l st form not_there = falls before l why.Order (out_of_order before l (part_of s) st.part form not_there)
 
 or_parts : (a b : Bool) → (a || b) ≡ false → (a ≡ false) × (b ≡ false)
 or_parts true b is = absurd (cc)
@@ -82,7 +86,7 @@ version_taken before s n at one st =
     let l = line.Version 1 in
     let taken : Takes before l (Ok stage.Grid) = (
       goes before l (version_kind before 1 st.part) refl,
-      stands_after before l stage.Grid refl refl (header_more before nowhere l st.says (record { version = refl; vehicles = refl; call = λ _. refl; event = λ _. refl }) refl),
+      stands_after before l stage.Grid refl refl (header_more before unsaid l st.says (record { version = refl; vehicles = refl; call = λ _. refl; event = λ _. refl })),
     ) in
     subst (λ n. Takes before (line.Version n) (Ok stage.Grid)) (sym one) taken
 
@@ -93,7 +97,7 @@ grid_taken before s g h at fixed good same st =
     let l = line.Grid g in
     let taken : Takes before l (Ok (stage.Times (grid_of g))) = (
       goes before l (grid_kind before g st.part ∙ rw (eq-eqb g.fixed 0 fixed, good) refl) refl,
-      stands_after before l (stage.Times (grid_of g)) refl refl (header_more before nowhere l st.says (record { version = refl; vehicles = refl; call = λ _. refl; event = λ _. refl }) refl, good),
+      stands_after before l (stage.Times (grid_of g)) refl refl (header_more before unsaid l st.says (record { version = refl; vehicles = refl; call = λ _. refl; event = λ _. refl }), good),
     ) in
     subst (λ h. Takes before l (Ok (stage.Times h))) (sym same) taken
 
@@ -105,12 +109,12 @@ times_taken before s g t site at unbuffered buffers times same st =
     let edge : t.edge ≡ 0 = eqb-true t.edge 0 (not_true (t.edge == 0) both.1) in
     let st : Stands before (stage.Times g) = subst (Stands before) at st in
     let l = line.Times t in
-    let i : Intersection = record nowhere { grid = g } in
+    let d : Described = record unsaid { grid = Some g } in
     let all : Site = record { grid = g; times = times_of t } in
     let taken : Takes before l (Ok (stage.Lanes all)) = (
       goes before l (times_kind before t st.part ∙ rw (unbuffered, buffers, times) refl) refl,
       stands_after before l (stage.Lanes all) refl refl
-          (header_more before i l st.says.0 (record { version = refl; vehicles = refl; call = λ _. refl; event = λ _. refl }) refl, record { early = internal; late = internal; edge = edge }),
+          (header_more before d l st.says.0 (record { version = refl; vehicles = refl; call = λ _. refl; event = λ _. refl }), record { early = internal; late = internal; edge = edge }),
     ) in
     subst (λ x. Takes before l (Ok (stage.Lanes x))) (sym same) taken
 
@@ -118,11 +122,11 @@ pub lanes_taken : (before : List Line) (s : Stage) (site : Site) (n : ℕ) (b : 
 lanes_taken before s site n b at inside same st =
     let st : Stands before (stage.Lanes site) = subst (Stands before) at st in
     let l = line.Lanes n in
-    let i : Intersection = record nowhere { grid = site.grid; times = site.times } in
+    let d : Described = record unsaid { grid = Some site.grid; times = Some site.times } in
     let taken : Takes before l (Ok (stage.Moves (bare site n))) = (
       goes before l (lanes_kind before n st.part ∙ rw inside refl) refl,
       stands_after before l (stage.Moves (bare site n)) refl refl
-          (header_more before i l st.says.0 (record { version = refl; vehicles = refl; call = λ _. refl; event = λ _. refl }) refl, st.says.1, refl),
+          (record { lanes = n; lines = []; header = header_more before d l st.says.0 (record { version = refl; vehicles = refl; call = λ _. refl; event = λ _. refl }); taken = tt; made = refl }, st.says.1, refl),
     ) in
     subst (λ x. Takes before l (Ok (stage.Moves x))) (sym same) taken
 
@@ -143,12 +147,12 @@ move_taken before s b new lane turn shape at fault same st =
     let step = wide_step b.grid.spacing (stations_of path) in
     let good = unguarded (is_bad_move b lane turn path) (layout_fault.Move lane turn) (option_map (λ j. layout_fault.Spacing lane turn j) step) fault in
     let near : is_some step ≡ false = unmapped (λ j. layout_fault.Spacing lane turn j) step good.1 in
-    let some : length b.policies ≡ 0 = ap length st.says.2 in
+    let added_here = AddMove lane turn path in
     let next = with_move b lane turn (shape_of shape) in
     let taken : Takes before l (Ok (stage.Moves next)) = (
-      goes before l (move_kind before lane turn shape st.part ∙ rw (st.says.0.layout, good.0, near) refl) refl,
+      goes before l (move_kind before lane turn shape st.part ∙ rw (layout_built before b st.says.0, good.0, near) refl) refl,
       stands_after before l (stage.Moves next) refl refl
-          (header_more before b l st.says.0 (record { version = refl; vehicles = refl; call = λ _. refl; event = λ _. refl }) (omega arith), st.says.1, st.says.2),
+          (built_more before b l added_here st.says.0 (record { version = refl; vehicles = refl; call = λ _. refl; event = λ _. refl }) refl (sym fault) refl refl, st.says.1, st.says.2),
     ) in
     subst (λ x. Takes before l (Ok (stage.Moves x))) (sym same) taken
 
@@ -157,74 +161,77 @@ pub policy_taken : (before : List Line) (s : Stage) (b new : Intersection) (name
 policy_taken before s b new name k at zero same st =
     let st : Stands before (stage.Moves b) = subst (Stands before) at st in
     let l = line.Policy name 0 in
-    let none : length (names_of before) ≡ 0 = st.says.0.names ∙ ap length st.says.2 in
+    let none : length (names_of before) ≡ 0 = names_are_policies before b (layout_built before b st.says.0) ∙ ap length st.says.2 in
     let next = with_policy b kind.Fcfs in
     let fault : is_some (policy_fault b) ≡ false = no_fault b st.says.2 in
     let taken : Takes before l (Ok (stage.Policies next)) = (
-      goes before l (policy_kind before name 0 st.part none (rw st.says.0.layout fault)) refl,
+      goes before l (policy_kind before name 0 st.part none (rw (layout_built before b st.says.0) fault)) refl,
       stands_after before l (stage.Policies next) refl refl
-          (header_more before b l st.says.0 (record { version = refl; vehicles = refl; call = λ _. refl; event = λ _. refl }) (sym (length-append b.policies (record { kind = kind.Fcfs; phases = [] } ∷ []))), only b st.says.1 st.says.2),
+          (built_more before b l (AddPolicy kind.Fcfs) st.says.0 (record { version = refl; vehicles = refl; call = λ _. refl; event = λ _. refl }) refl (no_fault_at b st.says.2) refl refl, only b st.says.1 st.says.2),
     ) in
     subst (λ k. Takes before (line.Policy name k) (Ok (stage.Policies new))) (sym zero) (subst (λ x. Takes before l (Ok (stage.Policies x))) (sym same) taken)
   where
     no_fault : (b : Intersection) → b.policies ≡ [] → is_some (policy_fault b) ≡ false
     no_fault b none = rw none refl
 
+    no_fault_at : (b : Intersection) → b.policies ≡ [] → policy_fault b ≡ None
+    no_fault_at b none = rw none refl
+
     only : (b : Intersection) → IsUnbuffered b.times → b.policies ≡ [] → IsPlain (with_policy b kind.Fcfs)
     only b t none = record { policies = rw none refl; early = t.early; late = t.late; edge = t.edge }
 
-pub begin_taken : (before : List Line) (s : Stage) (k : State) (n : ℕ) → s ≡ stage.Begin k n → Stands before s → Takes before line.Begin (Ok (stage.Body k n))
-begin_taken before s k n at st =
-    let st : Stands before (stage.Begin k n) = subst (Stands before) at st in
+pub begin_taken : (before : List Line) (s : Stage) (k : State) → s ≡ stage.Begin k → Stands before s → Takes before line.Begin (Ok (stage.Body k))
+begin_taken before s k at st =
+    let st : Stands before (stage.Begin k) = subst (Stands before) at st in
     let l = line.Begin in (
       goes before l (begin_kind before st.part) refl,
-      stands_after before l (stage.Body k n) refl refl
-          (body_same before k.layout n k.journal l st.says.0 (record { version = refl; vehicles = refl; call = λ _. refl; event = λ _. refl }) refl refl, st.says.1),
+      stands_after before l (stage.Body k) refl refl
+          (body_same before k.layout k.vehicles k.journal l st.says.0 (record { version = refl; vehicles = refl; call = λ _. refl; event = λ _. refl }) (record { grid = refl; times = refl; lanes = refl; added = refl }) refl, st.says.1),
     )
 
-pub end_taken : (before : List Line) (s : Stage) (k : State) (n : ℕ) → s ≡ stage.Body k n → Stands before s → Takes before line.End (Ok (stage.Over k))
-end_taken before s k n at st =
-    let st : Stands before (stage.Body k n) = subst (Stands before) at st in
+pub end_taken : (before : List Line) (s : Stage) (k : State) → s ≡ stage.Body k → Stands before s → Takes before line.End (Ok (stage.Over k))
+end_taken before s k at st =
+    let st : Stands before (stage.Body k) = subst (Stands before) at st in
     let l = line.End in
-    let says = body_same before k.layout n k.journal l st.says.0 (record { version = refl; vehicles = refl; call = λ _. refl; event = λ _. refl }) refl refl in (
+    let says = body_same before k.layout k.vehicles k.journal l st.says.0 (record { version = refl; vehicles = refl; call = λ _. refl; event = λ _. refl }) (record { grid = refl; times = refl; lanes = refl; added = refl }) refl in (
       goes before l (end_kind before st.part) refl,
-      stands_after before l (stage.Over k) refl refl (subst (λ m. IsBody (before ++ l ∷ []) k.layout m k.journal) (sym st.says.1.vehicles) says),
+      stands_after before l (stage.Over k) refl refl says,
     )
 
 -- what a request's kind is, by the book
-request_kind_is : (before : List Line) (k : State) (n v at : ℕ) (m : Message) (p : Params) → m.body ≡ body.Request p → Stands before (stage.Body k n) → kind_of_fault today before (line.Event v at m) ≡ request_kind k n v at p
-request_kind_is before k n v at m p asks st =
+request_kind_is : (before : List Line) (k : State) (v at : ℕ) (m : Message) (p : Params) → m.body ≡ body.Request p → Stands before (stage.Body k) → kind_of_fault today before (line.Event v at m) ≡ request_kind k v at p
+request_kind_is before k v at m p asks st =
     event_kind before v at m p asks st.part ∙ rw (st.says.0.events v, st.says.0.declared, st.says.0.layout) refl
 
-pub request_falls : (before : List Line) (s : Stage) (k : State) (n v at : ℕ) (m : Message) (p : Params) (kind : List ℕ) → s ≡ stage.Body k n → m.body ≡ body.Request p → request_kind k n v at p ≡ Some kind → Stands before s
-    → of_read today before (Ok (line.Event v at m)) ≡ decides (bad (number_after before) kind)
-request_falls before s k n v at m p kind is asks fault st =
-    falls before (line.Event v at m) kind (request_kind_is before k n v at m p asks (subst (Stands before) is st) ∙ fault)
+pub request_falls : (before : List Line) (s : Stage) (k : State) (v at : ℕ) (m : Message) (p : Params) (kind : Kind) → s ≡ stage.Body k → m.body ≡ body.Request p → request_kind k v at p ≡ Some kind → Stands before s
+    → of_read today before (Ok (line.Event v at m)) ≡ decides (decision.Bad (number_after before) kind)
+request_falls before s k v at m p kind is asks fault st =
+    falls before (line.Event v at m) kind (request_kind_is before k v at m p asks (subst (Stands before) is st) ∙ fault)
 
-pub request_taken : (before : List Line) (s : Stage) (k new : State) (n v at : ℕ) (m : Message) (p : Params) → s ≡ stage.Body k n → m.body ≡ body.Request p → request_kind k n v at p ≡ None
+pub request_taken : (before : List Line) (s : Stage) (k new : State) (v at : ℕ) (m : Message) (p : Params) → s ≡ stage.Body k → m.body ≡ body.Request p → request_kind k v at p ≡ None
     → new ≡ record k { journal = k.journal ++ entry_of k.layout k.journal (event_call v at m) ∷ [] } → Stands before s
-    → Takes before (line.Event v at m) (Ok (stage.Body new n))
-request_taken before s k new n v at m p is asks good same st =
-    let st : Stands before (stage.Body k n) = subst (Stands before) is st in
+    → Takes before (line.Event v at m) (Ok (stage.Body new))
+request_taken before s k new v at m p is asks good same st =
+    let st : Stands before (stage.Body k) = subst (Stands before) is st in
     let l = line.Event v at m in
     let next : State = record k { journal = k.journal ++ entry_of k.layout k.journal (event_call v at m) ∷ [] } in
-    let taken : Takes before l (Ok (stage.Body next n)) = (
-      goes before l (request_kind_is before k n v at m p asks st ∙ good) refl,
-      stands_after before l (stage.Body next n) refl refl (body_event before k.layout n k.journal v at m st.says.0, record { plain = st.says.1.plain; vehicles = st.says.1.vehicles; room = st.says.1.room }),
+    let taken : Takes before l (Ok (stage.Body next)) = (
+      goes before l (request_kind_is before k v at m p asks st ∙ good) refl,
+      stands_after before l (stage.Body next) refl refl (body_event before k.layout k.vehicles k.journal v at m st.says.0, record { plain = st.says.1.plain; room = st.says.1.room }),
     ) in
-    subst (λ x. Takes before l (Ok (stage.Body x n))) (sym same) taken
+    subst (λ x. Takes before l (Ok (stage.Body x))) (sym same) taken
 
 -- the vehicles of a header that lacks a policy
-pub vehicles_kind_in_moves : (before : List Line) (b : Intersection) (n : ℕ) → Stands before (stage.Moves b) → kind_of_fault today before (line.Vehicles n) ≡ Some (codes "phase")
-vehicles_kind_in_moves before b n st = vehicles_kind before n (inl st.part) ∙ rw (st.says.0.layout, unfinished b st.says.2) refl
+pub vehicles_kind_in_moves : (before : List Line) (b : Intersection) (n : ℕ) → Stands before (stage.Moves b) → kind_of_fault today before (line.Vehicles n) ≡ Some why.Phase
+vehicles_kind_in_moves before b n st = vehicles_kind before n (inl st.part) ∙ rw (layout_built before b st.says.0, unfinished b st.says.2) refl
   where
     unfinished : (b : Intersection) → b.policies ≡ [] → is_some (finish_fault b) ≡ true
     unfinished b none = rw none refl
 
 -- the vehicles of a header that has one
 pub vehicles_kind_in_policies : (before : List Line) (b : Intersection) (n : ℕ) → Stands before (stage.Policies b)
-    → kind_of_fault today before (line.Vehicles n) ≡ (if is_some (finish_fault b) then Some (codes "phase") else if n == 0 then Some (codes "vehicle") else None)
-vehicles_kind_in_policies before b n st = vehicles_kind before n (inr st.part) ∙ rw st.says.0.layout refl
+    → kind_of_fault today before (line.Vehicles n) ≡ (if is_some (finish_fault b) then Some why.Phase else if n == 0 then Some why.Vehicle else None)
+vehicles_kind_in_policies before b n st = vehicles_kind before n (inr st.part) ∙ rw (layout_built before b st.says.0) refl
 
 -- a number of vehicles, of which the layout allows as many as there are
 vehicles_fit : (before : List Line) (b : Intersection) (n : ℕ) → None ≡ finish_fault b → (n == 0) ≡ false → Stands before (stage.Policies b) → kind_of_fault today before (line.Vehicles n) ≡ None
@@ -233,34 +240,34 @@ vehicles_fit before b n fault some st =
     vehicles_kind_in_policies before b n st ∙ rw (whole, some) refl
 
 pub vehicles_taken : (before : List Line) (s : Stage) (b : Intersection) (k : State) (n : ℕ) → s ≡ stage.Policies b → vehicles_limit b.grid.spans n ≡ None → (n == 0) ≡ false → None ≡ finish_fault b
-    → k ≡ record { layout = b; vehicles = n; room = 262144; journal = [] } → Stands before s → Takes before (line.Vehicles n) (Ok (stage.Begin k n))
+    → k ≡ record { layout = b; vehicles = n; room = 262144; journal = [] } → Stands before s → Takes before (line.Vehicles n) (Ok (stage.Begin k))
 vehicles_taken before s b k n at within some fault same st =
     let st : Stands before (stage.Policies b) = subst (Stands before) at st in
     let l = line.Vehicles n in
     let book : State = record { layout = b; vehicles = n; room = 262144; journal = [] } in
-    let taken : Takes before l (Ok (stage.Begin book n)) = (
-      goes before l (vehicles_fit before b n fault some st) (rw st.says.0.layout within),
-      stands_after before l (stage.Begin book n) refl refl (body_first before b n st.says.0, record { plain = st.says.1; vehicles = refl; room = refl }, refl),
+    let taken : Takes before l (Ok (stage.Begin book)) = (
+      goes before l (vehicles_fit before b n fault some st) (rw (layout_built before b st.says.0) within),
+      stands_after before l (stage.Begin book) refl refl (body_first before b n st.says.0, record { plain = st.says.1; room = refl }, refl),
     ) in
-    subst (λ x. Takes before l (Ok (stage.Begin x n))) (sym same) taken
+    subst (λ x. Takes before l (Ok (stage.Begin x))) (sym same) taken
 
 -- a line without a kind that goes past a limit
-passes : (before : List Line) (l : Line) (which : List ℕ) → kind_of_fault today before l ≡ None → limit_of before l ≡ Some which → of_read today before (Ok l) ≡ decides (limit which)
+passes : (before : List Line) (l : Line) (which : Limit) → kind_of_fault today before l ≡ None → limit_of before l ≡ Some which → of_read today before (Ok l) ≡ decides (decision.Limit which)
 passes before l which no_kind past = rw (no_kind, past) refl
 
 -- a move that the builder refuses
 pub move_falls : (before : List Line) (s : Stage) (b : Intersection) (lane : ℕ) (turn : Turn) (shape : MoveShape) (f : LayoutFault) → s ≡ stage.Moves b
     → Some f ≡ move_fault b lane turn (shape_of shape) → Stands before s
-    → of_read today before (Ok (line.Move lane turn shape)) ≡ decides (bad (number_after before) (move_kind_of f))
+    → of_read today before (Ok (line.Move lane turn shape)) ≡ decides (decision.Bad (number_after before) (move_kind_of f))
 move_falls before s b lane turn shape f at fault st =
     let st : Stands before (stage.Moves b) = subst (Stands before) at st in
-    falls before (line.Move lane turn shape) (move_kind_of f) (move_kind before lane turn shape st.part ∙ rw st.says.0.layout (refused (is_bad_move b lane turn (shape_of shape)) (wide_step b.grid.spacing (stations_of (shape_of shape))) fault))
+    falls before (line.Move lane turn shape) (move_kind_of f) (move_kind before lane turn shape st.part ∙ rw (layout_built before b st.says.0) (refused (is_bad_move b lane turn (shape_of shape)) (wide_step b.grid.spacing (stations_of (shape_of shape))) fault))
   where
     same : (f g : LayoutFault) → Some f ≡ Some g → Some (move_kind_of g) ≡ Some (move_kind_of f)
     same f g is = let e : f ≡ g = cc in ap (λ h. Some (move_kind_of h)) (sym e)
 
     refused : (b : Bool) (o : Option ℕ) → Some f ≡ (if b then Some (layout_fault.Move lane turn) else option_map (λ k. layout_fault.Spacing lane turn k) o)
-        → (if b then Some (codes "move") else if is_some o then Some (codes "spacing") else None) ≡ Some (move_kind_of f)
+        → (if b then Some why.Move else if is_some o then Some why.Spacing else None) ≡ Some (move_kind_of f)
     refused true o is = same f (layout_fault.Move lane turn) is
     refused false None is = absurd (cc)
     refused false (Some k) is = same f (layout_fault.Spacing lane turn k) is
@@ -282,42 +289,31 @@ lanes_inside n b f only = elim (cases_Bool (is_outside n 16)) [
   | inr inside ↦ inside
 ]
 
--- the message of a request is its sequence number and what it asks
-pub event_of_request : (before : List Line) (v at : ℕ) (m : Message) (p : Params) (r : Result Stage Refusal) → m.body ≡ body.Request p
-    → Takes before (line.Event v at (record { seq = m.seq; body = body.Request p })) r → Takes before (line.Event v at m) r
-event_of_request before v at m p r is takes = subst (λ b. Takes before (line.Event v at (record { seq = m.seq; body = b })) r) (sym is) takes
-
 none_of : {X : Type 0} (o : Option X) → is_some o ≡ false → o ≡ None
 none_of None is = refl
 none_of (Some x) is = absurd (cc)
 
 -- a request of no kind may be served
-pub may_serve : (k : State) (n v at seq : ℕ) (p : Params) → IsDesk k n → None ≡ request_kind k n v at p → MayServe k.layout k.vehicles k.journal v at (record { seq = seq; body = body.Request p })
-may_serve k n v at seq p desk is =
-    let a = unguarded (list_any (λ (e : Entry). e.caller == v) k.journal || is_missing_request k.layout p) (codes "unsupported") (if nat_le n v then Some (codes "vehicle") else if nat_lt 1073741824 at then Some (codes "moment") else None) is in
-    let b = unguarded (nat_le n v) (codes "vehicle") (if nat_lt 1073741824 at then Some (codes "moment") else None) (sym a.1) in
-    let c = unguarded (nat_lt 1073741824 at) (codes "moment") None (sym b.1) in
+pub may_serve : (k : State) (v at : ℕ) (m : Message) (p : Params) → m.body ≡ body.Request p → IsDesk k → None ≡ request_kind k v at p → MayServe k.layout k.vehicles k.journal v at m
+may_serve k v at m p asks desk is =
+    let a = unguarded (list_any (λ (e : Entry). e.caller == v) k.journal || is_missing_request k.layout p) why.Unsupported (if nat_le k.vehicles v then Some why.Vehicle else if nat_lt 1073741824 at then Some why.Moment else None) is in
+    let b = unguarded (nat_le k.vehicles v) why.Vehicle (if nat_lt 1073741824 at then Some why.Moment else None) (sym a.1) in
+    let c = unguarded (nat_lt 1073741824 at) why.Moment None (sym b.1) in
     let fresh = or_parts (list_any (λ (e : Entry). e.caller == v) k.journal) (is_missing_request k.layout p) a.0 in
     let good = or_parts (not (p.accel == 0) || not (p.speed == p.max_speed)) (is_some (bad_field k.layout p)) fresh.1 in
     let steady = or_parts (not (p.accel == 0)) (not (p.speed == p.max_speed)) good.0 in
-    let below : v < n = leb-false n v b.0 in
+    let below : v < k.vehicles = leb-false k.vehicles v b.0 in
     record {
       layout = desk.plain;
-      vehicle = rw desk.vehicles below;
+      vehicle = below;
       moment = ltb-false 1073741824 at c.0;
       first = fresh.0;
-      request = record {
+      request = rw asks (record {
         accel = eqb-true p.accel 0 (not_true (p.accel == 0) steady.0);
         speed = eqb-true p.speed p.max_speed (not_true (p.speed == p.max_speed) steady.1);
         good = none_of (bad_field k.layout p) good.1;
-      };
+      });
     }
-
--- the same, at the stage where requests come
-pub may_serve_at : (s : Stage) (k : State) (n v at seq : ℕ) (p : Params) → s ≡ stage.Body k n → MayTake s → None ≡ request_kind k n v at p → MayServe k.layout k.vehicles k.journal v at (record { seq = seq; body = body.Request p })
-may_serve_at s k n v at seq p is may kind =
-    let may : MayTake (stage.Body k n) = subst MayTake is may in
-    may_serve k n v at seq p may.0 kind
 
 -- the book is opened, or there is no vehicle, or there are too many
 pub vehicles_opened : (before : List Line) (s : Stage) (b i : Intersection) (n : ℕ) (r : Result Stage Refusal) → s ≡ stage.Policies b → None ≡ finish_fault b → i ≡ b → Opens i n r → Stands before s
@@ -333,9 +329,9 @@ vehicles_opened before s b i n r at fault same opens st =
         subst (λ x. Takes before (line.Vehicles n) (Ok x)) (sym opens.2) (vehicles_taken before (stage.Policies b) b book n refl opens.1 opens.0 fault refl st)
     go (Err (refusal.Bad kind)) opens st =
         let whole : is_some (finish_fault b) ≡ false = rw (sym fault) refl in
-        falls before (line.Vehicles n) (kind_text kind) (vehicles_kind_in_policies before b n st ∙ rw (whole, opens.0, opens.1) refl)
+        falls before (line.Vehicles n) kind (vehicles_kind_in_policies before b n st ∙ rw (whole, opens.0, opens.1) refl)
     go (Err (refusal.Limit which)) opens st =
-        passes before (line.Vehicles n) (limit_text which) (vehicles_fit before b n fault opens.0 st) (rw st.says.0.layout opens.1)
+        passes before (line.Vehicles n) which (vehicles_fit before b n fault opens.0 st) (rw (layout_built before b st.says.0) opens.1)
     go (Err refusal.NoMemory) opens st = tt
 
 -- the lines so far are of version 1
@@ -344,10 +340,10 @@ version_at before stage.Version says = says.version
 version_at before stage.Grid says = says.version
 version_at before (stage.Times g) says = says.0.version
 version_at before (stage.Lanes g) says = says.0.version
-version_at before (stage.Moves b) says = says.0.version
-version_at before (stage.Policies b) says = says.0.version
-version_at before (stage.Begin k n) says = says.0.version
-version_at before (stage.Body k n) says = says.0.version
+version_at before (stage.Moves b) says = says.0.header.version
+version_at before (stage.Policies b) says = says.0.header.version
+version_at before (stage.Begin k) says = says.0.version
+version_at before (stage.Body k) says = says.0.version
 version_at before (stage.Over k) says = says.version
 
 -- what bytes come to is what their line comes to
@@ -358,5 +354,44 @@ judged before s bytes l (Err (refusal.Limit which)) st is takes = rw (version_at
 judged before s bytes l (Err refusal.NoMemory) st is takes = tt
 
 -- bytes that spell no line
-pub unread : (before : List Line) (s : Stage) (bytes : List ℕ) (kind : LineKind) → Stands before s → Err kind ≡ line_at 1 bytes → judge today before (LineOf bytes) ≡ decides (bad (number_after before) (kind_word kind))
+pub unread : (before : List Line) (s : Stage) (bytes : List ℕ) (kind : LineKind) → Stands before s → Err kind ≡ line_at 1 bytes → judge today before (LineOf bytes) ≡ decides (decision.Bad (number_after before) (why.Spelling kind))
 unread before s bytes kind st is = rw (version_at before s st.says, sym is) refl
+
+-- a journal has an entry of each call
+entries_of_calls : (i : Intersection) (h : List Entry) (calls : List Call) → length (fold (λ (h : List Entry) (c : Call). h ++ entry_of i h c ∷ []) h calls) ≡ length h + length calls
+entries_of_calls i h [] = omega arith
+entries_of_calls i h (c ∷ calls) = omega (arith, entries_of_calls i (h ++ entry_of i h c ∷ []) calls, length-append h (entry_of i h c ∷ []))
+
+-- the script is whole where its input ends behind its `end`
+pub ends_whole : (before : List Line) (s : Stage) (k : State) (n : ℕ) → s ≡ stage.Over k → n ≡ length k.journal → Stands before s → decision.Whole n ≡ at_end before
+ends_whole before s k n at count st =
+    let st : Stands before (stage.Over k) = subst (Stands before) at st in
+    let entries : length (calls_of before) ≡ length k.journal = omega (arith, entries_of_calls k.layout [] (calls_of before), ap (λ (h : List Entry). length h) st.says.journal) in
+    rw (st.over, entries, count) refl
+
+some_policy : (ps : List Policy) → map (λ p. p.kind) ps ≡ kind.Fcfs ∷ [] → 0 < length ps
+some_policy [] is = absurd (cc)
+some_policy (p ∷ ps) is = omega arith
+
+-- a policy behind another
+pub second_policy_falls : (before : List Line) (s : Stage) (b : Intersection) (name : Name) (k : ℕ) → s ≡ stage.Policies b → Stands before s
+    → of_read today before (Ok (line.Policy name k)) ≡ decides (decision.Bad (number_after before) why.Unsupported)
+second_policy_falls before s b name k at st =
+    let st : Stands before (stage.Policies b) = subst (Stands before) at st in
+    let some = some_policy b.policies st.says.1.policies in
+    let names = names_are_policies before b (layout_built before b st.says.0) in
+    falls before (line.Policy name k) why.Unsupported (second_policy_kind before name k st.part (omega arith))
+
+-- vehicles of a layout without a policy
+pub vehicles_fall_in_moves : (before : List Line) (s : Stage) (b : Intersection) (n : ℕ) → s ≡ stage.Moves b → Stands before s
+    → of_read today before (Ok (line.Vehicles n)) ≡ decides (decision.Bad (number_after before) why.Phase)
+vehicles_fall_in_moves before s b n at st =
+    let st : Stands before (stage.Moves b) = subst (Stands before) at st in
+    falls before (line.Vehicles n) why.Phase (vehicles_kind_in_moves before b n st)
+
+-- vehicles of a layout that can't be finished
+pub vehicles_fall : (before : List Line) (b : Intersection) (n : ℕ) (f : LayoutFault) → Some f ≡ finish_fault b → Stands before (stage.Policies b)
+    → of_read today before (Ok (line.Vehicles n)) ≡ decides (decision.Bad (number_after before) why.Phase)
+vehicles_fall before b n f fault st =
+    let some : is_some (finish_fault b) ≡ true = rw (sym fault) refl in
+    falls before (line.Vehicles n) why.Phase (vehicles_kind_in_policies before b n st ∙ rw some refl)

@@ -10,11 +10,11 @@ use Rattle.aim_msg.specs.declared.entries.Entry.{Entry}
 use Rattle.aim_paths.specs.Intersection.{Intersection}
 use Rattle.aim_rules.specs.Journals.{Call, journal, entry_of}
 use Rattle.aim_replay.specs.Order.{Part, part_after, belongs, to_begin, in_body, nothing}
-use Rattle.aim_replay.specs.Said.{layout_of, calls_of, names_of, last_of, with_line, name_in, call_in}
+use Rattle.aim_replay.specs.Said.{layout_of, calls_of, names_of, last_of, name_in, call_in}
 use Rattle.aim_replay.specs.Kinds.{Missing}
 use Rattle.aim_replay.specs.Verdicts.{Verdict, Judgement, judge, goes_on, decides, then_on, verdict_from}
 use Rattle.aim_replay.specs.Texts.{entry_lines, printed, journal_of}
-use Rattle.aim_replay.proofs.AppendLemmas.{last_of_more, layout_more, calls_more}
+use Rattle.aim_replay.proofs.AppendLemmas.{last_of_more, IsSilent, layout_same, calls_more}
 use Rattle.aim_replay.proofs.LineLemmas.{goes_on_says, in_order}
 use Rattle.std.specs.Option.{option_to_list}
 
@@ -48,18 +48,18 @@ is_past nothing = true
 is_past p = false
 
 -- a line that belongs there keeps the layout and the names
-record Keeps (i : Intersection) (l : Line) : Type 0 where
+record Keeps (l : Line) : Type 0 where
   pub past : is_past (part_after (Some l)) ≡ true
-  pub layout : with_line i l ≡ i
+  pub silent : IsSilent l
   pub name : name_in l ≡ None
 
-keeps : (i : Intersection) (p : Part) (l : Line) → is_past p ≡ true → belongs p l ≡ true → Keeps i l
-keeps i to_begin line.Begin past is = record { past = refl; layout = refl; name = refl }
-keeps i in_body (line.Event v at m) past is = record { past = refl; layout = refl; name = refl }
-keeps i in_body (line.SwitchTo at name) past is = record { past = refl; layout = refl; name = refl }
-keeps i in_body (line.StopAt at) past is = record { past = refl; layout = refl; name = refl }
-keeps i in_body line.End past is = record { past = refl; layout = refl; name = refl }
-keeps i p l past is = absurd (cc)
+keeps : (p : Part) (l : Line) → is_past p ≡ true → belongs p l ≡ true → Keeps l
+keeps to_begin line.Begin past is = record { past = refl; silent = record { grid = refl; times = refl; lanes = refl; added = refl }; name = refl }
+keeps in_body (line.Event v at m) past is = record { past = refl; silent = record { grid = refl; times = refl; lanes = refl; added = refl }; name = refl }
+keeps in_body (line.SwitchTo at name) past is = record { past = refl; silent = record { grid = refl; times = refl; lanes = refl; added = refl }; name = refl }
+keeps in_body (line.StopAt at) past is = record { past = refl; silent = record { grid = refl; times = refl; lanes = refl; added = refl }; name = refl }
+keeps in_body line.End past is = record { past = refl; silent = record { grid = refl; times = refl; lanes = refl; added = refl }; name = refl }
+keeps p l past is = absurd (cc)
 
 -- lines whose layout stays, and whose calls begin with some
 record Extends (before : List Line) (all : List Line) : Type 0 where
@@ -70,11 +70,11 @@ record Extends (before : List Line) (all : List Line) : Type 0 where
 extends_self : (before : List Line) → Extends before before
 extends_self before = record { layout = refl; more = []; calls = sym (append-nil (calls_of before)) }
 
-extends_one : (before all : List Line) (l : Line) → Keeps (layout_of before) l → Extends (before ++ l ∷ []) all → Extends before all
+extends_one : (before all : List Line) (l : Line) → Keeps l → Extends (before ++ l ∷ []) all → Extends before all
 extends_one before all l k e =
     let first = option_to_list (call_in (names_of before) l) in
     record {
-      layout = e.layout ∙ layout_more before l ∙ k.layout;
+      layout = e.layout ∙ layout_same before l k.silent;
       more = first ++ e.more;
       calls = e.calls ∙ ap (λ (cs : List Call). cs ++ e.more) (calls_more before l k.name) ∙ append_assoc (calls_of before) first e.more;
     }
@@ -87,7 +87,7 @@ extends missing before (o ∷ os) past = go (judge missing before o) refl (λ l.
         → Extends before (then_on before j (λ more. verdict_from missing more os)).before
     go (decides d) is later = extends_self before
     go (goes_on l) is later =
-        let kept = keeps (layout_of before) (part_after (last_of before)) l past (in_order missing before l (goes_on_says missing before o l is)) in
+        let kept = keeps (part_after (last_of before)) l past (in_order missing before l (goes_on_says missing before o l is)) in
         extends_one before (verdict_from missing (before ++ l ∷ []) os).before l kept (later l (rw (last_of_more before l) kept.past))
 
 -- the journal so far is the first of that of the whole script

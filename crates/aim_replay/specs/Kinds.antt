@@ -1,6 +1,6 @@
 -- Why a line that reads may not stand where it stands: the table of the kinds of bad lines, in their order, and the
 -- limits on a script.
-use Rattle.std.specs.Prelude.{ℕ, ◌*◌, ◌==◌, Bool, false, not, nat_lt, nat_le, List, [], ◌∷◌, Option, Some, None, option_map, find, is_some, codes, if◌then◌else◌}
+use Rattle.std.specs.Prelude.{ℕ, ◌*◌, ◌==◌, Bool, false, not, nat_lt, nat_le, List, [], ◌∷◌, Option, Some, None, option_map, option_and_then, find, is_some, if◌then◌else◌}
 use Rattle.aim_msg.specs.declared.script.Line.{Line}
 use Rattle.aim_msg.specs.declared.script.Line.TheVariants as line
 use Rattle.aim_msg.specs.Lines.{name_word}
@@ -8,8 +8,12 @@ use Rattle.aim_geometry.specs.Bounded.{is_outside}
 use Rattle.aim_geometry.specs.Sites.{has_bad_numbers, has_bad_buffers, has_bad_times}
 use Rattle.aim_paths.specs.Shapes.{stations_of, wide_step}
 use Rattle.aim_paths.specs.Building.{is_bad_move, policy_fault, phase_fault, finish_fault}
+use Rattle.aim_replay.specs.declared.decisions.Kind.{Kind}
+use Rattle.aim_replay.specs.declared.decisions.Kind.TheVariants as kind
+use Rattle.aim_replay.specs.declared.decisions.Limit.{Limit}
+use Rattle.aim_replay.specs.declared.decisions.Limit.TheVariants as limit
 use Rattle.aim_replay.specs.Order.{may_follow}
-use Rattle.aim_replay.specs.Said.{shape_of, grid_of, times_of, times6_of, layout_of, is_named, vehicles_of, last_of}
+use Rattle.aim_replay.specs.Said.{shape_of, grid_of, times_of, times6_of, layout_of, is_named, vehicles_in, vehicles_of, last_of}
 
 abbrev pub is_bad_version : List Line → Line → Bool
 is_bad_version before (line.Version n) = is_outside n 3
@@ -81,33 +85,32 @@ abbrev pub none_missing : Missing
 none_missing = record { form = λ before l. false; field = λ before l. false }
 
 -- The kinds, in the order in which they are told. Those of a line that doesn't read come before them.
-abbrev pub kinds : Missing → List (List ℕ × Test)
+abbrev pub kinds : Missing → List (Kind × Test)
 kinds missing =
-    (codes "unsupported", missing.form)
-    ∷ (codes "order", is_out_of_order)
-    ∷ (codes "unsupported", missing.field)
-    ∷ (codes "version", is_bad_version)
-    ∷ (codes "grid", has_grid_fault)
-    ∷ (codes "buffers", has_buffers_fault)
-    ∷ (codes "times", has_times_fault)
-    ∷ (codes "lane", is_bad_lane)
-    ∷ (codes "move", is_no_move)
-    ∷ (codes "spacing", is_wide)
-    ∷ (codes "policy", is_bad_policy)
-    ∷ (codes "phase", is_no_phase)
-    ∷ (codes "vehicle", is_no_vehicle)
-    ∷ (codes "moment", is_bad_moment)
+    (kind.Unsupported, missing.form)
+    ∷ (kind.Order, is_out_of_order)
+    ∷ (kind.Unsupported, missing.field)
+    ∷ (kind.Version, is_bad_version)
+    ∷ (kind.Grid, has_grid_fault)
+    ∷ (kind.Buffers, has_buffers_fault)
+    ∷ (kind.Times, has_times_fault)
+    ∷ (kind.Lane, is_bad_lane)
+    ∷ (kind.Move, is_no_move)
+    ∷ (kind.Spacing, is_wide)
+    ∷ (kind.Policy, is_bad_policy)
+    ∷ (kind.Phase, is_no_phase)
+    ∷ (kind.Vehicle, is_no_vehicle)
+    ∷ (kind.Moment, is_bad_moment)
     ∷ []
 
 -- the kind of a line behind others, if it is at fault
-abbrev pub kind_of_fault : Missing → List Line → Line → Option (List ℕ)
+abbrev pub kind_of_fault : Missing → List Line → Line → Option Kind
 kind_of_fault missing before l = option_map (λ row. row.0) (find (λ row. row.1 before l) (kinds missing))
 
 -- the limit that so many vehicles go past, where a vehicle's sheet has so many spans
-abbrev pub vehicles_limit : ℕ → ℕ → Option (List ℕ)
-vehicles_limit spans n = if nat_lt 65536 n then Some (codes "vehicles") else if nat_lt 16777216 (n * spans) then Some (codes "sheets") else None
+abbrev pub vehicles_limit : ℕ → ℕ → Option Limit
+vehicles_limit spans n = if nat_lt 65536 n then Some limit.Vehicles else if nat_lt 16777216 (n * spans) then Some limit.Sheets else None
 
 -- the limit that a line without a fault goes past
-abbrev pub limit_of : List Line → Line → Option (List ℕ)
-limit_of before (line.Vehicles n) = let i = layout_of before in vehicles_limit i.grid.spans n
-limit_of before _ = None
+abbrev pub limit_of : List Line → Line → Option Limit
+limit_of before l = let i = layout_of before in option_and_then (vehicles_limit i.grid.spans) (vehicles_in l)

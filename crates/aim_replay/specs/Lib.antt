@@ -6,7 +6,6 @@ pub mod Texts
 pub mod First
 pub mod Today
 pub mod Stands
-pub mod Endings
 pub mod Stages
 pub mod Replays
 pub mod Sessions

@@ -1,16 +1,17 @@
 -- What a replay takes out of its source and adds to its sink.
-use Rattle.std.specs.Prelude.{◌≡◌, ℕ, ◌≤◌, List, [], ◌∷◌, ◌++◌, length, drop, Option, Some, None, IfSome}
+use Rattle.std.specs.Prelude.{◌≡◌, ℕ, ◌<◌, ◌≤◌, List, [], ◌∷◌, ◌++◌, length, Option, Some, None, IfSome}
 use Rattle.std.specs.List.{AllByRecursion}
 use Rattle.std.specs.Io.KnownBytes.{Appends, Consumes}
 use Rattle.aim_io.specs.Known.{AppendsFront}
 use Rattle.aim_io.specs.Lines.{Line as LineOf, IsOpen}
-use Rattle.aim_msg.specs.declared.entries.Entry.{Entry}
+use Rattle.aim_msg.specs.Texts.{entry_text}
 use Rattle.aim_msg.specs.declared.script.Line.{Line}
 use Rattle.aim_rules.specs.Journals.{journal}
+use Rattle.aim_replay.specs.declared.stages.Made.{Made}
 use Rattle.aim_replay.specs.Said.{layout_of, calls_of}
 use Rattle.aim_replay.specs.Kinds.{Missing}
 use Rattle.aim_replay.specs.Verdicts.{Judgement, decides, goes_on, judge, verdict}
-use Rattle.aim_replay.specs.Texts.{entry_lines, journal_of, replay_text, replay_status}
+use Rattle.aim_replay.specs.Texts.{entry_lines, journal_of, printed, replay_text, replay_status}
 
 -- these lines, each with its byte 10
 abbrev pub ended : List (List ℕ) → List ℕ
@@ -32,17 +33,38 @@ pub record AreWhole (missing : Missing) (lines : List (List ℕ)) (before : List
   pub few : length lines ≤ 262144
   pub script : script_after missing [] lines ≡ Some before
 
+-- where the source tells its bytes, no more than these were taken
+pub record TakesAtMost (most : ℕ) (left_old left_new : Option (List ℕ)) : Type 0 where
+  pub bytes : List ℕ
+  pub taken : Consumes left_old left_new bytes
+  pub within : length bytes ≤ most
+
 -- The source failed: the bytes that were read are whole lines, none of which decides, and the beginning of a further
--- line, and what was written are the lines of the entries of these lines' events and orders.
+-- line, which doesn't decide either, and what was written are the lines of the entries of these lines' events and orders.
 pub record StopsShort (missing : Missing) (left_old left_new held_old held_new : Option (List ℕ)) : Type 0 where
   pub lines : List (List ℕ)
   pub part : List ℕ
   pub taken : Consumes left_old left_new (ended lines ++ part)
   pub within : length (ended lines ++ part) ≤ 67108864
   pub is_open : IsOpen part
+  pub undecided : 0 < length part → length lines < 262144
   pub before : List Line
   pub whole : AreWhole missing lines before
   pub written : Appends held_old held_new (entry_lines 0 (journal (layout_of before) (calls_of before)))
+
+-- The last read was needed: what was read before it are whole lines, none of which decides, and the beginning of a further
+-- line, which doesn't decide either. `piece` is what that read gave, as far as the source tells it.
+pub record LastNeeded (missing : Missing) (left_old left_new : Option (List ℕ)) (last : Option ℕ) : Type 0 where
+  pub lines : List (List ℕ)
+  pub part : List ℕ
+  pub piece : List ℕ
+  pub taken : Consumes left_old left_new (ended lines ++ (part ++ piece))
+  pub within : length (ended lines ++ part) ≤ 67108864
+  pub before : List Line
+  pub whole : AreWhole missing lines before
+  pub is_open : IsOpen part
+  pub undecided : 0 < length part → length lines < 262144
+  pub told : IfSome last (λ n. n ≡ length piece)
 
 -- where the source tells its bytes, a front of their text was written
 abbrev pub WritesFront : Option (List ℕ) → Option (List ℕ) → Option (List ℕ) → (List ℕ → List ℕ) → Type 0
@@ -61,6 +83,7 @@ pub record Replays (missing : Missing) (asked : Option ℕ) (bytes : List ℕ) (
 abbrev pub entries_text : Missing → List ℕ → List ℕ
 entries_text missing bytes = entry_lines 0 (journal_of (verdict missing bytes))
 
--- the lines of the entries that a journal has gained
-abbrev pub gained : List Entry → List Entry → List ℕ
-gained old new = entry_lines (length old) (drop (length old) new)
+-- the line of an entry that was made, if one was
+abbrev pub made_line : Option Made → List ℕ
+made_line None = []
+made_line (Some m) = printed (entry_text m.position m.entry)

@@ -1,5 +1,5 @@
 -- What the lines of a script say: questions over the whole list of lines.
-use Rattle.std.specs.Prelude.{ℕ, ◌==◌, Bool, true, List, [], fold, filter_map, Option, Some, None, position, replicate, unwrap_or, bytes_eq, if◌then◌else◌}
+use Rattle.std.specs.Prelude.{ℕ, ◌==◌, Bool, true, List, [], filter_map, Option, Some, None, position, unwrap_or, bytes_eq, if◌then◌else◌}
 use Rattle.std.specs.List.{list_any}
 use Rattle.aim_msg.specs.declared.entries.Act.TheVariants as act
 use Rattle.aim_msg.specs.declared.entries.Order.TheVariants as order
@@ -19,7 +19,8 @@ use Rattle.aim_paths.specs.declared.policies.Kind.TheVariants as kind
 use Rattle.aim_paths.specs.Intersection.{Intersection}
 use Rattle.aim_paths.specs.declared.shapes.Shape.{Shape}
 use Rattle.aim_paths.specs.declared.shapes.Shape.TheVariants as path
-use Rattle.aim_paths.specs.Building.{no_paths, with_move, with_policy, with_phase}
+use Rattle.aim_geometry.specs.Sites.{Site}
+use Rattle.aim_paths.specs.Added.{Added, AddMove, AddPolicy, AddPhase, layout_of as layout_of_lines}
 use Rattle.aim_rules.specs.Journals.{Call}
 use Rattle.aim_geometry.specs.Bounded.{last, find_map}
 
@@ -48,29 +49,51 @@ abbrev pub shape_of : MoveShape → Shape
 shape_of (shape.Line x0 y0 x1 y1 m) = path.Line x0 y0 x1 y1 m
 shape_of (shape.Curve x0 y0 x1 y1 x2 y2 m) = path.Curve x0 y0 x1 y1 x2 y2 m
 
--- what a line adds to the layout
-abbrev pub with_line : Intersection → Line → Intersection
-with_line i (line.Grid g) = record i { grid = grid_of g }
-with_line i (line.Times t) = record i { times = times_of t }
-with_line i (line.Times6 t) = record i { times = times6_of t }
-with_line i (line.Lanes n) = record i { lanes = replicate n no_paths }
-with_line i (line.Move lane turn s) = with_move i lane turn (shape_of s)
-with_line i (line.Policy name k) = with_policy i (kind_of k)
-with_line i (line.Phase red green lanes) = with_phase i (record { red = red; green = green; lanes = lanes })
-with_line i _ = i
+-- what a line says of a layout
+abbrev pub grid_in : Line → Option Grid
+grid_in (line.Grid g) = Some (grid_of g)
+grid_in _ = None
 
--- a layout of which nothing is said yet
-abbrev pub nowhere : Intersection
-nowhere = record {
-  grid = record { side = 0; n = 0; spacing = 0; fixed = 0; half = 0; spans = 0 };
-  times = record { horizon = 0; longest = 0; clearance = 0; early = 0; late = 0; edge = 0 };
-  lanes = [];
-  policies = [];
+abbrev pub times_in : Line → Option Times
+times_in (line.Times t) = Some (times_of t)
+times_in (line.Times6 t) = Some (times6_of t)
+times_in _ = None
+
+abbrev pub lanes_in : Line → Option ℕ
+lanes_in (line.Lanes n) = Some n
+lanes_in _ = None
+
+abbrev pub added_in : Line → Option Added
+added_in (line.Move lane turn s) = Some (AddMove lane turn (shape_of s))
+added_in (line.Policy name k) = Some (AddPolicy (kind_of k))
+added_in (line.Phase red green lanes) = Some (AddPhase (record { red = red; green = green; lanes = lanes }))
+added_in _ = None
+
+-- what lines say of a layout: its grid, its times, how many lanes it has, and what is added to it
+pub record Described : Type 0 where
+  pub grid : Option Grid
+  pub times : Option Times
+  pub lanes : Option ℕ
+  pub added : List Added
+
+abbrev pub described : List Line → Described
+described lines = record {
+  grid = find_map grid_in lines;
+  times = find_map times_in lines;
+  lanes = find_map lanes_in lines;
+  added = filter_map added_in lines;
+}
+
+-- what isn't said yet is nothing
+abbrev pub site_of : Described → Site
+site_of d = record {
+  grid = unwrap_or d.grid (record { side = 0; n = 0; spacing = 0; fixed = 0; half = 0; spans = 0 });
+  times = unwrap_or d.times (record { horizon = 0; longest = 0; clearance = 0; early = 0; late = 0; edge = 0 });
 }
 
 -- the layout that the lines describe
-abbrev pub layout_of : List Line → Intersection
-layout_of lines = fold with_line nowhere lines
+unfoldable pub layout_of : List Line → Intersection
+layout_of lines = let d = described lines in layout_of_lines (site_of d) (unwrap_or d.lanes 0) d.added
 
 abbrev pub name_in : Line → Option (List ℕ)
 name_in (line.Policy name k) = Some (name_word name)

@@ -1,5 +1,6 @@
 -- What is known of the lines of a script so far, at each stage of its replay.
-use Rattle.std.specs.Prelude.{◌≡◌, ◌⊎◌, ℕ, ◌<◌, ◌==◌, Bool, true, false, List, [], ◌∷◌, ◌++◌, ◌||◌, not, nat_lt, nat_le, length, Option, Some, None, is_some, Result, Ok, Err, codes, if◌then◌else◌}
+-- No public clause cites it: only contracts of private functions.
+use Rattle.std.specs.Prelude.{◌≡◌, ℕ, ◌<◌, ◌==◌, Bool, true, false, List, [], ◌∷◌, ◌++◌, ◌||◌, not, nat_lt, nat_le, length, Option, Some, None, is_some, Result, Ok, Err, if◌then◌else◌}
 use Rattle.std.specs.List.{list_any}
 use Rattle.aim_msg.specs.declared.messages.Params.{Params}
 use Rattle.aim_rules.specs.Bad.{bad as bad_field}
@@ -14,16 +15,20 @@ use Rattle.aim_paths.specs.declared.builders.LayoutFault.{LayoutFault}
 use Rattle.aim_paths.specs.declared.builders.LayoutFault.TheVariants as fault
 use Rattle.aim_replay.specs.declared.stages.Stage.{Stage}
 use Rattle.aim_replay.specs.declared.stages.Stage.TheVariants as stage
+use Rattle.aim_replay.specs.declared.stages.Made.{Made}
+use Rattle.aim_replay.specs.declared.stages.Taken.{Taken}
 use Rattle.aim_replay.specs.declared.stages.Refusal.{Refusal}
 use Rattle.aim_replay.specs.declared.stages.Refusal.TheVariants as refusal
+use Rattle.aim_replay.specs.declared.decisions.Decision.TheVariants as decision
+use Rattle.aim_replay.specs.declared.decisions.Kind.{Kind}
+use Rattle.aim_replay.specs.declared.decisions.Kind.TheVariants as kind
 use Rattle.aim_io.specs.Lines.{Line as LineOf}
 use Rattle.aim_replay.specs.Order.{Part, part_after, is_end, to_version, to_ground, to_times, to_lanes, in_moves, in_policies, to_begin, in_body, nothing}
-use Rattle.aim_replay.specs.Said.{nowhere, last_of}
-use Rattle.aim_replay.specs.Verdicts.{judge, of_read, goes_on, decides, bad, limit, number_after}
+use Rattle.aim_replay.specs.Said.{Described, last_of}
+use Rattle.aim_replay.specs.Verdicts.{judge, of_read, goes_on, decides, number_after}
 use Rattle.aim_replay.specs.Today.{today}
-use Rattle.aim_replay.specs.Endings.{kind_text, limit_text}
 use Rattle.aim_replay.specs.Kinds.{vehicles_limit}
-use Rattle.aim_replay.specs.Stands.{IsHeader, IsBody}
+use Rattle.aim_replay.specs.Stands.{IsHeader, IsBuilt, IsBody}
 
 -- the part of the script that goes on at the stage
 abbrev pub part_of : Stage → Part
@@ -33,8 +38,8 @@ part_of (stage.Times g) = to_times
 part_of (stage.Lanes s) = to_lanes
 part_of (stage.Moves b) = in_moves
 part_of (stage.Policies b) = in_policies
-part_of (stage.Begin k n) = to_begin
-part_of (stage.Body k n) = in_body
+part_of (stage.Begin k) = to_begin
+part_of (stage.Body k) = in_body
 part_of (stage.Over k) = nothing
 
 abbrev pub is_over : Stage → Bool
@@ -43,8 +48,8 @@ is_over _ = false
 
 -- the journal so far
 abbrev pub journal_at : Stage → List Entry
-journal_at (stage.Begin k n) = k.journal
-journal_at (stage.Body k n) = k.journal
+journal_at (stage.Begin k) = k.journal
+journal_at (stage.Body k) = k.journal
 journal_at (stage.Over k) = k.journal
 journal_at _ = []
 
@@ -54,22 +59,25 @@ pub record IsUnbuffered (t : Times) : Type 0 where
   pub late : t.late ≡ 0
   pub edge : t.edge ≡ 0
 
--- the book is over a plain layout, for so many vehicles, with room for an entry of every line
-pub record IsDesk (k : State) (n : ℕ) : Type 0 where
+-- the book is over a plain layout, with room for an entry of every line
+pub record IsDesk (k : State) : Type 0 where
   pub plain : IsPlain k.layout
-  pub vehicles : k.vehicles ≡ n
   pub room : k.room ≡ 262144
+
+-- nothing is said of a layout
+abbrev pub unsaid : Described
+unsaid = record { grid = None; times = None; lanes = None; added = [] }
 
 -- the layout so far, or the book, is what the lines say
 abbrev pub Says : List Line → Stage → Type 0
-Says before stage.Version = IsHeader before nowhere
-Says before stage.Grid = IsHeader before nowhere
-Says before (stage.Times g) = IsHeader before (record nowhere { grid = g }) × (has_bad_numbers g ≡ false)
-Says before (stage.Lanes s) = IsHeader before (record nowhere { grid = s.grid; times = s.times }) × IsUnbuffered s.times
-Says before (stage.Moves b) = IsHeader before b × IsUnbuffered b.times × (b.policies ≡ [])
-Says before (stage.Policies b) = IsHeader before b × IsPlain b
-Says before (stage.Begin k n) = IsBody before k.layout n k.journal × IsDesk k n × (k.journal ≡ [])
-Says before (stage.Body k n) = IsBody before k.layout n k.journal × IsDesk k n
+Says before stage.Version = IsHeader before unsaid
+Says before stage.Grid = IsHeader before unsaid
+Says before (stage.Times g) = IsHeader before (record unsaid { grid = Some g }) × (has_bad_numbers g ≡ false)
+Says before (stage.Lanes s) = IsHeader before (record unsaid { grid = Some s.grid; times = Some s.times }) × IsUnbuffered s.times
+Says before (stage.Moves b) = IsBuilt before b × IsUnbuffered b.times × (b.policies ≡ [])
+Says before (stage.Policies b) = IsBuilt before b × IsPlain b
+Says before (stage.Begin k) = IsBody before k.layout k.vehicles k.journal × IsDesk k × (k.journal ≡ [])
+Says before (stage.Body k) = IsBody before k.layout k.vehicles k.journal × IsDesk k
 Says before (stage.Over k) = IsBody before k.layout k.vehicles k.journal
 
 -- the stage stands for these lines
@@ -82,45 +90,51 @@ pub record Stands (before : List Line) (s : Stage) : Type 0 where
 abbrev pub is_missing_request : Intersection → Params → Bool
 is_missing_request i p = not (p.accel == 0) || not (p.speed == p.max_speed) || is_some (bad_field i p)
 
--- what is wrong with a request of a vehicle v, one of n, at some moment
-abbrev pub request_kind : State → ℕ → ℕ → ℕ → Params → Option (List ℕ)
-request_kind k n v at p =
-    if list_any (λ e. e.caller == v) k.journal || is_missing_request k.layout p then Some (codes "unsupported")
-    else if nat_le n v then Some (codes "vehicle")
-    else if nat_lt 1073741824 at then Some (codes "moment")
+-- what is wrong with a request of a vehicle v at some moment
+abbrev pub request_kind : State → ℕ → ℕ → Params → Option Kind
+request_kind k v at p =
+    if list_any (λ e. e.caller == v) k.journal || is_missing_request k.layout p then Some kind.Unsupported
+    else if nat_le k.vehicles v then Some kind.Vehicle
+    else if nat_lt 1073741824 at then Some kind.Moment
     else None
 
 -- the kind of a line whose move is refused
-abbrev pub move_kind_of : LayoutFault → List ℕ
-move_kind_of (fault.Spacing lane turn station) = codes "spacing"
-move_kind_of _ = codes "move"
+abbrev pub move_kind_of : LayoutFault → Kind
+move_kind_of (fault.Spacing lane turn station) = kind.Spacing
+move_kind_of _ = kind.Move
 
 -- whether a further line may be taken
 abbrev pub MayTake : Stage → Type 0
-MayTake (stage.Body k n) = IsDesk k n × (length k.journal < 262144)
+MayTake (stage.Body k) = IsDesk k × (length k.journal < 262144)
 MayTake _ = Unit {0}
 
 -- what a further line comes to
 abbrev pub Takes : List Line → Line → Result Stage Refusal → Type 0
 Takes before l (Ok next) = (of_read today before (Ok l) ≡ goes_on l) × Stands (before ++ l ∷ []) next
-Takes before l (Err (refusal.Bad kind)) = of_read today before (Ok l) ≡ decides (bad (number_after before) (kind_text kind))
-Takes before l (Err (refusal.Limit which)) = of_read today before (Ok l) ≡ decides (limit (limit_text which))
+Takes before l (Err (refusal.Bad why)) = of_read today before (Ok l) ≡ decides (decision.Bad (number_after before) why)
+Takes before l (Err (refusal.Limit which)) = of_read today before (Ok l) ≡ decides (decision.Limit which)
 Takes before l (Err refusal.NoMemory) = Unit {0}
 
 -- what further bytes come to
 abbrev pub Judged : List Line → List ℕ → Result Stage Refusal → Type 0
 Judged before bytes (Ok next) = (l : Line) × (judge today before (LineOf bytes) ≡ goes_on l) × Stands (before ++ l ∷ []) next
-Judged before bytes (Err (refusal.Bad kind)) = judge today before (LineOf bytes) ≡ decides (bad (number_after before) (kind_text kind))
-Judged before bytes (Err (refusal.Limit which)) = judge today before (LineOf bytes) ≡ decides (limit (limit_text which))
+Judged before bytes (Err (refusal.Bad why)) = judge today before (LineOf bytes) ≡ decides (decision.Bad (number_after before) why)
+Judged before bytes (Err (refusal.Limit which)) = judge today before (LineOf bytes) ≡ decides (decision.Limit which)
 Judged before bytes (Err refusal.NoMemory) = Unit {0}
 
--- the journal stays, or gets one more entry
-abbrev pub Grows : List Entry → List Entry → Type 0
-Grows old new = (new ≡ old) ⊎ ((e : Entry) × (new ≡ old ++ e ∷ []))
+-- the stage that is reached
+abbrev pub stage_of : Result Taken Refusal → Result Stage Refusal
+stage_of (Ok t) = Ok t.stage
+stage_of (Err why) = Err why
+
+-- the journal stays where no entry was made, or gets this one, at its position
+abbrev pub Makes : List Entry → List Entry → Option Made → Type 0
+Makes old new None = new ≡ old
+Makes old new (Some m) = (m.position ≡ length old) × (new ≡ old ++ m.entry ∷ [])
 
 -- a book is opened, if there is a vehicle, no limit is passed, and there is memory
 abbrev pub Opens : Intersection → ℕ → Result Stage Refusal → Type 0
-Opens i n (Ok next) = (n == 0 ≡ false) × (vehicles_limit i.grid.spans n ≡ None) × (next ≡ stage.Begin (record { layout = i; vehicles = n; room = 262144; journal = [] }) n)
-Opens i n (Err (refusal.Bad kind)) = (n == 0 ≡ true) × (kind_text kind ≡ codes "vehicle")
-Opens i n (Err (refusal.Limit which)) = (n == 0 ≡ false) × (vehicles_limit i.grid.spans n ≡ Some (limit_text which))
+Opens i n (Ok next) = (n == 0 ≡ false) × (vehicles_limit i.grid.spans n ≡ None) × (next ≡ stage.Begin (record { layout = i; vehicles = n; room = 262144; journal = [] }))
+Opens i n (Err (refusal.Bad why)) = (n == 0 ≡ true) × (why ≡ kind.Vehicle)
+Opens i n (Err (refusal.Limit which)) = (n == 0 ≡ false) × (vehicles_limit i.grid.spans n ≡ Some which)
 Opens i n (Err refusal.NoMemory) = Unit {0}

@@ -1,21 +1,20 @@
 -- What a script comes to: the first line that decides.
-use Rattle.std.specs.Prelude.{ℕ, ◌+◌, List, [], ◌∷◌, ◌++◌, length, Option, Some, None, Result, Ok, Err, codes, if◌then◌else◌}
+use Rattle.std.specs.Prelude.{ℕ, ◌+◌, List, [], ◌∷◌, ◌++◌, length, Option, Some, None, Result, Ok, Err, if◌then◌else◌}
 use Rattle.aim_io.specs.declared.lines.LineFault.{LineFault}
 use Rattle.aim_io.specs.declared.lines.LineFault.TheVariants as fault
 use Rattle.aim_io.specs.Lines.{Outcome, Line, Stop, outcomes_of}
 use Rattle.aim_msg.specs.declared.script.Line.{Line as ScriptLine}
 use Rattle.aim_msg.specs.declared.script.LineKind.{LineKind}
-use Rattle.aim_msg.specs.declared.script.LineKind.TheVariants as read
 use Rattle.aim_msg.specs.Reading.{line_at}
+use Rattle.aim_replay.specs.declared.decisions.Decision.{Decision}
+use Rattle.aim_replay.specs.declared.decisions.Decision.TheVariants as decision
+use Rattle.aim_replay.specs.declared.decisions.Kind.{Kind}
+use Rattle.aim_replay.specs.declared.decisions.Kind.TheVariants as kind
+use Rattle.aim_replay.specs.declared.decisions.Limit.{Limit}
+use Rattle.aim_replay.specs.declared.decisions.Limit.TheVariants as limit
 use Rattle.aim_replay.specs.Order.{is_end}
-use Rattle.aim_replay.specs.Said.{version_after, last_of}
+use Rattle.aim_replay.specs.Said.{version_after, calls_of, last_of}
 use Rattle.aim_replay.specs.Kinds.{Missing, kind_of_fault, limit_of}
-
--- a line at fault with its kind, a limit, or a whole script
-pub data Decision : Type 0 where
-  bad : ℕ → List ℕ → Decision
-  limit : List ℕ → Decision
-  whole : Decision
 
 -- the lines before the one that decides, and the decision
 pub record Verdict : Type 0 where
@@ -27,34 +26,28 @@ pub data Judgement : Type 0 where
   decides : Decision → Judgement
   goes_on : ScriptLine → Judgement
 
-abbrev pub kind_word : LineKind → List ℕ
-kind_word read.Words = codes "words"
-kind_word read.Number = codes "number"
-kind_word read.Range = codes "range"
-kind_word read.Unknown = codes "unknown"
-
 -- the number of the line behind those
 abbrev pub number_after : List ScriptLine → ℕ
 number_after before = length before + 1
 
 -- what a fault of the input decides, in the place of a line; that the input can't be read decides nothing
 abbrev pub of_fault : LineFault → Decision
-of_fault fault.Read = whole
-of_fault (fault.Long number) = bad number (codes "long")
-of_fault fault.Bytes = limit (codes "bytes")
-of_fault fault.Lines = limit (codes "lines")
+of_fault fault.Read = decision.Whole 0
+of_fault (fault.Long number) = decision.Bad number kind.Long
+of_fault fault.Bytes = decision.Limit limit.Bytes
+of_fault fault.Lines = decision.Limit limit.Lines
 
-abbrev pub unless_limited : ScriptLine → Option (List ℕ) → Judgement
+abbrev pub unless_limited : ScriptLine → Option Limit → Judgement
 unless_limited l None = goes_on l
-unless_limited l (Some which) = decides (limit which)
+unless_limited l (Some which) = decides (decision.Limit which)
 
-abbrev pub unless_bad : List ScriptLine → ScriptLine → Option (List ℕ) → Judgement
+abbrev pub unless_bad : List ScriptLine → ScriptLine → Option Kind → Judgement
 unless_bad before l None = unless_limited l (limit_of before l)
-unless_bad before l (Some kind) = decides (bad (number_after before) kind)
+unless_bad before l (Some why) = decides (decision.Bad (number_after before) why)
 
 abbrev pub of_read : Missing → List ScriptLine → Result ScriptLine LineKind → Judgement
 of_read missing before (Ok l) = unless_bad before l (kind_of_fault missing before l)
-of_read missing before (Err kind) = decides (bad (number_after before) (kind_word kind))
+of_read missing before (Err why) = decides (decision.Bad (number_after before) (kind.Spelling why))
 
 -- what stands behind those lines decides, or goes on
 abbrev pub judge : Missing → List ScriptLine → Outcome → Judgement
@@ -63,7 +56,9 @@ judge missing before (Line bytes) = of_read missing before (line_at (version_aft
 
 -- what the end of the input behind those lines decides
 abbrev pub at_end : List ScriptLine → Decision
-at_end before = if is_end (last_of before) then whole else bad (number_after before) (codes "end")
+at_end before =
+    if is_end (last_of before) then decision.Whole (length (calls_of before))
+    else decision.Bad (number_after before) kind.End
 
 abbrev pub then_on : List ScriptLine → Judgement → (List ScriptLine → Verdict) → Verdict
 then_on before (decides d) next = record { before = before; decision = d }

@@ -1,7 +1,7 @@
 //! Replays of scripts: what a script says, line by line, and what its replay prints.
 #![tactic(auto)]
 
-mod endings;
+mod decisions;
 pub mod laws;
 mod session;
 mod stages;

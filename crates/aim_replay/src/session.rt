@@ -4,25 +4,21 @@ ghost use Rattle.std.specs.Prelude.{◌≡◌, ◌⊎◌, ◌<◌, ◌≤◌, �
 ghost use Rattle.std.specs.Io.KnownBytes.{Appends, IsAtEnd};
 ghost use Rattle.aim_io.specs.Causes.{HasCause, Rose};
 ghost use Rattle.aim_io.specs.Known.{AppendsFront};
-ghost use Rattle.aim_msg.specs.declared.entries.Entry.{Entry};
 ghost use Rattle.aim_msg.specs.declared.script.Line.{Line};
 ghost use Rattle.aim_msg.specs.Texts.{entry_text as text_of, spaced};
-ghost use Rattle.aim_replay.specs.Texts.{printed, replay_text};
+ghost use Rattle.aim_replay.specs.Texts.{decision_words, printed, replay_text};
 ghost use Rattle.aim_replay.specs.Today.{today};
-ghost use Rattle.aim_replay.specs.Verdicts.{verdict};
-ghost use Rattle.aim_replay.specs.Stages.{Grows, MayTake, Stands, journal_at};
-ghost use Rattle.aim_replay.specs.Replays.{Replays, StopsShort, Writes, WritesFront, entries_text, gained};
-ghost use Rattle.aim_replay.specs.Endings.{ending_words};
-ghost use Rattle.aim_replay.specs.Sessions.{IsWholeLine, Responds, TellsVerdict, is_whole};
+ghost use Rattle.aim_replay.specs.Stages.{MayTake, Stands, journal_at};
+ghost use Rattle.aim_replay.specs.Replays.{LastNeeded, Replays, StopsShort, TakesAtMost, Writes, WritesFront, entries_text, made_line};
+ghost use Rattle.aim_replay.specs.Sessions.{Comes, IsWholeLine, Responds, is_whole};
 
-use crate::endings::{Ending, Kind, Limit, last_line};
-use crate::stages::{Refusal, Stage};
+use crate::decisions::{Decision, Kind, Limit, last_line};
+use crate::stages::{Made, Refusal, Stage, Taken};
 use aim_io::{Failed, LineFault, LineReader, Sink, Source, put_all};
 use aim_msg::{Entry, entry_text};
 use std::alloc::Global;
 
 /// Why a line isn't answered.
-#[derive(Clone, Copy, Debug, PartialEq, Eq)]
 enum Halt {
     /// It is at fault.
     Bad(Kind),
@@ -35,7 +31,6 @@ enum Halt {
 }
 
 /// Why a replay stops before its text is whole.
-#[derive(Clone, Copy, Debug, PartialEq, Eq)]
 enum Stop {
     /// The source has failed.
     Read,
@@ -67,17 +62,16 @@ fn put_entry<K: Sink>(sink: &mut K, position: u32, entry: &Entry) -> Result<(), 
     put_line(sink, &line[..len + 1])
 }
 
-// Writes the line of the entry that a journal has gained, if it has.
-fn put_gained<K: Sink>(sink: &mut K, journal: &[Entry], count: usize) -> Result<(), Failed>
-    requires { length journal.now ≤ 262144 }
-    ensures ok { (old : List Entry) → count ≡ length old → Grows old journal.now → OnOk result (Appends (K.held sink.old) (K.held sink.new) (gained old journal.now)) }
-    ensures err { (old : List Entry) → count ≡ length old → Grows old journal.now → OnErr result (AppendsFront (K.held sink.old) (K.held sink.new) (gained old journal.now)) }
+// Writes the line of the entry that was made, if one was.
+fn put_made<K: Sink>(sink: &mut K, made: Option<Made>) -> Result<(), Failed>
+    ensures ok { OnOk result (Appends (K.held sink.old) (K.held sink.new) (made_line made)) }
+    ensures err { OnErr result (AppendsFront (K.held sink.old) (K.held sink.new) (made_line made)) }
     ensures cause { HasCause (K.faults sink.old) (K.faults sink.new) result }
 {
-    if count < journal.len() {
-        put_entry(sink, count as u32, &journal[count])?;
+    match made {
+        Some(Made { position, entry }) => put_entry(sink, position, &entry),
+        None => Ok(()),
     }
-    Ok(())
 }
 
 // Takes a line, and writes the line of its entry, if it makes one.
@@ -88,17 +82,15 @@ fn answer_line<K: Sink>(
     line: &[u8],
 ) -> Result<Stage, Halt>
     requires may { MayTake stage }
-    requires few { length (journal_at stage) < 262144 }
     ensures responds { (before : List Line) → Stands before stage → Responds before stage line.now (K.held sink.old) (K.held sink.new) result }
     ensures write { result ≡ Err Halt.Write → Rose (K.faults sink.old) (K.faults sink.new) }
     ensures later { K.faults sink.old ≤ K.faults sink.new }
 {
-    let count = stage.journal().len();
     match stage.take(alloc, line) {
         Err(Refusal::Bad(kind)) => Err(Halt::Bad(kind)),
         Err(Refusal::Limit(limit)) => Err(Halt::Limit(limit)),
         Err(Refusal::NoMemory) => Err(Halt::NoMemory),
-        Ok(next) => match put_gained(sink, next.journal(), count) {
+        Ok(Taken { stage: next, made }) => match put_made(sink, made) {
             Ok(()) => Ok(next),
             Err(_) => Err(Halt::Write),
         },
@@ -110,11 +102,13 @@ fn replay_lines<S: Source, K: Sink>(
     alloc: Global,
     source: &mut S,
     sink: &mut K,
-) -> Result<Ending, Stop>
-    ensures verdict { IfOk result (λ ending. IfSome (S.left source.old) (λ bytes. TellsVerdict ending (verdict today bytes))) }
+) -> Result<Decision, Stop>
+    ensures verdict { IfOk result (λ decision. Comes decision (S.left source.old)) }
     ensures written { OnOk result (Writes (S.left source.old) (K.held sink.old) (K.held sink.new) (entries_text today)) }
     ensures front { OnErr result (WritesFront (S.left source.old) (K.held sink.old) (K.held sink.new) (entries_text today)) }
-    ensures ended { IfOk result (λ ending. is_whole ending ≡ true → IsAtEnd (S.left source.new)) }
+    ensures ended { IfOk result (λ decision. is_whole decision ≡ true → IsAtEnd (S.left source.new)) }
+    ensures most { TakesAtMost 67108865 (S.left source.old) (S.left source.new) }
+    ensures needed { (source.new ≡ source.old) ⊎ LastNeeded today (S.left source.old) (S.left source.new) (S.last_read source.new) }
     ensures short { result ≡ Err Stop.Read → StopsShort today (S.left source.old) (S.left source.new) (K.held sink.old) (K.held sink.new) }
     ensures memory { result ≡ Err Stop.NoMemory → Appends (K.held sink.old) (K.held sink.new) [] }
     ensures read { result ≡ Err Stop.Read → Rose (S.faults source.old) (S.faults source.new) }
@@ -128,16 +122,16 @@ fn replay_lines<S: Source, K: Sink>(
     'lines: loop {
         match reader.advance(source) {
             Err(LineFault::Read) => return Err(Stop::Read),
-            Err(LineFault::Long(line)) => return Ok(Ending::Bad(line, Kind::Long)),
-            Err(LineFault::Bytes) => return Ok(Ending::Limit(Limit::Bytes)),
-            Err(LineFault::Lines) => return Ok(Ending::Limit(Limit::Lines)),
+            Err(LineFault::Long(line)) => return Ok(Decision::Bad(line, Kind::Long)),
+            Err(LineFault::Bytes) => return Ok(Decision::Limit(Limit::Bytes)),
+            Err(LineFault::Lines) => return Ok(Decision::Limit(Limit::Lines)),
             Ok(false) => return Ok(stage.at_end(number)),
             Ok(true) => {
                 number += 1;
                 match answer_line(alloc, stage, sink, reader.line()) {
                     Ok(next) => stage = next,
-                    Err(Halt::Bad(kind)) => return Ok(Ending::Bad(number, kind)),
-                    Err(Halt::Limit(limit)) => return Ok(Ending::Limit(limit)),
+                    Err(Halt::Bad(kind)) => return Ok(Decision::Bad(number, kind)),
+                    Err(Halt::Limit(limit)) => return Ok(Decision::Limit(limit)),
                     Err(Halt::Write) => return Err(Stop::Write),
                     Err(Halt::NoMemory) => return Err(Stop::NoMemory),
                 }
@@ -147,13 +141,13 @@ fn replay_lines<S: Source, K: Sink>(
 }
 
 // Writes the last line.
-fn put_ending<K: Sink>(sink: &mut K, ending: Ending) -> Result<(), Failed>
-    ensures ok { OnOk result (Appends (K.held sink.old) (K.held sink.new) (printed (spaced (ending_words ending)))) }
-    ensures err { OnErr result (AppendsFront (K.held sink.old) (K.held sink.new) (printed (spaced (ending_words ending)))) }
+fn put_decision<K: Sink>(sink: &mut K, decision: Decision) -> Result<(), Failed>
+    ensures ok { OnOk result (Appends (K.held sink.old) (K.held sink.new) (printed (spaced (decision_words decision)))) }
+    ensures err { OnErr result (AppendsFront (K.held sink.old) (K.held sink.new) (printed (spaced (decision_words decision)))) }
     ensures cause { HasCause (K.faults sink.old) (K.faults sink.new) result }
 {
     let mut line = [0; 400];
-    let len = last_line(ending, &mut line);
+    let len = last_line(decision, &mut line);
     put_line(sink, &line[..len])
 }
 
@@ -162,11 +156,13 @@ fn replay_script<S: Source, K: Sink>(
     alloc: Global,
     source: &mut S,
     sink: &mut K,
-) -> Result<Ending, Stop>
-    ensures verdict { IfOk result (λ ending. IfSome (S.left source.old) (λ bytes. TellsVerdict ending (verdict today bytes))) }
+) -> Result<Decision, Stop>
+    ensures verdict { IfOk result (λ decision. Comes decision (S.left source.old)) }
     ensures written { OnOk result (Writes (S.left source.old) (K.held sink.old) (K.held sink.new) (replay_text today None)) }
     ensures front { OnErr result (WritesFront (S.left source.old) (K.held sink.old) (K.held sink.new) (replay_text today None)) }
-    ensures ended { IfOk result (λ ending. is_whole ending ≡ true → IsAtEnd (S.left source.new)) }
+    ensures ended { IfOk result (λ decision. is_whole decision ≡ true → IsAtEnd (S.left source.new)) }
+    ensures most { TakesAtMost 67108865 (S.left source.old) (S.left source.new) }
+    ensures needed { (source.new ≡ source.old) ⊎ LastNeeded today (S.left source.old) (S.left source.new) (S.last_read source.new) }
     ensures short { result ≡ Err Stop.Read → StopsShort today (S.left source.old) (S.left source.new) (K.held sink.old) (K.held sink.new) }
     ensures memory { result ≡ Err Stop.NoMemory → Appends (K.held sink.old) (K.held sink.new) [] }
     ensures read { result ≡ Err Stop.Read → Rose (S.faults source.old) (S.faults source.new) }
@@ -176,9 +172,9 @@ fn replay_script<S: Source, K: Sink>(
 {
     match replay_lines(alloc, source, sink) {
         Err(stop) => Err(stop),
-        Ok(ending) => match put_ending(sink, ending) {
+        Ok(decision) => match put_decision(sink, decision) {
             Err(_) => Err(Stop::Write),
-            Ok(()) => Ok(ending),
+            Ok(()) => Ok(decision),
         },
     }
 }
@@ -193,6 +189,11 @@ pub fn replay<S: Source, K: Sink>(alloc: Global, source: &mut S, sink: &mut K) -
         (λ bytes. Replays today None bytes (K.held sink.old) (K.held sink.new) result) }
     ensures ended { result ≡ 0 → IsAtEnd (S.left source.new) }
 
+    // Whatever the status, no more than one byte past the greatest input is taken, and nothing is read behind bytes that
+    // decide.
+    ensures most { TakesAtMost 67108865 (S.left source.old) (S.left source.new) }
+    ensures needed { (source.new ≡ source.old) ⊎ LastNeeded today (S.left source.old) (S.left source.new) (S.last_read source.new) }
+
     // With another status what is written is a front of that text.
     ensures front { (result ≡ 4) ⊎ ((result ≡ 5) ⊎ (result ≡ 7)) → WritesFront (S.left source.old) (K.held sink.old) (K.held sink.new) (replay_text today None) }
     ensures short { result ≡ 4 → StopsShort today (S.left source.old) (S.left source.new) (K.held sink.old) (K.held sink.new) }
@@ -206,9 +207,9 @@ pub fn replay<S: Source, K: Sink>(alloc: Global, source: &mut S, sink: &mut K) -
     ensures statuses { (result ≡ 0) ⊎ ((result ≡ 3) ⊎ ((result ≡ 4) ⊎ ((result ≡ 5) ⊎ ((result ≡ 6) ⊎ (result ≡ 7))))) }
 {
     match replay_script(alloc, source, sink) {
-        Ok(Ending::Whole(_)) => 0,
-        Ok(Ending::Bad(..)) => 3,
-        Ok(Ending::Limit(_)) => 6,
+        Ok(Decision::Whole(_)) => 0,
+        Ok(Decision::Bad(..)) => 3,
+        Ok(Decision::Limit(_)) => 6,
         Err(Stop::Read) => 4,
         Err(Stop::Write) => 5,
         Err(Stop::NoMemory) => 7,

@@ -1,19 +1,21 @@
 //! How far a script has come, line by line.
 
-ghost use Rattle.std.specs.Prelude.{◌≡◌, ◌≤◌, ◌||◌, ◌==◌, not, List, [], length, Ok, Err, IfOk, option_map};
+ghost use Rattle.std.specs.Prelude.{◌≡◌, ◌≤◌, ◌||◌, ◌==◌, not, List, [], length, None, Ok, Err, IfOk};
 ghost use Rattle.aim_msg.specs.declared.script.Line.{Line};
 ghost use Rattle.aim_msg.specs.declared.script.Name.{Name};
 ghost use Rattle.aim_book.specs.Serving.{IsPlain};
 ghost use Rattle.aim_replay.specs.Said.{grid_of as grid_from, times_of as times_from, shape_of as shape_from};
-ghost use Rattle.aim_replay.specs.Endings.{Tells, kind_text, limit_text};
 ghost use Rattle.aim_replay.specs.Kinds.{vehicles_limit as limit_on};
 ghost use Rattle.aim_replay.specs.Verdicts.{at_end};
-ghost use Rattle.aim_replay.specs.Stages.{Grows, Judged, MayTake, Opens, Stands, Takes, is_missing_request, journal_at, move_kind_of, request_kind};
+ghost use Rattle.aim_replay.specs.Stages.{Judged, Makes, MayTake, Opens, Stands, Takes, is_missing_request, journal_at, move_kind_of, request_kind, stage_of};
 
-use crate::endings::{Ending, Kind, Limit};
+use crate::decisions::{Decision, Kind, Limit};
 use aim_book::{Book, Full, OpenFault, bad_field, has_called};
 use aim_geometry::{Grid, Ground, GroundFault, Times};
-use aim_msg::{Body, Entry, Grid6, Line, Message, MoveShape, Params, Times5, Turn, read_line};
+use aim_msg::{
+    Act, Body, Entry, Grid6, LATEST_MOMENT, Line, MOST_ENTRIES, MOST_VEHICLES, Message, MoveShape,
+    Params, Times5, Turn, read_line,
+};
 use aim_paths::builders::{Builder, LayoutFault};
 use aim_paths::{Kind as PolicyKind, Layout, Shape};
 use std::alloc::Global;
@@ -33,16 +35,27 @@ pub enum Stage {
     Moves(Builder),
     /// Policies come, or the line of the vehicles.
     Policies(Builder),
-    /// `begin` comes next. There are so many vehicles.
-    Begin(Book, u32),
-    /// Events come, or `end`. There are so many vehicles.
-    Body(Book, u32),
+    /// `begin` comes next.
+    Begin(Book),
+    /// Events come, or `end`.
+    Body(Book),
     /// Nothing comes any more.
     Over(Book),
 }
 
+/// An entry that a line made, and its position in the journal.
+pub struct Made {
+    pub position: u32,
+    pub entry: Entry,
+}
+
+/// What taking a line comes to: how far the script has come, and the entry that the line made.
+pub struct Taken {
+    pub stage: Stage,
+    pub made: Option<Made>,
+}
+
 /// Why a line isn't taken.
-#[derive(Clone, Copy, Debug, PartialEq, Eq)]
 pub enum Refusal {
     /// It is at fault.
     Bad(Kind),
@@ -52,27 +65,8 @@ pub enum Refusal {
     NoMemory,
 }
 
-// Times with which any grid makes a ground that makes one with others.
-const SHORTEST: Times = Times {
-    horizon: 1,
-    longest: 1,
-    clearance: 0,
-    early: 0,
-    late: 0,
-    edge: 0,
-};
-
-// The room of a journal: one entry for every line of the longest script.
-const ROOM: u32 = 262_144;
-
-// The most vehicles.
-const MOST_VEHICLES: u32 = 65_536;
-
 // The most spans in the sheets of all vehicles, one sheet for each.
 const MOST_SPANS: u64 = 16_777_216;
-
-// The greatest moment.
-const LATEST: u32 = 1_073_741_824;
 
 // The grid of a line.
 fn grid_of(grid: &Grid6) -> Grid
@@ -146,24 +140,18 @@ fn is_missing(book: &Book, params: &Params) -> bool
     bad_field(book.layout(), params).is_some()
 }
 
-// What is wrong with a request of a vehicle, one of so many.
-fn request_fault(
-    book: &Book,
-    vehicles: u32,
-    vehicle: u32,
-    moment: u32,
-    params: &Params,
-) -> Option<Kind>
+// What is wrong with a request of a vehicle.
+fn request_fault(book: &Book, vehicle: u32, moment: u32, params: &Params) -> Option<Kind>
     requires { IsPlain book.now.layout }
-    ensures { option_map kind_text result ≡ request_kind book.now vehicles vehicle moment params.now }
+    ensures { result ≡ request_kind book.now vehicle moment params.now }
 {
     let is_second = has_called(book.journal(), vehicle);
     let is_missing = is_missing(book, params);
     if is_second || is_missing {
         Some(Kind::Unsupported)
-    } else if vehicle >= vehicles {
+    } else if vehicle >= book.vehicles() {
         Some(Kind::Vehicle)
-    } else if moment > LATEST {
+    } else if moment > LATEST_MOMENT {
         Some(Kind::Moment)
     } else {
         None
@@ -172,7 +160,7 @@ fn request_fault(
 
 // The limit that so many vehicles go past, where a vehicle's sheet has so many spans.
 fn vehicles_limit(spans: u32, vehicles: u32) -> Option<Limit>
-    ensures { option_map limit_text result ≡ limit_on spans vehicles }
+    ensures { result ≡ limit_on spans vehicles }
 {
     if vehicles > MOST_VEHICLES {
         Some(Limit::Vehicles)
@@ -190,8 +178,8 @@ fn opened(alloc: Global, layout: Layout, vehicles: u32) -> Result<Stage, Refusal
     if let Some(limit) = vehicles_limit(layout.ground().grid().spans, vehicles) {
         return Err(Refusal::Limit(limit));
     }
-    match Book::open(alloc, layout, vehicles, ROOM) {
-        Ok(book) => Ok(Stage::Begin(book, vehicles)),
+    match Book::open(alloc, layout, vehicles, MOST_ENTRIES) {
+        Ok(book) => Ok(Stage::Begin(book)),
         Err(OpenFault::NoMemory) => Err(Refusal::NoMemory),
         Err(_) => Err(Refusal::Bad(Kind::Vehicle)),
     }
@@ -210,7 +198,7 @@ fn closed(alloc: Global, builder: Builder, vehicles: u32) -> Result<Stage, Refus
 
 // The kind of a line whose move is refused.
 fn move_kind(fault: LayoutFault) -> Kind
-    ensures { kind_text result ≡ move_kind_of fault }
+    ensures { result ≡ move_kind_of fault }
 {
     match fault {
         LayoutFault::Spacing { .. } => Kind::Spacing,
@@ -218,11 +206,57 @@ fn move_kind(fault: LayoutFault) -> Kind
     }
 }
 
+// What a line that makes no entry comes to.
+fn without_entry(next: Result<Stage, Refusal>) -> Result<Taken, Refusal>
+    ensures stage { stage_of result ≡ next }
+    ensures none { IfOk result (λ t. t.made ≡ None) }
+{
+    match next {
+        Ok(stage) => Ok(Taken { stage, made: None }),
+        Err(why) => Err(why),
+    }
+}
+
+// Serves a request of a vehicle.
+fn served(
+    mut book: Book,
+    vehicle: u32,
+    moment: u32,
+    message: &Message,
+    params: &Params,
+) -> Result<Taken, Refusal>
+    requires may { MayTake (Stage.Body book) }
+    requires asks { message.now.body ≡ Body.Request params.now }
+    ensures takes { (before : List Line) → Stands before (Stage.Body book) → Takes before (Line.Event vehicle moment message.now) (stage_of result) }
+    ensures makes { IfOk result (λ t. Makes book.journal (journal_at t.stage) t.made) }
+    ensures memory { result ≡ Err Refusal.NoMemory → ⊥ }
+{
+    if let Some(kind) = request_fault(&book, vehicle, moment, params) {
+        return Err(Refusal::Bad(kind));
+    }
+    let position = book.journal().len() as u32;
+    match book.serve(vehicle, moment, *message) {
+        Ok(reply) => {
+            let act = Act::Message(*message);
+            let entry = Entry {
+                caller: vehicle,
+                moment,
+                act,
+                reply,
+            };
+            let made = Some(Made { position, entry });
+            let stage = Stage::Body(book);
+            Ok(Taken { stage, made })
+        }
+        Err(Full) => unreachable!(),
+    }
+}
+
 impl Stage {
     // Takes the line of the version.
     fn version(&self, version: u32) -> Result<Stage, Refusal>
         ensures takes { (before : List Line) → Stands before self.now → Takes before (Line.Version version) result }
-        ensures grows { IfOk result (λ next. Grows (journal_at self.now) (journal_at next)) }
+        ensures same { IfOk result (λ next. journal_at next ≡ journal_at self.now) }
         ensures memory { result ≡ Err Refusal.NoMemory → ⊥ }
     {
         match self {
@@ -238,15 +272,18 @@ impl Stage {
     // Takes the line of the grid.
     fn grid(&self, grid: &Grid6) -> Result<Stage, Refusal>
         ensures takes { (before : List Line) → Stands before self.now → Takes before (Line.Grid grid.now) result }
-        ensures grows { IfOk result (λ next. Grows (journal_at self.now) (journal_at next)) }
+        ensures same { IfOk result (λ next. journal_at next ≡ journal_at self.now) }
         ensures memory { result ≡ Err Refusal.NoMemory → ⊥ }
     {
         match self {
             Stage::Grid if grid.fixed != 0 => Err(Refusal::Bad(Kind::Unsupported)),
-            Stage::Grid => match Ground::build(grid_of(grid), SHORTEST) {
-                Ok(ground) => Ok(Stage::Times(ground.grid())),
-                Err(_) => Err(Refusal::Bad(Kind::Grid)),
-            },
+            Stage::Grid => {
+                let read = grid_of(grid);
+                if read.is_bad() {
+                    return Err(Refusal::Bad(Kind::Grid));
+                }
+                Ok(Stage::Times(read))
+            }
             _ => Err(Refusal::Bad(Kind::Order)),
         }
     }
@@ -254,7 +291,7 @@ impl Stage {
     // Takes the line of the times.
     fn times(&self, times: &Times5) -> Result<Stage, Refusal>
         ensures takes { (before : List Line) → Stands before self.now → Takes before (Line.Times times.now) result }
-        ensures grows { IfOk result (λ next. Grows (journal_at self.now) (journal_at next)) }
+        ensures same { IfOk result (λ next. journal_at next ≡ journal_at self.now) }
         ensures memory { result ≡ Err Refusal.NoMemory → ⊥ }
     {
         match self {
@@ -272,7 +309,7 @@ impl Stage {
     // Takes the line of the lanes.
     fn lanes(&self, alloc: Global, lanes: u32) -> Result<Stage, Refusal>
         ensures takes { (before : List Line) → Stands before self.now → Takes before (Line.Lanes lanes) result }
-        ensures grows { IfOk result (λ next. Grows (journal_at self.now) (journal_at next)) }
+        ensures same { IfOk result (λ next. journal_at next ≡ journal_at self.now) }
         ensures memory { result ≡ Err Refusal.NoMemory → journal_at self.now ≡ [] }
     {
         match self {
@@ -288,7 +325,7 @@ impl Stage {
     // Takes the line of a move.
     fn turn(self, lane: u8, turn: Turn, shape: &MoveShape) -> Result<Stage, Refusal>
         ensures takes { (before : List Line) → Stands before self → Takes before (Line.Move lane turn shape.now) result }
-        ensures grows { IfOk result (λ next. Grows (journal_at self) (journal_at next)) }
+        ensures same { IfOk result (λ next. journal_at next ≡ journal_at self) }
         ensures memory { result ≡ Err Refusal.NoMemory → ⊥ }
     {
         match self {
@@ -305,7 +342,7 @@ impl Stage {
     // Takes the line of a policy.
     fn policy(self, kind: u8) -> Result<Stage, Refusal>
         ensures takes { (before : List Line) (name : Name) → Stands before self → Takes before (Line.Policy name kind) result }
-        ensures grows { IfOk result (λ next. Grows (journal_at self) (journal_at next)) }
+        ensures same { IfOk result (λ next. journal_at next ≡ journal_at self) }
         ensures memory { result ≡ Err Refusal.NoMemory → ⊥ }
     {
         match self {
@@ -322,7 +359,7 @@ impl Stage {
     // Takes the line of the vehicles.
     fn vehicles(self, alloc: Global, vehicles: u32) -> Result<Stage, Refusal>
         ensures takes { (before : List Line) → Stands before self → Takes before (Line.Vehicles vehicles) result }
-        ensures grows { IfOk result (λ next. Grows (journal_at self) (journal_at next)) }
+        ensures same { IfOk result (λ next. journal_at next ≡ journal_at self) }
         ensures memory { result ≡ Err Refusal.NoMemory → journal_at self ≡ [] }
     {
         match self {
@@ -335,48 +372,27 @@ impl Stage {
     // Takes `begin`.
     fn begin(self) -> Result<Stage, Refusal>
         ensures takes { (before : List Line) → Stands before self → Takes before Line.Begin result }
-        ensures grows { IfOk result (λ next. Grows (journal_at self) (journal_at next)) }
+        ensures same { IfOk result (λ next. journal_at next ≡ journal_at self) }
         ensures memory { result ≡ Err Refusal.NoMemory → ⊥ }
     {
         match self {
-            Stage::Begin(book, vehicles) => Ok(Stage::Body(book, vehicles)),
+            Stage::Begin(book) => Ok(Stage::Body(book)),
             _other => Err(Refusal::Bad(Kind::Order)),
         }
     }
 
-    // Takes a request of a vehicle, and answers it.
-    fn request(self, vehicle: u32, moment: u32, seq: u32, params: Params) -> Result<Stage, Refusal>
+    // Takes a message of a vehicle, and answers it.
+    fn event(self, vehicle: u32, moment: u32, message: &Message) -> Result<Taken, Refusal>
         requires { MayTake self }
-        ensures takes { (before : List Line) → Stands before self → Takes before (Line.Event vehicle moment (record { seq = seq; body = Body.Request params })) result }
-        ensures grows { IfOk result (λ next. Grows (journal_at self) (journal_at next)) }
-        ensures memory { result ≡ Err Refusal.NoMemory → ⊥ }
-    {
-        match self {
-            Stage::Body(mut book, vehicles) => {
-                match request_fault(&book, vehicles, vehicle, moment, &params) {
-                    Some(kind) => Err(Refusal::Bad(kind)),
-                    None => {
-                        let body = Body::Request(params);
-                        match book.serve(vehicle, moment, Message { seq, body }) {
-                            Ok(_) => Ok(Stage::Body(book, vehicles)),
-                            Err(Full) => unreachable!(),
-                        }
-                    }
-                }
-            }
-            _other => Err(Refusal::Bad(Kind::Order)),
-        }
-    }
-
-    // Takes a message of a vehicle.
-    fn event(self, vehicle: u32, moment: u32, message: &Message) -> Result<Stage, Refusal>
-        requires { MayTake self }
-        ensures takes { (before : List Line) → Stands before self → Takes before (Line.Event vehicle moment message.now) result }
-        ensures grows { IfOk result (λ next. Grows (journal_at self) (journal_at next)) }
+        ensures takes { (before : List Line) → Stands before self → Takes before (Line.Event vehicle moment message.now) (stage_of result) }
+        ensures makes { IfOk result (λ t. Makes (journal_at self) (journal_at t.stage) t.made) }
         ensures memory { result ≡ Err Refusal.NoMemory → ⊥ }
     {
         match message.body {
-            Body::Request(params) => self.request(vehicle, moment, message.seq, params),
+            Body::Request(params) => match self {
+                Stage::Body(book) => served(book, vehicle, moment, message, &params),
+                _other => Err(Refusal::Bad(Kind::Order)),
+            },
             _ => Err(Refusal::Bad(Kind::Unsupported)),
         }
     }
@@ -384,46 +400,46 @@ impl Stage {
     // Takes `end`.
     fn end(self) -> Result<Stage, Refusal>
         ensures takes { (before : List Line) → Stands before self → Takes before Line.End result }
-        ensures grows { IfOk result (λ next. Grows (journal_at self) (journal_at next)) }
+        ensures same { IfOk result (λ next. journal_at next ≡ journal_at self) }
         ensures memory { result ≡ Err Refusal.NoMemory → ⊥ }
     {
         match self {
-            Stage::Body(book, _) => Ok(Stage::Over(book)),
+            Stage::Body(book) => Ok(Stage::Over(book)),
             _other => Err(Refusal::Bad(Kind::Order)),
         }
     }
 
     // Takes a line.
-    fn after(self, alloc: Global, line: &Line) -> Result<Stage, Refusal>
+    fn after(self, alloc: Global, line: &Line) -> Result<Taken, Refusal>
         requires { MayTake self }
-        ensures takes { (before : List Line) → Stands before self → Takes before line.now result }
-        ensures grows { IfOk result (λ next. Grows (journal_at self) (journal_at next)) }
+        ensures takes { (before : List Line) → Stands before self → Takes before line.now (stage_of result) }
+        ensures makes { IfOk result (λ t. Makes (journal_at self) (journal_at t.stage) t.made) }
         ensures memory { result ≡ Err Refusal.NoMemory → journal_at self ≡ [] }
     {
         match line {
-            Line::Version(version) => self.version(*version),
-            Line::Grid(grid) => self.grid(grid),
-            Line::Times(times) => self.times(times),
-            Line::Lanes(lanes) => self.lanes(alloc, *lanes),
-            Line::Move { lane, turn, shape } => self.turn(*lane, *turn, shape),
-            Line::Policy { kind, .. } => self.policy(*kind),
-            Line::Vehicles(vehicles) => self.vehicles(alloc, *vehicles),
-            Line::Begin => self.begin(),
+            Line::Version(version) => without_entry(self.version(*version)),
+            Line::Grid(grid) => without_entry(self.grid(grid)),
+            Line::Times(times) => without_entry(self.times(times)),
+            Line::Lanes(lanes) => without_entry(self.lanes(alloc, *lanes)),
+            Line::Move { lane, turn, shape } => without_entry(self.turn(*lane, *turn, shape)),
+            Line::Policy { kind, .. } => without_entry(self.policy(*kind)),
+            Line::Vehicles(vehicles) => without_entry(self.vehicles(alloc, *vehicles)),
+            Line::Begin => without_entry(self.begin()),
             Line::Event {
                 vehicle,
                 moment,
                 message,
             } => self.event(*vehicle, *moment, message),
-            Line::End => self.end(),
+            Line::End => without_entry(self.end()),
             _ => Err(Refusal::Bad(Kind::Unsupported)),
         }
     }
 
     /// Takes the next line of a script, without its byte 10, and answers its event, if it is one.
-    pub fn take(self, alloc: Global, bytes: &[u8]) -> Result<Stage, Refusal>
+    pub fn take(self, alloc: Global, bytes: &[u8]) -> Result<Taken, Refusal>
         requires { MayTake self }
-        ensures judged { (before : List Line) → Stands before self → Judged before bytes.now result }
-        ensures grows { IfOk result (λ next. Grows (journal_at self) (journal_at next)) }
+        ensures judged { (before : List Line) → Stands before self → Judged before bytes.now (stage_of result) }
+        ensures makes { IfOk result (λ t. Makes (journal_at self) (journal_at t.stage) t.made) }
 
         // Memory is taken before the first event alone.
         ensures memory { result ≡ Err Refusal.NoMemory → journal_at self ≡ [] }
@@ -435,24 +451,14 @@ impl Stage {
     }
 
     /// What the script comes to if its input ends here, behind so many lines.
-    pub fn at_end(&self, lines: u32) -> Ending
+    pub fn at_end(&self, lines: u32) -> Decision
         requires lines { lines ≤ 262144 }
         requires entries { length (journal_at self.now) ≤ 262144 }
-        ensures { (before : List Line) → Stands before self.now → length before ≡ lines → Tells (at_end before) (length (journal_at self.now)) result }
+        ensures { (before : List Line) → Stands before self.now → length before ≡ lines → result ≡ at_end before }
     {
         match self {
-            Stage::Over(book) => Ending::Whole(book.journal().len() as u32),
-            _ => Ending::Bad(lines + 1, Kind::End),
-        }
-    }
-
-    /// The entries of the events so far.
-    pub fn journal(&self) -> &[Entry]
-        ensures { result.now ≡ journal_at self.now }
-    {
-        match self {
-            Stage::Begin(book, _) | Stage::Body(book, _) | Stage::Over(book) => book.journal(),
-            _ => &[],
+            Stage::Over(book) => Decision::Whole(book.journal().len() as u32),
+            _ => Decision::Bad(lines + 1, Kind::End),
         }
     }
 }

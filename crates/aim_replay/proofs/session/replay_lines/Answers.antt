@@ -1,9 +1,8 @@
-use Rattle.std.proofs.Common.{arith, ◌+◌, ap, sym, ◌∙◌, refl, Err}
+use Rattle.std.proofs.Common.{arith, ◌+◌, ap, sym, ◌∙◌, refl, inl, Err, true, false}
 use Rattle.aim_io.specs.declared.lines.LineFault.TheVariants as line_fault
 use Rattle.aim_io.specs.Reader.{Reader}
-use Rattle.aim_replay.specs.declared.endings.Ending.TheVariants as ending
-use Rattle.aim_replay.specs.declared.endings.Kind.TheVariants as kind
-use Rattle.aim_replay.proofs.SessionLemmas.{Gives, on_true, sound_start, knows_start, reached_start, reached_more, front_reached, short_reached, fault_told, fault_written, end_told, end_written, bad_told, bad_written, limit_told, stops_inside, memory_front}
+use Rattle.aim_replay.specs.declared.decisions.Decision.TheVariants as decision
+use Rattle.aim_replay.proofs.SessionLemmas.{Gives, on_true, sound_start, knows_start, reached_start, reached_more, front_reached, short_reached, fault_told, fault_written, end_told, end_written, bad_told, bad_written, line_told, stops_inside, memory_front, most_call, most_fault, needed_call, left_at_end, on_false}
 use Rattle.aim_replay.proofs.session.replay_lines.Goals as goal
 
 pub lines-init : goal.lines-init
@@ -13,6 +12,7 @@ lines-init g c = record {
   no_fault = ap (λ (r : Reader). r.fault) c.new-reader.ensures;
   sound = rw c.new-reader.ensures sound_start;
   knows = rw c.new-reader.ensures (knows_start (g.S.Source.left c.args.source.now));
+  needed = inl refl;
   source = omega arith;
   sink = omega arith;
 }
@@ -30,7 +30,7 @@ pub returns-in-Err-Long-clause-verdict : goal.returns-in-Err-Long-clause-verdict
 returns-in-Err-Long-clause-verdict g c =
     let i = c.lines.invariant in
     let step = rw c.in-Err-Long.field-0-is at (c.in-Err-Long.ensures.step i.knows i.no_fault) in
-    rw c.in-Err-Long.line-is (fault_told _ _ _ _ _ _ c.advance.new.self _ (line_fault.Long c.in-Err-Long.line) (ending.Bad c.in-Err-Long.line kind.Long) i.reached tt step refl)
+    rw c.in-Err-Long.line-is (fault_told _ _ _ _ _ _ c.advance.new.self _ (line_fault.Long c.in-Err-Long.line) i.reached tt step)
 
 pub returns-in-Err-Long-clause-written : goal.returns-in-Err-Long-clause-written
 returns-in-Err-Long-clause-written g c =
@@ -81,7 +81,7 @@ returns-in-Err-Limit-clause-verdict g c =
     let i = c.lines.invariant in
     let step = rw c.in-Ok-true.field-0-test at (c.in-Ok-true.ensures.step i.knows i.no_fault) in
     let responds = rw (c.in-Err-Limit.field-0-is, c.line.ensures) at (c.in-Err-Limit.ensures.responds i.reached.before i.reached.stands) in
-    rw c.in-Err-Limit.limit-is (limit_told _ _ _ _ _ _ c.advance.new.self _ c.in-Err-Limit.limit i.reached step responds.0)
+    rw c.in-Err-Limit.limit-is (line_told _ _ _ _ _ _ c.advance.new.self _ (decision.Limit c.in-Err-Limit.limit) i.reached step responds.0)
 
 pub returns-in-Err-Limit-clause-written : goal.returns-in-Err-Limit-clause-written
 returns-in-Err-Limit-clause-written g c =
@@ -123,6 +123,92 @@ lines-preserved g c =
       no_fault = ap (λ (r : Reader). r.fault) gives.after ∙ i.no_fault;
       sound = e.sound;
       knows = c.advance.ensures.knows i.knows;
+      needed = needed_call g.S.Source.left g.S.Source.last_read _ _ _ _ _ _ _ c.lines.invariant.reached c.advance.ensures.ended c.advance.ensures.needed c.lines.invariant.needed;
       source = omega (arith, i.source, c.advance.ensures.later);
       sink = omega (arith, i.sink, c.answer_line.ensures.later);
     }
+
+pub returns-in-Err-Read-clause-most : goal.returns-in-Err-Read-clause-most
+returns-in-Err-Read-clause-most g c =
+    let i = c.lines.invariant in
+    let e = c.in-Err-Read.ensures in
+    most_fault _ _ _ _ _ _ _ _ _ i.reached (e.fault i.no_fault) e.keeps e.sound
+
+pub returns-in-Err-Long-clause-most : goal.returns-in-Err-Long-clause-most
+returns-in-Err-Long-clause-most g c =
+    let i = c.lines.invariant in
+    let e = c.in-Err-Long.ensures in
+    most_fault _ _ _ _ _ _ _ _ _ i.reached (e.fault i.no_fault) e.keeps e.sound
+
+pub returns-in-Err-Bytes-clause-most : goal.returns-in-Err-Bytes-clause-most
+returns-in-Err-Bytes-clause-most g c =
+    let i = c.lines.invariant in
+    let e = c.in-Err-Bytes.ensures in
+    most_fault _ _ _ _ _ _ _ _ _ i.reached (e.fault i.no_fault) e.keeps e.sound
+
+pub returns-in-Err-Lines-clause-most : goal.returns-in-Err-Lines-clause-most
+returns-in-Err-Lines-clause-most g c =
+    let i = c.lines.invariant in
+    let e = c.in-Err-Lines.ensures in
+    most_fault _ _ _ _ _ _ _ _ _ i.reached (e.fault i.no_fault) e.keeps e.sound
+
+pub returns-in-Ok-false-clause-most : goal.returns-in-Ok-false-clause-most
+returns-in-Ok-false-clause-most g c =
+    let e = c.in-Ok-false.ensures in
+    let t = c.in-Ok-false.field-0-test in
+    most_call _ _ _ _ _ _ _ _ false c.lines.invariant.reached (rw t at e.taken) (rw t at e.after) e.sound
+
+pub returns-in-Err-Bad-clause-most : goal.returns-in-Err-Bad-clause-most
+returns-in-Err-Bad-clause-most g c =
+    let e = c.in-Ok-true.ensures in
+    let t = c.in-Ok-true.field-0-test in
+    most_call _ _ _ _ _ _ _ _ true c.lines.invariant.reached (rw t at e.taken) (rw t at e.after) e.sound
+
+pub returns-in-Err-Limit-clause-most : goal.returns-in-Err-Limit-clause-most
+returns-in-Err-Limit-clause-most g c =
+    let e = c.in-Ok-true.ensures in
+    let t = c.in-Ok-true.field-0-test in
+    most_call _ _ _ _ _ _ _ _ true c.lines.invariant.reached (rw t at e.taken) (rw t at e.after) e.sound
+
+pub returns-in-Err-Write-clause-most : goal.returns-in-Err-Write-clause-most
+returns-in-Err-Write-clause-most g c =
+    let e = c.in-Ok-true.ensures in
+    let t = c.in-Ok-true.field-0-test in
+    most_call _ _ _ _ _ _ _ _ true c.lines.invariant.reached (rw t at e.taken) (rw t at e.after) e.sound
+
+pub returns-in-Err-NoMemory-clause-most : goal.returns-in-Err-NoMemory-clause-most
+returns-in-Err-NoMemory-clause-most g c =
+    let e = c.in-Ok-true.ensures in
+    let t = c.in-Ok-true.field-0-test in
+    most_call _ _ _ _ _ _ _ _ true c.lines.invariant.reached (rw t at e.taken) (rw t at e.after) e.sound
+
+pub returns-in-Err-Read-clause-needed : goal.returns-in-Err-Read-clause-needed
+returns-in-Err-Read-clause-needed g c = needed_call g.S.Source.left g.S.Source.last_read _ _ _ _ _ _ _ c.lines.invariant.reached c.advance.ensures.ended c.advance.ensures.needed c.lines.invariant.needed
+
+pub returns-in-Err-Long-clause-needed : goal.returns-in-Err-Long-clause-needed
+returns-in-Err-Long-clause-needed g c = needed_call g.S.Source.left g.S.Source.last_read _ _ _ _ _ _ _ c.lines.invariant.reached c.advance.ensures.ended c.advance.ensures.needed c.lines.invariant.needed
+
+pub returns-in-Err-Bytes-clause-needed : goal.returns-in-Err-Bytes-clause-needed
+returns-in-Err-Bytes-clause-needed g c = needed_call g.S.Source.left g.S.Source.last_read _ _ _ _ _ _ _ c.lines.invariant.reached c.advance.ensures.ended c.advance.ensures.needed c.lines.invariant.needed
+
+pub returns-in-Err-Lines-clause-needed : goal.returns-in-Err-Lines-clause-needed
+returns-in-Err-Lines-clause-needed g c = needed_call g.S.Source.left g.S.Source.last_read _ _ _ _ _ _ _ c.lines.invariant.reached c.advance.ensures.ended c.advance.ensures.needed c.lines.invariant.needed
+
+pub returns-in-Ok-false-clause-needed : goal.returns-in-Ok-false-clause-needed
+returns-in-Ok-false-clause-needed g c = needed_call g.S.Source.left g.S.Source.last_read _ _ _ _ _ _ _ c.lines.invariant.reached c.advance.ensures.ended c.advance.ensures.needed c.lines.invariant.needed
+
+pub returns-in-Err-Bad-clause-needed : goal.returns-in-Err-Bad-clause-needed
+returns-in-Err-Bad-clause-needed g c = needed_call g.S.Source.left g.S.Source.last_read _ _ _ _ _ _ _ c.lines.invariant.reached c.advance.ensures.ended c.advance.ensures.needed c.lines.invariant.needed
+
+pub returns-in-Err-Limit-clause-needed : goal.returns-in-Err-Limit-clause-needed
+returns-in-Err-Limit-clause-needed g c = needed_call g.S.Source.left g.S.Source.last_read _ _ _ _ _ _ _ c.lines.invariant.reached c.advance.ensures.ended c.advance.ensures.needed c.lines.invariant.needed
+
+pub returns-in-Err-Write-clause-needed : goal.returns-in-Err-Write-clause-needed
+returns-in-Err-Write-clause-needed g c = needed_call g.S.Source.left g.S.Source.last_read _ _ _ _ _ _ _ c.lines.invariant.reached c.advance.ensures.ended c.advance.ensures.needed c.lines.invariant.needed
+
+pub returns-in-Err-NoMemory-clause-needed : goal.returns-in-Err-NoMemory-clause-needed
+returns-in-Err-NoMemory-clause-needed g c = needed_call g.S.Source.left g.S.Source.last_read _ _ _ _ _ _ _ c.lines.invariant.reached c.advance.ensures.ended c.advance.ensures.needed c.lines.invariant.needed
+
+pub returns-in-Ok-false-clause-ended : goal.returns-in-Ok-false-clause-ended
+returns-in-Ok-false-clause-ended g c _ =
+    left_at_end c.advance.new.self _ (c.advance.ensures.knows c.lines.invariant.knows) (on_false _ c.in-Ok-false.field-0-test c.in-Ok-false.ensures.end)

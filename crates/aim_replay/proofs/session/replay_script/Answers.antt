@@ -4,5 +4,5 @@ use Rattle.aim_replay.proofs.session.replay_script.Goals as goal
 pub returns-in-Err-clause-front : goal.returns-in-Err-clause-front
 returns-in-Err-clause-front g c = front_of_text _ _ _ c.in-Err.ensures.front
 
-pub returns-in-Err-put_ending-clause-front : goal.returns-in-Err-put_ending-clause-front
-returns-in-Err-put_ending-clause-front g c = front_written _ _ _ _ _ c.in-Ok.ensures.verdict c.in-Ok.ensures.written c.in-Err-put_ending.ensures.err
+pub returns-in-Err-put_decision-clause-front : goal.returns-in-Err-put_decision-clause-front
+returns-in-Err-put_decision-clause-front g c = front_written _ _ _ _ _ c.in-Ok.ensures.verdict c.in-Ok.ensures.written c.in-Err-put_decision.ensures.err

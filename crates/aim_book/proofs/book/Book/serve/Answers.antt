@@ -17,11 +17,12 @@ invariant_of-self c =
     let ok = c.push.ensures.succeeds room in
     let items = rw ok at c.push.ensures.items in
     rw items (
-      legal_more c.self.inside.layout c.self.inside.vehicles c.self.inside.journal.items c.args.vehicle c.args.moment c.args.message c.answer_request-reply.result c.self.invariant.0 may answered,
+      legal_more c.self.inside.layout c.self.inside.vehicles c.self.inside.journal.items c.args.vehicle c.args.moment c.args.message c.answer_request-reply.result c.self.invariant.5 c.self.invariant.0 may answered,
       served_more c.self.inside.layout c.self.inside.vehicles c.self.inside.journal.items c.args.vehicle c.args.moment c.args.message c.answer_request-reply.result c.self.invariant.1 may,
       omega (arith, c.self.invariant.2, c.len.ensures, length-append c.self.inside.journal.items (entry_with c.args.vehicle c.args.moment c.args.message c.answer_request-reply.result ∷ [])),
       omega (arith, c.self.invariant.3, c.push.ensures.capacity),
       c.self.invariant.4,
+      c.self.invariant.5,
     )
 
 pub returns-clause-legal : goal.returns-clause-legal

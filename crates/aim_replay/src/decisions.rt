@@ -3,13 +3,12 @@
 ghost use Rattle.std.specs.Prelude.{◌≡◌, ◌<◌, ◌≤◌, ◌+◌, ◌++◌, ◌∷◌, [], length, take};
 ghost use Rattle.aim_msg.specs.Texts.{spaced};
 ghost use Rattle.aim_msg.specs.Writing.{added};
-ghost use Rattle.aim_replay.specs.Endings.{ending_words, kind_text, limit_text};
-ghost use Rattle.aim_replay.specs.Texts.{printed};
+ghost use Rattle.aim_replay.specs.Texts.{decision_words, kind_text, limit_text, printed};
 
 use aim_msg::{LineKind, Text};
 
 /// Why a line of a script is at fault.
-#[derive(Clone, Copy, Debug, PartialEq, Eq)]
+#[derive(Clone, Copy)]
 pub enum Kind {
     /// It has more than 400 bytes.
     Long,
@@ -35,7 +34,9 @@ pub enum Kind {
     Move,
     /// Two stations of the path are farther apart than the spacing.
     Spacing,
-    /// There is no policy.
+    /// The policy's name was given before, or the name of a switch wasn't.
+    Policy,
+    /// The policy or phase can't be added, or a policy or a phase is missing.
     Phase,
     /// There are no vehicles, or the vehicle isn't one of those declared.
     Vehicle,
@@ -43,8 +44,8 @@ pub enum Kind {
     Moment,
 }
 
-/// What an input goes past.
-#[derive(Clone, Copy, Debug, PartialEq, Eq)]
+/// What a script goes past.
+#[derive(Clone, Copy)]
 pub enum Limit {
     /// So many bytes.
     Bytes,
@@ -57,8 +58,8 @@ pub enum Limit {
 }
 
 /// What a script comes to.
-#[derive(Clone, Copy, Debug, PartialEq, Eq)]
-pub enum Ending {
+#[derive(Clone, Copy)]
+pub enum Decision {
     /// The line of this number, counted from 1, is the first at fault.
     Bad(u32, Kind),
     /// The input goes past a limit.
@@ -98,6 +99,7 @@ fn kind_text(kind: Kind) -> &'static [u8]
         Kind::Lane => b"lane",
         Kind::Move => b"move",
         Kind::Spacing => b"spacing",
+        Kind::Policy => b"policy",
         Kind::Phase => b"phase",
         Kind::Vehicle => b"vehicle",
         Kind::Moment => b"moment",
@@ -118,23 +120,23 @@ fn limit_text(limit: Limit) -> &'static [u8]
 }
 
 // Adds the words of the last line.
-fn put_ending(text: &mut Text, ending: Ending)
+fn put_decision(text: &mut Text, decision: Decision)
     requires { text.old ≡ [] }
-    ensures words { text.new ≡ added [] (ending_words ending) }
+    ensures words { text.new ≡ added [] (decision_words decision) }
     ensures fits { length text.new ≤ 50 }
 {
-    match ending {
-        Ending::Bad(number, kind) => {
+    match decision {
+        Decision::Bad(number, kind) => {
             text.word(b"bad");
             text.word(b"line");
             text.number(number);
             text.word(kind_text(kind));
         }
-        Ending::Limit(limit) => {
+        Decision::Limit(limit) => {
             text.word(b"limit");
             text.word(limit_text(limit));
         }
-        Ending::Whole(entries) => {
+        Decision::Whole(entries) => {
             text.word(b"end");
             text.number(entries);
         }
@@ -143,12 +145,12 @@ fn put_ending(text: &mut Text, ending: Ending)
 
 /// Puts the last line of a replay at the front of `line`, its byte 10 included, and says how long
 /// it is. Takes no memory.
-pub fn last_line(ending: Ending, line: &mut [u8; 400]) -> usize
-    ensures text { take result line.new ≡ printed (spaced (ending_words ending)) }
+pub fn last_line(decision: Decision, line: &mut [u8; 400]) -> usize
+    ensures text { take result line.new ≡ printed (spaced (decision_words decision)) }
     ensures fits { result ≤ 400 }
 {
     let mut text = Text::new();
-    put_ending(&mut text, ending);
+    put_decision(&mut text, decision);
     let len = text.give(line);
     line[len] = b'\n';
     len + 1

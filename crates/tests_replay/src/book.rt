@@ -1,8 +1,8 @@
-//! Worked requests over a crossing of two straight lanes.
+//! Worked requests over a crossing of two straight lanes: that a book is opened and serves, where memory is ample.
 
 ghost use Rattle.std.specs.Prelude.{◌≡◌, ◌<◌, ◌≤◌};
 
-use crate::{Book, Full, OpenFault, bad_field, has_called, is_plain};
+use aim_book::{Book, Full, OpenFault, bad_field, has_called, is_plain};
 use aim_geometry::{Grid, Ground, Times};
 use aim_msg::{Body, Message, Params, Reason, Reply, Turn};
 use aim_paths::{Builder, Kind, Layout, Shape};
@@ -42,11 +42,18 @@ fn crossing(alloc: Global) -> Result<Layout, Fail> {
         y1: 4000,
         m: 40,
     };
-    let mut builder = Builder::new(alloc, Ground::build(grid, times)?, 2)?;
-    builder.add_move(0, Turn::Straight, east)?;
-    builder.add_move(1, Turn::Straight, north)?;
-    builder.add_policy(Kind::Fcfs)?;
-    Ok(builder.finish()?)
+    let ground = Ground::build(grid, times).ok().ok_or("no ground")?;
+    let mut builder = Builder::new(alloc, ground, 2).ok().ok_or("no builder")?;
+    builder
+        .add_move(0, Turn::Straight, east)
+        .ok()
+        .ok_or("no move east")?;
+    builder
+        .add_move(1, Turn::Straight, north)
+        .ok()
+        .ok_or("no move north")?;
+    builder.add_policy(Kind::Fcfs).ok().ok_or("no policy")?;
+    Ok(builder.finish().ok().ok_or("no layout")?)
 }
 
 /// A vehicle's request for a crossing of 11 steps.
