@@ -18,7 +18,7 @@ use Rattle.aim_paths.specs.declared.policies.Kind.TheVariants as kind
 use Rattle.aim_geometry.proofs.BoundedLemmas.{least_below_none}
 use Rattle.aim_paths.specs.Intersection.{Intersection, Policy}
 use Rattle.aim_rules.specs.Bad.{bad}
-use Rattle.aim_rules.specs.Cells.{Cell}
+use Rattle.aim_geometry.specs.Cells.{Cell}
 use Rattle.aim_rules.specs.History.{fresh, now_of, is_fresh_seq}
 use Rattle.aim_rules.specs.Holds.{holds, reservations, taken_by}
 use Rattle.aim_rules.specs.Lights.{green_at, green_lanes}

@@ -18,7 +18,8 @@ use Rattle.aim_paths.specs.Intersection.{Intersection}
 use Rattle.aim_geometry.specs.Bounded.{ceil_div}
 use Rattle.aim_geometry.proofs.TouchLemmas.{any_touched_inside}
 use Rattle.aim_rules.specs.Footprint.{crossing_steps, covered, in_footprint}
-use Rattle.aim_rules.specs.Cells.{Cell, in_cells}
+use Rattle.aim_geometry.specs.Cells.{Cell}
+use Rattle.aim_rules.specs.Cells.{in_cells}
 use Rattle.aim_book.specs.Serving.{IsPlain}
 use Rattle.aim_book.specs.Takings.{cell_at}
 use Rattle.aim_book.specs.Feet.{is_filled}

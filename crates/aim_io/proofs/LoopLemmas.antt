@@ -75,7 +75,7 @@ decided_fault F whole old new (Some bytes) (Some rest) (Some last) fault other d
 pub took_none : (left : Option (List ℕ)) → TookLines left left []
 took_none left = record { taken = Consumes-nil left; no_end = tt }
 
-joined-push : (lines : List (List ℕ)) (line : List ℕ) → joined_lines (lines ++ line ∷ []) ≡ joined_lines lines ++ (line ++ 10 ∷ [])
+pub joined-push : (lines : List (List ℕ)) (line : List ℕ) → joined_lines (lines ++ line ∷ []) ≡ joined_lines lines ++ (line ++ 10 ∷ [])
 joined-push [] line = refl
 joined-push (first ∷ lines) line =
     ap (λ (l : List ℕ). first ++ 10 ∷ l) (joined-push lines line) ∙ sym (append_assoc first (10 ∷ joined_lines lines) (line ++ 10 ∷ []))

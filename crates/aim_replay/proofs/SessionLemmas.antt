@@ -8,7 +8,8 @@ use Rattle.std.proofs.lemmas.Bool.{cases_Bool}
 use Rattle.aim_io.specs.declared.lines.LineFault.{LineFault}
 use Rattle.aim_io.specs.declared.lines.LineFault.TheVariants as line_fault
 use Rattle.aim_io.specs.Known.{AppendsFront}
-use Rattle.aim_io.specs.Lines.{Outcome, Line as LineOf, Stop, outcomes_from, IsOpen, ShowsNothing, with_end}
+use Rattle.aim_io.proofs.LoopLemmas.{joined-push}
+use Rattle.aim_io.specs.Lines.{Outcome, Line as LineOf, Stop, outcomes_from, IsOpen, ShowsNothing, joined_lines, with_end}
 use Rattle.aim_io.specs.Reader.{Reader, fresh, input, coming, taken_by, Needed, Answers, Stops, KnowsEnd, IsSound, after_call}
 use Rattle.aim_msg.specs.Texts.{entry_text, spaced}
 use Rattle.aim_msg.specs.declared.entries.Entry.{Entry}
@@ -27,7 +28,7 @@ use Rattle.aim_replay.specs.Texts.{entry_lines, printed, journal_of, decision_wo
 use Rattle.aim_replay.specs.Today.{today}
 use Rattle.aim_replay.specs.Stands.{IsHeader}
 use Rattle.aim_replay.specs.Stages.{Stands, Says, Judged, Makes, MayTake, journal_at}
-use Rattle.aim_replay.specs.Replays.{LastNeeded, Replays, StopsShort, TakesAtMost, Writes, WritesFront, ended, script_after, unless_decided, entries_text, made_line}
+use Rattle.aim_replay.specs.Replays.{LastNeeded, Replays, StopsShort, TakesAtMost, Writes, WritesFront, script_after, unless_decided, entries_text, made_line}
 use Rattle.aim_replay.specs.Sessions.{Decides, Placed, Took, Reached, Responds, Comes}
 use Rattle.aim_replay.proofs.TextLemmas.{entry_lines-append, Begins, journal_of_begins, nothing_begins}
 
@@ -161,10 +162,6 @@ stops_inside before s old new bytes rest left start mid now decided step written
     let split = made_after (journal_at s) (journal_at next) made makes ∙ ap (λ (t : List ℕ). first ++ t) front.whole ∙ sym (append_assoc first front.front front.rest) in
     stops (before ++ l ∷ []) next new bytes left start now (first ++ front.front) front.rest st (decides_more before l old new bytes rest left is decided step) split done
 
-ended_more : (lines : List (List ℕ)) (line : List ℕ) → ended (lines ++ line ∷ []) ≡ ended lines ++ (line ++ 10 ∷ [])
-ended_more [] line = refl
-ended_more (first ∷ lines) line = ap (λ (t : List ℕ). first ++ 10 ∷ t) (ended_more lines line) ∙ sym (append_assoc first (10 ∷ ended lines) (line ++ 10 ∷ []))
-
 all_more : (lines : List (List ℕ)) (line : List ℕ) → AllByRecursion IsOpen lines → IsOpen line → AllByRecursion IsOpen (lines ++ line ∷ [])
 all_more [] line all last = (last, tt)
 all_more (first ∷ lines) line all last = (all.0, all_more lines line all.1 last)
@@ -197,14 +194,14 @@ took_more before l old new bytes rest left is gives going took =
     let size : new.place ≡ old.place + length (line ++ 10 ∷ []) = ap (λ (r : Reader). r.place) gives.after ∙ rw going refl in
     record {
       lines = took.lines ++ line ∷ [];
-      taken = subst (Consumes bytes left) (sym (ended_more took.lines line)) (Consumes-trans bytes rest left _ _ took.taken taken);
+      taken = subst (Consumes bytes left) (sym (joined-push took.lines line)) (Consumes-trans bytes rest left _ _ took.taken taken);
       whole = record {
         each = all_more took.lines line took.whole.each gives.is_open;
         few = rw count gives.few;
         script = script_more [] before l took.lines line took.whole.script is;
       };
       count = count;
-      place = ap (λ (t : List ℕ). length t) (ended_more took.lines line) ∙ length-append (ended took.lines) (line ++ 10 ∷ []) ∙ ap (λ n. n + length (line ++ 10 ∷ [])) took.place ∙ sym size;
+      place = ap (λ (t : List ℕ). length t) (joined-push took.lines line) ∙ length-append (joined_lines took.lines) (line ++ 10 ∷ []) ∙ ap (λ n. n + length (line ++ 10 ∷ [])) took.place ∙ sym size;
     }
 
 -- what was taken where the source failed
@@ -253,8 +250,8 @@ needed_read bytes before after start now old s last r going needed =
       lines = took.lines;
       part = needed.part;
       piece = needed.piece;
-      taken = held_back bytes (input old before) after (ended took.lines) (needed.part ++ needed.piece) took.taken needed.keeps;
-      within = omega (arith, length-append (ended took.lines) needed.part, took.place, needed.shows.within);
+      taken = held_back bytes (input old before) after (joined_lines took.lines) (needed.part ++ needed.piece) took.taken needed.keeps;
+      within = omega (arith, length-append (joined_lines took.lines) needed.part, took.place, needed.shows.within);
       before = r.before;
       whole = took.whole;
       is_open = needed.shows.is_open;
@@ -319,8 +316,8 @@ stops_short bytes rest left start now old new s r going given place shows kept =
     record {
       lines = took.lines;
       part = new.held;
-      taken = held_back bytes rest left (ended took.lines) new.held took.taken kept;
-      within = omega (arith, length-append (ended took.lines) new.held, took.place, place, shows.within);
+      taken = held_back bytes rest left (joined_lines took.lines) new.held took.taken kept;
+      within = omega (arith, length-append (joined_lines took.lines) new.held, took.place, place, shows.within);
       is_open = shows.is_open;
       undecided = λ some. rw (took.count, ← given) (shows.few some);
       before = r.before;

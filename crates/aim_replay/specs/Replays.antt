@@ -3,7 +3,7 @@ use Rattle.std.specs.Prelude.{◌≡◌, ℕ, ◌<◌, ◌≤◌, List, [], ◌�
 use Rattle.std.specs.List.{AllByRecursion}
 use Rattle.std.specs.Io.KnownBytes.{Appends, Consumes}
 use Rattle.aim_io.specs.Known.{AppendsFront}
-use Rattle.aim_io.specs.Lines.{Line as LineOf, IsOpen}
+use Rattle.aim_io.specs.Lines.{Line as LineOf, IsOpen, joined_lines}
 use Rattle.aim_msg.specs.Texts.{entry_text}
 use Rattle.aim_msg.specs.declared.script.Line.{Line}
 use Rattle.aim_rules.specs.Journals.{journal}
@@ -12,11 +12,6 @@ use Rattle.aim_replay.specs.Said.{layout_of, calls_of}
 use Rattle.aim_replay.specs.Kinds.{Missing}
 use Rattle.aim_replay.specs.Verdicts.{Judgement, decides, goes_on, judge, verdict}
 use Rattle.aim_replay.specs.Texts.{entry_lines, journal_of, printed, replay_text, replay_status}
-
--- these lines, each with its byte 10
-abbrev pub ended : List (List ℕ) → List ℕ
-ended [] = []
-ended (line ∷ lines) = line ++ 10 ∷ ended lines
 
 abbrev pub unless_decided : List Line → Judgement → (List Line → Option (List Line)) → Option (List Line)
 unless_decided before (decides d) next = None
@@ -44,8 +39,8 @@ pub record TakesAtMost (most : ℕ) (left_old left_new : Option (List ℕ)) : Ty
 pub record StopsShort (missing : Missing) (left_old left_new held_old held_new : Option (List ℕ)) : Type 0 where
   pub lines : List (List ℕ)
   pub part : List ℕ
-  pub taken : Consumes left_old left_new (ended lines ++ part)
-  pub within : length (ended lines ++ part) ≤ 67108864
+  pub taken : Consumes left_old left_new (joined_lines lines ++ part)
+  pub within : length (joined_lines lines ++ part) ≤ 67108864
   pub is_open : IsOpen part
   pub undecided : 0 < length part → length lines < 262144
   pub before : List Line
@@ -58,8 +53,8 @@ pub record LastNeeded (missing : Missing) (left_old left_new : Option (List ℕ)
   pub lines : List (List ℕ)
   pub part : List ℕ
   pub piece : List ℕ
-  pub taken : Consumes left_old left_new (ended lines ++ (part ++ piece))
-  pub within : length (ended lines ++ part) ≤ 67108864
+  pub taken : Consumes left_old left_new (joined_lines lines ++ (part ++ piece))
+  pub within : length (joined_lines lines ++ part) ≤ 67108864
   pub before : List Line
   pub whole : AreWhole missing lines before
   pub is_open : IsOpen part

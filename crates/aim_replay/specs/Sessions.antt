@@ -2,6 +2,7 @@
 -- No public clause cites it: only contracts of private functions.
 use Rattle.std.specs.Prelude.{◌≡◌, ℕ, Bool, true, false, List, [], length, Option, Some, None, IfSome, Result, Ok, Err}
 use Rattle.std.specs.Io.KnownBytes.{Appends, Consumes}
+use Rattle.aim_io.specs.Lines.{joined_lines}
 use Rattle.aim_io.specs.Known.{AppendsFront}
 use Rattle.aim_io.specs.Reader.{Reader, coming}
 use Rattle.aim_msg.specs.declared.script.Line.{Line}
@@ -16,7 +17,7 @@ use Rattle.aim_replay.specs.Verdicts.{verdict_from, verdict}
 use Rattle.aim_replay.specs.Texts.{entry_lines, printed}
 use Rattle.aim_replay.specs.Today.{today}
 use Rattle.aim_replay.specs.Stages.{Stands, Judged, Makes, journal_at}
-use Rattle.aim_replay.specs.Replays.{AreWhole, ended, made_line}
+use Rattle.aim_replay.specs.Replays.{AreWhole, made_line}
 
 -- the bytes are those of a line, its byte 10 included
 abbrev pub IsWholeLine : List ℕ → Type 0
@@ -37,10 +38,10 @@ pub record Placed (bytes rest : Option (List ℕ)) (place : ℕ) : Type 0 where
 -- whole lines were taken that make this script
 pub record Took (before : List Line) (reader : Reader) (bytes rest : Option (List ℕ)) : Type 0 where
   pub lines : List (List ℕ)
-  pub taken : Consumes bytes rest (ended lines)
+  pub taken : Consumes bytes rest (joined_lines lines)
   pub whole : AreWhole today lines before
   pub count : length lines ≡ reader.given
-  pub place : length (ended lines) ≡ reader.place
+  pub place : length (joined_lines lines) ≡ reader.place
 
 -- how far a replay has come: the lines so far, for which the stage stands, and whose entries' lines were written
 pub record Reached (bytes rest old now : Option (List ℕ)) (reader : Reader) (s : Stage) : Type 0 where
