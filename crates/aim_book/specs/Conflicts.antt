@@ -1,4 +1,5 @@
 -- The first cell of a crossing that another one has.
+-- No public clause cites it: only contracts of private functions.
 use Rattle.std.specs.Prelude.{◌≡◌, ℕ, ◌+◌, ◌<◌, false, List, Some, option_map, find}
 use Rattle.aim_msg.specs.declared.messages.Params.{Params}
 use Rattle.aim_msg.specs.declared.entries.Entry.{Entry}

@@ -1,4 +1,5 @@
 -- Rows of tiles under a vehicle.
+-- No public clause cites it: only contracts of private functions.
 use Rattle.std.specs.Prelude.{ℕ, Bool, ◌==◌, not}
 
 -- whether a row has a tile

@@ -1,4 +1,5 @@
 -- Requests whose numbers are in their ranges.
+-- No public clause cites it: only contracts of private functions.
 use Rattle.std.specs.Prelude.{◌≡◌, ◌<◌, ◌≤◌}
 use Rattle.aim_msg.specs.declared.messages.Params.{Params}
 

@@ -1,4 +1,5 @@
 -- What a steady request is answered, over a plain layout.
+-- No public clause cites it: only contracts of private functions.
 use Rattle.std.specs.Prelude.{ℕ, ◌+◌, ◌-◌, false, nat_le, List, length, Option, Some, None, unwrap_or, if◌then◌else◌}
 use Rattle.aim_msg.specs.declared.messages.Params.{Params}
 use Rattle.aim_msg.specs.declared.entries.Entry.{Entry}

@@ -1,4 +1,5 @@
 -- Tiles in two sets of rows.
+-- No public clause cites it: only contracts of private functions.
 use Rattle.std.specs.Prelude.{◌≡◌, ℕ, ◌<◌, ◌&&◌, ◌⊎◌, true, false, List}
 use Rattle.aim_geometry.specs.Rects.{has_bit, tile_at}
 
