@@ -5,3 +5,4 @@ pub mod MoveLemmas
 pub mod WindowLemmas
 pub mod StepLemmas
 pub mod SpanLemmas
+pub mod RequestLemmas

@@ -2,7 +2,7 @@
 
 ghost use Rattle.std.specs.Prelude.{◌≡◌, ◌<◌, ◌≤◌, ◌+◌, [], None, Some, true, false, length, OnErr, OnOk, is_none, option_map};
 ghost use Rattle.aim_geometry.specs.Bounded.{ceil_div};
-ghost use Rattle.aim_paths.specs.Intersection.{path as path_of, stations};
+ghost use Rattle.aim_paths.specs.Intersection.{Intersection, path as path_of, stations};
 ghost use Rattle.aim_rules.specs.History.{params_of};
 ghost use Rattle.aim_rules.specs.Bad.{bad as bad_of, is_fast_made as is_fast_made_of, needs_too_many_spans};
 ghost use Rattle.aim_simulate.specs.Fields.{bad_crossing as bad_crossing_of};
@@ -127,7 +127,12 @@ impl Model for Prepared {
 
     ghost Value = { Request };
 
+    ghost use Rattle.aim_paths.specs.Intersection.{Intersection};
+    ghost use Rattle.aim_buffers.specs.Requests.{IsPreparedFor};
+
     ghost view = { λ p. record { message = p.message; bad = p.bad; first = p.first; second = p.second } };
+
+    ghost invariant = { λ p. (i : Intersection) × IsPreparedFor i (record { message = p.message; bad = p.bad; first = p.first; second = p.second }) };
 }
 
 /// Prepares a message for a manager over the layout: finds the field that is wrong, if one is, and writes the cells of
@@ -177,7 +182,8 @@ fn prepare_request(
 impl Prepared {
     /// The message.
     pub fn message(&self) -> &Message
-        ensures { result.now ≡ self.now.message }
+        ensures message { result.now ≡ self.now.message }
+        ensures prepared { (i : Intersection) × IsPreparedFor i self.now }
     {
         &self.message
     }
