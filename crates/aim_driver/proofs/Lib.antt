@@ -1,0 +1,13 @@
+pub mod PlanLemmas
+pub mod FollowLemmas
+pub mod Rows
+pub mod LinkLemmas
+pub mod SmallFacts
+pub mod GotLemmas
+pub mod SentLemmas
+pub mod ActLemmas
+pub mod SendLemmas
+pub mod StandLemmas
+pub mod CrossingLemmas
+pub mod TurnLemmas
+pub mod HearLemmas

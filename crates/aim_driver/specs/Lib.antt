@@ -1,0 +1,12 @@
+pub mod Plans
+pub mod Logs
+pub mod Keeps
+pub mod Rules
+pub mod Own
+pub mod Steps
+pub mod Models
+pub mod Links
+pub mod Turns
+pub mod Follows
+pub mod Fits
+pub mod Crossings

@@ -1,0 +1,60 @@
+//! Laws of the definitions, each the contract of a function that does nothing.
+
+ghost use Rattle.std.specs.Prelude.{◌≡◌, ◌↔◌, ℕ, ◌-◌, ◌≤◌, true, List, Some, None};
+ghost use Rattle.aim_msg.specs.declared.entries.Entry.{Entry};
+ghost use Rattle.aim_driver.specs.declared.plans.DrivePlan.{DrivePlan};
+ghost use Rattle.aim_driver.specs.declared.links.Fate.{Fate};
+ghost use Rattle.aim_msg.specs.declared.replies.Reply.{Reply};
+ghost use Rattle.aim_driver.specs.Follows.{turns, course, follows_from, follows};
+ghost use Rattle.aim_driver.specs.declared.logs.LogItem.{LogItem};
+ghost use Rattle.aim_driver.specs.Logs.{Crossing};
+ghost use Rattle.aim_driver.specs.Keeps.{keeps};
+ghost use Rattle.aim_driver.specs.Fits.{AreCallsOf, replies_of, IsAnswered, Fits};
+ghost use Rattle.aim_driver.specs.Crossings.{crossing_of, CrossesAsGranted};
+ghost use Rattle.aim_driver.specs.Links.{LinkModel, next_place, IsNext, NoneComes};
+
+/// What a link delivers next is the one thing that comes first, by the step at which it comes and then by the order of
+/// sending.
+pub fn next_comes_first<T>()
+    ensures { (l : LinkModel T) (step place : ℕ) → (next_place l step ≡ Some place ↔ IsNext T l step place) }
+{}
+
+/// A link delivers nothing exactly where nothing comes at that step or before it.
+pub fn nothing_comes<T>()
+    ensures { (l : LinkModel T) (step : ℕ) → (next_place l step ≡ None ↔ NoneComes T l step) }
+{}
+
+/// The log that a driver follows fits every history in which the vehicle's entries carry the calls that it follows, where
+/// the replies of these entries are the replies of its calls.
+pub fn what_follows_fits()
+    ensures { (plan : DrivePlan) (up down : List Fate) (first until : ℕ) (h : List Entry) (v : ℕ) →
+        let f = follows_from plan up down first until (replies_of h v) in
+        AreCallsOf f.1 h v → Fits h v f.0 }
+{}
+
+/// Where a log keeps the rules and fits a history as vehicle v's, and the driver entered, it crosses as the history
+/// granted: v has an entry there whose reply tells that the reservation is held, one that confirms it with a window in which
+/// the driver entered, and all messages of a greater number than the first are DONE, sent past the last step of the crossing.
+pub fn crosses_as_granted()
+    ensures { (h : List Entry) (v : ℕ) (log : List LogItem) (c : Crossing) →
+        keeps log ≡ true → Fits h v log → crossing_of log ≡ Some c → CrossesAsGranted (IsAnswered h v) log c }
+{}
+
+/// What a driver follows doesn't depend on the step at which its turns begin, as long as that is not past its plan's first
+/// step.
+pub fn turns_may_begin_later()
+    ensures { (plan : DrivePlan) (up down : List Fate) (first until : ℕ) (replies : List Reply) →
+        first ≤ plan.first → first ≤ until → follows_from plan up down first until replies ≡ follows plan up down until replies }
+{}
+
+/// The turns of some steps and then those of the steps behind them are the turns of all of these.
+pub fn turns_go_on()
+    ensures { (plan : DrivePlan) (up down : List Fate) (first mid until : ℕ) (replies : List Reply) →
+        first ≤ mid → mid ≤ until → course plan up down first until replies ≡ turns plan mid (until - mid) (course plan up down first mid replies) }
+{}
+
+/// The log that a driver follows keeps the rules, whatever becomes of its messages and whatever the replies are.
+pub fn what_follows_keeps_the_rules()
+    ensures { (plan : DrivePlan) (up down : List Fate) (first until : ℕ) (replies : List Reply) →
+        plan.lead ≤ 65536 → keeps (follows_from plan up down first until replies).0 ≡ true }
+{}
