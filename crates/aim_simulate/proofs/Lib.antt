@@ -1,0 +1,8 @@
+pub mod UnderLemmas
+pub mod Visiting
+pub mod WayLemmas
+pub mod Reached
+pub mod Unions
+pub mod Footprints
+pub mod FieldLemmas
+pub mod GoodLemmas
