@@ -6,3 +6,4 @@ pub mod CrossLemmas
 pub mod OccupiedLemmas
 pub mod GreenLemmas
 pub mod MeetLemmas
+pub mod TraceLemmas
