@@ -1,0 +1,7 @@
+pub mod BorderLemmas
+pub mod CountLemmas
+pub mod RowLemmas
+pub mod MoveLemmas
+pub mod WindowLemmas
+pub mod StepLemmas
+pub mod SpanLemmas

@@ -1,0 +1,11 @@
+-- The cells of a sheet's spans are a trial's.
+use Rattle.std.specs.Prelude.{◌≡◌, Bool, List}
+use Rattle.aim_msg.specs.declared.messages.Params.{Params}
+use Rattle.aim_paths.specs.Intersection.{Intersection}
+use Rattle.aim_pool.specs.declared.spans.Span.{Span}
+use Rattle.aim_pool.specs.Spans.{in_spans}
+use Rattle.aim_rules.specs.Cells.{Cell, in_cells}
+
+-- the spans have just the cells that the crossing needs
+abbrev pub HaveCells : Intersection → Params → Bool → List Span → Type 0
+HaveCells i p fast spans = (c : Cell) → in_spans spans (c.step, c.row, c.col) ≡ in_cells i p fast c

@@ -1,0 +1,12 @@
+//! Requests with their cells: the tiles that a crossing needs in each step, written into sheets before the manager is
+//! asked.
+//!
+//! The cells of a step are those of two windows on the path's stations: a wide one at the border, of the crossing steps
+//! within the edge buffer, and a narrow one inside, of those within the early and late buffers. Both only move on.
+#![tactic(auto)]
+
+mod requests;
+mod rows;
+mod trials;
+
+pub use requests::{Prepared, prepare};

@@ -1,0 +1,237 @@
+//! Prepared requests.
+
+ghost use Rattle.std.specs.Prelude.{◌≡◌, ◌<◌, ◌≤◌, ◌+◌, [], None, Some, true, false, length, OnErr, OnOk, is_none, option_map};
+ghost use Rattle.aim_geometry.specs.Bounded.{ceil_div};
+ghost use Rattle.aim_paths.specs.Intersection.{path as path_of, stations};
+ghost use Rattle.aim_rules.specs.History.{params_of};
+ghost use Rattle.aim_rules.specs.Bad.{bad as bad_of, is_fast_made as is_fast_made_of, needs_too_many_spans};
+ghost use Rattle.aim_simulate.specs.Fields.{bad_crossing as bad_crossing_of};
+ghost use Rattle.aim_simulate.specs.Fills.{AreRectsOf};
+ghost use Rattle.aim_simulate.specs.Windows.{AreSteady};
+ghost use Rattle.aim_buffers.specs.Cells.{HaveCells};
+ghost use Rattle.aim_buffers.specs.Requests.{IsPreparedFor, fast_sheet, steady_sheet};
+
+use crate::trials::write_trial;
+use aim_geometry::TileRect;
+use aim_msg::{Body, Field, Message, Params};
+use aim_paths::{Layout, Path};
+use aim_pool::{Pool, Sheet, SheetFull};
+use aim_simulate::{are_steady, bad_crossing, fill_rects};
+use std::marker::Model;
+
+// Whether the fast trial is made.
+fn is_fast_made(params: &Params) -> bool
+    ensures { result ≡ is_fast_made_of params.now }
+{
+    params.accel > 0 && params.speed < params.max_speed
+}
+
+// Writes the rectangles of the path's stations with the static buffer, and says whether they are steady.
+fn fill_path(layout: &Layout, params: &Params, path: &Path, rects: &mut [TileRect]) -> bool
+    requires good { bad_crossing_of layout.now params.now ≡ None }
+    requires found { path_of layout.now params.now.lane params.now.turn ≡ Some path.now }
+    requires room { length rects.old ≡ length path.now }
+    ensures round { AreRectsOf layout.now.grid (ceil_div params.now.width 2 + layout.now.grid.spacing + layout.now.grid.fixed) (stations layout.now params.now.lane params.now.turn) rects.new }
+    ensures steady { result ≡ true → AreSteady rects.new }
+{
+    let ground = layout.ground();
+    let grid = ground.grid();
+    let half = params.width.div_ceil(2) + grid.spacing + grid.fixed;
+    fill_rects(ground, half, path.stations(), rects);
+    are_steady(rects)
+}
+
+// Writes the cells of the trials into two empty sheets, with a list of rectangles of the path's length.
+fn write_trials(
+    layout: &Layout,
+    params: &Params,
+    path: &Path,
+    rects: &mut [TileRect],
+    first: &mut Sheet,
+    second: &mut Sheet,
+) -> Result<(), SheetFull>
+    requires good { bad_crossing_of layout.now params.now ≡ None }
+    requires found { path_of layout.now params.now.lane params.now.turn ≡ Some path.now }
+    requires rects { length rects.old ≡ length path.now }
+    requires first { first.old ≡ record { spans = []; room = layout.now.grid.spans } }
+    requires second { second.old ≡ record { spans = []; room = layout.now.grid.spans } }
+    ensures steady { OnOk result (HaveCells layout.now params.now false second.new.spans) }
+    ensures fast { OnOk result (is_fast_made_of params.now ≡ true → HaveCells layout.now params.now true first.new.spans) }
+    ensures unmade { OnOk result (is_fast_made_of params.now ≡ false → first.new.spans ≡ []) }
+    ensures fit { OnOk result (needs_too_many_spans layout.now params.now ≡ false) }
+    ensures full { OnErr result (needs_too_many_spans layout.now params.now ≡ true) }
+    ensures first_room { first.new.room ≡ first.old.room }
+    ensures second_room { second.new.room ≡ second.old.room }
+{
+    let is_steady = fill_path(layout, params, path, rects);
+    write_trial(second, layout, params, false, path, rects, is_steady)?;
+    if is_fast_made(params) {
+        write_trial(first, layout, params, true, path, rects, is_steady)?;
+    }
+    Ok(())
+}
+
+// Writes the cells of the trials into two empty sheets, or gives the field that is wrong and leaves both empty.
+fn write_request(
+    layout: &Layout,
+    params: &Params,
+    first: &mut Sheet,
+    second: &mut Sheet,
+) -> Option<Field>
+    requires first { first.old ≡ record { spans = []; room = layout.now.grid.spans } }
+    requires second { second.old ≡ record { spans = []; room = layout.now.grid.spans } }
+    ensures field { result ≡ bad_of layout.now params.now }
+    ensures steady { result ≡ None → HaveCells layout.now params.now false second.new.spans }
+    ensures fast { result ≡ None → is_fast_made_of params.now ≡ true → HaveCells layout.now params.now true first.new.spans }
+    ensures unmade { result ≡ None → is_fast_made_of params.now ≡ false → first.new.spans ≡ [] }
+    ensures first_empty { is_none result ≡ false → first.new.spans ≡ [] }
+    ensures second_empty { is_none result ≡ false → second.new.spans ≡ [] }
+    ensures first_room { first.new.room ≡ first.old.room }
+    ensures second_room { second.new.room ≡ second.old.room }
+{
+    if let Some(field) = bad_crossing(layout, params) {
+        return Some(field);
+    }
+    let Some(path) = Path::of(layout, params.lane, params.turn) else {
+        return Some(Field::Turn);
+    };
+    let mut table = [TileRect {
+        row0: 0,
+        row1: 0,
+        col0: 0,
+        col1: 0,
+    }; 4097];
+    let count = path.stations().len();
+    match write_trials(layout, params, &path, &mut table[..count], first, second) {
+        Ok(()) => None,
+        Err(SheetFull) => {
+            first.clear();
+            second.clear();
+            Some(Field::Spans)
+        }
+    }
+}
+
+/// A message with the cells of its crossing in two sheets, or with two empty sheets where it is no request or a field of
+/// it is wrong. It is made by `prepare` alone and never changes, so what holds of `prepare`'s answer holds of it.
+#[derive(Drop)]
+pub struct Prepared {
+    message: Message,
+    bad: Option<Field>,
+    first: Sheet,
+    second: Sheet,
+}
+
+impl Model for Prepared {
+    ghost use Rattle.aim_buffers.specs.Requests.{Request};
+
+    ghost Value = { Request };
+
+    ghost view = { λ p. record { message = p.message; bad = p.bad; first = p.first; second = p.second } };
+}
+
+/// Prepares a message for a manager over the layout: finds the field that is wrong, if one is, and writes the cells of
+/// the trials into the two empty sheets. It waits for nothing and takes no memory.
+pub fn prepare(layout: &Layout, message: &Message, first: Sheet, second: Sheet) -> Prepared
+    requires first { first ≡ record { spans = []; room = layout.now.grid.spans } }
+    requires second { second ≡ record { spans = []; room = layout.now.grid.spans } }
+    ensures message { result.message ≡ message.now }
+    ensures prepared { IsPreparedFor layout.now result }
+{
+    match &message.body {
+        Body::Request(params) | Body::Change(_, params) => {
+            prepare_request(layout, message, params, first, second)
+        }
+        Body::Cancel(_) | Body::Done(_) => Prepared {
+            message: *message,
+            bad: None,
+            first,
+            second,
+        },
+    }
+}
+
+// The same for a message that has params.
+fn prepare_request(
+    layout: &Layout,
+    message: &Message,
+    params: &Params,
+    mut first: Sheet,
+    mut second: Sheet,
+) -> Prepared
+    requires asks { params_of message.now.body ≡ Some params.now }
+    requires first { first ≡ record { spans = []; room = layout.now.grid.spans } }
+    requires second { second ≡ record { spans = []; room = layout.now.grid.spans } }
+    ensures message { result.message ≡ message.now }
+    ensures prepared { IsPreparedFor layout.now result }
+{
+    let bad = write_request(layout, params, &mut first, &mut second);
+    Prepared {
+        message: *message,
+        bad,
+        first,
+        second,
+    }
+}
+
+impl Prepared {
+    /// The message.
+    pub fn message(&self) -> &Message
+        ensures { result.now ≡ self.now.message }
+    {
+        &self.message
+    }
+
+    /// The field of the message that is wrong, if one is.
+    pub fn bad(&self) -> Option<Field>
+        ensures { result ≡ self.now.bad }
+    {
+        self.bad
+    }
+
+    /// The cells of the fast trial. None where that trial isn't made, for a message that is no request, and where a field
+    /// is wrong.
+    pub fn cells_a(&self) -> Option<&Sheet>
+        ensures { option_map (λ sheet. sheet.now) result ≡ fast_sheet self.now }
+    {
+        if self.bad.is_some() {
+            return None;
+        }
+        match &self.message.body {
+            Body::Request(params) | Body::Change(_, params) if is_fast_made(params) => Some(
+                &self.first,
+            ),
+            _ => None,
+        }
+    }
+
+    /// The cells of the steady trial. None for a message that is no request, and where a field is wrong.
+    pub fn cells_b(&self) -> Option<&Sheet>
+        ensures { option_map (λ sheet. sheet.now) result ≡ steady_sheet self.now }
+    {
+        if self.bad.is_some() {
+            return None;
+        }
+        match &self.message.body {
+            Body::Request(_) | Body::Change(_, _) => Some(&self.second),
+            Body::Cancel(_) | Body::Done(_) => None,
+        }
+    }
+
+    /// Gives both sheets to the pool.
+    pub fn give_back(self, pool: &mut Pool)
+        requires count { pool.old.count ≤ 1000000 }
+        requires first { self.first.room ≡ pool.old.room }
+        requires second { self.second.room ≡ pool.old.room }
+        ensures { pool.new ≡ record pool.old { count = pool.old.count + 2 } }
+    {
+        let Prepared {
+            message: _,
+            bad: _,
+            first,
+            second,
+        } = self;
+        pool.give(first);
+        pool.give(second);
+    }
+}

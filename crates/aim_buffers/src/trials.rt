@@ -1,0 +1,216 @@
+//! The cells of a trial, written into a sheet.
+
+ghost use Rattle.std.specs.Prelude.{◌≡◌, ℕ, ◌<◌, ◌≤◌, ◌+◌, ◌-◌, ◌*◌, ◌&&◌, min, nat_le, true, [], length, OnErr, OnOk, Some, None, if◌then◌else◌};
+ghost use Rattle.aim_geometry.specs.Bounded.{ceil_div};
+ghost use Rattle.aim_paths.specs.Intersection.{path as path_of, stations};
+ghost use Rattle.aim_rules.specs.Bad.{span_count};
+ghost use Rattle.aim_simulate.specs.Fields.{bad_crossing};
+ghost use Rattle.aim_simulate.specs.Fills.{AreRectsOf};
+ghost use Rattle.aim_simulate.specs.Windows.{AreRects, AreSteady, IsWindow, is_under};
+ghost use Rattle.aim_simulate.specs.Reaches.{AreReaches};
+ghost use Rattle.aim_buffers.specs.Cells.{HaveCells};
+ghost use Rattle.aim_buffers.specs.Moves.{IsMoved, IsTrial, MayMove};
+
+use crate::rows::write_step;
+use aim_geometry::{Grid, TileRect, Times};
+use aim_msg::Params;
+use aim_paths::{Layout, Path};
+use aim_pool::{Sheet, SheetFull};
+use aim_simulate::{Reach, Window, fill_reaches};
+
+// The rows between which the window's tiles lie.
+#[inline]
+fn hull(rects: &[TileRect], is_steady: bool, window: &Window) -> (u8, u8)
+    requires rects { AreRects rects.now }
+    requires steady { is_steady ≡ true → AreSteady rects.now }
+    requires window { IsWindow rects.now window.now }
+    ensures order { result.0 ≤ result.1 }
+    ensures last { result.1 < 64 }
+    ensures rows { (row col : ℕ) → row < 64 → is_under rects.now window.now.low window.now.next row col ≡ true → (result.0 ≤ row) × (row ≤ result.1) }
+{
+    if !is_steady {
+        return (0, 63);
+    }
+    let (a, b) = (rects[window.low], rects[window.next - 1]);
+    (a.row0.min(b.row0), a.row1.max(b.row1))
+}
+
+// Moves the window on to the crossing steps from the one to the other.
+#[inline]
+fn move_on(
+    window: &mut Window,
+    rects: &[TileRect],
+    is_steady: bool,
+    reaches: &[Reach],
+    low: usize,
+    high: usize,
+)
+    requires rects { AreRects rects.now }
+    requires steady { is_steady ≡ true → AreSteady rects.now }
+    requires reaches { AreReaches (length rects.now) reaches.now }
+    requires may { MayMove rects.now reaches.now window.old low high }
+    requires order { low ≤ high }
+    requires high { high < length reaches.now }
+    ensures { IsMoved rects.now reaches.now window.new low high }
+{
+    let (first, last) = (reaches[low].low, reaches[high].high);
+    window.move_to(rects, is_steady, first as usize, last as usize);
+}
+
+// Moves the outer window on to the crossing steps within the edge buffer of step t.
+#[inline]
+fn move_outer(
+    outer: &mut Window,
+    rects: &[TileRect],
+    is_steady: bool,
+    reaches: &[Reach],
+    edge: usize,
+    t: usize,
+)
+    requires rects { AreRects rects.now }
+    requires steady { is_steady ≡ true → AreSteady rects.now }
+    requires reaches { AreReaches (length rects.now) reaches.now }
+    requires edge { edge ≤ 1024 }
+    requires few { length reaches.now ≤ 2048 }
+    requires some { 0 < length reaches.now }
+    requires near { t < length reaches.now + 2 * edge }
+    requires may { MayMove rects.now reaches.now outer.old (t - (edge + edge)) (min (t + edge - edge) (length reaches.now - 1)) }
+    ensures moved { IsMoved rects.now reaches.now outer.new (t - (edge + edge)) (min (t + edge - edge) (length reaches.now - 1)) }
+    ensures may { MayMove rects.now reaches.now outer.new (t + 1 - (edge + edge)) (min (t + 1 + edge - edge) (length reaches.now - 1)) }
+{
+    let high = t.min(reaches.len() - 1);
+    move_on(
+        outer,
+        rects,
+        is_steady,
+        reaches,
+        t.saturating_sub(2 * edge),
+        high,
+    );
+}
+
+// Moves the inner window on to the crossing steps within the early and late buffers of step t, if there are any.
+#[inline]
+fn move_inner(
+    inner: &mut Window,
+    rects: &[TileRect],
+    is_steady: bool,
+    reaches: &[Reach],
+    times: &Times,
+    t: usize,
+) -> bool
+    requires rects { AreRects rects.now }
+    requires steady { is_steady ≡ true → AreSteady rects.now }
+    requires reaches { AreReaches (length rects.now) reaches.now }
+    requires edge { times.now.edge ≤ 1024 }
+    requires early { times.now.early ≤ times.now.edge }
+    requires late { times.now.late ≤ times.now.edge }
+    requires few { length reaches.now ≤ 2048 }
+    requires some { 0 < length reaches.now }
+    requires near { t < length reaches.now + 2 * times.now.edge }
+    requires may { MayMove rects.now reaches.now inner.old (t - (times.now.edge + times.now.late)) (min (t + times.now.early - times.now.edge) (length reaches.now - 1)) }
+    ensures shown { result ≡ (nat_le times.now.edge (t + times.now.early) && nat_le t (length reaches.now - 1 + times.now.edge + times.now.late)) }
+    ensures moved { result ≡ true → IsMoved rects.now reaches.now inner.new (t - (times.now.edge + times.now.late)) (min (t + times.now.early - times.now.edge) (length reaches.now - 1)) }
+    ensures may { MayMove rects.now reaches.now inner.new (t + 1 - (times.now.edge + times.now.late)) (min (t + 1 + times.now.early - times.now.edge) (length reaches.now - 1)) }
+{
+    let (early, late, edge) = (
+        times.early as usize,
+        times.late as usize,
+        times.edge as usize,
+    );
+    let end = reaches.len() - 1;
+    if t + early < edge || end + edge + late < t {
+        return false;
+    }
+    let high = (t + early - edge).min(end);
+    move_on(
+        inner,
+        rects,
+        is_steady,
+        reaches,
+        t.saturating_sub(edge + late),
+        high,
+    );
+    true
+}
+
+// The rows, or others that have no tile.
+#[inline]
+fn rows_or<'a>(shown: bool, rows: &'a [u64; 64], none: &'a [u64; 64]) -> &'a [u64; 64]
+    ensures { result.now ≡ (if shown then rows.now else none.now) }
+{
+    if shown { rows } else { none }
+}
+
+// Writes the cells of a trial into an empty sheet, step by step.
+fn write_cells(
+    sheet: &mut Sheet,
+    layout: &Layout,
+    params: &Params,
+    fast: bool,
+    rects: &[TileRect],
+    is_steady: bool,
+    reaches: &[Reach],
+) -> Result<(), SheetFull>
+    requires trial { IsTrial layout.now params.now fast rects.now reaches.now }
+    requires steady { is_steady ≡ true → AreSteady rects.now }
+    requires empty { sheet.old.spans ≡ [] }
+    ensures cells { OnOk result (HaveCells layout.now params.now fast sheet.new.spans) }
+    ensures count { OnOk result (length sheet.new.spans ≡ span_count layout.now params.now fast) }
+    ensures full { OnErr result (sheet.old.room < span_count layout.now params.now fast) }
+    ensures room { sheet.new.room ≡ sheet.old.room }
+{
+    let ground = layout.ground();
+    let n = ground.grid().n as u8;
+    let times = ground.times();
+    let edge = times.edge as usize;
+    let arrive = params.arrive as usize;
+    let none = [0; 64];
+    let mut inner = Window::first(rects);
+    let mut outer = Window::first(rects);
+    for t in edge.saturating_sub(arrive)..reaches.len() + 2 * edge {
+        move_outer(&mut outer, rects, is_steady, reaches, edge, t);
+        let shown = move_inner(&mut inner, rects, is_steady, reaches, &times, t);
+        let (first, last) = hull(rects, is_steady, &outer);
+        let rows = rows_or(shown, &inner.rows, &none);
+        let step = (arrive + t - edge) as u32;
+        write_step(sheet, n, step, first, last, rows, &outer.rows)?;
+    }
+    Ok(())
+}
+
+/// Writes the cells of a trial into an empty sheet.
+pub fn write_trial(
+    sheet: &mut Sheet,
+    layout: &Layout,
+    params: &Params,
+    fast: bool,
+    path: &Path,
+    rects: &[TileRect],
+    is_steady: bool,
+) -> Result<(), SheetFull>
+    requires good { bad_crossing layout.now params.now ≡ None }
+    requires found { path_of layout.now params.now.lane params.now.turn ≡ Some path.now }
+    requires round { AreRectsOf layout.now.grid (ceil_div params.now.width 2 + layout.now.grid.spacing + layout.now.grid.fixed) (stations layout.now params.now.lane params.now.turn) rects.now }
+    requires steady { is_steady ≡ true → AreSteady rects.now }
+    requires empty { sheet.old.spans ≡ [] }
+    ensures cells { OnOk result (HaveCells layout.now params.now fast sheet.new.spans) }
+    ensures fits { OnOk result (span_count layout.now params.now fast ≤ sheet.old.room) }
+    ensures full { OnErr result (sheet.old.room < span_count layout.now params.now fast) }
+    ensures room { sheet.new.room ≡ sheet.old.room }
+{
+    let _ground = layout.ground();
+    let mut reaches = [Reach { low: 0, high: 0 }; 2048];
+    let count = fill_reaches(layout, params, fast, path.parts(), &mut reaches);
+    write_cells(
+        sheet,
+        layout,
+        params,
+        fast,
+        rects,
+        is_steady,
+        &reaches[..count],
+    )?;
+    let _spans = sheet.spans();
+    Ok(())
+}
