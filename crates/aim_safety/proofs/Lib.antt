@@ -1,3 +1,4 @@
+pub mod Rows
 pub mod PlaceLemmas
 pub mod AnswerLemmas
 pub mod HeldLemmas
@@ -7,3 +8,6 @@ pub mod OccupiedLemmas
 pub mod GreenLemmas
 pub mod MeetLemmas
 pub mod TraceLemmas
+pub mod FootprintLemmas
+pub mod PassageLemmas
+pub mod ListLemmas

@@ -1,5 +1,5 @@
 -- The tiles on which a driver is are cells that it was granted.
-use Rattle.std.proofs.Common.{◌≡◌, ℕ, ◌+◌, ◌-◌, ◌*◌, ◌≤◌, Bool, true, false, ◌&&◌, ◌||◌, nat_lt, nat_le, List, [], ◌∷◌, Option, Some, None, is_none, arith, refl, sym, ap, slice_get}
+use Rattle.std.proofs.Common.{◌<◌, ◌≡◌, ℕ, ◌+◌, ◌-◌, ◌*◌, ◌≤◌, Bool, true, false, ◌&&◌, ◌||◌, nat_lt, nat_le, List, [], ◌∷◌, Option, Some, None, is_none, arith, refl, sym, ap, slice_get}
 use Rattle.std.specs.Prelude.{◌==◌, if◌then◌else◌, option_map}
 use Rattle.std.specs.List.{list_any}
 use Rattle.aim_msg.specs.declared.messages.Params.{Params}
@@ -8,6 +8,7 @@ use Rattle.aim_geometry.specs.declared.ground.Grid.{Grid}
 use Rattle.aim_geometry.specs.declared.stations.Station.{Station}
 use Rattle.aim_geometry.specs.Bounded.{ceil_div}
 use Rattle.aim_geometry.specs.Ground.{tile_of, meets, is_touched, is_edge}
+use Rattle.aim_geometry.proofs.TouchLemmas.{any_touched_inside}
 use Rattle.aim_geometry.proofs.BoundedLemmas.{some_below_at, some_below_found}
 use Rattle.aim_paths.specs.Intersection.{Intersection}
 use Rattle.aim_rules.specs.Footprint.{crossing_steps, covered, in_footprint}
@@ -103,3 +104,7 @@ grant_is i e p g asks h = go (is_confirm e.reply && is_none (bad i p)) (rw asks 
     go : (b : Bool) → (if b then Some (record { params = p; fast = is_fast e.reply }) else None) ≡ Some g → g ≡ record { params = p; fast = is_fast e.reply }
     go true h = sym (some_same (record { params = p; fast = is_fast e.reply }) g h)
     go false h = absurd (cc)
+
+-- a tile under the vehicle is one of the grid
+pub inside_grid : (i : Intersection) (p : Params) (fast : Bool) (extra k row col : ℕ) → in_footprint i p fast extra k row col ≡ true → (row < i.grid.n) × (col < i.grid.n)
+inside_grid i p fast extra k row col h = any_touched_inside i.grid (ceil_div p.width 2 + i.grid.spacing + extra) (covered i p fast k) row col h

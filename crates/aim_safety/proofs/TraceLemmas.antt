@@ -1,5 +1,5 @@
 -- Lists of tiles, one more at a time.
-use Rattle.std.proofs.Common.{◌≡◌, ℕ, zero, suc, ◌+◌, ◌-◌, ◌<◌, ◌≤◌, Bool, true, false, cond, List, [], ◌∷◌, ◌++◌, length, get_or, filter, map, arith, refl, sym, ap, ◌∙◌, append_assoc}
+use Rattle.std.proofs.Common.{◌≡◌, ℕ, zero, suc, ◌+◌, ◌-◌, Bool, true, false, cond, List, [], ◌∷◌, ◌++◌, get_or, filter, map, arith, refl, sym, ap, ◌∙◌, append_assoc}
 use Rattle.std.specs.Prelude.{flat_map}
 use Rattle.std.specs.List.{range_with_len}
 use Rattle.std.proofs.lemmas.Grind.{flat_map-append}
@@ -9,7 +9,7 @@ use Rattle.std.proofs.lemmas.List.FromFn.{filter_of_map_range_with_len_more}
 use Rattle.aim_geometry.specs.Rects.{has_bit}
 use Rattle.aim_rules.specs.Cells as rules
 use Rattle.aim_safety.specs.declared.cells.Cell.{Cell}
-use Rattle.aim_safety.specs.Tiles.{cell_of, of_tile, of_row, of_rows}
+use Rattle.aim_safety.specs.Tiles.{cell_of, of_tile}
 use Rattle.aim_safety.specs.Traces.{is_traced}
 
 range_more : (a n : ℕ) → range_with_len a (n + 1) ≡ range_with_len a n ++ (a + n) ∷ []

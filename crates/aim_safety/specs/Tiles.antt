@@ -1,5 +1,5 @@
 -- The list of the tiles on which a driver is.
-use Rattle.std.specs.Prelude.{◌≡◌, ℕ, ◌≤◌, List, [], map, filter, flat_map, slice_get, Option, Some, None}
+use Rattle.std.specs.Prelude.{◌≡◌, ◌⊎◌, ℕ, ◌<◌, ◌≤◌, List, [], ◌∷◌, map, filter, flat_map, slice_get, Option, Some, None}
 use Rattle.std.specs.List.{range_with_len}
 use Rattle.aim_msg.specs.declared.entries.Entry.{Entry}
 use Rattle.aim_paths.specs.Intersection.{Intersection}
@@ -30,6 +30,15 @@ cells_of_passage i (Some x) =
 -- the tiles on which the driver is, by row, column and step, each once
 abbrev pub occupied_cells : Intersection → List Entry → List LogItem → List rules.Cell
 occupied_cells i h log = cells_of_passage i (passage i h log)
+
+-- by row, then by column, then by step
+abbrev pub Precedes : rules.Cell → rules.Cell → Type 0
+Precedes c d = (c.row < d.row) ⊎ ((c.row ≡ d.row) × (c.col < d.col)) ⊎ ((c.row ≡ d.row) × (c.col ≡ d.col) × (c.step < d.step))
+
+-- each cell precedes all that stand behind it
+abbrev pub IsRising : List rules.Cell → Type 0
+IsRising [] = Unit {0}
+IsRising (c ∷ cs) = ((d : rules.Cell) → rules.IsIn d cs → Precedes c d) × IsRising cs
 
 -- what a cell of the code is
 abbrev pub cell_of : Cell → rules.Cell

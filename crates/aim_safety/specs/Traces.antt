@@ -19,5 +19,4 @@ is_traced steps first c = tile_at (slice_index_or steps (c.step - first) []) c.r
 -- the masks show the tiles of so many crossing steps
 pub record AreFootprints (i : Intersection) (p : Params) (fast : Bool) (count : ℕ) (steps : List (List ℕ)) : Type 0 where
   pub all : length steps ≡ count
-  pub words : (k : ℕ) → k < count → length (slice_index_or steps k []) ≡ 64
   pub tiles : (k row col : ℕ) → k < count → row < 64 → col < 64 → tile_at (slice_index_or steps k []) row col ≡ in_footprint i p fast 0 k row col

@@ -2,8 +2,11 @@
 #![tactic(auto)]
 
 mod cells;
+mod grants;
 pub mod laws;
+mod passages;
 mod traces;
 
 pub use cells::Cell;
+pub use passages::occupied;
 pub use std::alloc::AllocError as NoMemory;
