@@ -1,5 +1,5 @@
 -- The crossing that a driver makes, found step by step.
-use Rattle.std.proofs.Common.{◌≡◌, ℕ, zero, suc, Bool, true, false, List, [], ◌∷◌, Option, Some, None, is_none, ap, ◌∙◌, slice_get}
+use Rattle.std.proofs.Common.{◌≤◌, arith, ◌≡◌, ℕ, zero, suc, Bool, true, false, List, [], ◌∷◌, Option, Some, None, is_none, ap, ◌∙◌, slice_get}
 use Rattle.std.specs.Prelude.{◌&&◌, if◌then◌else◌, option_map}
 use Rattle.aim_msg.specs.declared.messages.Params.{Params}
 use Rattle.aim_msg.specs.declared.replies.Reply.{Reply}
@@ -11,15 +11,16 @@ use Rattle.aim_rules.specs.Holds.{is_fast}
 use Rattle.aim_driver.specs.declared.logs.Entrance.{Entrance}
 use Rattle.aim_driver.specs.declared.logs.LogItem.{LogItem}
 use Rattle.aim_driver.specs.declared.logs.LogItem.TheVariants as item
+use Rattle.aim_safety.specs.Tiles.{EntersBy}
 use Rattle.aim_safety.specs.Occupied.{Grant, entrance, params_in, grant_with, grant_of, passage_from, passage}
 use Rattle.aim_safety.proofs.PlaceLemmas.{some_same}
 
--- where the driver entered stands in its log
-pub entrance_stands : (log : List LogItem) (t : Entrance) → entrance log ≡ Some t → (k : ℕ) × (slice_get log k ≡ Some (item.Entered t.step t.id))
-entrance_stands [] t e = absurd (cc)
-entrance_stands (item.Sent step m ∷ xs) t e = let r = entrance_stands xs t e in (suc r.0, r.1)
-entrance_stands (item.Got step seq r ∷ xs) t e = let r = entrance_stands xs t e in (suc r.0, r.1)
-entrance_stands (item.Entered step id ∷ xs) t e = (zero, ap (λ (t : Entrance). Some (item.Entered t.step t.id)) (some_same (record { step = step; id = id }) t e))
+-- the first step at which the driver entered is one of those
+pub entrance_by : (most : ℕ) (log : List LogItem) (t : Entrance) → EntersBy most log → entrance log ≡ Some t → t.step ≤ most
+entrance_by most [] t h e = absurd (cc)
+entrance_by most (item.Sent step m ∷ xs) t h e = entrance_by most xs t h e
+entrance_by most (item.Got step seq r ∷ xs) t h e = entrance_by most xs t h e
+entrance_by most (item.Entered step id ∷ xs) t h e = let l = h.0 in let s : step ≡ t.step = ap (λ (t : Entrance). t.step) (some_same (record { step = step; id = id }) t e) in omega arith
 
 granted : (i : Intersection) (r : Reply) (p : Params) (fast : Bool) → (if is_confirm r then Some (is_fast r) else None) ≡ Some fast → bad i p ≡ None → grant_with i r (Some p) ≡ Some (record { params = p; fast = fast })
 granted i r p fast trial good = go (is_confirm r) trial

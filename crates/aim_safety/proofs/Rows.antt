@@ -3,6 +3,7 @@ use Rattle.std.proofs.Common.{ℕ, List, [], ◌∷◌, map}
 use Rattle.std.specs.List.{range_with_len}
 use Rattle.aim_rules.specs.Cells.{Cell}
 pub mod Drives
+pub mod Whole
 
 -- a tile from one step to another
 abbrev pub on : ℕ → ℕ → ℕ → ℕ → List Cell

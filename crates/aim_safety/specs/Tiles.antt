@@ -1,5 +1,5 @@
 -- The list of the tiles on which a driver is.
-use Rattle.std.specs.Prelude.{◌≡◌, ◌⊎◌, ℕ, ◌<◌, ◌≤◌, List, [], ◌∷◌, map, filter, flat_map, slice_get, Option, Some, None}
+use Rattle.std.specs.Prelude.{◌≡◌, ◌⊎◌, ℕ, ◌<◌, ◌≤◌, List, [], ◌∷◌, map, filter, flat_map, Option, Some, None}
 use Rattle.std.specs.List.{range_with_len}
 use Rattle.aim_msg.specs.declared.entries.Entry.{Entry}
 use Rattle.aim_paths.specs.Intersection.{Intersection}
@@ -46,4 +46,7 @@ cell_of c = record { row = c.row; col = c.col; step = c.step }
 
 -- each step at which the driver entered is at most that one
 abbrev pub EntersBy : ℕ → List LogItem → Type 0
-EntersBy most log = (k step id : ℕ) → slice_get log k ≡ Some (item.Entered step id) → step ≤ most
+EntersBy most [] = Unit {0}
+EntersBy most (item.Sent step m ∷ xs) = EntersBy most xs
+EntersBy most (item.Got step seq r ∷ xs) = EntersBy most xs
+EntersBy most (item.Entered step id ∷ xs) = (step ≤ most) × EntersBy most xs

@@ -6,13 +6,11 @@ use Rattle.aim_rules.specs.Bad.{bad}
 use Rattle.aim_driver.proofs.SmallFacts.{is_none_of}
 use Rattle.aim_safety.specs.Occupied.{Passage}
 use Rattle.aim_safety.specs.Tiles.{cell_of, cells_of_passage}
-use Rattle.aim_safety.proofs.PassageLemmas.{entrance_stands, passage_found}
+use Rattle.aim_safety.proofs.PassageLemmas.{entrance_by, passage_found}
 use Rattle.aim_safety.proofs.passages.occupied.Goals as goal
 
 pub passage_cells-requires-clause-step : goal.passage_cells-requires-clause-step
-passage_cells-requires-clause-step c =
-    let s = entrance_stands c.args.log.now c.in-Some.entrance (sym c.in-Some.ensures) in
-    c.requires s.0 c.in-Some.entrance.step c.in-Some.entrance.id s.1
+passage_cells-requires-clause-step c = entrance_by 2147483648 c.args.log.now c.in-Some.entrance c.requires (sym c.in-Some.ensures)
 
 pub returns : goal.returns
 returns c =
