@@ -3,9 +3,9 @@
 
 Usage: tiles_apart.py [FILE ..]     (with no file: standard input)
 
-It reads the lines `tiles VEHICLE ROW COL FROM TO` alone, which say that a vehicle is on a tile from one step to another,
-both included. It ends with 0 where no two vehicles share a (row, column, step), with 1 at the first that do, and with 2
-where a text has no such line, has one that is not of that form, or lacks its last line `end N`.
+It reads the lines `tiles VEHICLE ROW COL FROM TO` alone, which say that a vehicle is on a tile from one step to
+another, both included. It ends with 0 where no two vehicles share a (row, column, step), with 1 where two do, and with
+2 where a text has no such line, has one that is not of that form, or lacks its last line `end N`.
 """
 
 import sys
