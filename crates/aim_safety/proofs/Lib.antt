@@ -1,0 +1,13 @@
+pub mod Rows
+pub mod PlaceLemmas
+pub mod AnswerLemmas
+pub mod HeldLemmas
+pub mod EntranceLemmas
+pub mod CrossLemmas
+pub mod OccupiedLemmas
+pub mod GreenLemmas
+pub mod MeetLemmas
+pub mod TraceLemmas
+pub mod FootprintLemmas
+pub mod PassageLemmas
+pub mod ListLemmas

@@ -1,0 +1,15 @@
+use Rattle.std.proofs.Common.{ap, map, sym, ◌∙◌, true, false}
+use Rattle.aim_safety.specs.Tiles.{cell_of}
+use Rattle.aim_safety.proofs.TraceLemmas.{step_more}
+use Rattle.aim_safety.proofs.traces.push_steps.Goals as goal
+use Rattle.aim_safety.proofs.traces.push_steps.Goals.{then-has_tile+in_ok-push, else-has_tile}
+
+pub loop-k-preserved : goal.loop-k-preserved
+loop-k-preserved c = elim c.if-has_tile.branch [
+  | then-has_tile+in_ok-push w ↦
+      step_more c.args.steps.now c.args.first c.loop-k.k c.args.row c.args.col c.loop-k.cells.items c.if-has_tile.cells.items (map cell_of c.args.cells.now.items) true
+      (sym w.if-has_tile.true ∙ c.has_tile.ensures) c.loop-k.invariant (ap (λ v. v.items) w.cells-is ∙ w.in_ok-push.ensures.items)
+  | else-has_tile w ↦
+      step_more c.args.steps.now c.args.first c.loop-k.k c.args.row c.args.col c.loop-k.cells.items c.if-has_tile.cells.items (map cell_of c.args.cells.now.items) false
+      (sym w.if-has_tile.false ∙ c.has_tile.ensures) c.loop-k.invariant (ap (λ v. v.items) w.cells-is)
+]

@@ -1,0 +1,3 @@
+pub mod Occupied
+pub mod Tiles
+pub mod Traces

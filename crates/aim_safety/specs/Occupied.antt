@@ -1,0 +1,66 @@
+-- The tiles on which a driver is, step by step.
+use Rattle.std.specs.Prelude.{ℕ, ◌+◌, Bool, false, ◌&&◌, ◌==◌, List, [], ◌∷◌, Option, Some, None, is_none, option_and_then, option_map, slice_get, if◌then◌else◌}
+use Rattle.aim_msg.specs.declared.messages.Params.{Params}
+use Rattle.aim_msg.specs.declared.replies.Reply.{Reply}
+use Rattle.aim_msg.specs.declared.entries.Entry.{Entry}
+use Rattle.aim_geometry.specs.Bounded.{some_below}
+use Rattle.aim_paths.specs.Intersection.{Intersection}
+use Rattle.aim_rules.specs.Footprint.{crossing_steps, in_footprint}
+use Rattle.aim_rules.specs.Cells.{Cell}
+use Rattle.aim_rules.specs.Bad.{bad}
+use Rattle.aim_rules.specs.History.{message_of, params_of, is_confirm}
+use Rattle.aim_rules.specs.Holds.{is_fast}
+use Rattle.aim_driver.specs.declared.logs.Entrance.{Entrance}
+use Rattle.aim_driver.specs.declared.logs.LogItem.{LogItem}
+use Rattle.aim_driver.specs.declared.logs.LogItem.TheVariants as item
+
+-- where the driver entered first
+abbrev pub entrance : List LogItem → Option Entrance
+entrance [] = None
+entrance (item.Sent step m ∷ xs) = entrance xs
+entrance (item.Got step seq r ∷ xs) = entrance xs
+entrance (item.Entered step id ∷ xs) = Some (record { step = step; id = id })
+
+-- the params of a REQUEST or a CHANGE-REQUEST
+abbrev pub params_in : Entry → Option Params
+params_in e = option_and_then (λ m. params_of m.body) (message_of e.act)
+
+-- what a Confirm grants: the params, and which trial
+pub record Grant : Type 0 where
+  pub params : Params
+  pub fast : Bool
+
+abbrev pub grant_with : Intersection → Reply → Option Params → Option Grant
+grant_with i r None = None
+grant_with i r (Some p) = if is_confirm r && is_none (bad i p) then Some (record { params = p; fast = is_fast r }) else None
+
+-- what the entry grants, if there is one and its reply is a Confirm of params of which no field is wrong
+abbrev pub grant_of : Intersection → Option Entry → Option Grant
+grant_of i None = None
+grant_of i (Some e) = grant_with i e.reply (params_in e)
+
+-- a crossing: the step at which it began, and what was granted for it
+pub record Passage : Type 0 where
+  pub step : ℕ
+  pub grant : Grant
+
+-- the crossing that the driver makes: it begins where it entered first, on what the history granted there
+abbrev pub passage_from : Intersection → List Entry → Option Entrance → Option Passage
+passage_from i h None = None
+passage_from i h (Some t) = option_map (λ g. record { step = t.step; grant = g }) (grant_of i (slice_get h t.id))
+
+abbrev pub passage : Intersection → List Entry → List LogItem → Option Passage
+passage i h log = passage_from i h (entrance log)
+
+-- whether the crossing is on the tile in that step: the tile is under the vehicle in the crossing step of that time
+abbrev pub is_on : Intersection → Passage → Cell → Bool
+is_on i x c =
+    some_below (crossing_steps i x.grant.params x.grant.fast) (λ k. c.step == x.step + k && in_footprint i x.grant.params x.grant.fast 0 k c.row c.col)
+
+abbrev pub is_occupied_by : Intersection → Option Passage → Cell → Bool
+is_occupied_by i None c = false
+is_occupied_by i (Some x) c = is_on i x c
+
+-- whether the driver is on the tile in that step
+abbrev pub is_occupied : Intersection → List Entry → List LogItem → Cell → Bool
+is_occupied i h log c = is_occupied_by i (passage i h log) c

@@ -1,0 +1,81 @@
+//! The tiles on which a driver is.
+
+ghost use Rattle.std.specs.Prelude.{◌≡◌, ℕ, ◌≤◌, IfOk, None, Some, false, map};
+ghost use Rattle.aim_rules.specs.Bad.{bad};
+ghost use Rattle.aim_safety.specs.Tiles.{EntersBy, cell_of, cells_of_passage, occupied_cells};
+ghost use Rattle.aim_safety.specs.Traces.{AreFootprints};
+ghost use Rattle.aim_rules.specs.Footprint.{crossing_steps};
+
+use crate::NoMemory;
+use crate::cells::Cell;
+use crate::grants::{are_good, entrance, granted_trial, params_in};
+use crate::traces::{Trace, push_tiles};
+use aim_driver::LogItem;
+use aim_msg::{Entry, Params};
+use aim_paths::Layout;
+use aim_simulate::simulate;
+use std::alloc::{AllocError, Global};
+
+// The tiles under the vehicle in each crossing step.
+fn footprints(
+    alloc: Global,
+    layout: &Layout,
+    params: &Params,
+    fast: bool,
+) -> Result<Vec<[u64; 64]>, NoMemory>
+    requires { bad layout.now params.now ≡ None }
+    ensures { IfOk result (λ steps. AreFootprints layout.now params.now fast (crossing_steps layout.now params.now fast) steps.items) }
+{
+    let mut trace = Trace {
+        steps: Vec::new(alloc),
+        is_cut: false,
+    };
+    let _steps = simulate(layout, params, fast, 0, &mut trace);
+    let Trace { steps, is_cut } = trace;
+    if is_cut { Err(AllocError) } else { Ok(steps) }
+}
+
+// The tiles of a crossing that begins at a step.
+fn passage_cells(
+    alloc: Global,
+    layout: &Layout,
+    params: &Params,
+    fast: bool,
+    step: u32,
+) -> Result<Vec<Cell>, NoMemory>
+    requires good { bad layout.now params.now ≡ None }
+    requires step { step ≤ 2147483648 }
+    ensures { IfOk result (λ cells. map cell_of cells.items ≡ cells_of_passage layout.now (Some (record { step = step; grant = record { params = params.now; fast = fast } }))) }
+{
+    let steps = footprints(alloc, layout, params, fast)?;
+    let mut cells = Vec::new(alloc);
+    push_tiles(&mut cells, &steps, step, layout.ground().grid().n as u8)?;
+    Ok(cells)
+}
+
+/// The tiles on which a driver is, and the steps in which it is on each, in order of row, column and step: those under
+/// its vehicle in a crossing that begins at the step at which it entered first, on what the entry of that id grants. There
+/// is none where it has not entered, where there is no such entry, and where that grants nothing.
+pub fn occupied(
+    alloc: Global,
+    layout: &Layout,
+    journal: &[Entry],
+    log: &[LogItem],
+) -> Result<Vec<Cell>, NoMemory>
+    requires { EntersBy 2147483648 log.now }
+    ensures { IfOk result (λ cells. map cell_of cells.items ≡ occupied_cells layout.now journal.now log.now) }
+{
+    let Some(entrance) = entrance(log) else {
+        return Ok(Vec::new(alloc));
+    };
+    let Some(entry) = journal.get(entrance.id as usize) else {
+        return Ok(Vec::new(alloc));
+    };
+    let (Some(params), Some(fast)) = (params_in(entry), granted_trial(&entry.reply)) else {
+        return Ok(Vec::new(alloc));
+    };
+    if !are_good(alloc, layout, &params)? {
+        return Ok(Vec::new(alloc));
+    }
+    passage_cells(alloc, layout, &params, fast, entrance.step)
+}

@@ -1,0 +1,5 @@
+//! Tests of the call of `aim_safety`: where drivers are.
+#![tactic(auto)]
+
+#[cfg(test)]
+mod tiles;
