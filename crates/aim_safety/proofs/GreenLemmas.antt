@@ -6,7 +6,8 @@ use Rattle.aim_msg.specs.declared.messages.Params.{Params}
 use Rattle.aim_msg.specs.declared.entries.Entry.{Entry}
 use Rattle.aim_msg.specs.declared.replies.Reason.TheVariants as reason
 use Rattle.aim_paths.specs.Intersection.{Intersection}
-use Rattle.aim_rules.specs.Cells.{Cell, IsIn, cells}
+use Rattle.aim_geometry.specs.Cells.{Cell}
+use Rattle.aim_rules.specs.Cells.{IsIn, cells}
 use Rattle.aim_rules.specs.Claims.{green}
 use Rattle.aim_rules.specs.History.{now_of}
 use Rattle.aim_rules.specs.Holds.{reservations, taken_by}

@@ -7,7 +7,8 @@ use Rattle.aim_msg.specs.declared.entries.Entry.{Entry}
 use Rattle.aim_geometry.proofs.BoundedLemmas.{some_below_found}
 use Rattle.aim_paths.specs.Intersection.{Intersection}
 use Rattle.aim_rules.specs.Footprint.{crossing_steps, in_footprint}
-use Rattle.aim_rules.specs.Cells.{Cell, IsIn}
+use Rattle.aim_geometry.specs.Cells.{Cell}
+use Rattle.aim_rules.specs.Cells.{IsIn}
 use Rattle.aim_rules.proofs.CellLemmas.{IsIn-filter, IsIn-from_filter, IsIn-append, IsIn-from_append}
 use Rattle.aim_rules.proofs.TestLemmas.{and_left, and_right, same_number}
 use Rattle.aim_driver.specs.declared.logs.LogItem.{LogItem}

@@ -10,7 +10,8 @@ use Rattle.aim_msg.specs.declared.entries.Entry.{Entry}
 use Rattle.aim_msg.specs.declared.entries.Act.TheVariants as act
 use Rattle.aim_paths.specs.Intersection.{Intersection}
 use Rattle.aim_paths.specs.Valid.{IsValid}
-use Rattle.aim_rules.specs.Cells.{Cell, in_cells}
+use Rattle.aim_geometry.specs.Cells.{Cell}
+use Rattle.aim_rules.specs.Cells.{in_cells}
 use Rattle.aim_rules.specs.Claims.{green}
 use Rattle.aim_rules.specs.History.{Fresh, fresh, is_fresh, is_fresh_seq, now_of, params_of}
 use Rattle.aim_rules.specs.Holds.{is_fast, is_granted, is_granted_with}

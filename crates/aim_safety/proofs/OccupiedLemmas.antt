@@ -12,7 +12,8 @@ use Rattle.aim_geometry.proofs.TouchLemmas.{any_touched_inside}
 use Rattle.aim_geometry.proofs.BoundedLemmas.{some_below_at, some_below_found}
 use Rattle.aim_paths.specs.Intersection.{Intersection}
 use Rattle.aim_rules.specs.Footprint.{crossing_steps, covered, in_footprint}
-use Rattle.aim_rules.specs.Cells.{Cell, is_buffered, in_cells}
+use Rattle.aim_geometry.specs.Cells.{Cell}
+use Rattle.aim_rules.specs.Cells.{is_buffered, in_cells}
 use Rattle.aim_rules.specs.Bad.{bad}
 use Rattle.aim_rules.specs.History.{is_confirm}
 use Rattle.aim_rules.specs.Holds.{is_fast}

@@ -1,7 +1,7 @@
 -- Worked rows: where drivers are, which logs fit a history, and that the premises of the law of safety can be met.
 use Rattle.std.proofs.Common.{ℕ, List, [], ◌∷◌, map}
 use Rattle.std.specs.List.{range_with_len}
-use Rattle.aim_rules.specs.Cells.{Cell}
+use Rattle.aim_geometry.specs.Cells.{Cell}
 pub mod Drives
 pub mod Whole
 

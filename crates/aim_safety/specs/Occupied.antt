@@ -6,7 +6,7 @@ use Rattle.aim_msg.specs.declared.entries.Entry.{Entry}
 use Rattle.aim_geometry.specs.Bounded.{some_below}
 use Rattle.aim_paths.specs.Intersection.{Intersection}
 use Rattle.aim_rules.specs.Footprint.{crossing_steps, in_footprint}
-use Rattle.aim_rules.specs.Cells.{Cell}
+use Rattle.aim_geometry.specs.Cells.{Cell}
 use Rattle.aim_rules.specs.Bad.{bad}
 use Rattle.aim_rules.specs.History.{message_of, params_of, is_confirm}
 use Rattle.aim_rules.specs.Holds.{is_fast}

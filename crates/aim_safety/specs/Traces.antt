@@ -4,7 +4,7 @@ use Rattle.aim_msg.specs.declared.messages.Params.{Params}
 use Rattle.aim_geometry.specs.Rects.{tile_at}
 use Rattle.aim_paths.specs.Intersection.{Intersection}
 use Rattle.aim_rules.specs.Footprint.{in_footprint}
-use Rattle.aim_rules.specs.Cells.{Cell}
+use Rattle.aim_geometry.specs.Cells.{Cell}
 use Rattle.aim_safety.specs.declared.traces.Trace.{Trace}
 
 -- the masks of one more step stand behind those of the steps before it, unless memory was wanting

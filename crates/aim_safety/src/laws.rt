@@ -4,7 +4,8 @@ ghost use Rattle.std.specs.Prelude.{◌≡◌, ◌≢◌, ◌↔◌, ℕ, true, 
 ghost use Rattle.aim_msg.specs.declared.entries.Entry.{Entry};
 ghost use Rattle.aim_paths.specs.Intersection.{Intersection};
 ghost use Rattle.aim_paths.specs.Valid.{IsValid};
-ghost use Rattle.aim_rules.specs.Cells.{Cell, IsIn};
+ghost use Rattle.aim_geometry.specs.Cells.{Cell};
+ghost use Rattle.aim_rules.specs.Cells.{IsIn};
 ghost use Rattle.aim_rules.specs.Claims.{green};
 ghost use Rattle.aim_rules.specs.Legal.{IsLegal};
 ghost use Rattle.aim_driver.specs.declared.logs.LogItem.{LogItem};
