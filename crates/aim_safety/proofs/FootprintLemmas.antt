@@ -16,7 +16,7 @@ use Rattle.aim_geometry.proofs.BoundedLemmas.{some_below_at, some_below_none}
 use Rattle.aim_paths.specs.Intersection.{Intersection}
 use Rattle.aim_rules.specs.Footprint.{crossing_steps, in_footprint}
 use Rattle.aim_rules.specs.Bad.{bad, needs_too_many_spans}
-use Rattle.aim_rules.specs.Cells as rules
+use Rattle.aim_geometry.specs.Cells as rules
 use Rattle.aim_rules.proofs.FreeLemmas.{first_none}
 use Rattle.aim_rules.proofs.TestLemmas.{both}
 use Rattle.aim_simulate.specs.declared.visits.RowRange.{RowRange}

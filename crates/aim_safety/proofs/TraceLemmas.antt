@@ -7,7 +7,7 @@ use Rattle.std.proofs.lemmas.List.{append-nil, map-append}
 use Rattle.std.proofs.lemmas.List.Elements.{filter-append}
 use Rattle.std.proofs.lemmas.List.FromFn.{filter_of_map_range_with_len_more}
 use Rattle.aim_geometry.specs.Rects.{has_bit}
-use Rattle.aim_rules.specs.Cells as rules
+use Rattle.aim_geometry.specs.Cells as rules
 use Rattle.aim_safety.specs.declared.cells.Cell.{Cell}
 use Rattle.aim_safety.specs.Tiles.{cell_of, of_tile}
 use Rattle.aim_safety.specs.Traces.{is_traced}

@@ -4,7 +4,8 @@ use Rattle.std.specs.List.{range_with_len}
 use Rattle.aim_msg.specs.declared.entries.Entry.{Entry}
 use Rattle.aim_paths.specs.Intersection.{Intersection}
 use Rattle.aim_rules.specs.Footprint.{crossing_steps}
-use Rattle.aim_rules.specs.Cells as rules
+use Rattle.aim_geometry.specs.Cells as rules
+use Rattle.aim_rules.specs.Cells.{IsIn}
 use Rattle.aim_driver.specs.declared.logs.LogItem.{LogItem}
 use Rattle.aim_driver.specs.declared.logs.LogItem.TheVariants as item
 use Rattle.aim_safety.specs.declared.cells.Cell.{Cell}
@@ -38,7 +39,7 @@ Precedes c d = (c.row < d.row) ⊎ ((c.row ≡ d.row) × (c.col < d.col)) ⊎ ((
 -- each cell precedes all that stand behind it
 abbrev pub IsRising : List rules.Cell → Type 0
 IsRising [] = Unit {0}
-IsRising (c ∷ cs) = ((d : rules.Cell) → rules.IsIn d cs → Precedes c d) × IsRising cs
+IsRising (c ∷ cs) = ((d : rules.Cell) → IsIn d cs → Precedes c d) × IsRising cs
 
 -- what a cell of the code is
 abbrev pub cell_of : Cell → rules.Cell

@@ -1,8 +1,8 @@
 //! Worked layouts.
 
-use aim_paths::{Builder, Kind, Layout, Path, Shape, lane_rows};
 use aim_geometry::{Grid, Ground, Times};
 use aim_msg::Turn;
+use aim_paths::{Builder, Kind, Layout, Path, Shape, lane_rows};
 use std::alloc::Global;
 use std::process::Abort;
 use std::test::Fail;
@@ -90,10 +90,21 @@ fn assert_paths(rt: &impl Abort, layout: &Layout) -> Result<(), Fail> {
 #[test]
 fn two_lanes(rt: HostRuntime) -> Result<(), Fail> {
     let ground = Ground::build(GRID, TIMES).ok().ok_or("no ground")?;
-    let mut builder = Builder::new(rt.alloc(), ground, 2).ok().ok_or("no builder")?;
-    builder.add_move(0, Turn::Straight, east(40)).ok().ok_or("refused")?;
-    builder.add_move(1, Turn::Straight, north(40)).ok().ok_or("refused")?;
-    builder.add_move(0, Turn::Right, right(50)).ok().ok_or("refused")?;
+    let mut builder = Builder::new(rt.alloc(), ground, 2)
+        .ok()
+        .ok_or("no builder")?;
+    builder
+        .add_move(0, Turn::Straight, east(40))
+        .ok()
+        .ok_or("refused")?;
+    builder
+        .add_move(1, Turn::Straight, north(40))
+        .ok()
+        .ok_or("refused")?;
+    builder
+        .add_move(0, Turn::Right, right(50))
+        .ok()
+        .ok_or("refused")?;
     builder.add_policy(Kind::Fcfs).ok().ok_or("refused")?;
     builder.add_policy(Kind::LightEmerg).ok().ok_or("refused")?;
     builder.add_phase(20, 80, 1).ok().ok_or("refused")?;
@@ -231,7 +242,12 @@ fn twelve_lane_layout(alloc: Global, lanes: &[Realistic; 12]) -> Result<Layout, 
     let ground = Ground::build(grid, times).ok().ok_or("no ground")?;
     let mut builder = Builder::new(alloc, ground, 12).ok().ok_or("no builder")?;
     for (lane, wanted) in lanes.iter().enumerate() {
-        builder.add_move(lane as u32, wanted.turn, wanted.shape).ok().ok_or("refused").ok().ok_or("refused")?;
+        builder
+            .add_move(lane as u32, wanted.turn, wanted.shape)
+            .ok()
+            .ok_or("refused")
+            .ok()
+            .ok_or("refused")?;
     }
     builder.add_policy(Kind::Fcfs).ok().ok_or("refused")?;
     Ok(builder.finish().ok().ok_or("unfinished")?)
