@@ -1,0 +1,9 @@
+pub mod Totals
+pub mod Lines
+pub mod Histories
+pub mod Sharing
+pub mod Places
+pub mod Apart
+pub mod Freeing
+pub mod Steps
+pub mod Walks
