@@ -7,3 +7,4 @@ pub mod Apart
 pub mod Freeing
 pub mod Steps
 pub mod Walks
+pub mod Cutting

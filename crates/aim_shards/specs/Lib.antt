@@ -5,3 +5,4 @@ pub mod Clear
 pub mod Ruled
 pub mod Working
 pub mod Found
+pub mod Cuts

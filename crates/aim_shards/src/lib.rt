@@ -2,6 +2,7 @@
 #![tactic(auto)]
 
 mod claims;
+mod cuts;
 mod quarter;
 mod rule;
 mod sets;
