@@ -37,7 +37,7 @@ and_true true = refl
 and_true false = refl
 
 -- sets with a cell in common in a quadrant meet
-meets_by : (a b : Quarters) (q : ℕ) → q < 4 → spans_meet (part a q) (part b q) ≡ true → meets a b ≡ true
+pub meets_by : (a b : Quarters) (q : ℕ) → q < 4 → spans_meet (part a q) (part b q) ≡ true → meets a b ≡ true
 meets_by a b zero lt h = or_left (meets_in a 1 b || (meets_in a 2 b || meets_in a 3 b)) h
 meets_by a b (suc zero) lt h = or_right (meets_in a 0 b) (or_left (meets_in a 2 b || meets_in a 3 b) h)
 meets_by a b (suc (suc zero)) lt h = or_right (meets_in a 0 b) (or_right (meets_in a 1 b) (or_left (meets_in a 3 b) h))

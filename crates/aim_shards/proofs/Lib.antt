@@ -8,3 +8,6 @@ pub mod Freeing
 pub mod Steps
 pub mod Walks
 pub mod Cutting
+pub mod Wholes
+pub mod Keeping
+pub mod Freed

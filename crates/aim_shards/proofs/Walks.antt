@@ -6,6 +6,7 @@ use Rattle.std.proofs.lemmas.Bool.Decides.{nat_tests}
 use mathlib.Core.Logic.{dite}
 use native.Mathlib.Decide.{ℕ_discrete, dec_le}
 use Rattle.atomic_table.specs.Table.{Me, rest}
+use Rattle.aim_shards.specs.declared.claims.ClaimAct.{ClaimAct}
 use Rattle.aim_shards.specs.declared.claims.ClaimAct.TheVariants as act
 use Rattle.aim_shards.specs.declared.claims.ClaimEntry.{ClaimEntry}
 use Rattle.aim_shards.specs.declared.quarter.Quarter.{Quarter}
@@ -20,11 +21,11 @@ use Rattle.aim_pool.specs.Spans.{Cell, in_spans}
 use Rattle.aim_tiles.specs.Cells.{TakenCells, has_cell}
 use Rattle.aim_tiles.specs.Sheets.{AreTiles, AreAhead}
 use Rattle.aim_shards.specs.Sums.{Every, total, at}
-use Rattle.aim_shards.specs.Sets.{Quarters, SameParts, part, set_at, is_some, has_cells, is_empty, spans_meet, lies_in, touched}
+use Rattle.aim_shards.specs.Sets.{Quarters, SameParts, part, set_at, is_some, has_cells, is_empty, spans_meet, lies_in, touched, IsOf}
 use Rattle.aim_shards.specs.Clear.{IsClear}
 use Rattle.aim_shards.specs.Claims.{claimed, is_free_in, are_free, touches, stands, stood, covers, answer, has_ticket, freed, of_quadrant, entries_of, IsLegal, changed, Moves, Changes}
 use Rattle.aim_shards.specs.Ruled.{turn, working, queued, Takes, Suits, Drew, Looked, Entered, Passed, Stands, noted, tail_of, entry_of, with_entry, Decided, Decides}
-use Rattle.aim_shards.specs.Working.{Carries, Lacks, Rests, Works, Gives, TurnCame, InHand, TakesOut, IsEmptied, PutsIn, HasRoom, Announces, Notes, IsOf, head_or, entry}
+use Rattle.aim_shards.specs.Working.{Carries, Lacks, Rests, Works, Gives, TurnCame, InHand, TakesOut, IsEmptied, PutsIn, HasRoom, Announces, Notes, head_or, entry}
 use Rattle.aim_shards.proofs.Lines.{at_self, next_of_suc}
 use Rattle.aim_shards.proofs.Places.{answer_of}
 use Rattle.aim_shards.proofs.Steps.{in_hand}
@@ -388,6 +389,9 @@ works_own {n = n} {qs = qs} {m = m} w = subst (λ (v : View). Works n v.terms v.
 pub of_own : {n : ℕ} {terms : Terms} {qs : List ℕ} {mine : List ClaimEntry} {set : Quarters} {m : Me (Option Quarter) View} → Works n terms mine qs m → IsOf terms.sets set → IsOf m.0.terms.sets set
 of_own {set = set} w o = subst (λ (v : View). IsOf v.terms.sets set) (sym w.is) o
 
+pub of_works : {n : ℕ} {terms : Terms} {qs : List ℕ} {mine : List ClaimEntry} {set : Quarters} {m : Me (Option Quarter) View} → Works n terms mine qs m → IsOf terms.sets set → IsOf m.0.terms.sets set
+of_works w o = of_own w o
+
 pub of_gives : {n : ℕ} {terms : Terms} {qs : List ℕ} {mine : List ClaimEntry} {set : Quarters} {e : ClaimEntry} {m : Me (Option Quarter) View} → Gives n terms mine set e qs m → IsOf terms.sets set → IsOf m.0.terms.sets set
 of_gives {set = set} w o = subst (λ (v : View). IsOf v.terms.sets set) (sym w.is) o
 
@@ -521,3 +525,7 @@ decides_free set t granted {n = n} {terms = terms} {mine = mine} {m = m} four w 
     record {
       after = λ log lawful seen ours. decided_by set record { act = act.Free t; yes = granted } log four w (has ∙ answer_free terms.sets t n log mine lawful (ours ∙ own)) (λ q. touches_free terms.sets t n q log mine granted lawful (ours ∙ own) has ∙ sym (same q));
     }
+
+-- with the terms that the seat's view has
+pub decides_own : {n number : ℕ} {terms : Terms} {qs : List ℕ} {hs : List Turn} {mine mine' : List ClaimEntry} {plan : Plan} {m : Me (Option Quarter) View} → Works n terms mine qs m → Decides terms.sets number hs mine' plan → Decides m.0.terms.sets number hs mine' plan
+decides_own {number = number} {hs = hs} {mine' = mine'} {plan = plan} w d = subst (λ (v : View). Decides v.terms.sets number hs mine' plan) (sym w.is) d

@@ -6,3 +6,7 @@ pub mod Ruled
 pub mod Working
 pub mod Found
 pub mod Cuts
+pub mod History
+pub mod Models
+pub mod Passes
+pub mod Closing

@@ -62,3 +62,8 @@ chosen sets (Some k) = set_at sets k
 -- the same parts
 abbrev pub SameParts : Quarters → Quarters → Type 0
 SameParts a b = (q : ℕ) → part a q ≡ part b q
+
+-- the set is one of the sets, or none at all
+pub record IsOf (sets : List Quarters) (set : Quarters) : Type 0 where
+  pub number : ℕ
+  pub same : SameParts set (set_at sets number)

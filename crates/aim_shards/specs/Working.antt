@@ -105,8 +105,3 @@ head_or (q ∷ qs) d = q
 
 abbrev pub entry : ℕ → ℕ → Plan → ClaimEntry
 entry ticket n plan = record { ticket = ticket; caller = n; act = plan.act; yes = plan.yes }
-
--- the set is one of the sets, or none at all
-pub record IsOf (sets : List Quarters) (set : Quarters) : Type 0 where
-  pub number : ℕ
-  pub same : SameParts set (set_at sets number)

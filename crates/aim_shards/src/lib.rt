@@ -1,12 +1,17 @@
 //! Claims of tiles in four quadrants, each with a turn and a history of its own, and one ticket for all.
 #![tactic(auto)]
 
+mod calls;
 mod claims;
 mod cuts;
+mod pass;
 mod quarter;
 mod rule;
 mod sets;
+mod standing;
 mod turns;
 mod view;
 
+pub use calls::{Claimed, Full, Hold, Shards};
 pub use claims::{ClaimAct, ClaimEntry};
+pub use pass::ShardPass;

@@ -1,9 +1,10 @@
 //! Sets of cells, each cut along the borders of the four quadrants.
 
-ghost use Rattle.std.specs.Prelude.{◌≡◌, ◌<◌, length};
-ghost use Rattle.aim_shards.specs.Sets.{is_empty, lies_in, part, is_some};
+ghost use Rattle.std.specs.Prelude.{◌≡◌, ◌<◌, [], length, IfOk};
+ghost use Rattle.aim_shards.specs.Sets.{is_empty, lies_in, part, is_some, chosen, SameParts, IsOf};
 
-use aim_pool::Sheet;
+use aim_pool::{Pool, Sheet};
+use std::alloc::{AllocError, Global};
 use std::marker::Model;
 
 /// The sheets of a set in the four quadrants.
@@ -63,4 +64,45 @@ impl Quartered {
     {
         self.has_cells(quadrant) || (self.is_empty() && quadrant == 0)
     }
+}
+
+/// A set without cells.
+pub(crate) fn no_cells(alloc: Global) -> Result<Quartered, AllocError>
+    ensures { IfOk result (λ s. SameParts s []) }
+{
+    Ok(Quartered {
+        first: empty_sheet(alloc)?,
+        second: empty_sheet(alloc)?,
+        third: empty_sheet(alloc)?,
+        fourth: empty_sheet(alloc)?,
+    })
+}
+
+// A sheet without room.
+fn empty_sheet(alloc: Global) -> Result<Sheet, AllocError>
+    ensures { IfOk result (λ s. s.spans ≡ []) }
+{
+    let mut pool = Pool::new(alloc, 1, 0)?;
+    let Ok(sheet) = pool.take() else {
+        unreachable!()
+    };
+    Ok(sheet)
+}
+
+/// The set of this number, or else the one without cells.
+pub(crate) fn choose<'a>(
+    sets: &'a Vec<Quartered>,
+    nothing: &'a Quartered,
+    number: Option<u32>,
+) -> &'a Quartered
+    requires { SameParts nothing.now [] }
+    ensures same { SameParts result.now (chosen sets.now.items number) }
+    ensures of { IsOf sets.now.items result.now }
+{
+    if let Some(number) = number
+        && (number as usize) < sets.len()
+    {
+        return &sets[number as usize];
+    }
+    nothing
 }

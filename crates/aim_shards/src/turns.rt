@@ -4,11 +4,11 @@ ghost use Rattle.std.specs.Prelude.{◌≡◌, ◌<◌, ◌≤◌, ◌+◌, ℕ,
 ghost use Rattle.atomic_table.specs.Table.{rest};
 ghost use Rattle.aim_tiles.specs.Sheets.{AreTiles};
 ghost use Rattle.aim_shards.specs.Clear.{IsClear};
-ghost use Rattle.aim_shards.specs.Sets.{lies_in, part, touched};
+ghost use Rattle.aim_shards.specs.Sets.{lies_in, part, touched, IsOf};
 ghost use Rattle.aim_shards.specs.Claims.{Moves};
 ghost use Rattle.aim_shards.specs.Ruled.{working, Suits, Decides, entry_of, with_entry, noted};
 ghost use Rattle.aim_shards.specs.Found.{IsFound};
-ghost use Rattle.aim_shards.specs.Working.{head_or, entry, Rests, Works, Gives, TurnCame, InHand, TakesOut, IsEmptied, PutsIn, HasRoom, Announces, Notes, IsOf};
+ghost use Rattle.aim_shards.specs.Working.{head_or, entry, Rests, Works, Gives, TurnCame, InHand, TakesOut, IsEmptied, PutsIn, HasRoom, Announces, Notes};
 
 use crate::claims::ClaimEntry;
 use crate::quarter::{Plan, Quarter};

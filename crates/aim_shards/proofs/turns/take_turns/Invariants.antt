@@ -1,7 +1,8 @@
 use Rattle.std.proofs.Common.{◌≡◌, ◌≤◌, length}
 use Rattle.aim_shards.specs.Found.{IsFound}
 use Rattle.aim_shards.specs.Sets.{touched}
-use Rattle.aim_shards.specs.Working.{Works, IsOf}
+use Rattle.aim_shards.specs.Working.{Works}
+use Rattle.aim_shards.specs.Sets.{IsOf}
 use Rattle.aim_shards.proofs.turns.take_turns.Given as goal
 
 abbrev pub invariant-loop-quadrant : goal.invariant-loop-quadrant
