@@ -16,7 +16,11 @@ use Rattle.aim_pool.proofs.Masks.{no_bit}
 use Rattle.aim_pool.proofs.Order.{is_at_parts}
 use Rattle.aim_pool.specs.Sheets.{Spans}
 use Rattle.aim_shards.specs.Sets.{Quarters, part, set_at}
-use Rattle.aim_shards.specs.Cuts.{one, quadrant_at, lies_at, is_beside, spans_at, AreCut}
+use Rattle.aim_shards.specs.Cuts.{one, quadrant_at, lies_at, is_beside, spans_at, AreCut, AreWithin}
+use Rattle.aim_shards.specs.Opening.{AreOnGrid}
+use Rattle.aim_tiles.specs.Sheets.{AreTiles, AreAhead}
+use mathlib.Core.Logic.{dite}
+use native.Mathlib.Decide.{dec_le}
 use Rattle.aim_shards.proofs.Lines.{next_of_suc}
 use Rattle.aim_shards.proofs.Sharing.{differ}
 
@@ -182,3 +186,21 @@ module _ (half : ℕ) where
 
   pub cut_none : AreCut half [] []
   cut_none = record { count = refl; cells = λ k q cell b. refl }
+
+-- the cells of the parts lie where those of the sets do
+past : {A : Type 0} (xs : List A) (k : ℕ) (d : A) → length xs ≤ k → get_or xs k d ≡ d
+past [] k d le = refl
+past (x ∷ xs) zero d le = absurd (omega arith)
+past (x ∷ xs) (suc k) d le = past xs k d (omega arith)
+
+pub within_cut : (half n horizon : ℕ) (sheets sheets' : List Spans) (sets : List Quarters) → sheets' ≡ sheets → AreCut half sheets' sets → AreOnGrid n horizon sheets → AreWithin n horizon sets
+within_cut half n horizon sheets sheets' sets same cut grid = record { tiles = λ k q lt cell h. (there k cell (whole k q lt cell h)).0 cell (whole k q lt cell h); ahead = λ k q lt cell h. (there k cell (whole k q lt cell h)).1 cell (whole k q lt cell h) }
+  where
+    none : Spans
+    none = record { spans = []; room = 0 }
+
+    whole : (k q : ℕ) → q < 4 → (cell : Cell) → in_spans (part (set_at sets k) q) cell ≡ true → in_spans (spans_at sheets k) cell ≡ true
+    whole k q lt cell h = ap (λ (s : List Spans). in_spans (spans_at s k) cell) (sym same) ∙ (and_parts (in_spans (spans_at sheets' k) cell) (lies_at half q cell) (sym (cut.cells k q cell lt) ∙ h)).0
+
+    there : (k : ℕ) (cell : Cell) → in_spans (spans_at sheets k) cell ≡ true → AreTiles n (spans_at sheets k) × AreAhead 0 horizon (spans_at sheets k)
+    there k cell h = dite (dec_le (length sheets) k) (λ le. absurd (differ (sym h ∙ ap (λ (s : Spans). in_spans s.spans cell) (past sheets k none le)))) (λ lt. grid k none (omega (arith, lt)))

@@ -11,3 +11,6 @@ pub mod Cutting
 pub mod Wholes
 pub mod Keeping
 pub mod Freed
+pub mod Seats
+pub mod Numbers
+pub mod Endings

@@ -35,5 +35,5 @@ pub record AreCut (half : ℕ) (sheets : List Spans) (sets : List Quarters) : Ty
 
 -- the cells of all sets lie on a grid of n rows and columns, in steps below the horizon
 pub record AreWithin (n horizon : ℕ) (sets : List Quarters) : Type 0 where
-  pub tiles : (k q : ℕ) → AreTiles n (part (set_at sets k) q)
-  pub ahead : (k q : ℕ) → AreAhead 0 horizon (part (set_at sets k) q)
+  pub tiles : (k q : ℕ) → q < 4 → AreTiles n (part (set_at sets k) q)
+  pub ahead : (k q : ℕ) → q < 4 → AreAhead 0 horizon (part (set_at sets k) q)

@@ -10,3 +10,4 @@ pub mod History
 pub mod Models
 pub mod Passes
 pub mod Closing
+pub mod Opening

@@ -3,7 +3,9 @@
 
 mod calls;
 mod claims;
+mod closing;
 mod cuts;
+mod opening;
 mod pass;
 mod quarter;
 mod rule;
@@ -14,4 +16,6 @@ mod view;
 
 pub use calls::{Claimed, Full, Hold, Shards};
 pub use claims::{ClaimAct, ClaimEntry};
+pub use closing::ClosedShards;
+pub use opening::{OpenedShards, ShardFault};
 pub use pass::ShardPass;
