@@ -14,3 +14,4 @@ pub mod Freed
 pub mod Seats
 pub mod Numbers
 pub mod Endings
+pub mod Merged

@@ -11,3 +11,5 @@ pub mod Models
 pub mod Passes
 pub mod Closing
 pub mod Opening
+pub mod Merging
+pub mod Left
