@@ -15,3 +15,4 @@ pub mod Seats
 pub mod Numbers
 pub mod Endings
 pub mod Merged
+pub mod OneHistory

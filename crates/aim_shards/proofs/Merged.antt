@@ -1,6 +1,5 @@
 -- Merging two lists of entries.
-use Rattle.std.proofs.Common.{Result, Ok, Err, ◌-◌, take, ◌≡◌, ◌⊎◌, ℕ, zero, suc, ◌+◌, ◌<◌, ◌≤◌, List, [], ◌∷◌, ◌++◌, length, drop, drop-cons, get_or, refl, sym, ap, ◌∙◌, subst, ⊎_elim, inl, inr, arith, append_assoc}
-use Rattle.std.specs.Prelude.{IfOk}
+use Rattle.std.proofs.Common.{◌-◌, take, ◌≡◌, ◌⊎◌, ℕ, zero, suc, ◌+◌, ◌<◌, ◌≤◌, List, [], ◌∷◌, ◌++◌, length, drop, drop-cons, get_or, refl, sym, ap, ◌∙◌, subst, ⊎_elim, inl, inr, arith, append_assoc}
 use Rattle.std.proofs.lemmas.List.{append-nil}
 use Rattle.aim_shards.specs.declared.claims.ClaimEntry.{ClaimEntry}
 use Rattle.aim_shards.specs.Merging.{IsIn, AreAbove, IsRising, AreOne, IsMerge}
@@ -178,10 +177,6 @@ drop_length (x ∷ xs) (suc i) = omega (arith, drop_length xs i)
 
 pub rest_all : (xs : List ClaimEntry) (i : ℕ) → take (length xs - i) (drop i xs) ≡ drop i xs
 rest_all xs i = take_whole (drop i xs) (length xs - i) (drop_length xs i)
-
-pub ok_then : {T E : Type 0} (r : Result T E) (P Q : T → Type 0) → ((x : T) → P x → Q x) → IfOk r P → IfOk r Q
-ok_then (Ok x) P Q f h = f x h
-ok_then (Err e) P Q f h = h
 
 -- four lists, read through slices
 pub one_of_four : {a b c d a' b' c' d' m n : List ClaimEntry} → a' ≡ a → b' ≡ b → c' ≡ c → d' ≡ d → IsMerge (a' ++ b') m → IsMerge (c' ++ d') n → AreOne ((a ++ b) ++ (c ++ d)) → AreOne (m ++ n)
