@@ -16,3 +16,4 @@ pub mod Numbers
 pub mod Endings
 pub mod Merged
 pub mod OneHistory
+pub mod Rows
