@@ -17,3 +17,4 @@ pub mod Endings
 pub mod Merged
 pub mod OneHistory
 pub mod Rows
+pub mod Boxes

@@ -13,3 +13,4 @@ pub mod Closing
 pub mod Opening
 pub mod Merging
 pub mod Left
+pub mod Rectangles
