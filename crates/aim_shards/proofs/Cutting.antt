@@ -17,7 +17,7 @@ use Rattle.aim_pool.proofs.Order.{is_at_parts}
 use Rattle.aim_pool.specs.Sheets.{Spans}
 use Rattle.aim_shards.specs.Sets.{Quarters, part, set_at}
 use Rattle.aim_shards.specs.Cuts.{one, quadrant_at, lies_at, is_beside, spans_at, AreCut, AreWithin}
-use Rattle.aim_shards.specs.Opening.{AreOnGrid}
+use Rattle.aim_shards.specs.Grid.{AreOnGrid}
 use Rattle.aim_tiles.specs.Sheets.{AreTiles, AreAhead}
 use mathlib.Core.Logic.{dite}
 use native.Mathlib.Decide.{dec_le}

@@ -18,3 +18,4 @@ pub mod Merged
 pub mod OneHistory
 pub mod Rows
 pub mod Boxes
+pub mod Sheeted

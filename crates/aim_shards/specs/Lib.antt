@@ -14,3 +14,5 @@ pub mod Opening
 pub mod Merging
 pub mod Left
 pub mod Rectangles
+pub mod Grid
+pub mod Fitting

@@ -22,4 +22,4 @@ pub use closing::ClosedShards;
 pub use merging::{history, merge};
 pub use opening::{OpenedShards, ShardFault};
 pub use pass::ShardPass;
-pub use rectangles::Rectangle;
+pub use rectangles::{Rectangle, are_fitting, sheets};

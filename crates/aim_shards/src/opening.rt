@@ -4,7 +4,8 @@ ghost use Rattle.std.specs.Prelude.{◌≡◌, ◌≢◌, ◌⊎◌, ◌<◌, �
 ghost use Rattle.aim_shards.specs.declared.opening.ShardFault.TheVariants.{NoMemory};
 ghost use Rattle.aim_shards.specs.Cuts.{AreCut, AreWithin, half_of};
 ghost use Rattle.aim_shards.specs.Models.{count_up, new_pass};
-ghost use Rattle.aim_shards.specs.Opening.{AreOnGrid, fault_of};
+ghost use Rattle.aim_shards.specs.Grid.{AreOnGrid};
+ghost use Rattle.aim_shards.specs.Opening.{fault_of};
 ghost use Rattle.aim_shards.specs.Ruled.{Suits, opening_view};
 ghost use Rattle.aim_shards.specs.Sets.{Quarters};
 

@@ -1,8 +1,9 @@
 //! Sets of all tiles of a rectangle in some steps.
 
-ghost use Rattle.std.specs.Prelude.{◌≡◌, ◌≢◌, ◌+◌, ◌-◌, ◌*◌, ◌<◌, ◌≤◌, ◌==◌, ◌&&◌, ◌||◌, ℕ, length, IfOk};
+ghost use Rattle.std.specs.Prelude.{◌≡◌, ◌≢◌, ◌+◌, ◌-◌, ◌*◌, ◌<◌, ◌≤◌, ◌==◌, ◌&&◌, ◌||◌, ◌↔◌, IsTrue, ℕ, length, All, IfOk};
 ghost use Rattle.aim_pool.specs.Spans.{Cell, has_bit, in_spans};
-ghost use Rattle.aim_shards.specs.Rectangles.{in_rectangle, is_between};
+ghost use Rattle.aim_shards.specs.Fitting.{AreSheets};
+ghost use Rattle.aim_shards.specs.Rectangles.{FitsGrid, in_rectangle, is_between};
 
 use aim_pool::{Pool, Sheet, Span};
 use std::alloc::{AllocError, Global};
@@ -78,4 +79,44 @@ impl Rectangle {
         }
         Ok(sheet)
     }
+}
+
+impl Rectangle {
+    /// Whether it lies on a grid of `n` rows and columns, in steps below the horizon.
+    pub fn fits(&self, n: u32, horizon: u32) -> bool
+        ensures { IsTrue result ↔ FitsGrid n horizon self.now }
+    {
+        self.row0 <= self.row1
+            && self.row1 < n
+            && self.col0 <= self.col1
+            && self.col1 < n
+            && self.from <= self.to
+            && self.to < horizon
+    }
+}
+
+/// Whether all lie on a grid of `n` rows and columns, in steps below the horizon.
+pub fn are_fitting(n: u32, horizon: u32, rectangles: &[Rectangle]) -> bool
+    ensures { IsTrue result ↔ All (FitsGrid n horizon) rectangles.now }
+{
+    rectangles.iter().all(|r| r.fits(n, horizon))
+}
+
+/// The rectangles' sets, which lie on the grid.
+pub fn sheets(
+    alloc: Global,
+    n: u32,
+    horizon: u32,
+    rectangles: &[Rectangle],
+) -> Result<Vec<Sheet>, AllocError>
+    requires n { n ≤ 64 }
+    requires horizon { horizon ≤ 8192 }
+    requires fit { All (FitsGrid n horizon) rectangles.now }
+    ensures { IfOk result (λ v. AreSheets n horizon rectangles.now v.items) }
+{
+    let mut sheets = Vec::with_capacity(alloc, rectangles.len())?;
+    for rectangle in rectangles {
+        sheets.push_reserved(rectangle.sheet(alloc)?);
+    }
+    Ok(sheets)
 }
