@@ -1,4 +1,4 @@
--- Whether cells are taken.
+-- Whether cells are taken. No public clause cites this file.
 use Rattle.std.specs.Prelude.{◌≡◌, Bool, true, false, List}
 use Rattle.aim_pool.specs.declared.spans.Span.{Span}
 use Rattle.aim_pool.specs.Spans.{Cell, in_spans}

@@ -1,4 +1,4 @@
--- What is found on the way through the quadrants.
+-- What is found on the way through the quadrants. No public clause cites this file.
 use Rattle.std.specs.Prelude.{◌≡◌, ℕ, List, Option}
 use Rattle.atomic_table.specs.Table.{Me}
 use Rattle.aim_shards.specs.declared.quarter.Quarter.{Quarter}

@@ -1,4 +1,4 @@
--- What is left of two lists that are being merged.
+-- What is left of two lists that are being merged. No public clause cites this file.
 use Rattle.std.specs.Prelude.{◌⊎◌, ◌<◌, List, ◌++◌}
 use Rattle.aim_shards.specs.declared.claims.ClaimEntry.{ClaimEntry}
 use Rattle.aim_shards.specs.Merging.{IsIn, IsRising}

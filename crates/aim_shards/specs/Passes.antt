@@ -1,4 +1,4 @@
--- What holds of each pass.
+-- What holds of each pass. No public clause cites this file.
 use Rattle.std.specs.Prelude.{◌≡◌, ℕ, ◌≤◌, List, [], length, Option}
 use Rattle.atomic_table.specs.Table.{Me}
 use Rattle.aim_shards.specs.declared.claims.ClaimEntry.{ClaimEntry}

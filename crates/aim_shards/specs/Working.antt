@@ -1,4 +1,4 @@
--- What the steps of one call tell.
+-- What the steps of one call tell. No public clause cites this file.
 use Rattle.std.specs.Prelude.{◌≡◌, ℕ, ◌<◌, List, [], ◌∷◌, ◌++◌, map, length, Option, Some, None, vec_capacity}
 use Rattle.atomic_table.specs.Table.{Me, rest}
 use Rattle.aim_shards.specs.declared.claims.ClaimEntry.{ClaimEntry}
