@@ -46,10 +46,10 @@ columns_are c0 c1 c le lt =
     elim (dec_lt c 64) [
       | yes b ↦ (has_bit_and ((2 ^ 64 - 1) / 2 ^ (63 - c1)) ((2 ^ 64 - 1) * 2 ^ c0 % 2 ^ 64) c ∙ ((λ i. up_to c1 c lt i && from_on c0 c (omega (arith, le, lt)) b i) ∙ and_swap (nat_le c c1) (nat_le c0 c)))
       | no b ↦ (
-        let small : columns_of c0 c1 < 2 ^ 64 = omega (arith, and_le_l ((2 ^ 64 - 1) / 2 ^ (63 - c1)) ((2 ^ 64 - 1) * 2 ^ c0 % 2 ^ 64), div-le_self (2 ^ 64 - 1) (2 ^ (63 - c1))) in
-        let past : nat_le c c1 ≡ false = lt-leb c c1 (omega arith) in
-        let none : has_bit (columns_of c0 c1) c ≡ false = ap (λ k. k == 1) (bit_at_above (columns_of c0 c1) 64 c small (omega arith)) in
-        none ∙ sym (ap (λ b. nat_le c0 c && b) past ∙ and_none (nat_le c0 c)))
+          let small : columns_of c0 c1 < 2 ^ 64 = omega (arith, and_le_l ((2 ^ 64 - 1) / 2 ^ (63 - c1)) ((2 ^ 64 - 1) * 2 ^ c0 % 2 ^ 64), div-le_self (2 ^ 64 - 1) (2 ^ (63 - c1))) in
+          let past : nat_le c c1 ≡ false = lt-leb c c1 (omega arith) in
+          let none : has_bit (columns_of c0 c1) c ≡ false = ap (λ k. k == 1) (bit_at_above (columns_of c0 c1) 64 c small (omega arith)) in
+          none ∙ sym (ap (λ b. nat_le c0 c && b) past ∙ and_none (nat_le c0 c)))
     ]
   where
     and_none : (b : Bool) → (b && false) ≡ false

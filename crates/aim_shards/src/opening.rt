@@ -70,12 +70,7 @@ fn count_up(alloc: Global, callers: u32) -> Result<Vec<u32>, AllocError>
 }
 
 // An empty quadrant with room for so many entries.
-fn new_quarter(
-    alloc: Global,
-    room: usize,
-    n: u32,
-    horizon: u32,
-) -> Result<Quarter, AllocError>
+fn new_quarter(alloc: Global, room: usize, n: u32, horizon: u32) -> Result<Quarter, AllocError>
     requires n { (1 ≤ n) × (n ≤ 64) }
     requires horizon { (1 ≤ horizon) × (horizon ≤ 8192) }
     ensures { IfOk result (λ k. (q : ℕ) (sets : List Quarters) → q < 4 → AreWithin n horizon sets → Suits (record { room = room; sets = sets }) q [] k) }

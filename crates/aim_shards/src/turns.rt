@@ -171,14 +171,7 @@ pub(crate) fn take_turns<R: Wait>(
 }
 
 // Draws the ticket of the entry that the plan announces.
-fn draw(
-    desk: &Desk,
-    seat: &mut Chair,
-    number: u32,
-    set: &Quartered,
-    last: usize,
-    plan: Plan,
-) -> u32
+fn draw(desk: &Desk, seat: &mut Chair, number: u32, set: &Quartered, last: usize, plan: Plan) -> u32
     requires desk { (seat.old.table_id ≡ desk.now.shared.table_id) × (desk.now.shared.table_id.words ≡ 9) }
     requires works { (qs : List ℕ) × Works number seat.old.me.0.terms seat.old.me.0.mine (last ∷ qs) seat.old.me }
     requires calls { length seat.old.me.0.mine < desk.now.shared.key.calls }

@@ -52,11 +52,7 @@ fn frees<R: Wait + Abort>(
 #[test]
 fn claims_and_freeings_of_two_callers(rt: HostRuntime) -> Result<(), Fail> {
     let alloc: Global = rt.alloc();
-    let rectangles = [
-        block(0, 1, 0, 1),
-        block(2, 3, 2, 3),
-        block(1, 2, 1, 2),
-    ];
+    let rectangles = [block(0, 1, 0, 1), block(2, 3, 2, 3), block(1, 2, 1, 2)];
     let OpenedShards { shards, mut passes } = opened(&rt, alloc, &rectangles, 2, 5)?;
     let Some(mut second) = passes.pop() else {
         unreachable!()
@@ -110,7 +106,14 @@ fn four_lists_merge(rt: HostRuntime) -> Result<(), Fail> {
 #[test]
 fn too_many_or_too_few(rt: HostRuntime) {
     let alloc: Global = rt.alloc();
-    let fault = |callers, calls| match Shards::open(alloc, 4, 100, Vec::new(alloc), callers, calls) {
+    let fault = |callers, calls| match Shards::open(
+        alloc,
+        4,
+        100,
+        Vec::new(alloc),
+        callers,
+        calls,
+    ) {
         Ok(_) => None,
         Err(fault) => Some(fault),
     };

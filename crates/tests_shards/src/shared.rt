@@ -1,14 +1,11 @@
 //! What the tests share.
 
-ghost use Rattle.std.specs.Prelude.{◌≡◌, ◌<◌, length, IfOk, map};
-ghost use Rattle.aim_shards.specs.Models.{IsPassOf, IsSamePass, count_up, new_pass};
+ghost use Rattle.std.specs.Prelude.{◌≡◌, length, IfOk, map};
+ghost use Rattle.aim_shards.specs.Models.{count_up, new_pass};
 
-use aim_shards::{
-    Claimed, Full, Hold, OpenedShards, Rectangle, ShardPass, Shards, are_fitting, sheets,
-};
+use aim_shards::{Hold, OpenedShards, Rectangle, Shards, are_fitting, sheets};
 use std::alloc::Global;
 use std::process::Abort;
-use std::sync::Wait;
 use std::test::Fail;
 
 // A hold that does nothing.
@@ -45,20 +42,4 @@ pub(crate) fn opened(
     assert!(rt; are_fitting(4, 100, rectangles));
     let sets = sheets(alloc, 4, 100, rectangles)?;
     Ok(Shards::open(alloc, 4, 100, sets, callers, calls)?)
-}
-
-// Claims the set.
-pub(crate) fn claim<R: Wait, H: Hold>(
-    rt: &R,
-    shards: &Shards,
-    mut pass: ShardPass,
-    set: u32,
-    hold: &H,
-) -> (ShardPass, Result<Claimed, Full>)
-    requires own { IsPassOf shards.now pass }
-    requires set { set < length shards.now.sets }
-    ensures { IsSamePass pass result.0 }
-{
-    let answer = shards.claim(rt, &mut pass, set, hold);
-    (pass, answer)
 }

@@ -34,10 +34,10 @@ returns c ps had count =
         lawful = f.1.0;
         made = f.1.1;
         lists = record {
-        first_is = entries_at _ refl (f.2 0 (omega arith)) c.in-Some.ensures.value c.entries_of.ensures;
-        second_is = entries_at _ c.take.ensures.others.0 (f.2 1 (omega arith)) c.in-Some-take.ensures.value c.entries_of-2.ensures;
-        third_is = entries_at _ (c.take-2.ensures.others.0 ∙ c.take.ensures.others.0) (f.2 2 (omega arith)) c.in-Some-take-2.ensures.value c.entries_of-3.ensures;
-        fourth_is = entries_at _ (c.take-3.ensures.others.0 ∙ (c.take-2.ensures.others.0 ∙ c.take.ensures.others.0)) (f.2 3 (omega arith)) c.in-Some-take-3.ensures.value c.entries_of-4.ensures;
+          first_is = entries_at _ refl (f.2 0 (omega arith)) c.in-Some.ensures.value c.entries_of.ensures;
+          second_is = entries_at _ c.take.ensures.others.0 (f.2 1 (omega arith)) c.in-Some-take.ensures.value c.entries_of-2.ensures;
+          third_is = entries_at _ (c.take-2.ensures.others.0 ∙ c.take.ensures.others.0) (f.2 2 (omega arith)) c.in-Some-take-2.ensures.value c.entries_of-3.ensures;
+          fourth_is = entries_at _ (c.take-3.ensures.others.0 ∙ (c.take-2.ensures.others.0 ∙ c.take.ensures.others.0)) (f.2 3 (omega arith)) c.in-Some-take-3.ensures.value c.entries_of-4.ensures;
         };
       },
     )
