@@ -1,5 +1,5 @@
 -- Rectangles as spans.
-use Rattle.std.proofs.Common.{suc-mul, mul-le-mul_right, ◌≡◌, ◌≢◌, ℕ, zero, suc, ◌+◌, ◌-◌, ◌*◌, ◌/◌, ◌%◌, ◌^◌, ◌<◌, ◌≤◌, ◌==◌, Bool, true, false, ◌&&◌, ◌||◌, List, refl, sym, ap, ◌∙◌, arith, leb}
+use Rattle.std.proofs.Common.{suc-mul, mul-le-mul_right, ◌≡◌, ◌≢◌, ℕ, suc, ◌+◌, ◌-◌, ◌*◌, ◌/◌, ◌%◌, ◌^◌, ◌<◌, ◌≤◌, ◌==◌, Bool, true, false, ◌&&◌, ◌||◌, refl, sym, ap, ◌∙◌, arith, leb}
 use Rattle.std.specs.Prelude.{bit_and, nat_le, nat_lt}
 use Rattle.std.proofs.Math.Decide.{dec_lt}
 use Rattle.std.proofs.Math.Nat.{div-le_self}
@@ -7,8 +7,7 @@ use Rattle.std.proofs.lemmas.Bool.{and_from, lt-leb, le-leb}
 use Rattle.std.proofs.lemmas.Bool.Decides.{nat_tests}
 use Rattle.std.proofs.lemmas.Nat.{and_le_l}
 use Rattle.std.proofs.lemmas.Nat.Bits.{bit_at_ones, bit_at_ones_above, bit_at_mask_inside, bit_at_mask_below, bit_at_above, ones_shr, ones_shl}
-use Rattle.aim_pool.specs.declared.spans.Span.{Span}
-use Rattle.aim_pool.specs.Spans.{Cell, has_bit, in_spans}
+use Rattle.aim_pool.specs.Spans.{has_bit}
 use Rattle.aim_pool.proofs.Bits.{has_bit_and}
 use Rattle.aim_pool.proofs.Masks.{no_bit}
 use Rattle.aim_shards.specs.Rectangles.{is_between}

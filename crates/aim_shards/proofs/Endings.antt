@@ -19,7 +19,7 @@ use Rattle.aim_shards.specs.Closing.{Gathers, AreMade, Ends, Closes}
 use Rattle.aim_shards.specs.declared.view.Terms.{Terms}
 use Rattle.aim_shards.specs.Sets.{Quarters}
 use Rattle.aim_shards.specs.Sums.{Every, total, at}
-use Rattle.aim_shards.specs.Ruled.{terms_of, claims, named, made, has, room_of, working, keeping, gathered, Home, Ruled}
+use Rattle.aim_shards.specs.Ruled.{terms_of, claims, named, made, has, working, keeping, gathered, Home, Ruled}
 use Rattle.aim_shards.proofs.Totals.{one_le}
 use Rattle.aim_shards.proofs.Lines.{at_le}
 

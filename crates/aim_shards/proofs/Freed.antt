@@ -1,10 +1,9 @@
 -- What a freeing of a caller's own claim frees.
 use Rattle.std.proofs.Common.{◌≡◌, ℕ, zero, suc, ◌<◌, ◌==◌, Bool, true, false, ◌&&◌, ◌||◌, not, List, [], ◌∷◌, length, take, get_or, refl, sym, ap, ◌∙◌, arith}
-use Rattle.std.specs.Prelude.{if◌then◌else◌}
 use Rattle.std.proofs.lemmas.Bool.{eq-eqb}
 use Rattle.aim_shards.specs.declared.claims.ClaimAct.TheVariants as act
 use Rattle.aim_shards.specs.declared.claims.ClaimEntry.{ClaimEntry}
-use Rattle.aim_shards.specs.Sets.{Quarters, SameParts, part, has_cells, is_some, is_empty, lies_in, IsOf, set_at}
+use Rattle.aim_shards.specs.Sets.{Quarters, SameParts, is_some, lies_in}
 use Rattle.aim_shards.specs.Claims.{claimed, stands, has_ticket, freed, Moves}
 use Rattle.aim_shards.proofs.Sharing.{differ}
 

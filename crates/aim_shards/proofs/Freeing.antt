@@ -1,24 +1,24 @@
 -- Freeings: what a caller's own entries tell of the claims that stand.
-use Rattle.std.proofs.Common.{◌≡◌, ◌≢◌, ℕ, zero, suc, ◌<◌, ◌≤◌, ◌==◌, Bool, true, false, ◌&&◌, ◌||◌, not, List, [], ◌∷◌, ◌++◌, length, take, get_or, map, length-append, refl, sym, ap, ◌∙◌, subst, arith}
+use Rattle.std.proofs.Common.{◌≡◌, ◌≢◌, ℕ, zero, suc, ◌<◌, ◌≤◌, ◌==◌, Bool, true, false, ◌&&◌, ◌||◌, not, List, [], ◌∷◌, ◌++◌, refl, sym, ap, ◌∙◌, subst, arith}
 use Rattle.std.specs.Prelude.{if◌then◌else◌, filter}
 use Rattle.std.specs.List.{list_any}
 use Rattle.std.proofs.lemmas.List.{append-nil}
 use Rattle.std.proofs.lemmas.List.Elements.{filter-append}
 use Rattle.std.proofs.lemmas.List.Folds.{list_any-append}
-use Rattle.std.proofs.lemmas.Bool.{eqb-true, eqb-false, eq-eqb, or_parts, or_from}
+use Rattle.std.proofs.lemmas.Bool.{eqb-true, eqb-false, or_parts, or_from}
 use Rattle.std.proofs.lemmas.Bool.Decides.{nat_tests}
 use Rattle.aim_shards.specs.declared.claims.ClaimAct.{ClaimAct}
 use Rattle.aim_shards.specs.declared.claims.ClaimAct.TheVariants as act
 use Rattle.aim_shards.specs.declared.claims.ClaimEntry.{ClaimEntry}
 use Rattle.aim_pool.specs.declared.spans.Span.{Span}
 use Rattle.aim_pool.specs.Spans.{Cell, in_spans}
-use Rattle.aim_shards.specs.Sets.{Quarters, part, set_at, chosen, SameParts, has_cells, is_empty, lies_in, spans_meet, meets_in, meets}
+use Rattle.aim_shards.specs.Sets.{Quarters, part, SameParts, lies_in, spans_meet, meets_in, meets}
 use Rattle.aim_shards.specs.Claims.{claimed, is_in, covers, after_act, stood, stands, answer, touches, IsLegalFrom, IsLegal, has_ticket, freed, entries_of, of_quadrant, AreApart, changed, Moves, Changes}
-use Rattle.aim_shards.specs.Sums.{Every, total, is}
+use Rattle.aim_shards.specs.Sums.{total, is}
 use Rattle.aim_shards.proofs.Totals.{total-append, is_self, is_none}
 use Rattle.aim_shards.proofs.Places.{filters_turn, filter_in_vain, stands_of}
 use Rattle.aim_shards.proofs.Apart.{apart_of}
-use Rattle.aim_shards.proofs.Sharing.{differ, any_none, or_left, or_right, spans_met}
+use Rattle.aim_shards.proofs.Sharing.{differ, or_left, or_right, spans_met}
 
 -- how many of these have the ticket
 abbrev count : ℕ → List ClaimEntry → ℕ

@@ -1,5 +1,5 @@
 -- The callers' numbers, and the causes of a refused opening.
-use Rattle.std.proofs.Common.{◌≡◌, ◌≢◌, ℕ, zero, suc, ◌+◌, ◌<◌, ◌≤◌, Bool, true, false, ◌&&◌, List, [], ◌∷◌, ◌++◌, length, length-append, get_or, refl, sym, ap, ◌∙◌, arith, Some, None, Option}
+use Rattle.std.proofs.Common.{◌≡◌, ◌≢◌, ℕ, zero, suc, ◌<◌, ◌≤◌, Bool, true, false, ◌&&◌, List, [], ◌∷◌, ◌++◌, length, length-append, get_or, refl, sym, ap, ◌∙◌, arith, Some, None, Option}
 use Rattle.std.specs.Prelude.{AllPairs, nat_le, if◌then◌else◌}
 use Rattle.std.proofs.lemmas.Bool.{and_parts}
 use Rattle.std.proofs.lemmas.Bool.Decides.{nat_tests}
@@ -9,7 +9,6 @@ use Rattle.aim_shards.specs.declared.opening.ShardFault.{ShardFault}
 use Rattle.aim_shards.specs.declared.opening.ShardFault.TheVariants.{Callers, Calls, Sets}
 use Rattle.aim_shards.specs.Models.{count_up}
 use Rattle.aim_shards.specs.Opening.{fault_of}
-use Rattle.aim_shards.proofs.Sharing.{differ}
 
 pub count_length : (n : ℕ) → length (count_up n) ≡ n
 count_length zero = refl

@@ -1,5 +1,5 @@
 -- The lists of the four quadrants merge to the history that they are of.
-use Rattle.std.proofs.Common.{◌≡◌, ◌⊎◌, ℕ, zero, suc, ◌+◌, ◌<◌, ◌≤◌, ◌==◌, Bool, true, false, ◌&&◌, ◌||◌, not, List, [], ◌∷◌, ◌++◌, refl, sym, ap, ◌∙◌, subst, ⊎_elim, inl, inr, arith}
+use Rattle.std.proofs.Common.{◌≡◌, ◌⊎◌, ℕ, zero, suc, ◌<◌, ◌≤◌, ◌==◌, Bool, true, false, ◌&&◌, ◌||◌, not, List, [], ◌∷◌, ◌++◌, refl, sym, ap, ◌∙◌, subst, ⊎_elim, inl, inr, arith}
 use Rattle.std.specs.Prelude.{if◌then◌else◌}
 use Rattle.std.specs.List.{list_any}
 use Rattle.std.proofs.lemmas.Bool.{and_parts, and_from}
@@ -10,7 +10,7 @@ use Rattle.aim_shards.specs.declared.claims.ClaimEntry.{ClaimEntry}
 use Rattle.aim_shards.specs.Sets.{Quarters, set_at, has_cells, is_empty, lies_in}
 use Rattle.aim_shards.specs.Claims.{claimed, is_in, stood, touches, touching, of_quadrant}
 use Rattle.aim_shards.specs.History.{IsAnswer, IsHistoryFrom}
-use Rattle.aim_shards.specs.Merging.{IsIn, AreAbove, IsRising, AreOne, IsMerge}
+use Rattle.aim_shards.specs.Merging.{IsIn, IsRising, AreOne, IsMerge}
 use Rattle.aim_shards.proofs.Sharing.{differ, or_either, or_left, or_right}
 use Rattle.aim_shards.proofs.Merged.{in_left, in_right, in_parts, above_at, above_from}
 

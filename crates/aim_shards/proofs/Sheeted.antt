@@ -1,19 +1,17 @@
 -- Sets of rectangles lie on the grid.
-use Rattle.std.proofs.Common.{◌≡◌, ℕ, zero, suc, ◌+◌, ◌<◌, ◌≤◌, Bool, true, ◌&&◌, List, [], ◌∷◌, ◌++◌, length, length-append, take, get_or, refl, sym, ap, ◌∙◌, subst, arith}
+use Rattle.std.proofs.Common.{◌≡◌, ℕ, zero, suc, ◌+◌, ◌<◌, ◌≤◌, true, ◌&&◌, List, [], ◌∷◌, ◌++◌, length, length-append, take, get_or, refl, sym, ap, ◌∙◌, subst, arith}
 use Rattle.std.specs.Prelude.{All, nat_le}
-use Rattle.std.proofs.lemmas.Bool.{and_parts, and_from, cases_order}
+use Rattle.std.proofs.lemmas.Bool.{and_parts}
 use Rattle.std.proofs.lemmas.Bool.Decides.{nat_tests}
 use Rattle.std.proofs.lemmas.List.Elements.{All-append}
 use mathlib.Core.Logic.{dite}
 use native.Mathlib.Decide.{ℕ_discrete}
-use Rattle.aim_pool.specs.declared.spans.Span.{Span}
 use Rattle.aim_pool.specs.Spans.{Cell, in_spans}
 use Rattle.aim_pool.specs.Sheets.{Spans}
 use Rattle.aim_tiles.specs.Cells.{in_range}
 use Rattle.aim_tiles.specs.Sheets.{AreTiles, AreAhead}
 use Rattle.aim_shards.specs.declared.rectangles.Rectangle.{Rectangle}
 use Rattle.aim_shards.specs.Cuts.{spans_at}
-use Rattle.aim_shards.specs.Grid.{AreOnGrid}
 use Rattle.aim_shards.specs.Rectangles.{is_between, in_rectangle, FitsGrid}
 use Rattle.aim_shards.specs.Fitting.{AreSheets}
 use Rattle.std.proofs.lemmas.List.Elements.{All-nil, All-cons}

@@ -1,12 +1,11 @@
 -- What the steps of one call tell.
 use Rattle.std.proofs.Common.{◌≡◌, ℕ, zero, suc, ◌+◌, ◌<◌, ◌≤◌, ◌==◌, Bool, true, false, ◌&&◌, ◌||◌, not, List, [], ◌∷◌, ◌++◌, length, map, refl, sym, ap, ◌∙◌, subst, arith, Some, None, Option}
-use Rattle.std.specs.Prelude.{if◌then◌else◌, slice_index, vec_capacity}
+use Rattle.std.specs.Prelude.{if◌then◌else◌, vec_capacity}
 use Rattle.std.specs.List.{list_any}
 use Rattle.std.proofs.lemmas.Bool.Decides.{nat_tests}
 use mathlib.Core.Logic.{dite}
 use native.Mathlib.Decide.{ℕ_discrete, dec_le}
 use Rattle.atomic_table.specs.Table.{Me, rest}
-use Rattle.aim_shards.specs.declared.claims.ClaimAct.{ClaimAct}
 use Rattle.aim_shards.specs.declared.claims.ClaimAct.TheVariants as act
 use Rattle.aim_shards.specs.declared.claims.ClaimEntry.{ClaimEntry}
 use Rattle.aim_shards.specs.declared.quarter.Quarter.{Quarter}
@@ -21,9 +20,9 @@ use Rattle.aim_pool.specs.Spans.{Cell, in_spans}
 use Rattle.aim_tiles.specs.Cells.{TakenCells, has_cell}
 use Rattle.aim_tiles.specs.Sheets.{AreTiles, AreAhead}
 use Rattle.aim_shards.specs.Sums.{Every, total, at}
-use Rattle.aim_shards.specs.Sets.{Quarters, SameParts, part, set_at, is_some, has_cells, is_empty, spans_meet, lies_in, touched, IsOf}
+use Rattle.aim_shards.specs.Sets.{Quarters, part, set_at, is_some, has_cells, is_empty, spans_meet, lies_in, touched, IsOf}
 use Rattle.aim_shards.specs.Clear.{IsClear}
-use Rattle.aim_shards.specs.Claims.{claimed, is_free_in, are_free, touches, stands, stood, covers, answer, has_ticket, freed, of_quadrant, entries_of, IsLegal, changed, Moves, Changes}
+use Rattle.aim_shards.specs.Claims.{claimed, is_free_in, are_free, touches, stands, covers, answer, has_ticket, freed, of_quadrant, entries_of, IsLegal, changed, Moves, Changes}
 use Rattle.aim_shards.specs.Ruled.{turn, working, queued, Takes, Suits, Drew, Looked, Entered, Passed, Stands, noted, tail_of, entry_of, with_entry, Decided, Decides}
 use Rattle.aim_shards.specs.Working.{Carries, Lacks, Rests, Works, Gives, TurnCame, InHand, TakesOut, IsEmptied, PutsIn, HasRoom, Announces, Notes, head_or, entry}
 use Rattle.aim_shards.proofs.Lines.{at_self, next_of_suc}

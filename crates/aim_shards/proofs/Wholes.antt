@@ -1,15 +1,14 @@
 -- What is legal by the parts of the sets is a legal claim history.
-use Rattle.std.proofs.Common.{◌≡◌, ◌⊎◌, ℕ, zero, suc, ◌+◌, ◌*◌, ◌<◌, ◌==◌, Bool, true, false, ◌&&◌, ◌||◌, not, List, [], ◌∷◌, refl, sym, ap, ◌∙◌, ⊎_elim, inl, inr, arith}
+use Rattle.std.proofs.Common.{◌≡◌, ◌⊎◌, ℕ, suc, ◌+◌, ◌*◌, ◌<◌, Bool, true, false, ◌&&◌, ◌||◌, not, List, [], ◌∷◌, refl, sym, ap, ◌∙◌, inl, inr, arith}
 use Rattle.std.specs.Prelude.{nat_le}
 use Rattle.std.specs.List.{list_any}
 use Rattle.std.proofs.lemmas.Bool.{and_parts, eq-eqb}
-use Rattle.aim_pool.specs.declared.spans.Span.{Span}
 use Rattle.aim_pool.specs.Spans.{Cell, in_spans}
 use Rattle.aim_pool.specs.Sheets.{Spans}
 use Rattle.aim_shards.specs.declared.claims.ClaimAct.{ClaimAct}
 use Rattle.aim_shards.specs.declared.claims.ClaimAct.TheVariants as act
 use Rattle.aim_shards.specs.declared.claims.ClaimEntry.{ClaimEntry}
-use Rattle.aim_shards.specs.Sets.{Quarters, part, set_at, spans_meet, meets_in, meets}
+use Rattle.aim_shards.specs.Sets.{Quarters, part, set_at, meets_in, meets}
 use Rattle.aim_shards.specs.Claims.{claimed, stood, answer, IsLegalFrom}
 use Rattle.aim_shards.specs.Cuts.{one, quadrant_at, lies_at, spans_at, AreCut}
 use Rattle.aim_shards.specs.History.{claims_cell, is_claimed, IsAnswer, IsHistoryFrom}

@@ -1,5 +1,5 @@
 -- What is found on the way through the quadrants. No public clause cites this file.
-use Rattle.std.specs.Prelude.{◌≡◌, ℕ, List, Option}
+use Rattle.std.specs.Prelude.{◌≡◌, ℕ, Option}
 use Rattle.atomic_table.specs.Table.{Me}
 use Rattle.aim_shards.specs.declared.quarter.Quarter.{Quarter}
 use Rattle.aim_shards.specs.declared.view.View.{View}

@@ -1,5 +1,5 @@
 -- Merging lists of entries by their tickets.
-use Rattle.std.specs.Prelude.{◌≡◌, ◌⊎◌, ℕ, ◌<◌, List, [], ◌∷◌, ◌++◌}
+use Rattle.std.specs.Prelude.{◌≡◌, ◌⊎◌, ℕ, ◌<◌, List, [], ◌∷◌}
 use Rattle.aim_shards.specs.declared.claims.ClaimEntry.{ClaimEntry}
 
 -- the entry is one of the list's

@@ -1,6 +1,6 @@
 -- The rule of the quadrants' turns, and what each step tells. No public clause cites this file.
 -- Word q, for q from 0 to 3, is the next ticket to draw of the quadrant q, and word 4 + q the ticket that is served there. Word 8 is the length of the history. The slot q has the quadrant's entries.
-use Rattle.std.specs.Prelude.{◌≡◌, ◌≢◌, ◌⊎◌, ℕ, zero, suc, ◌+◌, ◌%◌, ◌^◌, ◌<◌, ◌≤◌, ◌==◌, if◌then◌else◌, true, List, [], ◌∷◌, ◌++◌, map, length, Option, Some, None, slice_index, vec_capacity}
+use Rattle.std.specs.Prelude.{◌≡◌, ◌≢◌, ◌⊎◌, ℕ, ◌+◌, ◌%◌, ◌^◌, ◌<◌, ◌≤◌, true, List, [], ◌∷◌, ◌++◌, map, length, Option, Some, None, slice_index, vec_capacity}
 use mathlib.Core.Option.{some, none}
 use mathlib.Core.Option as maybe
 use lib.ListN.{get_elem?}

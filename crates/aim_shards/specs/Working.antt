@@ -11,7 +11,7 @@ use Rattle.aim_tiles.specs.Sheets.{AreTiles, AreAhead}
 use Rattle.aim_pool.specs.declared.spans.Span.{Span}
 use Rattle.aim_pool.specs.Spans.{Cell, in_spans}
 use Rattle.aim_shards.specs.declared.view.Terms.{Terms}
-use Rattle.aim_shards.specs.Sets.{Quarters, SameParts, part, set_at}
+use Rattle.aim_shards.specs.Sets.{Quarters}
 use Rattle.aim_shards.specs.Claims.{changed, Changes}
 use Rattle.aim_shards.specs.Ruled.{turn, working, Suits}
 

@@ -1,4 +1,4 @@
-use Rattle.std.proofs.Common.{◌≡◌, ◌&&◌, arith, sym, ap, ◌∙◌}
+use Rattle.std.proofs.Common.{◌≡◌, ◌&&◌, arith, ap, ◌∙◌}
 use Rattle.aim_pool.specs.Sheets.{Spans}
 use Rattle.aim_pool.specs.Spans.{in_spans}
 use Rattle.aim_shards.specs.Cuts.{half_of, lies_at}

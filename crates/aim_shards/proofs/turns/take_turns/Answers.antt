@@ -1,4 +1,4 @@
-use Rattle.std.proofs.Common.{refl, ◌∙◌, arith, subst, sym, ap}
+use Rattle.std.proofs.Common.{refl, ◌∙◌, arith}
 use Rattle.aim_shards.proofs.Walks.{works_from, found_from, works_own, works_back, works_next, found_next, of_own}
 use Rattle.aim_shards.proofs.turns.take_turns.Goals as goal
 

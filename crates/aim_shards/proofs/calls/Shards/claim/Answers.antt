@@ -1,4 +1,4 @@
-use Rattle.std.proofs.Common.{◌≡◌, ap, sym, ◌∙◌}
+use Rattle.std.proofs.Common.{ap, sym, ◌∙◌}
 use Rattle.aim_shards.specs.Models.{PassModel, ShardsModel}
 use Rattle.aim_shards.proofs.Walks.{decides_claim, decides_own, of_works}
 use Rattle.aim_shards.proofs.Keeping.{keeps_room, keeps_more, set_there, of_same}

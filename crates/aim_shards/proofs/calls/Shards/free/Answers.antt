@@ -1,7 +1,7 @@
-use Rattle.std.proofs.Common.{◌≡◌, List, ap, sym, ◌∙◌}
+use Rattle.std.proofs.Common.{List, ap, sym, ◌∙◌}
 use Rattle.aim_shards.specs.Claims.{has_ticket, freed}
 use Rattle.aim_shards.specs.Models.{PassModel, ShardsModel}
-use Rattle.aim_shards.specs.Sets.{Quarters, chosen, lies_in, part}
+use Rattle.aim_shards.specs.Sets.{Quarters, chosen, lies_in}
 use Rattle.aim_shards.proofs.Walks.{decides_free, decides_own}
 use Rattle.aim_shards.proofs.Freed.{lies_same}
 use Rattle.aim_shards.proofs.Keeping.{keeps_room, keeps_more}

@@ -1,4 +1,4 @@
-use Rattle.std.proofs.Common.{◌≡◌, ap, ◌∙◌, length, arith}
+use Rattle.std.proofs.Common.{ap, length, arith}
 use Rattle.aim_shards.proofs.Numbers.{count_apart, count_length, few_of}
 use Rattle.aim_shards.proofs.calls.Shards.open.Goals as goal
 

@@ -1,4 +1,4 @@
-use Rattle.std.proofs.Common.{◌*◌, ◌+◌, ◌∙◌, arith}
+use Rattle.std.proofs.Common.{◌*◌, ◌+◌, arith}
 use Rattle.aim_shards.specs.Cuts.{is_beside, one}
 use Rattle.aim_shards.proofs.Cutting.{cells_more, room_for, count_more}
 use Rattle.aim_shards.proofs.cuts.Corner.part.Goals as goal

@@ -1,4 +1,4 @@
-use Rattle.std.proofs.Common.{◌≡◌, ◌≤◌, ◌+◌, ◌*◌, ◌&&◌, ℕ, length, take}
+use Rattle.std.proofs.Common.{◌≡◌, ◌≤◌, ◌+◌, ◌*◌, ◌&&◌, length, take}
 use Rattle.std.specs.Prelude.{filter}
 use Rattle.aim_pool.specs.Spans.{Cell, in_spans}
 use Rattle.aim_shards.specs.Cuts.{is_beside, lies_at, one}

@@ -1,4 +1,4 @@
-use Rattle.std.proofs.Common.{◌≡◌, ◌+◌, ◌-◌, ◌*◌, ◌≤◌, ◌==◌, ◌&&◌, ◌||◌, length}
+use Rattle.std.proofs.Common.{◌≡◌, ◌+◌, ◌-◌, ◌*◌, ◌≤◌, ◌&&◌, length}
 use Rattle.aim_pool.specs.Spans.{Cell, in_spans}
 use Rattle.aim_shards.specs.Rectangles.{is_between}
 use Rattle.aim_shards.proofs.Boxes.{is_before}
