@@ -7,8 +7,8 @@ use Rattle.std.proofs.lemmas.Bool.{and_from, lt-leb, le-leb}
 use Rattle.std.proofs.lemmas.Bool.Decides.{nat_tests}
 use Rattle.std.proofs.lemmas.Nat.{and_le_l}
 use Rattle.std.proofs.lemmas.Nat.Bits.{bit_at_ones, bit_at_ones_above, bit_at_mask_inside, bit_at_mask_below, bit_at_above, ones_shr, ones_shl}
-use Rattle.aim_pool.specs.Spans.{has_bit}
-use Rattle.aim_pool.proofs.Bits.{has_bit_and}
+use Rattle.aim_geometry.specs.Rects.{has_bit}
+use Rattle.aim_geometry.proofs.Bits.{has_bit_and}
 use Rattle.aim_pool.proofs.Masks.{no_bit}
 use Rattle.aim_shards.specs.Rectangles.{is_between}
 use Rattle.aim_shards.proofs.Sharing.{differ}

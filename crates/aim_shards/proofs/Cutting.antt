@@ -8,8 +8,10 @@ use Rattle.std.proofs.Math.Pow.{pow-lt}
 use Rattle.std.proofs.lemmas.Bool.{and_parts, le-leb, lt-leb}
 use Rattle.std.proofs.lemmas.Nat.Bits.{bit_at_ones, bit_at_ones_above, bit_at_mask_inside, bit_at_mask_below, bit_at_above, ones_shl}
 use Rattle.aim_pool.specs.declared.spans.Span.{Span}
-use Rattle.aim_pool.specs.Spans.{Cell, has_bit, is_at, in_span, in_spans}
-use Rattle.aim_pool.proofs.Bits.{has_bit_and}
+use Rattle.aim_geometry.specs.Cells.{Cell}
+use Rattle.aim_geometry.specs.Rects.{has_bit}
+use Rattle.aim_pool.specs.Spans.{is_at, in_span, in_spans}
+use Rattle.aim_geometry.proofs.Bits.{has_bit_and}
 use Rattle.aim_pool.proofs.Masks.{no_bit}
 use Rattle.aim_pool.proofs.Order.{is_at_parts}
 use Rattle.aim_pool.specs.Sheets.{Spans}
@@ -82,16 +84,16 @@ columns_left half down row mask right h beside e c =
 
 -- a span's cells in the quadrant
 pub part_span : (half k : ℕ) (span span' : Span) (cell : Cell) → span'.step ≡ span.step → span'.row ≡ span.row → ((c : ℕ) → has_bit span'.mask c ≡ (has_bit span.mask c && (quadrant_at half span.row c == k))) → in_span span' cell ≡ (in_span span cell && lies_at half k cell)
-part_span half k span span' cell step row bits = (λ i. ((step i == cell.0) && (row i == cell.1)) && bits cell.2 i) ∙ at (is_at span cell.0 cell.1) refl
+part_span half k span span' cell step row bits = (λ i. ((step i == cell.step) && (row i == cell.row)) && bits cell.col i) ∙ at (is_at span cell.step cell.row) refl
   where
-    at : (b : Bool) → is_at span cell.0 cell.1 ≡ b → (is_at span cell.0 cell.1 && (has_bit span.mask cell.2 && (quadrant_at half span.row cell.2 == k))) ≡ ((is_at span cell.0 cell.1 && has_bit span.mask cell.2) && lies_at half k cell)
+    at : (b : Bool) → is_at span cell.step cell.row ≡ b → (is_at span cell.step cell.row && (has_bit span.mask cell.col && (quadrant_at half span.row cell.col == k))) ≡ ((is_at span cell.step cell.row && has_bit span.mask cell.col) && lies_at half k cell)
     at false e = rw e refl
-    at true e = rw e (ap (λ r. has_bit span.mask cell.2 && (quadrant_at half r cell.2 == k)) (is_at_parts span cell.0 cell.1 e).1)
+    at true e = rw e (ap (λ r. has_bit span.mask cell.col && (quadrant_at half r cell.col == k)) (is_at_parts span cell.step cell.row e).1)
 
 -- a span without cells there
 pub none_span : (half k : ℕ) (span : Span) (cell : Cell) (mask : ℕ) → mask ≡ 0 → ((c : ℕ) → has_bit mask c ≡ (has_bit span.mask c && (quadrant_at half span.row c == k))) → (in_span span cell && lies_at half k cell) ≡ false
 none_span half k span cell mask none bits =
-    sym (part_span half k span (record { step = span.step; row = span.row; mask = 0 }) cell refl refl (λ c. ap (λ m. has_bit m c) (sym none) ∙ bits c)) ∙ (ap (λ b. is_at span cell.0 cell.1 && b) (no_bit cell.2) ∙ and_none (is_at span cell.0 cell.1))
+    sym (part_span half k span (record { step = span.step; row = span.row; mask = 0 }) cell refl refl (λ c. ap (λ m. has_bit m c) (sym none) ∙ bits c)) ∙ (ap (λ b. is_at span cell.step cell.row && b) (no_bit cell.col) ∙ and_none (is_at span cell.step cell.row))
   where
     and_none : (b : Bool) → (b && false) ≡ false
     and_none true = refl
@@ -104,8 +106,8 @@ off_span half down right span cell off = at (in_span span cell) refl
     at : (b : Bool) → in_span span cell ≡ b → (in_span span cell && lies_at half (2 * one down + one right) cell) ≡ false
     at false e = rw e refl
     at true e =
-        let row : span.row ≡ cell.1 = (is_at_parts span cell.0 cell.1 (and_parts (is_at span cell.0 cell.1) (has_bit span.mask cell.2) e).0).1 in
-        rw e (corner_not down right (nat_le half cell.1) (nat_le half cell.2) (sym (ap (λ r. if down then nat_le half r else not (nat_le half r)) row) ∙ off))
+        let row : span.row ≡ cell.row = (is_at_parts span cell.step cell.row (and_parts (is_at span cell.step cell.row) (has_bit span.mask cell.col) e).0).1 in
+        rw e (corner_not down right (nat_le half cell.row) (nat_le half cell.col) (sym (ap (λ r. if down then nat_le half r else not (nat_le half r)) row) ∙ off))
 
 pub or_none : (a b : Bool) → b ≡ false → a ≡ (a || b)
 or_none true b e = refl

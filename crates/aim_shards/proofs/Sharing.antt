@@ -4,8 +4,10 @@ use Rattle.std.specs.Prelude.{bit_and}
 use Rattle.std.specs.List.{list_any}
 use Rattle.std.proofs.lemmas.Bool.{eqb-true, eq-eqb, and_parts, and_from}
 use Rattle.aim_pool.specs.declared.spans.Span.{Span}
-use Rattle.aim_pool.specs.Spans.{Cell, has_bit, is_at, in_span, in_spans}
-use Rattle.aim_pool.proofs.Bits.{has_bit_and}
+use Rattle.aim_geometry.specs.Cells.{Cell}
+use Rattle.aim_geometry.specs.Rects.{has_bit}
+use Rattle.aim_pool.specs.Spans.{is_at, in_span, in_spans}
+use Rattle.aim_geometry.proofs.Bits.{has_bit_and}
 use Rattle.aim_pool.proofs.Masks.{no_bit}
 use Rattle.aim_pool.proofs.Order.{is_at_parts}
 use Rattle.aim_tiles.proofs.Writes.{some_column}
@@ -59,15 +61,15 @@ span_shares s t h =
 -- and a cell of both says that they meet
 pub span_met : (s t : Span) (cell : Cell) → in_span s cell ≡ true → in_span t cell ≡ true → span_meets s t ≡ true
 span_met s t cell hs ht =
-    let a = and_parts (is_at s cell.0 cell.1) (has_bit s.mask cell.2) hs in
-    let b = and_parts (is_at t cell.0 cell.1) (has_bit t.mask cell.2) ht in
-    let p = is_at_parts s cell.0 cell.1 a.0 in
-    let r = is_at_parts t cell.0 cell.1 b.0 in
-    let bit : has_bit (bit_and s.mask t.mask) cell.2 ≡ true = has_bit_and s.mask t.mask cell.2 ∙ and_from (has_bit s.mask cell.2) (has_bit t.mask cell.2) a.1 b.1 in
+    let a = and_parts (is_at s cell.step cell.row) (has_bit s.mask cell.col) hs in
+    let b = and_parts (is_at t cell.step cell.row) (has_bit t.mask cell.col) ht in
+    let p = is_at_parts s cell.step cell.row a.0 in
+    let r = is_at_parts t cell.step cell.row b.0 in
+    let bit : has_bit (bit_and s.mask t.mask) cell.col ≡ true = has_bit_and s.mask t.mask cell.col ∙ and_from (has_bit s.mask cell.col) (has_bit t.mask cell.col) a.1 b.1 in
     and_from (is_at s t.step t.row) (not (bit_and s.mask t.mask == 0)) (and_from (s.step == t.step) (s.row == t.row) (eq-eqb s.step t.step (p.0 ∙ sym r.0)) (eq-eqb s.row t.row (p.1 ∙ sym r.1))) (at (bit_and s.mask t.mask == 0) refl bit)
   where
-    at : (c : Bool) → (bit_and s.mask t.mask == 0) ≡ c → has_bit (bit_and s.mask t.mask) cell.2 ≡ true → not (bit_and s.mask t.mask == 0) ≡ true
-    at true e bit = absurd (differ (sym bit ∙ (ap (λ m. has_bit m cell.2) (eqb-true (bit_and s.mask t.mask) 0 e) ∙ no_bit cell.2)))
+    at : (c : Bool) → (bit_and s.mask t.mask == 0) ≡ c → has_bit (bit_and s.mask t.mask) cell.col ≡ true → not (bit_and s.mask t.mask == 0) ≡ true
+    at true e bit = absurd (differ (sym bit ∙ (ap (λ m. has_bit m cell.col) (eqb-true (bit_and s.mask t.mask) 0 e) ∙ no_bit cell.col)))
     at false e bit = ap not e
 
 pub spans_met : (a b : List Span) (cell : Cell) → in_spans a cell ≡ true → in_spans b cell ≡ true → spans_meet a b ≡ true

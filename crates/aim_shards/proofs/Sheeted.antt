@@ -6,7 +6,8 @@ use Rattle.std.proofs.lemmas.Bool.Decides.{nat_tests}
 use Rattle.std.proofs.lemmas.List.Elements.{All-append}
 use mathlib.Core.Logic.{dite}
 use native.Mathlib.Decide.{ℕ_discrete}
-use Rattle.aim_pool.specs.Spans.{Cell, in_spans}
+use Rattle.aim_geometry.specs.Cells.{Cell}
+use Rattle.aim_pool.specs.Spans.{in_spans}
 use Rattle.aim_pool.specs.Sheets.{Spans}
 use Rattle.aim_tiles.specs.Cells.{in_range}
 use Rattle.aim_tiles.specs.Sheets.{AreTiles, AreAhead}
@@ -28,12 +29,12 @@ upto low high k h = (let p = and_parts (nat_le low k) (nat_le k high) h in (low_
 
 -- the cells of one set lie on the grid
 on_grid : (n horizon : ℕ) (r : Rectangle) (s : Spans) → FitsGrid n horizon r → ((cell : Cell) → in_spans s.spans cell ≡ in_rectangle r cell) → AreTiles n s.spans × AreAhead 0 horizon s.spans
-on_grid n horizon r s f is' = (λ cell h. let p = parts cell h in (omega (arith, f.last_row, (upto r.row0 r.row1 cell.1 p.1).1), omega (arith, f.last_column, (upto r.col0 r.col1 cell.2 p.2).1)), λ cell h. let p = parts cell h in ahead cell.0 (omega (arith, f.last_step, (upto r.from r.to cell.0 p.0).1)))
+on_grid n horizon r s f is' = (λ cell h. let p = parts cell h in (omega (arith, f.last_row, (upto r.row0 r.row1 cell.row p.1).1), omega (arith, f.last_column, (upto r.col0 r.col1 cell.col p.2).1)), λ cell h. let p = parts cell h in ahead cell.step (omega (arith, f.last_step, (upto r.from r.to cell.step p.0).1)))
   where
-    parts : (cell : Cell) → in_spans s.spans cell ≡ true → (is_between r.from r.to cell.0 ≡ true) × (is_between r.row0 r.row1 cell.1 ≡ true) × (is_between r.col0 r.col1 cell.2 ≡ true)
+    parts : (cell : Cell) → in_spans s.spans cell ≡ true → (is_between r.from r.to cell.step ≡ true) × (is_between r.row0 r.row1 cell.row ≡ true) × (is_between r.col0 r.col1 cell.col ≡ true)
     parts cell h =
-        let a = and_parts (is_between r.from r.to cell.0) (is_between r.row0 r.row1 cell.1 && is_between r.col0 r.col1 cell.2) (sym (is' cell) ∙ h) in
-        let b = and_parts (is_between r.row0 r.row1 cell.1) (is_between r.col0 r.col1 cell.2) a.1 in (a.0, b.0, b.1)
+        let a = and_parts (is_between r.from r.to cell.step) (is_between r.row0 r.row1 cell.row && is_between r.col0 r.col1 cell.col) (sym (is' cell) ∙ h) in
+        let b = and_parts (is_between r.row0 r.row1 cell.row) (is_between r.col0 r.col1 cell.col) a.1 in (a.0, b.0, b.1)
 
     ahead : (k : ℕ) → k < horizon → in_range 0 horizon k ≡ true
     ahead k lt = grind (arith, nat_tests)

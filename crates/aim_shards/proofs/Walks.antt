@@ -16,7 +16,8 @@ use Rattle.aim_shards.specs.declared.view.Turn.{Turn}
 use Rattle.aim_shards.specs.declared.view.View.{View}
 use Rattle.aim_shards.specs.declared.view.Terms.{Terms}
 use Rattle.aim_pool.specs.declared.spans.Span.{Span}
-use Rattle.aim_pool.specs.Spans.{Cell, in_spans}
+use Rattle.aim_geometry.specs.Cells.{Cell}
+use Rattle.aim_pool.specs.Spans.{in_spans}
 use Rattle.aim_tiles.specs.Cells.{TakenCells, has_cell}
 use Rattle.aim_tiles.specs.Sheets.{AreTiles, AreAhead}
 use Rattle.aim_shards.specs.Sums.{Every, total, at}

@@ -3,7 +3,8 @@ use Rattle.std.proofs.Common.{◌≡◌, ◌⊎◌, ℕ, suc, ◌+◌, ◌*◌, 
 use Rattle.std.specs.Prelude.{nat_le}
 use Rattle.std.specs.List.{list_any}
 use Rattle.std.proofs.lemmas.Bool.{and_parts, eq-eqb}
-use Rattle.aim_pool.specs.Spans.{Cell, in_spans}
+use Rattle.aim_geometry.specs.Cells.{Cell}
+use Rattle.aim_pool.specs.Spans.{in_spans}
 use Rattle.aim_pool.specs.Sheets.{Spans}
 use Rattle.aim_shards.specs.declared.claims.ClaimAct.{ClaimAct}
 use Rattle.aim_shards.specs.declared.claims.ClaimAct.TheVariants as act
@@ -29,15 +30,15 @@ four_parts false false false d h = inr (inr (inr h))
 
 module _ (half : ℕ) (sheets : List Spans) (sets : List Quarters) (cut : AreCut half sheets sets) where
   -- a cell of a set is in the part of its quadrant, and a cell of a part is in the set
-  in_part : (k : ℕ) (cell : Cell) → in_spans (spans_at sheets k) cell ≡ true → in_spans (part (set_at sets k) (quadrant_at half cell.1 cell.2)) cell ≡ true
+  in_part : (k : ℕ) (cell : Cell) → in_spans (spans_at sheets k) cell ≡ true → in_spans (part (set_at sets k) (quadrant_at half cell.row cell.col)) cell ≡ true
   in_part k cell h =
-      cut.cells k (quadrant_at half cell.1 cell.2) cell (below_four (nat_le half cell.1) (nat_le half cell.2))
-      ∙ (λ i. h i && eq-eqb (quadrant_at half cell.1 cell.2) (quadrant_at half cell.1 cell.2) refl i)
+      cut.cells k (quadrant_at half cell.row cell.col) cell (below_four (nat_le half cell.row) (nat_le half cell.col))
+      ∙ (λ i. h i && eq-eqb (quadrant_at half cell.row cell.col) (quadrant_at half cell.row cell.col) refl i)
 
   in_whole : (k q : ℕ) (cell : Cell) → q < 4 → in_spans (part (set_at sets k) q) cell ≡ true → in_spans (spans_at sheets k) cell ≡ true
   in_whole k q cell lt h = (and_parts (in_spans (spans_at sheets k) cell) (lies_at half q cell) (sym (cut.cells k q cell lt) ∙ h)).0
 
-  act_in_part : (a : ClaimAct) (cell : Cell) → claims_cell sheets a cell ≡ true → in_spans (part (claimed sets a) (quadrant_at half cell.1 cell.2)) cell ≡ true
+  act_in_part : (a : ClaimAct) (cell : Cell) → claims_cell sheets a cell ≡ true → in_spans (part (claimed sets a) (quadrant_at half cell.row cell.col)) cell ≡ true
   act_in_part (act.Claim k) cell h = in_part k cell h
   act_in_part (act.Free t) cell h = absurd (differ (sym h))
 
@@ -73,8 +74,8 @@ module _ (half : ℕ) (sheets : List Spans) (sets : List Quarters) (cut : AreCut
       at : (b : Bool) → is_claimed sheets standing cell ≡ b → is_claimed sheets standing cell ≡ false
       at false c = c
       at true c =
-          let q = quadrant_at half cell.1 cell.2 in
-          let lt = below_four (nat_le half cell.1) (nat_le half cell.2) in
+          let q = quadrant_at half cell.row cell.col in
+          let lt = below_four (nat_le half cell.row) (nat_le half cell.col) in
           let met : list_any (λ (f : ClaimEntry). meets (set_at sets k) (claimed sets f.act)) standing ≡ true = any_map (λ (f : ClaimEntry). claims_cell sheets f.act cell) (λ f. meets (set_at sets k) (claimed sets f.act)) standing
           (λ f hf. meets_by (set_at sets k) (claimed sets f.act) q lt (spans_met (part (set_at sets k) q) (part (claimed sets f.act) q) cell (in_part k cell h) (act_in_part f.act cell hf))) c in absurd (differ (e ∙ ap not met))
 

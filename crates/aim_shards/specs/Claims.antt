@@ -1,7 +1,8 @@
 -- Claim histories.
 use Rattle.std.specs.Prelude.{◌≡◌, ℕ, suc, ◌==◌, Bool, true, false, ◌&&◌, ◌||◌, not, List, [], ◌∷◌, ◌++◌, filter, if◌then◌else◌}
 use Rattle.std.specs.List.{list_any}
-use Rattle.aim_pool.specs.Spans.{Cell, in_spans}
+use Rattle.aim_geometry.specs.Cells.{Cell}
+use Rattle.aim_pool.specs.Spans.{in_spans}
 use Rattle.aim_shards.specs.declared.claims.ClaimAct.{ClaimAct}
 use Rattle.aim_shards.specs.declared.claims.ClaimAct.TheVariants as act
 use Rattle.aim_shards.specs.declared.claims.ClaimEntry.{ClaimEntry}

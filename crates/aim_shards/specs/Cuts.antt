@@ -1,7 +1,8 @@
 -- The four quadrants of a grid, and sets that are cut along their borders.
 use Rattle.std.specs.Prelude.{◌≡◌, ℕ, ◌+◌, ◌*◌, ◌/◌, ◌<◌, ◌==◌, nat_le, Bool, not, ◌&&◌, if◌then◌else◌, List, [], get_or, length}
 use Rattle.aim_pool.specs.declared.spans.Span.{Span}
-use Rattle.aim_pool.specs.Spans.{Cell, in_spans}
+use Rattle.aim_geometry.specs.Cells.{Cell}
+use Rattle.aim_pool.specs.Spans.{in_spans}
 use Rattle.aim_pool.specs.Sheets.{Spans}
 use Rattle.aim_tiles.specs.Sheets.{AreTiles, AreAhead}
 use Rattle.aim_shards.specs.Sets.{Quarters, part, set_at}
@@ -18,7 +19,7 @@ abbrev pub quadrant_at : ℕ → ℕ → ℕ → ℕ
 quadrant_at half row col = 2 * one (nat_le half row) + one (nat_le half col)
 
 abbrev pub lies_at : ℕ → ℕ → Cell → Bool
-lies_at half q cell = quadrant_at half cell.1 cell.2 == q
+lies_at half q cell = quadrant_at half cell.row cell.col == q
 
 -- whether the span's row is in the second half, or in the first
 abbrev pub is_beside : ℕ → Bool → Span → Bool

@@ -7,7 +7,7 @@ use lib.ListN.{get_elem?}
 use Rattle.atomic_table.specs.Table.{State, Me, rest}
 use Rattle.aim_tiles.specs.Cells.{TakenCells, has_cell}
 use Rattle.aim_tiles.specs.Sheets.{AreTiles, AreAhead}
-use Rattle.aim_pool.specs.Spans.{Cell}
+use Rattle.aim_geometry.specs.Cells.{Cell}
 use Rattle.aim_shards.specs.declared.claims.ClaimEntry.{ClaimEntry}
 use Rattle.aim_shards.specs.declared.quarter.Quarter.{Quarter}
 use Rattle.aim_shards.specs.declared.quarter.Plan.{Plan}

@@ -1,7 +1,9 @@
 //! Cutting sets along the borders of the quadrants.
 
 ghost use Rattle.std.specs.Prelude.{◌≡◌, ◌<◌, ◌≤◌, ◌+◌, ◌*◌, ◌==◌, ◌&&◌, ◌||◌, true, not, nat_le, if◌then◌else◌, ℕ, filter, length, IfOk};
-ghost use Rattle.aim_pool.specs.Spans.{Cell, has_bit, in_span, in_spans};
+ghost use Rattle.aim_geometry.specs.Cells.{Cell};
+ghost use Rattle.aim_geometry.specs.Rects.{has_bit};
+ghost use Rattle.aim_pool.specs.Spans.{in_span, in_spans};
 ghost use Rattle.aim_shards.specs.Cuts.{AreCut, half_of, is_beside, lies_at, one, quadrant_at};
 ghost use Rattle.aim_shards.specs.Sets.{part};
 

@@ -1,7 +1,8 @@
 //! What lies in a quadrant's slot.
 
 ghost use Rattle.std.specs.Prelude.{◌≡◌, [], ◌∷◌, ◌++◌, ◌+◌, ◌<◌, ◌≤◌, ℕ, filter, length, not, ◌==◌, true, vec_capacity};
-ghost use Rattle.aim_pool.specs.Spans.{Cell, in_spans};
+ghost use Rattle.aim_geometry.specs.Cells.{Cell};
+ghost use Rattle.aim_pool.specs.Spans.{in_spans};
 ghost use Rattle.aim_tiles.specs.Cells.{has_cell};
 ghost use Rattle.aim_tiles.specs.Sheets.{AreAhead, AreTiles};
 ghost use Rattle.aim_shards.specs.Clear.{IsClear};

@@ -1,7 +1,9 @@
 //! Sets of all tiles of a rectangle in some steps.
 
 ghost use Rattle.std.specs.Prelude.{◌≡◌, ◌≢◌, ◌+◌, ◌-◌, ◌*◌, ◌<◌, ◌≤◌, ◌==◌, ◌&&◌, ◌||◌, ◌↔◌, IsTrue, ℕ, length, All, IfOk};
-ghost use Rattle.aim_pool.specs.Spans.{Cell, has_bit, in_spans};
+ghost use Rattle.aim_geometry.specs.Cells.{Cell};
+ghost use Rattle.aim_geometry.specs.Rects.{has_bit};
+ghost use Rattle.aim_pool.specs.Spans.{in_spans};
 ghost use Rattle.aim_shards.specs.Fitting.{AreSheets};
 ghost use Rattle.aim_shards.specs.Rectangles.{FitsGrid, in_rectangle, is_between};
 
@@ -34,7 +36,7 @@ impl Rectangle {
         requires columns { (self.now.col0 ≤ self.now.col1) × (self.now.col1 < 64) }
         requires row { row < 64 }
         requires room { length sheet.old.spans < sheet.old.room }
-        ensures cells { (cell : Cell) → in_spans sheet.new.spans cell ≡ (in_spans sheet.old.spans cell || (cell.0 == step && (cell.1 == row && is_between self.now.col0 self.now.col1 cell.2))) }
+        ensures cells { (cell : Cell) → in_spans sheet.new.spans cell ≡ (in_spans sheet.old.spans cell || (cell.step == step && (cell.row == row && is_between self.now.col0 self.now.col1 cell.col))) }
         ensures count { length sheet.new.spans ≤ length sheet.old.spans + 1 }
         ensures room { sheet.new.room ≡ sheet.old.room }
     {
@@ -53,7 +55,7 @@ impl Rectangle {
         requires columns { (self.now.col0 ≤ self.now.col1) × (self.now.col1 < 64) }
         requires rows { (self.now.row0 ≤ self.now.row1) × (self.now.row1 < 64) }
         requires room { length sheet.old.spans + (self.now.row1 - self.now.row0 + 1) ≤ sheet.old.room }
-        ensures cells { (cell : Cell) → in_spans sheet.new.spans cell ≡ (in_spans sheet.old.spans cell || (cell.0 == step && (is_between self.now.row0 self.now.row1 cell.1 && is_between self.now.col0 self.now.col1 cell.2))) }
+        ensures cells { (cell : Cell) → in_spans sheet.new.spans cell ≡ (in_spans sheet.old.spans cell || (cell.step == step && (is_between self.now.row0 self.now.row1 cell.row && is_between self.now.col0 self.now.col1 cell.col))) }
         ensures count { length sheet.new.spans ≤ length sheet.old.spans + (self.now.row1 - self.now.row0 + 1) }
         ensures room { sheet.new.room ≡ sheet.old.room }
     {
