@@ -1,11 +1,9 @@
 //! What the tests share.
 
 ghost use Rattle.std.specs.Prelude.{◌≡◌, ◌<◌, length, IfOk, map};
-ghost use Rattle.aim_shards.specs.Models.{IsPassOf, IsSamePass, count_up, new_pass};
+ghost use Rattle.aim_shards.specs.Models.{IsPassOf, count_up, new_pass};
 
-use aim_shards::{
-    Claimed, Full, Hold, OpenedShards, Rectangle, ShardPass, Shards, are_fitting, sheets,
-};
+use aim_shards::{Hold, OpenedShards, Rectangle, ShardPass, Shards, are_fitting, sheets};
 use std::alloc::Global;
 use std::process::Abort;
 use std::sync::Wait;
@@ -47,18 +45,19 @@ pub(crate) fn opened(
     Ok(Shards::open(alloc, 4, 100, sets, callers, calls)?)
 }
 
-// Claims the set.
+// Claims the set, as the last call of the pass.
 pub(crate) fn claim<R: Wait, H: Hold>(
     rt: &R,
     shards: &Shards,
     mut pass: ShardPass,
     set: u32,
     hold: &H,
-) -> (ShardPass, Result<Claimed, Full>)
+) -> Option<u32>
     requires own { IsPassOf shards.now pass }
     requires set { set < length shards.now.sets }
-    ensures { IsSamePass pass result.0 }
 {
-    let answer = shards.claim(rt, &mut pass, set, hold);
-    (pass, answer)
+    match shards.claim(rt, &mut pass, set, hold) {
+        Ok(claimed) if claimed.yes => Some(claimed.ticket),
+        _ => None,
+    }
 }
