@@ -13,7 +13,6 @@ use Rattle.aim_io.specs.Reader.{Reader, fresh, input, coming, taken_by, Needed, 
 use Rattle.aim_msg.specs.Texts.{entry_text, spaced}
 use Rattle.aim_msg.specs.declared.entries.Entry.{Entry}
 use Rattle.aim_msg.specs.declared.script.Line.{Line}
-use Rattle.aim_paths.specs.Intersection.{Intersection}
 use Rattle.aim_rules.specs.Journals.{journal}
 use Rattle.aim_replay.specs.declared.decisions.Decision.{Decision}
 use Rattle.aim_replay.specs.declared.decisions.Decision.TheVariants as decision
