@@ -8,10 +8,10 @@ use Rattle.std.specs.declared.option.Option.{Option}
 use Rattle.std.specs.Io.KnownBytes.{Consumes, IsAtEnd, Keeps, prepend_known}
 use Rattle.aim_io.specs.declared.lines.LineFault.{LineFault}
 use Rattle.aim_io.specs.declared.lines.LineFault.TheVariants.{Read, Long, Bytes, Lines}
-use Rattle.aim_io.specs.Lines.{Line, Stop, outcomes, IsOpen, ShowsNothing, ShowsFault}
+use Rattle.aim_io.specs.Lines.{LongLine, Line, Stop, outcomes, IsOpen, ShowsNothing, ShowsFault}
 use Rattle.aim_io.specs.Look.{ShowsLine}
 use Rattle.aim_io.specs.Reader.{Reader, input, coming, Answers, Stops, Needed}
-use Rattle.aim_io.proofs.LinesLemmas.{outcomes_line, outcomes_last, outcomes_fault}
+use Rattle.aim_io.proofs.LinesLemmas.{outcomes_line, outcomes_last, long_front, bytes_front, lines_front}
 
 -- what the source loses is held
 pub keeps_more : (a b : Option (List ℕ)) (old piece new : List ℕ) → Consumes a b piece → new ≡ old ++ piece
@@ -139,11 +139,13 @@ answers_rest old now (Some bytes) (Some rest) more same keeps shows end test =
     rest_of old (behind_all now more) now.held bytes rest more (ap (λ (n : ℕ). n + (if more then 1 else 0)) (sym given)) (ap (λ (n : ℕ). n + length now.held) (sym place))
     refl is end (rw (given, place) shows) test
 
-stops_of : (old : Reader) (bytes : List ℕ) (fault : LineFault) → coming old bytes ≡ Stop fault ∷ [] → Stops old bytes fault
-stops_of old bytes Read is = tt
-stops_of old bytes (Long number) is = is
-stops_of old bytes Bytes is = is
-stops_of old bytes Lines is = is
+-- the fault that the bytes held show is the answer, whatever comes behind them
+stops_shown : (reader : Reader) (held rest : List ℕ) (fault : LineFault) → ShowsFault reader.given reader.place held fault → Stops reader (held ++ rest) fault
+stops_shown reader held rest Read shows = absurd shows
+stops_shown reader held rest (Long number) shows =
+    long_front reader.given reader.place held rest shows.1 ∙ ap (λ (n : ℕ). Stop (LongLine n) ∷ []) (sym shows.0)
+stops_shown reader held rest Bytes shows = bytes_front reader.given reader.place held rest shows
+stops_shown reader held rest Lines shows = lines_front reader.given reader.place held rest shows
 
 pub answers_fault : (old now new : Reader) (before left : Option (List ℕ)) (fault : LineFault) → now ≡ record old { held = now.held; line = now.line }
     → Keeps before (input now left) → new.held ≡ now.held → ShowsFault now.given now.place now.held fault
@@ -153,6 +155,5 @@ answers_fault old now new (Some bytes) None fault same keeps held shows = absurd
 answers_fault old now new (Some bytes) (Some rest) fault same keeps held shows =
     let given : old.given ≡ now.given = sym (ap (λ (r : Reader). r.given) same) in
     let place : old.place ≡ now.place = sym (ap (λ (r : Reader). r.place) same) in
-    let stop : coming old bytes ≡ Stop fault ∷ [] =
-    rw (given, place) (ap (outcomes now.given now.place) (sym keeps) ∙ outcomes_fault now.given now.place now.held rest fault shows) in
-    (ap (λ (l : List ℕ). l ++ rest) held ∙ keeps, stops_of old bytes fault stop)
+    let stops = stops_shown old now.held rest fault (rw (given, place) shows) in
+    (ap (λ (l : List ℕ). l ++ rest) held ∙ keeps, subst (λ (l : List ℕ). Stops old l fault) keeps stops)

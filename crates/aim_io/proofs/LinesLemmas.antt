@@ -3,9 +3,7 @@ use Rattle.std.proofs.Common.{◌≡◌, ℕ, suc, ◌+◌, ◌<◌, ◌≤◌, 
 use Rattle.std.specs.declared.option.Option.{Option}
 use Rattle.std.proofs.lemmas.Bool.{ne_eqb, le-leb, lt-leb, lt-ltb, le-ltb, and_right, cond_both}
 use Rattle.std.proofs.lemmas.List.{length-append, length-take-le, append_assoc, take-append-drop}
-use Rattle.aim_io.specs.declared.lines.LineFault.{LineFault}
-use Rattle.aim_io.specs.declared.lines.LineFault.TheVariants.{Read, Long, Bytes, Lines}
-use Rattle.aim_io.specs.Lines.{onto_first, lines_of, Outcome, Line, Stop, place_behind, fault_at, outcome, outcomes_from, outcomes, HasNoEnd, IsOpen, ShowsLines, ShowsLong, ShowsBytes, ShowsFault}
+use Rattle.aim_io.specs.Lines.{onto_first, lines_of, InputFault, LongLine, TooManyBytes, TooManyLines, Outcome, Line, Stop, place_behind, fault_at, outcome, outcomes_from, outcomes, HasNoEnd, IsOpen, ShowsLines, ShowsLong, ShowsBytes}
 
 -- ---- the first line of some bytes
 
@@ -50,13 +48,13 @@ after_line : (total given place : ℕ) (line : List ℕ) (more : List (List ℕ)
     → outcomes_from total given place (line ∷ more) ≡ Line line ∷ outcomes_from total (given + 1) (place_behind total place line) more
 unfolding outcomes_from
 after_line total given place line more none =
-    ap (λ (f : Option LineFault). outcome f line (outcomes_from total (given + 1) (place_behind total place line) more)) none
+    ap (λ (f : Option InputFault). outcome f line (outcomes_from total (given + 1) (place_behind total place line) more)) none
 
-at_fault : (total given place : ℕ) (line : List ℕ) (more : List (List ℕ)) (fault : LineFault) → fault_at total given place line ≡ Some fault
+at_fault : (total given place : ℕ) (line : List ℕ) (more : List (List ℕ)) (fault : InputFault) → fault_at total given place line ≡ Some fault
     → outcomes_from total given place (line ∷ more) ≡ Stop fault ∷ []
 unfolding outcomes_from
 at_fault total given place line more fault is =
-    ap (λ (f : Option LineFault). outcome f line (outcomes_from total (given + 1) (place_behind total place line) more)) is
+    ap (λ (f : Option InputFault). outcome f line (outcomes_from total (given + 1) (place_behind total place line) more)) is
 
 nothing : (total given place : ℕ) → outcomes_from total given place [] ≡ []
 unfolding outcomes_from
@@ -71,16 +69,16 @@ no_fault : (total given place : ℕ) (line : List ℕ) → given < 262144 → le
 no_fault total given place line few short within =
     rw (lt-leb 262144 given few, lt-leb 401 (length line) (omega arith), le-ltb 67108864 (place_behind total place line) within) refl
 
-fault_lines : (total given place : ℕ) (line : List ℕ) → 262144 ≤ given → fault_at total given place line ≡ Some Lines
+fault_lines : (total given place : ℕ) (line : List ℕ) → 262144 ≤ given → fault_at total given place line ≡ Some TooManyLines
 fault_lines total given place line all = rw (le-leb 262144 given all) refl
 
 fault_long : (total given place : ℕ) (line : List ℕ) → given < 262144 → 401 ≤ length line → place + 401 ≤ 67108864
-    → fault_at total given place line ≡ Some (Long (given + 1))
+    → fault_at total given place line ≡ Some (LongLine (given + 1))
 fault_long total given place line few long within =
     rw (lt-leb 262144 given few, le-leb 401 (length line) long, le-leb (place + 401) 67108864 within) refl
 
 fault_bytes : (total given place : ℕ) (line : List ℕ) → given < 262144 → 67108864 < place + 401 → 67108864 < place_behind total place line
-    → fault_at total given place line ≡ Some Bytes
+    → fault_at total given place line ≡ Some TooManyBytes
 fault_bytes total given place line few late past =
     rw (lt-leb 262144 given few, and_right (nat_le 401 (length line)) (nat_le (place + 401) 67108864) (lt-leb (place + 401) 67108864 late), lt-ltb 67108864 (place_behind total place line) past) refl
 
@@ -107,27 +105,28 @@ outcomes_last given place line few is_open some within =
     ∙ after_line total given place line [] (no_fault total given place line few is_open.short behind)
     ∙ ap (λ (l : List Outcome). Line line ∷ l) (nothing total (given + 1) (place_behind total place line) ∙ sym (outcomes_none (given + 1) (place + length line)))
 
-stop_lines : (given place : ℕ) (bytes : List ℕ) → ShowsLines given bytes → outcomes given place bytes ≡ Stop Lines ∷ []
+stop_lines : (given place : ℕ) (bytes : List ℕ) → ShowsLines given bytes → outcomes given place bytes ≡ Stop TooManyLines ∷ []
 stop_lines given place bytes shows =
     let first = first_any bytes shows.further in
     ap (outcomes_from (place + length bytes) given place) first.is ∙ at_fault _ _ _ _ _ _ (fault_lines (place + length bytes) given place first.line shows.given_all)
 
 stop_long : (given place : ℕ) (front rest : List ℕ) → given < 262144 → HasNoEnd front → length front ≡ 401 → place + 401 ≤ 67108864
-    → outcomes given place (front ++ rest) ≡ Stop (Long (given + 1)) ∷ []
+    → outcomes given place (front ++ rest) ≡ Stop (LongLine (given + 1)) ∷ []
 stop_long given place front rest few no_end long within =
     let first = first_front front rest no_end (omega (arith, length-append front rest)) in
     let total : ℕ = place + length (front ++ rest) in
     ap (outcomes_from total given place) first.is ∙ at_fault _ _ _ _ _ _ (fault_long total given place first.line few (omega (arith, first.long)) within)
 
 stop_bytes : (given place : ℕ) (front rest : List ℕ) → given < 262144 → HasNoEnd front → length front ≤ 400 → place + length front ≡ 67108864 → 0 < length rest
-    → outcomes given place (front ++ rest) ≡ Stop Bytes ∷ []
+    → outcomes given place (front ++ rest) ≡ Stop TooManyBytes ∷ []
 stop_bytes given place front rest few no_end short last further =
     let first = first_front front rest no_end (omega (arith, length-append front rest)) in
     let total : ℕ = place + length (front ++ rest) in
     let past : 67108864 < place_behind total place first.line = omega (arith, first.long, length-append front rest) in
     ap (outcomes_from total given place) first.is ∙ at_fault _ _ _ _ _ _ (fault_bytes total given place first.line few (omega arith) past)
 
-long_front : (given place : ℕ) (held rest : List ℕ) → ShowsLong given place held → outcomes given place (held ++ rest) ≡ Stop (Long (given + 1)) ∷ []
+-- what the bytes held show is the answer, whatever comes behind them
+pub long_front : (given place : ℕ) (held rest : List ℕ) → ShowsLong given place held → outcomes given place (held ++ rest) ≡ Stop (LongLine (given + 1)) ∷ []
 long_front given place held rest shows =
     let front = take 401 held in
     let whole : held ++ rest ≡ front ++ (drop 401 held ++ rest) =
@@ -135,22 +134,13 @@ long_front given place held rest shows =
     ap (outcomes given place) whole
     ∙ stop_long given place front (drop 401 held ++ rest) shows.few shows.no_end (length-take-le 401 held shows.long) shows.within
 
-bytes_front : (given place : ℕ) (held rest : List ℕ) → ShowsBytes given place held → outcomes given place (held ++ rest) ≡ Stop Bytes ∷ []
+pub bytes_front : (given place : ℕ) (held rest : List ℕ) → ShowsBytes given place held → outcomes given place (held ++ rest) ≡ Stop TooManyBytes ∷ []
 bytes_front given place held rest shows =
     let whole : held ++ rest ≡ shows.front ++ (shows.rest ++ rest) =
     ap (λ (l : List ℕ). l ++ rest) shows.split ∙ append_assoc shows.front shows.rest rest in
     ap (outcomes given place) whole
     ∙ stop_bytes given place shows.front (shows.rest ++ rest) shows.few shows.no_end shows.short shows.last (omega (arith, shows.further, length-append shows.rest rest))
 
-lines_front : (given place : ℕ) (held rest : List ℕ) → ShowsLines given held → outcomes given place (held ++ rest) ≡ Stop Lines ∷ []
+pub lines_front : (given place : ℕ) (held rest : List ℕ) → ShowsLines given held → outcomes given place (held ++ rest) ≡ Stop TooManyLines ∷ []
 lines_front given place held rest shows =
     stop_lines given place (held ++ rest) (record { given_all = shows.given_all; further = omega (arith, shows.further, length-append held rest) })
-
--- what the bytes held show is the answer, whatever comes behind them
-pub outcomes_fault : (given place : ℕ) (held rest : List ℕ) (fault : LineFault) → ShowsFault given place held fault
-    → outcomes given place (held ++ rest) ≡ Stop fault ∷ []
-outcomes_fault given place held rest Read shows = absurd shows
-outcomes_fault given place held rest (Long number) shows =
-    long_front given place held rest shows.1 ∙ ap (λ (n : ℕ). Stop (Long n) ∷ []) (sym shows.0)
-outcomes_fault given place held rest Bytes shows = bytes_front given place held rest shows
-outcomes_fault given place held rest Lines shows = lines_front given place held rest shows

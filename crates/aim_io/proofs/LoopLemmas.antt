@@ -9,7 +9,7 @@ use Rattle.std.specs.Io.KnownBytes.{Consumes, Keeps, prepend_known}
 use Rattle.aim_io.specs.declared.lines.LineFault.{LineFault}
 use Rattle.aim_io.specs.declared.lines.LineFault.TheVariants.{Read, Long, Bytes, Lines}
 use Rattle.aim_io.specs.Known.{WhereKnown}
-use Rattle.aim_io.specs.Lines.{Outcome, Line, Stop, HasNoEnd, joined_lines, whole_lines}
+use Rattle.aim_io.specs.Lines.{InputFault, LongLine, TooManyBytes, TooManyLines, fault_of, Outcome, Line, Stop, HasNoEnd, joined_lines, whole_lines}
 use Rattle.aim_io.specs.Reader.{Reader, input, coming, Answers, Needed}
 use Rattle.aim_io.specs.Taken.{TookLines, TookWhole, LastNeeded}
 use Rattle.aim_io.proofs.LinesLemmas.{outcomes_none}
@@ -52,23 +52,25 @@ decided_end F whole old new (Some bytes) (Some rest) (Some last) decides answers
     ap F (sym (outcomes_none old.given old.place)) ∙ ap (λ (l : List ℕ). F (coming old l)) (sym answers.0) ∙ decides
 
 stop_of : (old new : Reader) (bytes rest : List ℕ) (fault : LineFault) → fault ≢ Read → Answers old new (Some bytes) (Some rest) (Err fault)
-    → coming old bytes ≡ Stop fault ∷ []
+    → (f : InputFault) × (fault ≡ fault_of f) × (coming old bytes ≡ Stop f ∷ [])
 stop_of old new bytes rest Read other answers = absurd (other refl)
-stop_of old new bytes rest (Long number) other answers = answers.1
-stop_of old new bytes rest Bytes other answers = answers.1
-stop_of old new bytes rest Lines other answers = answers.1
+stop_of old new bytes rest (Long number) other answers = (LongLine number, refl, answers.1)
+stop_of old new bytes rest Bytes other answers = (TooManyBytes, refl, answers.1)
+stop_of old new bytes rest Lines other answers = (TooManyLines, refl, answers.1)
 
 -- at a fault other than Read
-pub decided_fault : {X : Type 0} (F : List Outcome → X) (whole : List ℕ → X) (old new : Reader) (all before after : Option (List ℕ)) (fault : LineFault)
-    → fault ≢ Read
+pub decided_fault : {X : Type 0} (F : List Outcome → X) (whole : List ℕ → X) (answer : LineFault → X) (old new : Reader) (all before after : Option (List ℕ))
+    (fault : LineFault) → fault ≢ Read
+    → ((f : InputFault) → F (Stop f ∷ []) ≡ answer (fault_of f))
     → WhereKnown all before (λ bytes rest. F (coming old rest) ≡ whole bytes)
     → Answers old new before after (Err fault)
-    → IfSome all (λ bytes. F (Stop fault ∷ []) ≡ whole bytes)
-decided_fault F whole old new None before after fault other decides answers = tt
-decided_fault F whole old new (Some bytes) None after fault other decides answers = absurd decides
-decided_fault F whole old new (Some bytes) (Some rest) None fault other decides answers = absurd answers
-decided_fault F whole old new (Some bytes) (Some rest) (Some last) fault other decides answers =
-    ap F (sym (stop_of old new rest last fault other answers)) ∙ decides
+    → IfSome all (λ bytes. answer fault ≡ whole bytes)
+decided_fault F whole answer old new None before after fault other ends decides answers = tt
+decided_fault F whole answer old new (Some bytes) None after fault other ends decides answers = absurd decides
+decided_fault F whole answer old new (Some bytes) (Some rest) None fault other ends decides answers = absurd answers
+decided_fault F whole answer old new (Some bytes) (Some rest) (Some last) fault other ends decides answers =
+    let stop = stop_of old new rest last fault other answers in
+    ap answer stop.1 ∙ sym (ends stop.0) ∙ sym (ap F stop.2) ∙ decides
 
 -- ---- the whole lines that are gone
 

@@ -16,10 +16,23 @@ abbrev pub lines_of : List ℕ → List (List ℕ)
 lines_of [] = []
 lines_of (b ∷ bytes) = if b == 10 then [] ∷ lines_of bytes else onto_first b (lines_of bytes)
 
+-- what the bytes of an input say in the place of a line: the line of this number, counted from 1, is too long, or there
+-- are more bytes or more lines than are taken
+pub data InputFault : Type 0 where
+  LongLine : ℕ → InputFault
+  TooManyBytes : InputFault
+  TooManyLines : InputFault
+
+-- the fault that a reader answers there; it answers one more, that its source has failed, of which no bytes speak
+abbrev pub fault_of : InputFault → LineFault
+fault_of (LongLine number) = Long number
+fault_of TooManyBytes = Bytes
+fault_of TooManyLines = Lines
+
 -- what is answered to a caller who asks for the next line: the line, or a fault, which is the last answer
 pub data Outcome : Type 0 where
   Line : List ℕ → Outcome
-  Stop : LineFault → Outcome
+  Stop : InputFault → Outcome
 
 -- how many of the first bytes of the input are gone when a line is taken that begins behind `place` bytes: those
 -- before it, its own and its byte 10, if the input of `total` bytes has one there
@@ -28,15 +41,15 @@ place_behind total place line = min (place + length line + 1) total
 
 -- the fault that stands in the place of a line: at most 262,144 lines are given, a line has at most 400 bytes, and its
 -- end stands among the first 67,108,864 bytes of the input, if its 401st byte doesn't
-abbrev pub fault_at : ℕ → ℕ → ℕ → List ℕ → Option LineFault
+abbrev pub fault_at : ℕ → ℕ → ℕ → List ℕ → Option InputFault
 fault_at total given place line =
-    if nat_le 262144 given then Some Lines
-    else if nat_le 401 (length line) && nat_le (place + 401) 67108864 then Some (Long (given + 1))
-    else if nat_lt 67108864 (place_behind total place line) then Some Bytes
+    if nat_le 262144 given then Some TooManyLines
+    else if nat_le 401 (length line) && nat_le (place + 401) 67108864 then Some (LongLine (given + 1))
+    else if nat_lt 67108864 (place_behind total place line) then Some TooManyBytes
     else None
 
 -- the line where there is no fault, and what is answered after it
-abbrev pub outcome : Option LineFault → List ℕ → List Outcome → List Outcome
+abbrev pub outcome : Option InputFault → List ℕ → List Outcome → List Outcome
 outcome None line more = Line line ∷ more
 outcome (Some fault) line more = Stop fault ∷ []
 

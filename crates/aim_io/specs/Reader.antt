@@ -5,9 +5,9 @@ use Rattle.std.specs.Borrow.{Bor}
 use Rattle.std.specs.declared.option.Option.{Option}
 use Rattle.std.specs.Io.KnownBytes.{Consumes, IsAtEnd, Keeps, prepend_known}
 use Rattle.aim_io.specs.declared.lines.LineFault.{LineFault}
-use Rattle.aim_io.specs.declared.lines.LineFault.TheVariants.{Read}
+use Rattle.aim_io.specs.declared.lines.LineFault.TheVariants.{Read, Long, Bytes, Lines}
 use Rattle.aim_io.specs.Known.{WhereKnown}
-use Rattle.aim_io.specs.Lines.{Outcome, Line, Stop, outcomes, with_end, IsOpen, ShowsFault, ShowsNothing}
+use Rattle.aim_io.specs.Lines.{LongLine, TooManyBytes, TooManyLines, Outcome, Line, Stop, outcomes, with_end, IsOpen, ShowsFault, ShowsNothing}
 
 -- a reader: the bytes that it has read ahead, the last line that it gave, how many lines it gave, how many bytes it took
 -- for them, the fault that it answers from now on, and whether it has seen the end of the input
@@ -44,7 +44,9 @@ coming reader bytes = outcomes reader.given reader.place bytes
 -- the fault is the next answer of the bytes to come, or the source failed and nothing is answered of them
 abbrev pub Stops : Reader → List ℕ → LineFault → Type 0
 Stops reader bytes Read = ⊤
-Stops reader bytes fault = coming reader bytes ≡ Stop fault ∷ []
+Stops reader bytes (Long number) = coming reader bytes ≡ Stop (LongLine number) ∷ []
+Stops reader bytes Bytes = coming reader bytes ≡ Stop TooManyBytes ∷ []
+Stops reader bytes Lines = coming reader bytes ≡ Stop TooManyLines ∷ []
 
 -- what a call that asks for the next line answers, by the bytes to come before and after it
 abbrev pub AnswersOf : Reader → Reader → Result Bool LineFault → List ℕ → List ℕ → Type 0

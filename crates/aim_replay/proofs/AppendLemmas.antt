@@ -13,7 +13,7 @@ use Rattle.aim_msg.specs.declared.entries.Act.TheVariants as act
 use Rattle.aim_msg.specs.declared.entries.Entry.{Entry}
 use Rattle.aim_geometry.specs.Bounded.{find_map}
 use Rattle.aim_geometry.specs.Sites.{Site}
-use Rattle.aim_paths.specs.Added.{Added, AddMove, AddPolicy, AddPhase, AreTaken, added, added_fault, policies_of, layout_of as layout_of_lines}
+use Rattle.aim_paths.specs.Added.{Added, AreTaken, added, added_fault, policies_of, layout_of as layout_of_lines}
 use Rattle.aim_paths.specs.Building.{bare}
 use Rattle.aim_paths.specs.Intersection.{Intersection}
 use Rattle.aim_paths.proofs.AddedLemmas.{layout_is_its_lines}

@@ -1,9 +1,9 @@
 -- The calls of the lines before a verdict may be made on the layout of these lines.
-use Rattle.std.proofs.Common.{◌≡◌, ℕ, suc, ◌+◌, ◌*◌, ◌<◌, ◌≤◌, Bool, true, false, cond, not, nat_lt, nat_le, List, [], ◌∷◌, ◌++◌, length, take, drop, slice_get, Option, Some, None, arith, refl, sym, subst, ◌∙◌, unwrap_or, length-append, if◌then◌else◌}
+use Rattle.std.proofs.Common.{◌≡◌, ℕ, suc, ◌*◌, ◌<◌, ◌≤◌, Bool, true, false, cond, not, nat_lt, nat_le, List, [], ◌∷◌, ◌++◌, length, take, drop, slice_get, Option, Some, None, arith, refl, sym, subst, ◌∙◌, unwrap_or, length-append, if◌then◌else◌}
 use Rattle.std.specs.Prelude.{filter_map, bytes_eq}
 use Rattle.std.specs.List.{AllByRecursion, list_any, position_or_len, cons_option}
 use Rattle.std.specs.Option.{option_or}
-use Rattle.std.proofs.lemmas.List.{take-append-drop, length-set}
+use Rattle.std.proofs.lemmas.List.{take-append-drop}
 use Rattle.std.proofs.lemmas.List.Elements.{filter_map-append}
 use Rattle.std.proofs.lemmas.Bool.Decides.{nat_tests}
 use Rattle.aim_io.specs.Lines.{Outcome}

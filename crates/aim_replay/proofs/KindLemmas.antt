@@ -17,10 +17,8 @@ use Rattle.aim_msg.specs.declared.script.Line.TheVariants as line
 use Rattle.aim_geometry.specs.Bounded.{is_outside}
 use Rattle.aim_geometry.specs.Sites.{has_bad_numbers, has_bad_buffers, has_bad_times}
 use Rattle.aim_paths.specs.Building.{policy_fault, finish_fault}
-use Rattle.aim_replay.specs.declared.decisions.Decision.TheVariants as decision
 use Rattle.aim_replay.specs.declared.decisions.Kind.{Kind}
 use Rattle.aim_replay.specs.declared.decisions.Kind.TheVariants as why
-use Rattle.aim_replay.specs.declared.decisions.Limit.{Limit}
 use Rattle.aim_replay.specs.Order.{Part, part_after, belongs, to_version, to_ground, to_times, to_lanes, in_moves, in_policies, to_begin, in_body}
 use Rattle.aim_replay.specs.Said.{last_of, layout_of, grid_of, times_of, names_of, vehicles_of}
 use Rattle.aim_replay.specs.Kinds.{Test, kinds, kind_of_fault, is_wide, is_no_move}

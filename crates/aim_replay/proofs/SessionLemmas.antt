@@ -6,15 +6,13 @@ use Rattle.std.specs.Io.KnownBytes.{Appends, Consumes, Keeps, IsAtEnd, prepend_k
 use Rattle.std.proofs.KnownBytes.{Appends-nil, Appends-trans, Consumes-trans}
 use Rattle.std.proofs.lemmas.Bool.{cases_Bool}
 use Rattle.aim_io.specs.declared.lines.LineFault.{LineFault}
-use Rattle.aim_io.specs.declared.lines.LineFault.TheVariants as line_fault
 use Rattle.aim_io.specs.Known.{AppendsFront}
 use Rattle.aim_io.proofs.LoopLemmas.{joined-push}
-use Rattle.aim_io.specs.Lines.{Outcome, Line as LineOf, Stop, outcomes_from, IsOpen, ShowsNothing, joined_lines, with_end}
+use Rattle.aim_io.specs.Lines.{InputFault, LongLine, TooManyBytes, TooManyLines, fault_of, Outcome, Line as LineOf, Stop, outcomes_from, IsOpen, ShowsNothing, joined_lines, with_end}
 use Rattle.aim_io.specs.Reader.{Reader, fresh, input, coming, taken_by, Needed, Answers, Stops, KnowsEnd, IsSound, after_call}
 use Rattle.aim_msg.specs.Texts.{entry_text, spaced}
 use Rattle.aim_msg.specs.declared.entries.Entry.{Entry}
 use Rattle.aim_msg.specs.declared.script.Line.{Line}
-use Rattle.aim_paths.specs.Intersection.{Intersection}
 use Rattle.aim_rules.specs.Journals.{journal}
 use Rattle.aim_replay.specs.declared.decisions.Decision.{Decision}
 use Rattle.aim_replay.specs.declared.decisions.Decision.TheVariants as decision
@@ -104,23 +102,18 @@ ends_input before old new (Some bytes) (Some xs) None decided step = absurd step
 ends_input before old new (Some bytes) (Some xs) (Some ys) decided step =
     sym decided ∙ ap (λ (zs : List ℕ). verdict_from today before (coming old zs)) step.0 ∙ ap (verdict_from today before) (nothing_comes old)
 
--- a fault of the input that isn't the source's
-abbrev pub IsOfInput : LineFault → Type 0
-IsOfInput line_fault.Read = ⊥
-IsOfInput _ = Unit {0}
+-- a fault of the input
+stops_there : (old : Reader) (xs : List ℕ) (f : InputFault) → Stops old xs (fault_of f) → coming old xs ≡ Stop f ∷ []
+stops_there old xs (LongLine n) stops = stops
+stops_there old xs TooManyBytes stops = stops
+stops_there old xs TooManyLines stops = stops
 
-stops_there : (old : Reader) (xs : List ℕ) (f : LineFault) → IsOfInput f → Stops old xs f → coming old xs ≡ Stop f ∷ []
-stops_there old xs line_fault.Read other stops = absurd other
-stops_there old xs (line_fault.Long n) other stops = stops
-stops_there old xs line_fault.Bytes other stops = stops
-stops_there old xs line_fault.Lines other stops = stops
-
-pub ends_fault : (before : List Line) (old new : Reader) (f : LineFault) (bytes rest left : Option (List ℕ)) → IsOfInput f → Decides before old bytes rest → Answers old new rest left (Err f) → IsVerdict before (of_fault f) bytes
-ends_fault before old new f None rest left other decided step = tt
-ends_fault before old new f (Some bytes) None left other decided step = absurd decided
-ends_fault before old new f (Some bytes) (Some xs) None other decided step = absurd step
-ends_fault before old new f (Some bytes) (Some xs) (Some ys) other decided step =
-    sym decided ∙ ap (verdict_from today before) (stops_there old xs f other step.1) ∙ verdict_stops before (of_fault f) (Stop f) [] refl
+pub ends_fault : (before : List Line) (old new : Reader) (f : InputFault) (bytes rest left : Option (List ℕ)) → Decides before old bytes rest → Answers old new rest left (Err (fault_of f)) → IsVerdict before (of_fault f) bytes
+ends_fault before old new f None rest left decided step = tt
+ends_fault before old new f (Some bytes) None left decided step = absurd decided
+ends_fault before old new f (Some bytes) (Some xs) None decided step = absurd step
+ends_fault before old new f (Some bytes) (Some xs) (Some ys) decided step =
+    sym decided ∙ ap (verdict_from today before) (stops_there old xs f step.1) ∙ verdict_stops before (of_fault f) (Stop f) [] refl
 
 -- a verdict that is made is what the bytes come to
 pub told : (before : List Line) (d : Decision) (bytes : Option (List ℕ)) → IsVerdict before d bytes → Comes d bytes
@@ -390,11 +383,11 @@ short_reached bytes left after start now old new f P s r same shows kept =
     let going : old.ended ≡ false = sym (ap (λ (x : Reader). x.ended) same) ∙ shows.1 in
     stops_short bytes (input old left) after start now old new s r going (ap (λ (x : Reader). x.given) same) (ap (λ (x : Reader). x.place) same) shows.0 kept
 
-pub fault_told : (bytes rest left start now : Option (List ℕ)) (old new : Reader) (s : Stage) (f : LineFault) → Reached bytes rest start now old s → IsOfInput f → Answers old new rest left (Err f) → Comes (of_fault f) bytes
-fault_told bytes rest left start now old new s f r other step = told r.before (of_fault f) bytes (ends_fault r.before old new f bytes rest left other r.decides step)
+pub fault_told : (bytes rest left start now : Option (List ℕ)) (old new : Reader) (s : Stage) (f : InputFault) → Reached bytes rest start now old s → Answers old new rest left (Err (fault_of f)) → Comes (of_fault f) bytes
+fault_told bytes rest left start now old new s f r step = told r.before (of_fault f) bytes (ends_fault r.before old new f bytes rest left r.decides step)
 
-pub fault_written : (bytes rest left start now : Option (List ℕ)) (old new : Reader) (s : Stage) (f : LineFault) → Reached bytes rest start now old s → IsOfInput f → Answers old new rest left (Err f) → Writes bytes start now (entries_text today)
-fault_written bytes rest left start now old new s f r other step = written_all r.before s (of_fault f) bytes start now r.stands.says (ends_fault r.before old new f bytes rest left other r.decides step) r.written
+pub fault_written : (bytes rest left start now : Option (List ℕ)) (old new : Reader) (s : Stage) (f : InputFault) → Reached bytes rest start now old s → Answers old new rest left (Err (fault_of f)) → Writes bytes start now (entries_text today)
+fault_written bytes rest left start now old new s f r step = written_all r.before s (of_fault f) bytes start now r.stands.says (ends_fault r.before old new f bytes rest left r.decides step) r.written
 
 pub end_told : (bytes rest left start now : Option (List ℕ)) (old new : Reader) (s : Stage) (d : Decision) (r : Reached bytes rest start now old s) → Answers old new rest left (Ok false) → d ≡ at_end r.before → Comes d bytes
 end_told bytes rest left start now old new s d r step is = subst (λ e. Comes e bytes) (sym is) (told r.before (at_end r.before) bytes (ends_input r.before old new bytes rest left r.decides step))

@@ -31,7 +31,7 @@ use Rattle.aim_paths.specs.declared.builders.LayoutFault.TheVariants as layout_f
 use Rattle.aim_paths.specs.Shapes.{stations_of, wide_step}
 use Rattle.aim_paths.specs.Added.{AddMove, AddPolicy}
 use Rattle.aim_paths.specs.Building.{bare, is_bad_move, move_fault, with_move, policy_fault, finish_fault, with_policy}
-use Rattle.aim_rules.specs.Journals.{Call, entry_of, journal}
+use Rattle.aim_rules.specs.Journals.{Call, entry_of}
 use Rattle.aim_book.specs.State.{State}
 use Rattle.aim_book.specs.Serving.{IsPlain, MayServe}
 use Rattle.aim_replay.specs.declared.decisions.Decision.TheVariants as decision
@@ -47,8 +47,7 @@ use Rattle.aim_replay.specs.Said.{Described, version_after, grid_of, times_of, n
 use Rattle.aim_replay.specs.Kinds.{kind_of_fault, limit_of, vehicles_limit}
 use Rattle.aim_replay.specs.Verdicts.{judge, of_read, goes_on, decides, number_after, at_end}
 use Rattle.aim_replay.specs.Today.{today, is_missing_form}
-use Rattle.aim_replay.specs.Stands.{IsBody}
-use Rattle.aim_replay.specs.Stages.{Stands, Says, unsaid, Takes, Judged, MayTake, Opens, move_kind_of, part_of, is_over, IsUnbuffered, IsDesk, is_missing_request, request_kind}
+use Rattle.aim_replay.specs.Stages.{Stands, Says, unsaid, Takes, Judged, Opens, move_kind_of, part_of, is_over, IsUnbuffered, IsDesk, is_missing_request, request_kind}
 use Rattle.aim_replay.proofs.AppendLemmas.{last_of_more, header_more, built_more, layout_built, names_are_policies, body_same, body_event, body_first, event_call}
 use Rattle.aim_replay.proofs.KindLemmas.{out_of_order, version_kind, grid_kind, times_kind, lanes_kind, move_kind, policy_kind, second_policy_kind, vehicles_kind, begin_kind, end_kind, event_kind}
 

@@ -1,5 +1,5 @@
 -- What the lines of a script say: questions over the whole list of lines.
-use Rattle.std.specs.Prelude.{ℕ, ◌==◌, Bool, true, List, [], filter_map, Option, Some, None, position, unwrap_or, bytes_eq, if◌then◌else◌}
+use Rattle.std.specs.Prelude.{ℕ, ◌==◌, Bool, true, List, filter_map, Option, Some, None, position, unwrap_or, bytes_eq, if◌then◌else◌}
 use Rattle.std.specs.List.{list_any}
 use Rattle.aim_msg.specs.declared.entries.Act.TheVariants as act
 use Rattle.aim_msg.specs.declared.entries.Order.TheVariants as order

@@ -1,8 +1,6 @@
 -- What a script comes to: the first line that decides.
 use Rattle.std.specs.Prelude.{ℕ, ◌+◌, List, [], ◌∷◌, ◌++◌, length, Option, Some, None, Result, Ok, Err, if◌then◌else◌}
-use Rattle.aim_io.specs.declared.lines.LineFault.{LineFault}
-use Rattle.aim_io.specs.declared.lines.LineFault.TheVariants as fault
-use Rattle.aim_io.specs.Lines.{Outcome, Line, Stop, outcomes_of}
+use Rattle.aim_io.specs.Lines.{InputFault, LongLine, TooManyBytes, TooManyLines, Outcome, Line, Stop, outcomes_of}
 use Rattle.aim_msg.specs.declared.script.Line.{Line as ScriptLine}
 use Rattle.aim_msg.specs.declared.script.LineKind.{LineKind}
 use Rattle.aim_msg.specs.Reading.{line_at}
@@ -30,12 +28,11 @@ pub data Judgement : Type 0 where
 abbrev pub number_after : List ScriptLine → ℕ
 number_after before = length before + 1
 
--- what a fault of the input decides, in the place of a line; that the input can't be read decides nothing
-abbrev pub of_fault : LineFault → Decision
-of_fault fault.Read = decision.Whole 0
-of_fault (fault.Long number) = decision.Bad number kind.Long
-of_fault fault.Bytes = decision.Limit limit.Bytes
-of_fault fault.Lines = decision.Limit limit.Lines
+-- what a fault of the input decides, in the place of a line
+abbrev pub of_fault : InputFault → Decision
+of_fault (LongLine number) = decision.Bad number kind.Long
+of_fault TooManyBytes = decision.Limit limit.Bytes
+of_fault TooManyLines = decision.Limit limit.Lines
 
 abbrev pub unless_limited : ScriptLine → Option Limit → Judgement
 unless_limited l None = goes_on l

@@ -1,5 +1,5 @@
 use Rattle.std.proofs.Common.{arith, ◌+◌, ap, sym, ◌∙◌, refl, inl, Err, true, false}
-use Rattle.aim_io.specs.declared.lines.LineFault.TheVariants as line_fault
+use Rattle.aim_io.specs.Lines.{LongLine, TooManyBytes, TooManyLines}
 use Rattle.aim_io.specs.Reader.{Reader}
 use Rattle.aim_replay.specs.declared.decisions.Decision.TheVariants as decision
 use Rattle.aim_replay.proofs.SessionLemmas.{Gives, on_true, sound_start, knows_start, reached_start, reached_more, front_reached, short_reached, fault_told, fault_written, end_told, end_written, bad_told, bad_written, line_told, stops_inside, memory_front, most_call, most_fault, needed_call, left_at_end, on_false}
@@ -30,25 +30,25 @@ pub returns-in-Err-Long-clause-verdict : goal.returns-in-Err-Long-clause-verdict
 returns-in-Err-Long-clause-verdict g c =
     let i = c.lines.invariant in
     let step = rw c.in-Err-Long.field-0-is at (c.in-Err-Long.ensures.step i.knows i.no_fault) in
-    rw c.in-Err-Long.line-is (fault_told _ _ _ _ _ _ c.advance.new.self _ (line_fault.Long c.in-Err-Long.line) i.reached tt step)
+    rw c.in-Err-Long.line-is (fault_told _ _ _ _ _ _ c.advance.new.self _ (LongLine c.in-Err-Long.line) i.reached step)
 
 pub returns-in-Err-Long-clause-written : goal.returns-in-Err-Long-clause-written
 returns-in-Err-Long-clause-written g c =
     let i = c.lines.invariant in
     let step = rw c.in-Err-Long.field-0-is at (c.in-Err-Long.ensures.step i.knows i.no_fault) in
-    fault_written _ _ _ _ _ _ c.advance.new.self _ (line_fault.Long c.in-Err-Long.line) i.reached tt step
+    fault_written _ _ _ _ _ _ c.advance.new.self _ (LongLine c.in-Err-Long.line) i.reached step
 
 pub returns-in-Err-Bytes-clause-written : goal.returns-in-Err-Bytes-clause-written
 returns-in-Err-Bytes-clause-written g c =
     let i = c.lines.invariant in
     let step = rw c.in-Err-Bytes.field-0-is at (c.in-Err-Bytes.ensures.step i.knows i.no_fault) in
-    fault_written _ _ _ _ _ _ c.advance.new.self _ line_fault.Bytes i.reached tt step
+    fault_written _ _ _ _ _ _ c.advance.new.self _ TooManyBytes i.reached step
 
 pub returns-in-Err-Lines-clause-written : goal.returns-in-Err-Lines-clause-written
 returns-in-Err-Lines-clause-written g c =
     let i = c.lines.invariant in
     let step = rw c.in-Err-Lines.field-0-is at (c.in-Err-Lines.ensures.step i.knows i.no_fault) in
-    fault_written _ _ _ _ _ _ c.advance.new.self _ line_fault.Lines i.reached tt step
+    fault_written _ _ _ _ _ _ c.advance.new.self _ TooManyLines i.reached step
 
 pub returns-in-Ok-false-clause-verdict : goal.returns-in-Ok-false-clause-verdict
 returns-in-Ok-false-clause-verdict g c =

@@ -43,8 +43,8 @@ pub returns-in-Err-clause-whole : goal.returns-in-Err-clause-whole
 returns-in-Err-clause-whole g c other =
     let i = c.lines.invariant in
     let not_read : c.in-Err.fault ≢ Read = λ read. other (ap (λ (f : LineFault). Some f) read) in
-    decided_fault (count_from c.lines.count) (λ bytes. count_from 0 (outcomes_of bytes)) c.lines.reader c.advance.new.self _ _ _ c.in-Err.fault not_read i.decides
-    (c.in-Err.ensures.step i.knows i.no_fault)
+    decided_fault (count_from c.lines.count) (λ bytes. count_from 0 (outcomes_of bytes)) (λ fault. (c.lines.count, Some fault)) c.lines.reader c.advance.new.self
+    _ _ _ c.in-Err.fault not_read (λ _. refl) i.decides (c.in-Err.ensures.step i.knows i.no_fault)
 
 pub returns-in-Err-clause-short : goal.returns-in-Err-clause-short
 returns-in-Err-clause-short g c is =
