@@ -32,7 +32,8 @@ pub record Grant : Type 0 where
 
 abbrev pub grant_with : Intersection → Reply → Option Params → Option Grant
 grant_with i r None = None
-grant_with i r (Some p) = if is_confirm r && is_none (bad i p) then Some (record { params = p; fast = is_fast r }) else None
+grant_with i r (Some p) =
+    if is_confirm r && is_none (bad i p) then Some (record { params = p; fast = is_fast r }) else None
 
 -- what the entry grants, if there is one and its reply is a Confirm of params of which no field is wrong
 abbrev pub grant_of : Intersection → Option Entry → Option Grant
@@ -55,7 +56,9 @@ passage i h log = passage_from i h (entrance log)
 -- whether the crossing is on the tile in that step: the tile is under the vehicle in the crossing step of that time
 abbrev pub is_on : Intersection → Passage → Cell → Bool
 is_on i x c =
-    some_below (crossing_steps i x.grant.params x.grant.fast) (λ k. c.step == x.step + k && in_footprint i x.grant.params x.grant.fast 0 k c.row c.col)
+    let g = x.grant in
+    some_below (crossing_steps i g.params g.fast)
+    (λ k. c.step == x.step + k && in_footprint i g.params g.fast 0 k c.row c.col)
 
 abbrev pub is_occupied_by : Intersection → Option Passage → Cell → Bool
 is_occupied_by i None c = false

@@ -34,7 +34,8 @@ occupied_cells i h log = cells_of_passage i (passage i h log)
 
 -- by row, then by column, then by step
 abbrev pub Precedes : rules.Cell → rules.Cell → Type 0
-Precedes c d = (c.row < d.row) ⊎ ((c.row ≡ d.row) × (c.col < d.col)) ⊎ ((c.row ≡ d.row) × (c.col ≡ d.col) × (c.step < d.step))
+Precedes c d =
+    (c.row < d.row) ⊎ ((c.row ≡ d.row) × (c.col < d.col)) ⊎ ((c.row ≡ d.row) × (c.col ≡ d.col) × (c.step < d.step))
 
 -- each cell precedes all that stand behind it
 abbrev pub IsRising : List rules.Cell → Type 0

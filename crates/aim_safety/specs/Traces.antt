@@ -17,6 +17,7 @@ abbrev pub is_traced : List (List ℕ) → ℕ → Cell → Bool
 is_traced steps first c = tile_at (slice_index_or steps (c.step - first) []) c.row c.col
 
 -- the masks show the tiles of so many crossing steps
-pub record AreFootprints (i : Intersection) (p : Params) (fast : Bool) (count : ℕ) (steps : List (List ℕ)) : Type 0 where
-  pub all : length steps ≡ count
-  pub tiles : (k row col : ℕ) → k < count → row < 64 → col < 64 → tile_at (slice_index_or steps k []) row col ≡ in_footprint i p fast 0 k row col
+pub record AreFootprints (i : Intersection) (p : Params) (fast : Bool) (n : ℕ) (steps : List (List ℕ)) : Type 0 where
+  pub all : length steps ≡ n
+  pub tiles : (k row col : ℕ) → k < n → row < 64 → col < 64 →
+      tile_at (slice_index_or steps k []) row col ≡ in_footprint i p fast 0 k row col

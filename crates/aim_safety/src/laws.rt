@@ -14,23 +14,24 @@ ghost use Rattle.aim_driver.specs.Fits.{Fits};
 ghost use Rattle.aim_safety.specs.Occupied.{Passage, passage, is_on, is_occupied};
 ghost use Rattle.aim_safety.specs.Tiles.{IsRising, occupied_cells};
 
-/// Over every valid layout and every legal history, where the logs of two vehicles keep the rules of drivers and fit the
-/// history:
+/// Over every valid layout and every legal history, where the logs of two vehicles keep the rules of drivers and fit
+/// the history:
 ///
 /// - the two drivers are on no tile in one step;
-/// - no driver is on a tile in a step in which a lane other than its own claims that tile by its green, and all switches
-///   of the whole history count.
+/// - no driver is on a tile in a step in which a lane other than its own claims that tile by its green, and all
+///   switches of the whole history count.
 pub fn disjoint()
     ensures drivers { (i : Intersection) (vehicles : ℕ) (h : List Entry) (v w : ℕ) (a b : List LogItem) (c : Cell) →
         IsValid i → IsLegal i vehicles h → v ≢ w → keeps a ≡ true → keeps b ≡ true → Fits h v a → Fits h w b →
         is_occupied i h a c ≡ true → is_occupied i h b c ≡ false }
-    ensures green { (i : Intersection) (vehicles : ℕ) (h : List Entry) (v : ℕ) (a : List LogItem) (x : Passage) (c : Cell) →
-        IsValid i → IsLegal i vehicles h → keeps a ≡ true → Fits h v a →
+    ensures green { (i : Intersection) (vehicles : ℕ) (h : List Entry) (v : ℕ) (a : List LogItem) (x : Passage)
+        (c : Cell) → IsValid i → IsLegal i vehicles h → keeps a ≡ true → Fits h v a →
         passage i h a ≡ Some x → is_on i x c ≡ true → green i h c x.grant.params.lane ≡ None }
 {}
 
 /// The list of a driver's tiles has just those on which it is, in rising order of row, column and step, so each once.
 pub fn list_has_the_tiles_of_the_driver()
-    ensures has { (i : Intersection) (h : List Entry) (log : List LogItem) (c : Cell) → (IsIn c (occupied_cells i h log) ↔ (is_occupied i h log c ≡ true)) }
+    ensures has { (i : Intersection) (h : List Entry) (log : List LogItem) (c : Cell) →
+        (IsIn c (occupied_cells i h log) ↔ (is_occupied i h log c ≡ true)) }
     ensures rising { (i : Intersection) (h : List Entry) (log : List LogItem) → IsRising (occupied_cells i h log) }
 {}

@@ -24,7 +24,8 @@ fn footprints(
     fast: bool,
 ) -> Result<Vec<[u64; 64]>, NoMemory>
     requires { bad layout.now params.now ≡ None }
-    ensures { IfOk result (λ steps. AreFootprints layout.now params.now fast (crossing_steps layout.now params.now fast) steps.items) }
+    ensures { IfOk result (λ steps.
+        AreFootprints layout.now params.now fast (crossing_steps layout.now params.now fast) steps.items) }
 {
     let mut trace = Trace {
         steps: Vec::new(alloc),
@@ -45,7 +46,8 @@ fn passage_cells(
 ) -> Result<Vec<Cell>, NoMemory>
     requires good { bad layout.now params.now ≡ None }
     requires step { step ≤ 2147483648 }
-    ensures { IfOk result (λ cells. map cell_of cells.items ≡ cells_of_passage layout.now (Some (record { step = step; grant = record { params = params.now; fast = fast } }))) }
+    ensures { IfOk result (λ cells. map cell_of cells.items ≡ cells_of_passage layout.now
+        (Some (record { step = step; grant = record { params = params.now; fast = fast } }))) }
 {
     let steps = footprints(alloc, layout, params, fast)?;
     let mut cells = Vec::new(alloc);
@@ -53,9 +55,9 @@ fn passage_cells(
     Ok(cells)
 }
 
-/// The tiles on which a driver is, and the steps in which it is on each, in order of row, column and step: those under
-/// its vehicle in a crossing that begins at the step at which it entered first, on what the entry of that id grants. There
-/// is none where it has not entered, where there is no such entry, and where that grants nothing.
+/// The tiles on which a driver is, and the steps in which it is on each, in order of row, column and step: those
+/// under its vehicle in a crossing that begins at the step at which it entered first, on what the entry of that id
+/// grants. There is none where it has not entered, where there is no such entry, and where that grants nothing.
 pub fn occupied(
     alloc: Global,
     layout: &Layout,

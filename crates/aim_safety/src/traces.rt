@@ -48,7 +48,8 @@ fn push_steps(
     requires few { length steps.now ≤ 2048 }
     requires row { row < 64 }
     requires col { col < 64 }
-    ensures { OnOk result (map cell_of cells.new.items ≡ map cell_of cells.old.items ++ filter (is_traced steps.now first) (of_tile first (length steps.now) row col)) }
+    ensures { OnOk result (map cell_of cells.new.items ≡ map cell_of cells.old.items ++
+        filter (is_traced steps.now first) (of_tile first (length steps.now) row col)) }
 {
     for (k, masks) in steps.iter().enumerate() {
         if has_tile(masks[row as usize], col) {
@@ -74,7 +75,8 @@ fn push_row(
     requires few { length steps.now ≤ 2048 }
     requires row { row < 64 }
     requires n { n ≤ 64 }
-    ensures { OnOk result (map cell_of cells.new.items ≡ map cell_of cells.old.items ++ filter (is_traced steps.now first) (of_row first (length steps.now) n row)) }
+    ensures { OnOk result (map cell_of cells.new.items ≡ map cell_of cells.old.items ++
+        filter (is_traced steps.now first) (of_row first (length steps.now) n row)) }
 {
     for col in 0..n {
         push_steps(cells, steps, first, row, col)?;
@@ -92,7 +94,8 @@ pub fn push_tiles(
     requires first { first ≤ 2147483648 }
     requires few { length steps.now ≤ 2048 }
     requires n { n ≤ 64 }
-    ensures { OnOk result (map cell_of cells.new.items ≡ map cell_of cells.old.items ++ filter (is_traced steps.now first) (of_rows first (length steps.now) n n)) }
+    ensures { OnOk result (map cell_of cells.new.items ≡ map cell_of cells.old.items ++
+        filter (is_traced steps.now first) (of_rows first (length steps.now) n n)) }
 {
     for row in 0..n {
         push_row(cells, steps, first, row, n)?;
