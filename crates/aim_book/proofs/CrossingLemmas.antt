@@ -73,7 +73,7 @@ and_no_right : (a b : Bool) → b ≡ false → (a && b) ≡ false
 and_no_right true b h = h
 and_no_right false b h = refl
 
--- the cells of a crossing step are its foot
+-- the cells of a crossing step are its footprint
 pub in_cells-at : (i : Intersection) (p : Params) (k row col : ℕ) → IsPlain i → k < crossing_steps i p false →
     in_cells i p false (record { row = row; col = col; step = p.arrive + k }) ≡ in_footprint i p false i.grid.fixed k row col
 in_cells-at i p k row col plain l = go (decided (in_footprint i p false i.grid.fixed k row col))
@@ -147,9 +147,9 @@ low_high : (a b spacing : ℕ) → 0 < spacing → a ≤ b → a / spacing ≤ c
 low_high a b spacing h l = le-div (a / spacing) (b + (spacing - 1)) spacing h (let f = div-mul-le_self a spacing in omega arith)
 
 -- in each crossing step the vehicle has a tile
-pub foot_there : (i : Intersection) (p : Params) (k : ℕ) → IsGrid i.grid → 0 < length (stations i p.lane p.turn) → AreWithin i.grid.side (stations i p.lane p.turn) → 0 < p.speed → p.speed ≡ p.max_speed → k < crossing_steps i p false →
+pub footprint_there : (i : Intersection) (p : Params) (k : ℕ) → IsGrid i.grid → 0 < length (stations i p.lane p.turn) → AreWithin i.grid.side (stations i p.lane p.turn) → 0 < p.speed → p.speed ≡ p.max_speed → k < crossing_steps i p false →
     (row : ℕ) × (col : ℕ) × (row < i.grid.n) × (col < i.grid.n) × (in_footprint i p false i.grid.fixed k row col ≡ true)
-foot_there i p k grid some within h e l =
+footprint_there i p k grid some within h e l =
     let xs = stations i p.lane p.turn in
     let low = (front p false k - p.length) / i.grid.spacing in
     let rear = rear_on_path i p k h e l in
@@ -180,7 +180,7 @@ cells-from i p from plain grid some within h e =
     let n = crossing_steps-steady i p h e in
     elim (dec_lt (p.arrive + crossing_steps i p false - 1) from) [
       | no b ↦ (let last = crossing_steps i p false - 1 in
-          let t = foot_there i p last grid some within h e (omega arith) in
+          let t = footprint_there i p last grid some within h e (omega arith) in
           let c : Cell = record { row = t.0; col = t.1; step = p.arrive + last } in
           list_any-IsIn (λ c. nat_le from c.step) (cells i p false) c
           (cells_has i p false c (let x = plain.early in let y = plain.edge in omega arith) (let x = plain.late in let y = plain.edge in omega arith) (rw (in_cells-at i p last t.0 t.1 plain (omega arith)) t.4))

@@ -6,7 +6,7 @@ pub mod TakingLemmas
 pub mod BlockLemmas
 pub mod DistanceLemmas
 pub mod RowLemmas
-pub mod FootLemmas
+pub mod FootprintLemmas
 pub mod MovingLemmas
 pub mod ReplyLemmas
 pub mod SpanLemmas

@@ -22,7 +22,7 @@ use Rattle.aim_geometry.specs.Cells.{Cell}
 use Rattle.aim_rules.specs.Cells.{in_cells}
 use Rattle.aim_book.specs.Serving.{IsPlain}
 use Rattle.aim_book.specs.Takings.{cell_at}
-use Rattle.aim_book.specs.Feet.{is_filled}
+use Rattle.aim_book.specs.Footprints.{is_filled}
 use Rattle.aim_book.proofs.TestLemmas.{decided}
 use Rattle.aim_book.proofs.CrossingLemmas.{in_cells-at}
 

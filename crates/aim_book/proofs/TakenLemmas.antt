@@ -30,7 +30,7 @@ use Rattle.aim_book.proofs.MovingLemmas.{steady_moves}
 use Rattle.aim_book.proofs.ServedLemmas.{IsServed-at}
 use Rattle.aim_book.proofs.CrossingLemmas.{in_cells-at, in_cells-none}
 
--- what a crossing needs in one of its steps is its foot
+-- what a crossing needs in one of its steps is its footprint
 pub crossed_at : (i : Intersection) (p : Params) (k at r c : ℕ) → IsPlain i → k < crossing_steps i p false → at ≡ p.arrive + k → in_footprint i p false i.grid.fixed k r c ≡ in_cells i p false (record { row = r; col = c; step = at })
 crossed_at i p k at r c plain l e = rw (e, in_cells-at i p k r c plain l) refl
 
@@ -100,7 +100,7 @@ common_is : (i : Intersection) (h : List Entry) (p : Params) (k r c : ℕ) (own 
     tile_at taken r c ≡ list_any (takes i (cell_at p k r c)) h → (tile_at own r c && tile_at taken r c) ≡ is_shared i h p k r c
 common_is i h p k r c own taken l a b = rw (a, empty_rows r c l, b) refl
 
--- the rows show a foot, and what is taken in its step
+-- the rows show a footprint, and what is taken in its step
 pub record ShowStep (i : Intersection) (h : List Entry) (p : Params) (k : ℕ) (left right : List ℕ) : Type 0 where
   pub own : (r c : ℕ) → r < 64 → c < 64 → tile_at left r c ≡ (tile_at (replicate 64 0) r c || in_footprint i p false i.grid.fixed k r c)
   pub taken : (r c : ℕ) → r < 64 → c < 64 → tile_at right r c ≡ list_any (takes i (cell_at p k r c)) h

@@ -3,7 +3,7 @@ pub mod Serving
 pub mod Takings
 pub mod Distances
 pub mod Rows
-pub mod Feet
+pub mod Footprints
 pub mod Moving
 pub mod Replies
 pub mod Conflicts

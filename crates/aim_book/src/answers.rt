@@ -12,7 +12,7 @@ ghost use Rattle.aim_book.specs.Serving.{AreServed, IsPlain, IsSteady, has_calle
 
 use crate::conflicts::first_conflict;
 use crate::distances::{asked_from, lane_distance};
-use crate::feet::step_count;
+use crate::footprints::step_count;
 use crate::times::{next_allowed, now_after};
 use aim_msg::{Act, Body, Entry, Params, Reason, Reply};
 use aim_paths::Layout;

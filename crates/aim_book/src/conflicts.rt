@@ -7,7 +7,7 @@ ghost use Rattle.aim_book.specs.Moving.{IsMoving};
 ghost use Rattle.aim_book.specs.Serving.{AreServed, IsPlain};
 ghost use Rattle.aim_book.specs.Takings.{IsFirstShared, SharesNone};
 
-use crate::feet::{add_foot, step_count};
+use crate::footprints::{add_footprint, step_count};
 use crate::rows::first_common;
 use crate::takings::{holder, taken_rows};
 use aim_msg::{Entry, Params};
@@ -34,7 +34,7 @@ fn shared_tile(layout: &Layout, entries: &[Entry], params: &Params, k: u32) -> O
 {
     let _ground = layout.ground();
     let mut own = [0; 64];
-    add_foot(&mut own, layout, params, k);
+    add_footprint(&mut own, layout, params, k);
     let taken = taken_rows(layout, entries, params.arrive + k);
     first_common(&own, &taken)
 }

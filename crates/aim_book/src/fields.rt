@@ -3,11 +3,11 @@
 ghost use Rattle.std.specs.Prelude.{◌≡◌, ℕ, ◌≤◌, ◌<◌, ◌^◌, false, count_by, slice_index};
 ghost use Rattle.aim_rules.specs.Bad.{bad, span_count as span_count_of};
 ghost use Rattle.aim_rules.specs.Footprint.{crossing_steps};
-ghost use Rattle.aim_book.specs.Feet.{is_filled};
+ghost use Rattle.aim_book.specs.Footprints.{is_filled};
 ghost use Rattle.aim_book.specs.Moving.{IsMoving};
 ghost use Rattle.aim_book.specs.Serving.{IsPlain};
 
-use crate::feet::{add_foot, step_count};
+use crate::footprints::{add_footprint, step_count};
 use aim_msg::{Field, Params};
 use aim_paths::{Layout, Path};
 
@@ -31,7 +31,7 @@ fn span_count(layout: &Layout, params: &Params) -> u32
     let mut count = 0;
     for k in 0..step_count(layout, params) {
         let mut rows = [0; 64];
-        add_foot(&mut rows, layout, params, k);
+        add_footprint(&mut rows, layout, params, k);
         count += filled_rows(&rows);
     }
     count

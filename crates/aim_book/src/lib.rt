@@ -5,7 +5,7 @@ mod answers;
 mod book;
 mod conflicts;
 mod distances;
-mod feet;
+mod footprints;
 mod fields;
 mod journals;
 mod plains;

@@ -9,7 +9,7 @@ ghost use Rattle.aim_book.specs.Moving.{IsMoving};
 ghost use Rattle.aim_book.specs.Serving.{ActsSteady, AreServed, IsPlain};
 ghost use Rattle.aim_book.specs.Takings.{takes};
 
-use crate::feet::{add_foot, step_count};
+use crate::footprints::{add_footprint, step_count};
 use crate::journals::granted;
 use aim_msg::{Entry, Params};
 use aim_paths::Layout;
@@ -38,7 +38,7 @@ fn add_crossing(rows: &mut [u64; 64], layout: &Layout, params: &Params, step: u3
     ensures { (r c : ℕ) → r < 64 → c < 64 → tile_at rows.new r c ≡ (tile_at rows.old r c || in_cells layout.now params.now false (record { row = r; col = c; step = step })) }
 {
     if let Some(k) = step_at(layout, params, step) {
-        add_foot(rows, layout, params, k);
+        add_footprint(rows, layout, params, k);
     }
 }
 

@@ -9,6 +9,6 @@ use Rattle.aim_book.proofs.fields.span_count.Goals as goal
 pub loop-k-preserved : goal.loop-k-preserved
 loop-k-preserved c =
     let few : c.args.layout.now.grid.n ≤ 64 = c.ground-ground.ensures.valid.sound.grid.rows in
-    let bits : (r k : ℕ) → r < 64 → k < 64 → tile_at c.add_foot.new.rows r k ≡ (tile_at (replicate 64 0) r k || in_footprint c.args.layout.now c.args.params.now false c.args.layout.now.grid.fixed c.loop-k.k r k) = c.add_foot.ensures in
-    let more = spans_more c.args.layout.now c.args.params.now c.loop-k.k c.add_foot.new.rows c.requires.plain (omega arith) few c.add_foot.array_long (λ j l. c.filled_rows-count.ensures.words j) (λ r k rl kl. bits r k rl kl ∙ rw (empty_rows r k rl) refl) in
+    let bits : (r k : ℕ) → r < 64 → k < 64 → tile_at c.add_footprint.new.rows r k ≡ (tile_at (replicate 64 0) r k || in_footprint c.args.layout.now c.args.params.now false c.args.layout.now.grid.fixed c.loop-k.k r k) = c.add_footprint.ensures in
+    let more = spans_more c.args.layout.now c.args.params.now c.loop-k.k c.add_footprint.new.rows c.requires.plain (omega arith) few c.add_footprint.array_long (λ j l. c.filled_rows-count.ensures.words j) (λ r k rl kl. bits r k rl kl ∙ rw (empty_rows r k rl) refl) in
     record { count = rw (c.loop-k.invariant.count, c.filled_rows-count.ensures.count) (sym more); few = omega arith }

@@ -5,7 +5,7 @@ use Rattle.aim_book.proofs.takings.add_crossing.Goals as goal
 
 pub returns-in-Some : goal.returns-in-Some
 returns-in-Some c = λ r k rl kl.
-    c.add_foot.ensures r k rl kl
+    c.add_footprint.ensures r k rl kl
     ∙ ap (λ b. tile_at c.args.rows.now r k || b) (crossed_at c.args.layout.now c.args.params.now c.in-Some.k c.args.step r k c.requires.plain c.in-Some.ensures.found.0 c.in-Some.ensures.found.1)
 
 pub returns-in_default : goal.returns-in_default

@@ -1,4 +1,4 @@
--- Squares round stations, and feet.
+-- Squares round stations, and footprints.
 use Rattle.std.proofs.lemmas.List.{take_all}
 use Rattle.std.proofs.Common.{◌≡◌, ℕ, ◌+◌, ◌-◌, ◌<◌, ◌≤◌, min, drop, length-drop, Bool, true, false, ◌||◌, ◌*◌, ◌/◌, List, length, get_or, Some, arith, refl, sym, ◌∙◌, ap}
 use Rattle.std.specs.Prelude.{slice_get}
@@ -63,15 +63,15 @@ reach_of i p ss k moving there l =
     let at = front-steady p k moving.same in
     omega arith
 
--- the foot's tiles, by its stations
-pub footed_at : (i : Intersection) (p : Params) (ss : List Station) (k low next half r c : ℕ) → path i p.lane p.turn ≡ Some ss → half ≡ ceil_div p.width 2 + i.grid.spacing + i.grid.fixed →
+-- the footprint's tiles, by its stations
+pub under_at : (i : Intersection) (p : Params) (ss : List Station) (k low next half r c : ℕ) → path i p.lane p.turn ≡ Some ss → half ≡ ceil_div p.width 2 + i.grid.spacing + i.grid.fixed →
     slice_range ss low next ≡ slice_range ss ((front p false k - p.length) / i.grid.spacing) (ceil_div (front p false (k + 1)) i.grid.spacing + 1) →
     list_any (λ s. is_touched i.grid half s r c) (slice_range ss low next) ≡ in_footprint i p false i.grid.fixed k r c
-footed_at i p ss k low next half r c there wide part = rw (wide, part, there) refl
+under_at i p ss k low next half r c there wide part = rw (wide, part, there) refl
 
--- a foot's tiles are set
-pub foot_set : (i : Intersection) (p : Params) (g ground : Grid) (ss : List Station) (k low next half r c : ℕ) (t old : Bool) → g ≡ i.grid → ground ≡ i.grid → path i p.lane p.turn ≡ Some ss → half ≡ ceil_div p.width 2 + g.spacing + g.fixed →
+-- a footprint's tiles are set
+pub footprint_set : (i : Intersection) (p : Params) (g ground : Grid) (ss : List Station) (k low next half r c : ℕ) (t old : Bool) → g ≡ i.grid → ground ≡ i.grid → path i p.lane p.turn ≡ Some ss → half ≡ ceil_div p.width 2 + g.spacing + g.fixed →
     slice_range ss low next ≡ slice_range ss ((front p false k - p.length) / g.spacing) (ceil_div (front p false (k + 1)) g.spacing + 1) →
     t ≡ (old || list_any (λ s. is_touched ground half s r c) (slice_range ss low next)) → t ≡ (old || in_footprint i p false i.grid.fixed k r c)
-foot_set i p g ground ss k low next half r c t old same there path_there wide part set =
-    rw there at set ∙ ap (λ b. old || b) (footed_at i p ss k low next half r c path_there (rw same at wide) (rw same at part))
+footprint_set i p g ground ss k low next half r c t old same there path_there wide part set =
+    rw there at set ∙ ap (λ b. old || b) (under_at i p ss k low next half r c path_there (rw same at wide) (rw same at part))

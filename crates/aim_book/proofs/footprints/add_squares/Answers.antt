@@ -1,7 +1,7 @@
 use Rattle.std.proofs.Common.{arith}
 use Rattle.aim_geometry.specs.Rects.{tile_at}
-use Rattle.aim_book.proofs.FootLemmas.{touched_more_some}
-use Rattle.aim_book.proofs.feet.add_squares.Goals as goal
+use Rattle.aim_book.proofs.FootprintLemmas.{touched_more_some}
+use Rattle.aim_book.proofs.footprints.add_squares.Goals as goal
 
 pub loop-j-preserved : goal.loop-j-preserved
 loop-j-preserved c = λ r k rl kl.

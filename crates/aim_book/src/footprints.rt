@@ -64,7 +64,7 @@ pub fn step_count(layout: &Layout, params: &Params) -> u32
 }
 
 /// The first of the stations that the vehicle covers in a step of its crossing, and the one after the last.
-fn foot_range(path: &Path, spacing: u32, params: &Params, step: u32) -> (u32, u32)
+fn footprint_range(path: &Path, spacing: u32, params: &Params, step: u32) -> (u32, u32)
     requires moving { IsMoving params.now }
     requires some_spacing { 0 < spacing }
     requires spacing { spacing ≤ 10000 }
@@ -82,7 +82,7 @@ fn foot_range(path: &Path, spacing: u32, params: &Params, step: u32) -> (u32, u3
 }
 
 /// Sets the bits of the tiles under the vehicle in a step of its crossing.
-pub fn add_foot(rows: &mut [u64; 64], layout: &Layout, params: &Params, step: u32)
+pub fn add_footprint(rows: &mut [u64; 64], layout: &Layout, params: &Params, step: u32)
     requires moving { IsMoving params.now }
     requires step { step < crossing_steps layout.now params.now false }
     ensures { (r c : ℕ) → r < 64 → c < 64 → tile_at rows.new r c ≡ (tile_at rows.old r c || in_footprint layout.now params.now false layout.now.grid.fixed step r c) }
@@ -91,7 +91,7 @@ pub fn add_foot(rows: &mut [u64; 64], layout: &Layout, params: &Params, step: u3
     let grid = ground.grid();
     if let Some(path) = Path::of(layout, params.lane, params.turn) {
         let half = params.width.div_ceil(2) + grid.spacing + grid.fixed;
-        let (low, next) = foot_range(&path, grid.spacing, params, step);
+        let (low, next) = footprint_range(&path, grid.spacing, params, step);
         add_squares(rows, ground, half, &path, low, next);
     }
 }
