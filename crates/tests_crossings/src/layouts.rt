@@ -10,6 +10,32 @@ use std::test::Fail;
 /// Early, late and edge buffers.
 pub type Buffers = (u32, u32, u32);
 
+const EAST: Shape = Shape::Line {
+    x0: 0,
+    y0: 1500,
+    x1: 4000,
+    y1: 1500,
+    m: 40,
+};
+
+const THERE_AND_BACK: Shape = Shape::Curve {
+    x0: 0,
+    y0: 1500,
+    x1: 4000,
+    y1: 1500,
+    x2: 0,
+    y2: 1500,
+    m: 100,
+};
+
+const NORTH: Shape = Shape::Line {
+    x0: 2500,
+    y0: 0,
+    x1: 2500,
+    y1: 4000,
+    m: 40,
+};
+
 /// The layout with these buffers and this room of a sheet.
 pub fn crossing(alloc: Global, buffers: Buffers, spans: u32) -> Result<Layout, Fail> {
     let grid = Grid {
@@ -28,35 +54,23 @@ pub fn crossing(alloc: Global, buffers: Buffers, spans: u32) -> Result<Layout, F
         late: buffers.1,
         edge: buffers.2,
     };
-    let mut builder = Builder::new(alloc, Ground::build(grid, times)?, 2)?;
-    let east = Shape::Line {
-        x0: 0,
-        y0: 1500,
-        x1: 4000,
-        y1: 1500,
-        m: 40,
-    };
-    let there_and_back = Shape::Curve {
-        x0: 0,
-        y0: 1500,
-        x1: 4000,
-        y1: 1500,
-        x2: 0,
-        y2: 1500,
-        m: 100,
-    };
-    let north = Shape::Line {
-        x0: 2500,
-        y0: 0,
-        x1: 2500,
-        y1: 4000,
-        m: 40,
-    };
-    builder.add_move(0, Turn::Straight, east)?;
-    builder.add_move(0, Turn::Right, there_and_back)?;
-    builder.add_move(1, Turn::Straight, north)?;
-    builder.add_policy(Kind::Fcfs)?;
-    Ok(builder.finish()?)
+    let ground = Ground::build(grid, times).ok().ok_or("no ground")?;
+    let mut builder = Builder::new(alloc, ground, 2).ok().ok_or("no builder")?;
+    let refused = "a line is refused";
+    builder
+        .add_move(0, Turn::Straight, EAST)
+        .ok()
+        .ok_or(refused)?;
+    builder
+        .add_move(0, Turn::Right, THERE_AND_BACK)
+        .ok()
+        .ok_or(refused)?;
+    builder
+        .add_move(1, Turn::Straight, NORTH)
+        .ok()
+        .ok_or(refused)?;
+    builder.add_policy(Kind::Fcfs).ok().ok_or(refused)?;
+    Ok(builder.finish().ok().ok_or("unfinished")?)
 }
 
 /// A vehicle on lane 0 that goes on at 500 a step, a metre long and 0.7 wide.

@@ -121,62 +121,46 @@ fn a_vehicle_that_can_accelerate_has_two_trials(rt: HostRuntime) -> Result<(), F
     Ok(())
 }
 
+// A request with one wrong number.
+fn wrong(field: Field) -> Params {
+    let mut params = car(10);
+    match field {
+        Field::Lane => params.lane = 2,
+        Field::Turn => params.turn = Turn::Left,
+        Field::Arrive => params.arrive = 1_073_741_825,
+        Field::Max => params.max_speed = 4_001,
+        Field::Speed => params.speed = 600,
+        Field::Accel => params.accel = 1_001,
+        Field::Length => params.length = 0,
+        Field::Width => params.width = 30_001,
+        Field::Steps => {
+            params.speed = 2;
+            params.max_speed = 2;
+        }
+        Field::Spans => {}
+    }
+    params
+}
+
+const FIELDS: [Field; 10] = [
+    Field::Lane,
+    Field::Turn,
+    Field::Arrive,
+    Field::Max,
+    Field::Speed,
+    Field::Accel,
+    Field::Length,
+    Field::Width,
+    Field::Steps,
+    Field::Spans,
+];
+
 #[test]
 fn wrong_fields(rt: HostRuntime) -> Result<(), Fail> {
-    let good = car(10);
-    let cases = [
-        (Params { lane: 2, ..good }, Field::Lane),
-        (
-            Params {
-                turn: Turn::Left,
-                ..good
-            },
-            Field::Turn,
-        ),
-        (
-            Params {
-                arrive: 1_073_741_825,
-                ..good
-            },
-            Field::Arrive,
-        ),
-        (
-            Params {
-                max_speed: 4_001,
-                ..good
-            },
-            Field::Max,
-        ),
-        (Params { speed: 600, ..good }, Field::Speed),
-        (
-            Params {
-                accel: 1_001,
-                ..good
-            },
-            Field::Accel,
-        ),
-        (Params { length: 0, ..good }, Field::Length),
-        (
-            Params {
-                width: 30_001,
-                ..good
-            },
-            Field::Width,
-        ),
-        (
-            Params {
-                speed: 2,
-                max_speed: 2,
-                ..good
-            },
-            Field::Steps,
-        ),
-        (good, Field::Spans),
-    ];
     let layout = crossing(rt.alloc(), (0, 0, 0), 10)?;
-    for (params, field) in cases {
+    for field in FIELDS {
         let mut pool = Pool::new(rt.alloc(), 2, 10)?;
-        let wrong = prepared(&rt, &layout, &request(params), &mut pool)?;
+        let wrong = prepared(&rt, &layout, &request(wrong(field)), &mut pool)?;
         assert!(rt; wrong.bad() == Some(field));
         assert!(rt; wrong.cells_a().is_none() && wrong.cells_b().is_none());
     }
