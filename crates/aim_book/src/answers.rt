@@ -17,7 +17,7 @@ use crate::times::{next_allowed, now_after};
 use aim_msg::{Act, Body, Entry, Params, Reason, Reply};
 use aim_paths::Layout;
 
-/// Why the request is refused before its cells are looked at, if it is.
+// Why the request is refused before its cells are looked at, if it is.
 fn early_refusal(layout: &Layout, entries: &[Entry], now: u32, params: &Params) -> Option<Reason>
     requires fresh { AreFresh [] entries.now }
     requires now { now ≤ 1073741824 }
@@ -37,7 +37,7 @@ fn early_refusal(layout: &Layout, entries: &[Entry], now: u32, params: &Params) 
     }
 }
 
-/// A refusal.
+// A refusal.
 fn refuse(layout: &Layout, now: u32, params: &Params, reason: Reason) -> Reply
     requires now { now ≤ 1073741824 }
     ensures { result ≡ refused layout.now now params.now reason }
@@ -50,7 +50,7 @@ fn refuse(layout: &Layout, now: u32, params: &Params, reason: Reason) -> Reply
     }
 }
 
-/// A Confirm.
+// A Confirm.
 fn confirm(layout: &Layout, entries: &[Entry], params: &Params) -> Reply
     requires few { length entries.now < 2 ^ 32 }
     requires moving { IsMoving params.now }

@@ -22,7 +22,7 @@ pub struct Conflict {
     pub by: u32,
 }
 
-/// The first tile of a step of the crossing that an entry has, by row and column.
+// The first tile of a step of the crossing that an entry has, by row and column.
 fn shared_tile(layout: &Layout, entries: &[Entry], params: &Params, k: u32) -> Option<(u8, u8)>
     requires plain { IsPlain layout.now }
     requires served { AreServed layout.now [] entries.now }

@@ -16,7 +16,7 @@ pub fn asked_from(now: u32, params: &Params) -> u64
     u64::from(params.arrive.saturating_sub(now)) * u64::from(params.speed)
 }
 
-/// What an answer to a request in the lane makes of the lane's distance.
+// What an answer to a request in the lane makes of the lane's distance.
 fn distance_after(before: Option<u64>, now: u32, reply: &Reply, params: &Params) -> Option<u64>
     ensures { result ≡ distance_with before now reply.now params.now }
 {
@@ -33,7 +33,7 @@ fn distance_after(before: Option<u64>, now: u32, reply: &Reply, params: &Params)
     }
 }
 
-/// The same, if the act is a request in the lane.
+// The same, if the act is a request in the lane.
 fn distance_then(before: Option<u64>, lane: u8, now: u32, entry: &Entry) -> Option<u64>
     ensures { result ≡ distance_next before lane now entry.now.reply (params_in entry.now.act) }
 {

@@ -11,7 +11,7 @@ use crate::footprints::{add_footprint, step_count};
 use aim_msg::{Field, Params};
 use aim_paths::{Layout, Path};
 
-/// The number of rows with a tile.
+// The number of rows with a tile.
 fn filled_rows(rows: &[u64; 64]) -> u32
     ensures count { result ≡ count_by is_filled rows.now }
     ensures few { result ≤ 64 }
@@ -20,7 +20,7 @@ fn filled_rows(rows: &[u64; 64]) -> u32
     rows.iter().filter(|row| **row != 0).count() as u32
 }
 
-/// The number of pairs of a step and a row in which the crossing needs a tile.
+// The number of pairs of a step and a row in which the crossing needs a tile.
 fn span_count(layout: &Layout, params: &Params) -> u32
     requires plain { IsPlain layout.now }
     requires moving { IsMoving params.now }

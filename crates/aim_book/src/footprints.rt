@@ -15,7 +15,7 @@ use aim_geometry::{Ground, join, tile_rect};
 use aim_msg::Params;
 use aim_paths::{Layout, Path};
 
-/// Sets the bits of the tiles that meet the square of that half side round (x, y).
+// Sets the bits of the tiles that meet the square of that half side round (x, y).
 fn add_square(rows: &mut [u64; 64], ground: &Ground, half: u32, x: u32, y: u32)
     requires x { x ≤ ground.now.grid.side }
     requires y { y ≤ ground.now.grid.side }
@@ -26,7 +26,7 @@ fn add_square(rows: &mut [u64; 64], ground: &Ground, half: u32, x: u32, y: u32)
     join(rows, tile_rect(ground, x, y, half));
 }
 
-/// The same round each of the path's stations from one up to, not including, another.
+// The same round each of the path's stations from one up to, not including, another.
 fn add_squares(rows: &mut [u64; 64], ground: &Ground, half: u32, path: &Path, low: u32, next: u32)
     requires inside { (j : ℕ) (s : Station) → slice_get path.now j ≡ Some s → (s.x ≤ ground.now.grid.side) × (s.y ≤ ground.now.grid.side) }
     requires order { low ≤ next }
@@ -40,7 +40,7 @@ fn add_squares(rows: &mut [u64; 64], ground: &Ground, half: u32, path: &Path, lo
     }
 }
 
-/// The number of parts of the vehicle's path, none where there is no such path.
+// The number of parts of the vehicle's path, none where there is no such path.
 fn part_count(layout: &Layout, params: &Params) -> u32
     ensures parts { result ≡ length (stations layout.now params.now.lane params.now.turn) - 1 }
     ensures few { result ≤ 4096 }
@@ -63,7 +63,7 @@ pub fn step_count(layout: &Layout, params: &Params) -> u32
     (part_count(layout, params) * grid.spacing + params.length) / params.speed + 1
 }
 
-/// The first of the stations that the vehicle covers in a step of its crossing, and the one after the last.
+// The first of the stations that the vehicle covers in a step of its crossing, and the one after the last.
 fn footprint_range(path: &Path, spacing: u32, params: &Params, step: u32) -> (u32, u32)
     requires moving { IsMoving params.now }
     requires some_spacing { 0 < spacing }

@@ -5,7 +5,7 @@ ghost use Rattle.aim_book.specs.Serving.{IsPlain};
 
 use aim_paths::{Kind, Layout};
 
-/// Whether the layout has one policy, FCFS.
+// Whether the layout has one policy, FCFS.
 #[tactic(auto, using(crate::proofs::PolicyLemmas::one_kind))]
 fn is_fcfs(layout: &Layout) -> bool
     ensures { IsTrue result ↔ (map (λ p. p.kind) layout.now.policies ≡ Kind.Fcfs ∷ []) }

@@ -4,7 +4,7 @@ ghost use Rattle.std.specs.Prelude.{◌≡◌, ℕ, ◌<◌, ◌&&◌, false, If
 ghost use Rattle.aim_geometry.specs.Rects.{has_bit, tile_at};
 ghost use Rattle.aim_book.specs.Rows.{IsFirstBit, IsFirstCommon};
 
-/// The first bit of both.
+// The first bit of both.
 fn first_bit(left: u64, right: u64) -> Option<u8>
     ensures found { IfSome result (IsFirstBit left right) }
     ensures none { IfNone result ((c : ℕ) → c < 64 → (has_bit left c && has_bit right c) ≡ false) }

@@ -14,7 +14,7 @@ use crate::journals::granted;
 use aim_msg::{Entry, Params};
 use aim_paths::Layout;
 
-/// The step of the crossing that falls on a step, if one does.
+// The step of the crossing that falls on a step, if one does.
 fn step_at(layout: &Layout, params: &Params, step: u32) -> Option<u32>
     requires { IsMoving params.now }
     ensures found { IfSome result (λ k. (k < crossing_steps layout.now params.now false) × (step ≡ params.now.arrive + k)) }
@@ -31,7 +31,7 @@ fn step_at(layout: &Layout, params: &Params, step: u32) -> Option<u32>
     }
 }
 
-/// Sets the bits of the tiles that the crossing needs in the step.
+// Sets the bits of the tiles that the crossing needs in the step.
 fn add_crossing(rows: &mut [u64; 64], layout: &Layout, params: &Params, step: u32)
     requires plain { IsPlain layout.now }
     requires moving { IsMoving params.now }
@@ -42,7 +42,7 @@ fn add_crossing(rows: &mut [u64; 64], layout: &Layout, params: &Params, step: u3
     }
 }
 
-/// Sets the bits of the tiles that the entry has in the step.
+// Sets the bits of the tiles that the entry has in the step.
 fn add_taken(rows: &mut [u64; 64], layout: &Layout, entry: &Entry, step: u32)
     requires plain { IsPlain layout.now }
     requires steady { ActsSteady layout.now entry.now.act }
@@ -66,7 +66,7 @@ pub fn taken_rows(layout: &Layout, entries: &[Entry], step: u32) -> [u64; 64]
     rows
 }
 
-/// Whether the entry has the tile in the step.
+// Whether the entry has the tile in the step.
 fn has_tile(layout: &Layout, entry: &Entry, row: u8, col: u8, step: u32) -> bool
     requires plain { IsPlain layout.now }
     requires steady { ActsSteady layout.now entry.now.act }

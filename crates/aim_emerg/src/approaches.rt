@@ -71,7 +71,7 @@ impl Approaches {
     }
 }
 
-/// The set of the call's lane, or of none.
+// The set of the call's lane, or of none.
 fn lane_of(call: Option<(u8, u32)>, now: u32, horizon: u32) -> u16
     requires range { IfSome call (λ c. (c.0 < 16) × (c.1 ≤ 1073741824)) }
     requires horizon { horizon ≤ 1073741824 }

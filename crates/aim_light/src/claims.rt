@@ -22,7 +22,7 @@ pub fn claimed_rows(layout: &Layout, lanes: u16, except: Option<u8>) -> [u64; 64
     rows
 }
 
-/// Whether the lane is one of the set, and not the one excepted.
+// Whether the lane is one of the set, and not the one excepted.
 fn is_counted(lanes: u16, except: Option<u8>, lane: u8) -> bool
     requires { lane < 16 }
     ensures { result ≡ (is_other except lane && has_lane_of lanes lane) }
@@ -33,7 +33,7 @@ fn is_counted(lanes: u16, except: Option<u8>, lane: u8) -> bool
     }
 }
 
-/// Whether the lane is one of the set.
+// Whether the lane is one of the set.
 fn has_lane(lanes: u16, lane: u8) -> bool
     requires { lane < 16 }
     ensures { result ≡ has_lane_of lanes lane }
@@ -41,7 +41,7 @@ fn has_lane(lanes: u16, lane: u8) -> bool
     (lanes >> lane) & 1 == 1
 }
 
-/// Sets the bits of the further rows too.
+// Sets the bits of the further rows too.
 fn unite(rows: &mut [u64; 64], more: &[u64; 64])
     ensures { (row col : ℕ) → row < 64 → tile_at rows.new row col ≡ (tile_at rows.old row col || tile_at more.now row col) }
 {

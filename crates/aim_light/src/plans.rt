@@ -65,7 +65,7 @@ const NO_PHASE: Phase = Phase {
     lanes: 0,
 };
 
-/// Takes over the phases of the policy, and gives the steps of a round.
+// Takes over the phases of the policy, and gives the steps of a round.
 fn gather(layout: &Layout, policy: u8, count: u8, phases: &mut [Phase; 16]) -> u32
     requires there { policy < length layout.now.policies }
     requires count { count ≡ length (phases_of (slice_get layout.now.policies policy)) }
@@ -90,7 +90,7 @@ pub fn green_at(plan: &Plan, offset: u32) -> u16
     lit(&plan.phases[..plan.count as usize], offset % plan.round)
 }
 
-/// The set of lanes that are green at an offset into the round.
+// The set of lanes that are green at an offset into the round.
 fn lit(phases: &[Phase], offset: u32) -> u16
     ensures { result ≡ lit_of phases.now offset }
 {
@@ -126,7 +126,7 @@ pub fn green_within(plan: &Plan, first: u32, last: u32) -> u16
     lanes
 }
 
-/// Whether some offset from `from` to `to` is in the green from `begin` to before `end`, in this round or a later one.
+// Whether some offset from `from` to `to` is in the green from `begin` to before `end`, in this round or a later one.
 fn meets(begin: u64, end: u64, from: u64, to: u64, round: u64) -> bool
     requires { begin + round < 2 ^ 64 }
     ensures { result ≡ (nat_le begin to && nat_lt from end || nat_le (begin + round) to) }
@@ -134,7 +134,7 @@ fn meets(begin: u64, end: u64, from: u64, to: u64, round: u64) -> bool
     begin <= to && from < end || begin + round <= to
 }
 
-/// The lanes, or none.
+// The lanes, or none.
 fn if_met(lanes: u16, is_met: bool) -> u16
     ensures { (lane : ℕ) → has_lane result lane ≡ (is_met && has_lane lanes lane) }
 {

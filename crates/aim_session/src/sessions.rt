@@ -107,7 +107,7 @@ impl Sessions {
     }
 }
 
-/// The step that a refusal names, or the one before.
+// The step that a refusal names, or the one before.
 fn next_after(reply: &Reply, before: u32) -> u32
     ensures { result ≡ unwrap_or (next_with reply.now) before }
 {

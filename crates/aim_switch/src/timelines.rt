@@ -87,7 +87,7 @@ impl Timeline {
         claimed_rows(layout, self.claimants(layout, step), except)
     }
 
-    /// The set of lanes that are green at the step or were so at most the clearance before.
+    // The set of lanes that are green at the step or were so at most the clearance before.
     fn claimants(&self, layout: &Layout, step: u32) -> u16
         ensures green { (lane : ℕ) → has_lane result lane ≡ list_any (λ s. has_lane (green_in layout.now self.now.pushed s) lane)
             (range_with_len (step - layout.now.times.clearance) (step + 1 - (step - layout.now.times.clearance))) }
@@ -107,7 +107,7 @@ impl Timeline {
     }
 }
 
-/// The set of lanes that the policy has green at some offset from the first to the last.
+// The set of lanes that the policy has green at some offset from the first to the last.
 fn green_between(layout: &Layout, policy: u8, first: u32, last: u32) -> u16
     requires { first ≤ last }
     ensures { (lane : ℕ) → has_lane result lane ≡ list_any (λ o. has_lane (green_lanes (slice_get layout.now.policies policy) o) lane)

@@ -29,7 +29,7 @@ fn curve(from: (u32, u32), by: (u32, u32), to: (u32, u32), m: u32) -> Shape {
     }
 }
 
-/// The path of a lane. The next side's paths are those of this side, turned by a quarter to the left.
+// The path of a lane. The next side's paths are those of this side, turned by a quarter to the left.
 fn path(lane: u32) -> Shape {
     match lane {
         0 => curve((0, 10500), (13500, 10500), (13500, 24000), 280),

@@ -18,7 +18,7 @@ use std::env;
 use std::rt::Runtime;
 use std::time::Instant;
 
-/// The request of a round: the lanes in turn, with one of 61 speeds.
+// The request of a round: the lanes in turn, with one of 61 speeds.
 fn request(round: u64) -> Message {
     let turn = match round % 3 {
         0 => Turn::Left,
@@ -42,7 +42,7 @@ fn request(round: u64) -> Message {
     }
 }
 
-/// How many spans a prepared request has.
+// How many spans a prepared request has.
 fn count_spans(prepared: &Prepared) -> u64 {
     let fast = match prepared.cells_a() {
         Some(sheet) => sheet.spans().len(),
@@ -55,7 +55,7 @@ fn count_spans(prepared: &Prepared) -> u64 {
     (fast as u64).saturating_add(steady as u64)
 }
 
-/// Prepares so many requests, and gives the number of their spans, and the nanoseconds.
+// Prepares so many requests, and gives the number of their spans, and the nanoseconds.
 fn measure(rt: &impl Runtime, alloc: Global, layout: &Layout, rounds: u64) -> Result<(u64, u64)> {
     let mut pool = Pool::new(alloc, 2, layout.ground().grid().spans)?;
     let mut spans = 0u64;

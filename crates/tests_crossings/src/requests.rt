@@ -13,7 +13,7 @@ use std::test::Fail;
 /// A tile of row 1, by its column, from a step to a step.
 type Stay = (u8, u32, u32);
 
-/// Prepares a message with two sheets of the pool.
+// Prepares a message with two sheets of the pool.
 fn prepared(
     rt: &impl Abort,
     layout: &Layout,
@@ -29,7 +29,7 @@ fn prepared(
     Ok(prepare(layout, message, first, second))
 }
 
-/// The columns of the stays in a step.
+// The columns of the stays in a step.
 fn columns(stays: &[Stay], step: u32) -> u64 {
     let mut mask = 0;
     for (column, first, last) in stays {
@@ -40,7 +40,7 @@ fn columns(stays: &[Stay], step: u32) -> u64 {
     mask
 }
 
-/// Whether the sheet has the tiles of the stays in row 1 and no other.
+// Whether the sheet has the tiles of the stays in row 1 and no other.
 fn has_just(sheet: &Sheet, stays: &[Stay]) -> bool {
     for step in 0..100 {
         if sheet.mask(step, 1) != columns(stays, step) {
@@ -50,7 +50,7 @@ fn has_just(sheet: &Sheet, stays: &[Stay]) -> bool {
     sheet.spans().iter().all(|span| span.row == 1)
 }
 
-/// Whether there is a sheet with just those tiles.
+// Whether there is a sheet with just those tiles.
 fn is_just(sheet: Option<&Sheet>, stays: &[Stay]) -> bool {
     match sheet {
         Some(sheet) => has_just(sheet, stays),

@@ -32,7 +32,7 @@ impl Visit for Watch {
     }
 }
 
-/// A visitor that has seen nothing.
+// A visitor that has seen nothing.
 fn fresh() -> Watch {
     Watch {
         steps: 0,

@@ -25,7 +25,7 @@ const TIMES: Times = Times {
     edge: 0,
 };
 
-/// From the west to the east in so many parts.
+// From the west to the east in so many parts.
 fn east(m: u32) -> Shape {
     Shape::Line {
         x0: 0,
@@ -36,7 +36,7 @@ fn east(m: u32) -> Shape {
     }
 }
 
-/// From the south to the north in so many parts.
+// From the south to the north in so many parts.
 fn north(m: u32) -> Shape {
     Shape::Line {
         x0: 2500,
@@ -47,7 +47,7 @@ fn north(m: u32) -> Shape {
     }
 }
 
-/// From the west to the south in so many parts.
+// From the west to the south in so many parts.
 fn right(m: u32) -> Shape {
     Shape::Curve {
         x0: 0,
@@ -60,7 +60,7 @@ fn right(m: u32) -> Shape {
     }
 }
 
-/// Asserts what the policies are.
+// Asserts what the policies are.
 fn assert_policies(rt: &impl Abort, layout: &Layout) {
     assert_eq!(rt; layout.policies(), 2);
     assert!(rt; matches!(layout.kind(1), Kind::LightEmerg));
@@ -69,7 +69,7 @@ fn assert_policies(rt: &impl Abort, layout: &Layout) {
     assert_eq!(rt; layout.phases(1), 2);
 }
 
-/// Asserts what the lanes' tiles are.
+// Asserts what the lanes' tiles are.
 fn assert_tiles(rt: &impl Abort, layout: &Layout) {
     assert_eq!(rt; layout.lanes(), 2);
     let (west, south) = (lane_rows(layout, 0), lane_rows(layout, 1));
@@ -77,7 +77,7 @@ fn assert_tiles(rt: &impl Abort, layout: &Layout) {
     assert_eq!(rt; [south[0], south[3], south[4]], [4, 4, 0]);
 }
 
-/// Asserts what the paths are.
+// Asserts what the paths are.
 fn assert_paths(rt: &impl Abort, layout: &Layout) -> Result<(), Fail> {
     assert!(rt; Path::of(layout, 0, Turn::Left).is_none());
     assert!(rt; Path::of(layout, 2, Turn::Straight).is_none());
@@ -126,7 +126,7 @@ struct Realistic {
     tiles: u32,
 }
 
-/// A left turn, in 280 parts.
+// A left turn, in 280 parts.
 fn left_turn(x0: u32, y0: u32, x1: u32, y1: u32, x2: u32, y2: u32, step: u32) -> Realistic {
     Realistic {
         turn: Turn::Left,
@@ -144,7 +144,7 @@ fn left_turn(x0: u32, y0: u32, x1: u32, y1: u32, x2: u32, y2: u32, step: u32) ->
     }
 }
 
-/// A straight lane, in 240 parts.
+// A straight lane, in 240 parts.
 fn straight(x0: u32, y0: u32, x1: u32, y1: u32) -> Realistic {
     Realistic {
         turn: Turn::Straight,
@@ -160,7 +160,7 @@ fn straight(x0: u32, y0: u32, x1: u32, y1: u32) -> Realistic {
     }
 }
 
-/// A right turn, in 95 parts.
+// A right turn, in 95 parts.
 fn right_turn(x0: u32, y0: u32, x1: u32, y1: u32, x2: u32, y2: u32, step: u32) -> Realistic {
     Realistic {
         turn: Turn::Right,
@@ -178,7 +178,7 @@ fn right_turn(x0: u32, y0: u32, x1: u32, y1: u32, x2: u32, y2: u32, step: u32) -
     }
 }
 
-/// The greatest step from a station to the next, in x or in y.
+// The greatest step from a station to the next, in x or in y.
 fn greatest_step(path: &Path) -> u32 {
     path.stations()
         .windows(2)
@@ -190,7 +190,7 @@ fn greatest_step(path: &Path) -> u32 {
         .unwrap_or(0)
 }
 
-/// Asserts what the lane has.
+// Asserts what the lane has.
 fn assert_lane(rt: &impl Abort, layout: &Layout, lane: u8, wanted: &Realistic) -> Result<(), Fail> {
     let path = Path::of(layout, lane, wanted.turn).ok_or("no path")?;
     assert_eq!(rt; greatest_step(&path), wanted.step, "step of lane {lane}");
@@ -203,7 +203,7 @@ fn assert_lane(rt: &impl Abort, layout: &Layout, lane: u8, wanted: &Realistic) -
     Ok(())
 }
 
-/// The twelve lanes: three from each side, of which the first turns left and the third right.
+// The twelve lanes: three from each side, of which the first turns left and the third right.
 fn twelve() -> [Realistic; 12] {
     [
         left_turn(0, 10500, 13500, 10500, 13500, 24000, 97),
@@ -221,7 +221,7 @@ fn twelve() -> [Realistic; 12] {
     ]
 }
 
-/// The layout of these lanes on a ground of 48 by 48 tiles.
+// The layout of these lanes on a ground of 48 by 48 tiles.
 fn twelve_lane_layout(alloc: Global, lanes: &[Realistic; 12]) -> Result<Layout, Fail> {
     let grid = Grid {
         side: 24000,

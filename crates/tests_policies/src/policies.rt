@@ -6,7 +6,7 @@ use aim_switch::Timeline;
 use std::process::Abort;
 use std::test::Fail;
 
-/// The first rows of tiles.
+// The first rows of tiles.
 fn first_rows(rows: &[u64; 64]) -> [u64; 4] {
     [rows[0], rows[1], rows[2], rows[3]]
 }

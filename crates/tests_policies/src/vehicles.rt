@@ -9,7 +9,7 @@ use aim_session::{Look, Sessions};
 use std::process::Abort;
 use std::test::Fail;
 
-/// A request for a crossing of 11 steps.
+// A request for a crossing of 11 steps.
 fn request(seq: u32, lane: u8, arrive: u32) -> Message {
     Message {
         seq,
@@ -27,7 +27,7 @@ fn request(seq: u32, lane: u8, arrive: u32) -> Message {
     }
 }
 
-/// Keeps the message, if it is fresh.
+// Keeps the message, if it is fresh.
 fn keep(sessions: &mut Sessions, vehicle: u32, message: Message, reply: Reply) -> bool
     requires { vehicle < length sessions.old }
     ensures { length sessions.new ≡ length sessions.old }

@@ -10,7 +10,7 @@ use std::alloc::Global;
 use std::process::Abort;
 use std::test::Fail;
 
-/// Lane 0 goes east, lane 1 north. They share the tile in row 1, column 2.
+// Lane 0 goes east, lane 1 north. They share the tile in row 1, column 2.
 fn crossing(alloc: Global) -> Result<Layout, Fail> {
     let grid = Grid {
         side: 4000,
@@ -56,7 +56,7 @@ fn crossing(alloc: Global) -> Result<Layout, Fail> {
     Ok(builder.finish().ok().ok_or("no layout")?)
 }
 
-/// A vehicle's request for a crossing of 11 steps.
+// A vehicle's request for a crossing of 11 steps.
 fn ask(
     rt: &impl Abort,
     book: &mut Book,

@@ -19,7 +19,7 @@ fn line(x0: u32, y0: u32, x1: u32, y1: u32) -> Shape {
     }
 }
 
-/// Two lanes that cross, with room for so many spans in a request.
+// Two lanes that cross, with room for so many spans in a request.
 fn crossing(alloc: Global, spans: u32) -> Result<Layout, Fail> {
     let grid = Grid {
         side: 4000,
@@ -93,8 +93,8 @@ fn reject() -> Reply {
     }
 }
 
-/// Asserts that the cells from the place on are those of a tile in row 1 from one step to another, and gives the place
-/// behind them.
+// Asserts that the cells from the place on are those of a tile in row 1 from one step to another, and gives the place
+// behind them.
 fn assert_run(
     rt: &impl Abort,
     cells: &[Cell],
@@ -134,7 +134,7 @@ fn enters_a_step_early(rt: HostRuntime) -> Result<(), Fail> {
     Ok(())
 }
 
-/// Asserts that a driver that entered on the entry is nowhere.
+// Asserts that a driver that entered on the entry is nowhere.
 fn assert_nowhere(
     rt: &impl Abort,
     alloc: Global,
