@@ -4,6 +4,7 @@ use Rattle.aim_msg.specs.declared.messages.Message.{Message}
 use Rattle.aim_msg.specs.declared.entries.Act.TheVariants as act
 use Rattle.aim_msg.specs.declared.entries.Entry.{Entry}
 use Rattle.aim_msg.specs.declared.replies.Reply.{Reply}
+use Rattle.aim_msg.specs.declared.entries.TheConstants.{LATEST_MOMENT}
 use Rattle.aim_paths.specs.Intersection.{Intersection}
 use Rattle.aim_rules.specs.History.{now_of}
 use Rattle.aim_rules.specs.Answer.{answer}
@@ -17,8 +18,8 @@ pub now_of_le : (h : List Entry) (m most : ℕ) → m ≤ most → ((k : ℕ) (d
 now_of_le [] m most l each = l
 now_of_le (e ∷ h) m most l each = now_of_le h (max m e.moment) most (let x = each zero e (omega arith) in omega arith) (λ k d b. each (suc k) d (omega arith))
 
-pub legal_now : (i : Intersection) (vehicles : ℕ) (h : List Entry) (m : ℕ) → IsLegal i vehicles h → m ≤ 1073741824 → now_of h m ≤ 1073741824
-legal_now i vehicles h m legal l = now_of_le h m 1073741824 l (λ k d b. (legal.well_formed k d b).moment)
+pub legal_now : (i : Intersection) (vehicles : ℕ) (h : List Entry) (m : ℕ) → IsLegal i vehicles h → m ≤ LATEST_MOMENT → now_of h m ≤ LATEST_MOMENT
+legal_now i vehicles h m legal l = now_of_le h m LATEST_MOMENT l (λ k d b. (legal.well_formed k d b).moment)
 
 -- the entry of a message and its answer
 abbrev pub entry_with : ℕ → ℕ → Message → Reply → Entry

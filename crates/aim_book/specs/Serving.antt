@@ -8,6 +8,7 @@ use Rattle.aim_msg.specs.declared.messages.Body.TheVariants as body
 use Rattle.aim_msg.specs.declared.entries.Act.{Act}
 use Rattle.aim_msg.specs.declared.entries.Act.TheVariants as act
 use Rattle.aim_msg.specs.declared.entries.Entry.{Entry}
+use Rattle.aim_msg.specs.declared.entries.TheConstants.{LATEST_MOMENT}
 use Rattle.aim_paths.specs.declared.policies.Kind.TheVariants as kind
 use Rattle.aim_paths.specs.Intersection.{Intersection}
 use Rattle.aim_rules.specs.Bad.{bad}
@@ -41,7 +42,7 @@ has_called caller h = list_any (λ e. e.caller == caller) h
 pub record MayServe (i : Intersection) (vehicles : ℕ) (h : List Entry) (v at : ℕ) (m : Message) : Type 0 where
   pub layout : IsPlain i
   pub vehicle : v < vehicles
-  pub moment : at ≤ 1073741824
+  pub moment : at ≤ LATEST_MOMENT
   pub first : has_called v h ≡ false
   pub request : AsksSteady i m.body
 

@@ -2,6 +2,7 @@
 
 ghost use Rattle.std.specs.Prelude.{◌≡◌, ℕ, ◌≤◌, ◌<◌, ◌^◌, false, [], length};
 ghost use Rattle.aim_msg.specs.declared.messages.Message.{Message};
+ghost use Rattle.aim_msg.specs.declared.entries.TheConstants.{LATEST_MOMENT};
 ghost use Rattle.aim_rules.specs.Answer.{answer};
 ghost use Rattle.aim_rules.specs.Footprint.{crossing_steps};
 ghost use Rattle.aim_rules.specs.History.{now_of};
@@ -20,7 +21,7 @@ use aim_paths::Layout;
 // Why the request is refused before its cells are looked at, if it is.
 fn early_refusal(layout: &Layout, entries: &[Entry], now: u32, params: &Params) -> Option<Reason>
     requires fresh { AreFresh [] entries.now }
-    requires now { now ≤ 1073741824 }
+    requires now { now ≤ LATEST_MOMENT }
     requires moving { IsMoving params.now }
     ensures { result ≡ early_reason layout.now entries.now now params.now }
 {
@@ -39,7 +40,7 @@ fn early_refusal(layout: &Layout, entries: &[Entry], now: u32, params: &Params) 
 
 // A refusal.
 fn refuse(layout: &Layout, now: u32, params: &Params, reason: Reason) -> Reply
-    requires now { now ≤ 1073741824 }
+    requires now { now ≤ LATEST_MOMENT }
     ensures { result ≡ refused layout.now now params.now reason }
 {
     let longest = layout.ground().times().longest;
@@ -72,7 +73,7 @@ pub fn answer_request(layout: &Layout, entries: &[Entry], moment: u32, params: &
     requires plain { IsPlain layout.now }
     requires served { AreServed layout.now [] entries.now }
     requires few { length entries.now < 2 ^ 32 }
-    requires now { now_of entries.now moment ≤ 1073741824 }
+    requires now { now_of entries.now moment ≤ LATEST_MOMENT }
     requires steady { IsSteady layout.now params.now }
     ensures { (v : ℕ) (m : Message) → has_called v entries.now ≡ false → m.body ≡ Body.Request params.now → result ≡ answer layout.now entries.now v moment (Act.Message m) }
 {

@@ -1,7 +1,7 @@
 //! The book: a layout and the journal of what was asked and answered over it.
 
 use crate::answers::answer_request;
-use aim_msg::{Act, Body, Entry, Message, Reply};
+use aim_msg::{Act, Body, Entry, MOST_ENTRIES, MOST_VEHICLES, Message, Reply};
 use aim_paths::Layout;
 use std::alloc::Global;
 use std::marker::Model;
@@ -36,16 +36,18 @@ impl Model for Book {
 
     ghost Value = { State };
 
+    ghost use Rattle.aim_msg.specs.declared.entries.TheConstants.{MOST_ENTRIES, MOST_VEHICLES};
     ghost use Rattle.aim_rules.specs.Legal.{IsLegal};
     ghost use Rattle.aim_book.specs.Serving.{AreServed};
 
     ghost view = { λ b. record { layout = b.layout; vehicles = b.vehicles; room = b.room; journal = b.journal.items } };
 
-    ghost invariant = { λ b. (IsLegal b.layout b.vehicles b.journal.items) × (AreServed b.layout [] b.journal.items) × (length b.journal.items ≤ b.room) × (b.room ≤ vec_capacity b.journal) × (b.room ≤ 262144) × (b.vehicles ≤ 65536) };
+    ghost invariant = { λ b. (IsLegal b.layout b.vehicles b.journal.items) × (AreServed b.layout [] b.journal.items) × (length b.journal.items ≤ b.room) × (b.room ≤ vec_capacity b.journal) × (b.room ≤ MOST_ENTRIES) × (b.vehicles ≤ MOST_VEHICLES) };
 }
 
 impl Book {
     ghost use Rattle.std.specs.Prelude.{◌≡◌, ◌<◌, ◌≤◌, ◌⊎◌, ◌++◌, ◌∷◌, [], ◌↔◌, length, IfOk, OnErr, IsErr, Err};
+    ghost use Rattle.aim_msg.specs.declared.entries.TheConstants.{MOST_ENTRIES, MOST_VEHICLES};
     ghost use Rattle.aim_rules.specs.Answer.{answer};
     ghost use Rattle.aim_rules.specs.Legal.{IsLegal};
     ghost use Rattle.aim_book.specs.Serving.{MayServe};
@@ -54,13 +56,13 @@ impl Book {
     pub fn open(alloc: Global, layout: Layout, vehicles: u32, room: u32) -> Result<Book, OpenFault>
         ensures book { IfOk result (λ b. b ≡ record { layout = layout; vehicles = vehicles; room = room; journal = [] }) }
         ensures legal { IfOk result (λ b. IsLegal b.layout b.vehicles b.journal) }
-        ensures vehicles { (result ≡ Err OpenFault.Vehicles) ↔ ((vehicles ≡ 0) ⊎ (65536 < vehicles)) }
-        ensures room { (result ≡ Err OpenFault.Room) ↔ ((0 < vehicles) × (vehicles ≤ 65536) × ((room ≡ 0) ⊎ (262144 < room))) }
+        ensures vehicles { (result ≡ Err OpenFault.Vehicles) ↔ ((vehicles ≡ 0) ⊎ (MOST_VEHICLES < vehicles)) }
+        ensures room { (result ≡ Err OpenFault.Room) ↔ ((0 < vehicles) × (vehicles ≤ MOST_VEHICLES) × ((room ≡ 0) ⊎ (MOST_ENTRIES < room))) }
     {
-        if vehicles == 0 || vehicles > 65_536 {
+        if vehicles == 0 || vehicles > MOST_VEHICLES {
             return Err(OpenFault::Vehicles);
         }
-        if room == 0 || room > 262_144 {
+        if room == 0 || room > MOST_ENTRIES {
             return Err(OpenFault::Room);
         }
         match Vec::with_capacity(alloc, room as usize) {

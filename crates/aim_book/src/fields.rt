@@ -8,7 +8,7 @@ ghost use Rattle.aim_book.specs.Moving.{IsMoving};
 ghost use Rattle.aim_book.specs.Serving.{IsPlain};
 
 use crate::footprints::{add_footprint, step_count};
-use aim_msg::{Field, Params};
+use aim_msg::{Field, LATEST_MOMENT, Params};
 use aim_paths::{Layout, Path};
 
 // The number of rows with a tile.
@@ -50,7 +50,7 @@ pub fn bad_field(layout: &Layout, params: &Params) -> Option<Field>
     if Path::of(layout, params.lane, params.turn).is_none() {
         return Some(Field::Turn);
     }
-    if params.arrive > 1_073_741_824 {
+    if params.arrive > LATEST_MOMENT {
         return Some(Field::Arrive);
     }
     if params.max_speed == 0 || params.max_speed > 4_000 {

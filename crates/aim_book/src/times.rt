@@ -1,6 +1,7 @@
 //! The time, and when to ask again.
 
 ghost use Rattle.std.specs.Prelude.{◌≡◌, ◌≤◌};
+ghost use Rattle.aim_msg.specs.declared.entries.TheConstants.{LATEST_MOMENT};
 ghost use Rattle.aim_rules.specs.History.{now_of};
 ghost use Rattle.aim_rules.specs.Asking.{next_allowed as next_allowed_of};
 
@@ -19,7 +20,7 @@ pub fn now_after(entries: &[Entry], moment: u32) -> u32
 
 /// Half of the way to the arrival, but a step at least and the longest wait at most.
 pub fn next_allowed(now: u32, arrive: u32, longest: u32) -> u32
-    requires moment { now ≤ 1073741824 }
+    requires moment { now ≤ LATEST_MOMENT }
     requires wait { longest ≤ 65536 }
     ensures { result ≡ next_allowed_of now arrive longest }
 {

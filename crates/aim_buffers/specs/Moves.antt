@@ -1,6 +1,7 @@
 -- Windows of a trial as they move from step to step. No public clause cites this.
 use Rattle.std.specs.Prelude.{ℕ, Bool, ◌≡◌, ◌<◌, ◌≤◌, ◌+◌, List, length}
 use Rattle.aim_msg.specs.declared.messages.Params.{Params}
+use Rattle.aim_msg.specs.declared.entries.TheConstants.{LATEST_MOMENT}
 use Rattle.aim_geometry.specs.Bounded.{ceil_div}
 use Rattle.aim_geometry.specs.Sites.{IsGrid, IsTimes}
 use Rattle.aim_paths.specs.Intersection.{Intersection, stations}
@@ -15,7 +16,7 @@ use Rattle.aim_simulate.specs.Fills.{AreRectsOf}
 pub record IsTrial (i : Intersection) (p : Params) (fast : Bool) (rects : List TileRect) (reaches : List Reach) : Type 0 where
   pub grid : IsGrid i.grid
   pub times : IsTimes i.times
-  pub arrive : p.arrive ≤ 1073741824
+  pub arrive : p.arrive ≤ LATEST_MOMENT
   pub reach : AreReachesOf i p fast reaches
   pub some_steps : 0 < length reaches
   pub steps : length reaches ≤ 2048

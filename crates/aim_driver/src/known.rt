@@ -1,6 +1,7 @@
 //! What a driver keeps of its log, and what it does by that.
 
 ghost use Rattle.std.specs.Prelude.{◌≡◌, ◌+◌, ◌<◌, ◌≤◌, ◌&&◌, ◌||◌, Some, None, [], is_some, if◌then◌else◌, IfSome};
+ghost use Rattle.aim_msg.specs.declared.entries.TheConstants.{LATEST_MOMENT};
 ghost use Rattle.aim_driver.specs.Logs.{is, is_above, is_waiting_with, counts_with, changed, active_sent, active_told, is_emergency_stop, is_done};
 ghost use Rattle.aim_driver.specs.Keeps.{is_over};
 ghost use Rattle.aim_driver.specs.Rules.{number, message, is_shut_out, is_crossing, finish, reserved, cancel, is_due, is_cancelling, next_change, is_changing, change, again, is_too_late, leave, held, may_request, request, act_by, entered_on, is_open, params_at, is_cancel, is_change, steps_for, lead_for, lead_told, next_told};
@@ -431,7 +432,7 @@ impl Known {
 
     fn change_request(&self, plan: &DrivePlan, step: u32) -> Option<Message>
         requires few { number self.now.latest < 64 }
-        requires step { step ≤ 1073741824 }
+        requires step { step ≤ LATEST_MOMENT }
         ensures { result ≡ change plan.now self.now step (reserved self.now) (next_change plan.now self.now) }
     {
         let Some(id) = self.reservation() else {
@@ -466,7 +467,7 @@ impl Known {
 
     fn first_request(&self, plan: &DrivePlan, step: u32) -> Message
         requires few { number self.now.latest < 64 }
-        requires step { step ≤ 1073741824 }
+        requires step { step ≤ LATEST_MOMENT }
         requires lead { self.now.lead ≤ 65536 }
         ensures { result ≡ request plan.now self.now step }
     {
@@ -476,7 +477,7 @@ impl Known {
     /// What is sent at the step: the first rule that applies.
     pub(crate) fn choose(&self, plan: &DrivePlan, step: u32) -> Option<Message>
         requires number { number self.now.latest ≤ self.now.sendings }
-        requires step { step ≤ 1073741824 }
+        requires step { step ≤ LATEST_MOMENT }
         requires lead { self.now.lead ≤ 65536 }
         ensures value { result ≡ act_by plan.now self.now step }
         ensures few { IfSome result (λ _. self.now.sendings < 64) }

@@ -12,6 +12,7 @@ use Rattle.aim_rules.proofs.TestLemmas.{le_true}
 use Rattle.std.proofs.lemmas.List.{get_or-set_same, get_or-set_other, length-set, get_or_append_left, take_all}
 use Rattle.std.proofs.lemmas.List.Folds.{list_any-append, list_any_at, list_any_more, Any-from_list_any}
 use Rattle.std.proofs.lemmas.List.Sums.{sum_by-set, count_by-le-length}
+use Rattle.aim_msg.specs.declared.entries.TheConstants.{LATEST_MOMENT}
 use Rattle.aim_paths.proofs.Elements.{get_or-read}
 use Rattle.aim_geometry.specs.Bounded.{some_below}
 use Rattle.aim_geometry.proofs.Bits.{has_bit_or}
@@ -46,7 +47,7 @@ room_left calls callers marked v is l free =
     let a = is.long in let b = is.count in omega arith
 
 pub listed_more : (calls : List (Option (ℕ × ℕ))) (callers : List ℕ) (marked : List Bool) (v : ℕ) (call : Option (ℕ × ℕ)) → IsListed calls callers marked → v < length calls → get_or marked v false ≡ false →
-    ((lane arrive : ℕ) → call ≡ Some (lane, arrive) → (lane < 16) × (arrive ≤ 1073741824)) → IsListed (set calls v call) (callers ++ v ∷ []) (set marked v true)
+    ((lane arrive : ℕ) → call ≡ Some (lane, arrive) → (lane < 16) × (arrive ≤ LATEST_MOMENT)) → IsListed (set calls v call) (callers ++ v ∷ []) (set marked v true)
 listed_more calls callers marked v call is l free range =
     let there : v < length marked = let a = is.long in omega arith in record {
       long = length-set marked v true ∙ is.long ∙ sym (length-set calls v call);
@@ -100,18 +101,18 @@ one_lane place now arrive horizon lane l due = elim (cases_eq lane place) [
   | inr n ↦ (let other : (place == lane) ≡ false = ne_eqb place lane (λ e. n (sym e)) in rw (one_shl place 16 l, bit_at-pow_other place lane n, other) refl)
 ]
 
-pub call_range : (call : Option (ℕ × ℕ)) → IfSome call (λ c. (c.0 < 16) × (c.1 ≤ 1073741824)) → (lane arrive : ℕ) → call ≡ Some (lane, arrive) → (lane < 16) × (arrive ≤ 1073741824)
+pub call_range : (call : Option (ℕ × ℕ)) → IfSome call (λ c. (c.0 < 16) × (c.1 ≤ LATEST_MOMENT)) → (lane arrive : ℕ) → call ≡ Some (lane, arrive) → (lane < 16) × (arrive ≤ LATEST_MOMENT)
 call_range None h lane arrive e = absurd (cc)
 call_range (Some (a, b)) h lane arrive e =
     let first : a ≡ lane = ap (λ (o : Option (ℕ × ℕ)). (unwrap_or o (0, 0)).0) e in
     let second : b ≡ arrive = ap (λ (o : Option (ℕ × ℕ)). (unwrap_or o (0, 0)).1) e in
-    (subst (λ k. k < 16) first h.0, subst (λ k. k ≤ 1073741824) second h.1)
+    (subst (λ k. k < 16) first h.0, subst (λ k. k ≤ LATEST_MOMENT) second h.1)
 
 -- the range of a call that is read
-pub read_range : (calls : List (Option (ℕ × ℕ))) (callers : List ℕ) (marked : List Bool) (v : ℕ) → IsListed calls callers marked → v < length calls → IfSome (get_or calls v None) (λ c. (c.0 < 16) × (c.1 ≤ 1073741824))
+pub read_range : (calls : List (Option (ℕ × ℕ))) (callers : List ℕ) (marked : List Bool) (v : ℕ) → IsListed calls callers marked → v < length calls → IfSome (get_or calls v None) (λ c. (c.0 < 16) × (c.1 ≤ LATEST_MOMENT))
 read_range calls callers marked v is l = go (get_or calls v None) refl
   where
-    go : (o : Option (ℕ × ℕ)) → get_or calls v None ≡ o → IfSome o (λ c. (c.0 < 16) × (c.1 ≤ 1073741824))
+    go : (o : Option (ℕ × ℕ)) → get_or calls v None ≡ o → IfSome o (λ c. (c.0 < 16) × (c.1 ≤ LATEST_MOMENT))
     go None e = tt
     go (Some (lane, arrive)) e = is.range v lane arrive l e
 

@@ -2,6 +2,7 @@
 
 ghost use Rattle.std.specs.Prelude.{◌≡◌, ℕ, ◌<◌, ◌≤◌, length, None, replicate, slice_set, IfOk, IfSome};
 ghost use Rattle.std.specs.List.{list_any};
+ghost use Rattle.aim_msg.specs.declared.entries.TheConstants.{LATEST_MOMENT};
 ghost use Rattle.aim_paths.specs.Policies.{has_lane};
 ghost use Rattle.aim_emerg.specs.Calls.{is_call_in};
 
@@ -45,7 +46,7 @@ impl Approaches {
     /// Sets the vehicle's call, or clears it.
     pub fn note(&mut self, vehicle: u32, call: Option<(u8, u32)>)
         requires there { vehicle < length self.old }
-        requires range { IfSome call (λ c. (c.0 < 16) × (c.1 ≤ 1073741824)) }
+        requires range { IfSome call (λ c. (c.0 < 16) × (c.1 ≤ LATEST_MOMENT)) }
         ensures { self.new ≡ slice_set self.old vehicle call }
     {
         let place = vehicle as usize;
@@ -59,8 +60,8 @@ impl Approaches {
 
     /// The set of lanes of the calls whose arrival is at most the horizon past.
     pub fn lanes(&self, now: u32, horizon: u32) -> u16
-        requires now { now ≤ 1073741824 }
-        requires horizon { horizon ≤ 1073741824 }
+        requires now { now ≤ LATEST_MOMENT }
+        requires horizon { horizon ≤ LATEST_MOMENT }
         ensures { (lane : ℕ) → has_lane result lane ≡ list_any (is_call_in now horizon lane) self.now }
     {
         let mut lanes = 0;
@@ -73,8 +74,8 @@ impl Approaches {
 
 // The set of the call's lane, or of none.
 fn lane_of(call: Option<(u8, u32)>, now: u32, horizon: u32) -> u16
-    requires range { IfSome call (λ c. (c.0 < 16) × (c.1 ≤ 1073741824)) }
-    requires horizon { horizon ≤ 1073741824 }
+    requires range { IfSome call (λ c. (c.0 < 16) × (c.1 ≤ LATEST_MOMENT)) }
+    requires horizon { horizon ≤ LATEST_MOMENT }
     ensures { (lane : ℕ) → has_lane result lane ≡ is_call_in now horizon lane call }
 {
     match call {

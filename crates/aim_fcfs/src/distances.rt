@@ -2,6 +2,7 @@
 
 ghost use Rattle.std.specs.Prelude.{◌≡◌, ◌<◌, ◌≤◌, None, Some, replicate, slice_index_or, slice_set};
 ghost use Rattle.std.specs.Result.{result_err};
+ghost use Rattle.aim_msg.specs.declared.entries.TheConstants.{LATEST_MOMENT};
 ghost use Rattle.aim_geometry.specs.Bounded.{min_with};
 ghost use Rattle.aim_rules.specs.Asking.{next_allowed as next_allowed_of};
 ghost use Rattle.aim_fcfs.specs.Distances.{exceeded};
@@ -69,7 +70,7 @@ impl Distances {
 
 /// When to ask again: after half of the way to the arrival, but a step at least and the longest wait at most.
 pub fn next_allowed(now: u32, arrive: u32, longest: u32) -> u32
-    requires moment { now ≤ 1073741824 }
+    requires moment { now ≤ LATEST_MOMENT }
     requires wait { longest ≤ 65536 }
     ensures { result ≡ next_allowed_of now arrive longest }
 {

@@ -10,6 +10,7 @@ use Rattle.aim_io.specs.Lines.{Outcome}
 use Rattle.aim_msg.specs.declared.script.Line.{Line}
 use Rattle.aim_msg.specs.declared.script.Line.TheVariants as line
 use Rattle.aim_msg.specs.Lines.{name_word}
+use Rattle.aim_msg.specs.declared.entries.TheConstants.{LATEST_MOMENT, MOST_VEHICLES}
 use Rattle.aim_geometry.specs.Bounded.{find_map}
 use Rattle.aim_rules.specs.Journals.{Call, MayCall}
 use Rattle.aim_rules.specs.Legal.{IsLegal, MayAct}
@@ -67,11 +68,11 @@ not_true : (b : Bool) → not b ≡ false → b ≡ true
 not_true true h = refl
 not_true false h = absurd (cc)
 
-in_time : (m : ℕ) → nat_lt 1073741824 m ≡ false → m ≤ 1073741824
+in_time : (m : ℕ) → nat_lt LATEST_MOMENT m ≡ false → m ≤ LATEST_MOMENT
 in_time m h = grind (arith, nat_tests)
 
 abbrev MayBe : List Line → Call → Type 0
-MayBe before c = (c.moment ≤ 1073741824) × MayAct (layout_of before) (vehicles_of before) c.caller c.act
+MayBe before c = (c.moment ≤ LATEST_MOMENT) × MayAct (layout_of before) (vehicles_of before) c.caller c.act
 
 some_call : (c d : Call) → Some c ≡ Some d → c ≡ d
 some_call c d e = cc
@@ -84,7 +85,7 @@ switch_below before k name h =
     let p = names_are_policies before (layout_of before) refl in
     omega arith
 
-call_may_be : (missing : Missing) (before : List Line) (k : ℕ) (l : Line) (c : Call) → vehicles_of before ≤ 65536 → GoesOn missing (take k before) l → call_in (names_of before) l ≡ Some c → MayBe before c
+call_may_be : (missing : Missing) (before : List Line) (k : ℕ) (l : Line) (c : Call) → vehicles_of before ≤ MOST_VEHICLES → GoesOn missing (take k before) l → call_in (names_of before) l ≡ Some c → MayBe before c
 call_may_be missing before k (line.Event vehicle moment message) c few g e =
     subst (MayBe before) (some_call _ c e) (in_time moment (passes missing (take k before) (line.Event vehicle moment message) 13 g), ((let m = vehicle_below before k vehicle (passes missing (take k before) (line.Event vehicle moment message) 12 g) in omega arith), vehicle_below before k vehicle (passes missing (take k before) (line.Event vehicle moment message) 12 g)))
 call_may_be missing before k (line.SwitchTo moment name) c few g e =
@@ -118,17 +119,17 @@ first_of f most (x ∷ xs) each = go (f x) refl (first_of f most xs (λ k y n at
     go None e rest = rest
     go (Some n) e rest = each 0 x n refl e
 
-within : (spans n : ℕ) → vehicles_limit spans n ≡ None → n ≤ 65536
-within spans n h = go (nat_lt 65536 n) refl h
+within : (spans n : ℕ) → vehicles_limit spans n ≡ None → n ≤ MOST_VEHICLES
+within spans n h = go (nat_lt MOST_VEHICLES n) refl h
   where
-    go : (b : Bool) → nat_lt 65536 n ≡ b → (if b then Some limit.Vehicles else if nat_lt 16777216 (n * spans) then Some limit.Sheets else None) ≡ None → n ≤ 65536
+    go : (b : Bool) → nat_lt MOST_VEHICLES n ≡ b → (if b then Some limit.Vehicles else if nat_lt 16777216 (n * spans) then Some limit.Sheets else None) ≡ None → n ≤ MOST_VEHICLES
     go true e h = absurd (cc)
     go false e h = grind (arith, nat_tests)
 
 -- a script whose lines go on declares as many vehicles as there may be
-few_vehicles : (missing : Missing) (input : List Outcome) (v : Verdict) → IsOfTheFirst missing input v → vehicles_of v.before ≤ 65536
+few_vehicles : (missing : Missing) (input : List Outcome) (v : Verdict) → IsOfTheFirst missing input v → vehicles_of v.before ≤ MOST_VEHICLES
 few_vehicles missing input v f =
-    first_of vehicles_in 65536 v.before (λ k l n at e.
+    first_of vehicles_in MOST_VEHICLES v.before (λ k l n at e.
     let g = f.goes_on_at k l at in
     let i = layout_of (take k v.before) in
     within i.grid.spans n (rw e at ((goes_on_says missing (take k v.before) g.0 l g.2).no_limit)))

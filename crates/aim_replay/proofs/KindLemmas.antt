@@ -14,6 +14,7 @@ use Rattle.aim_msg.specs.declared.script.MoveShape.{MoveShape}
 use Rattle.aim_msg.specs.declared.script.Name.{Name}
 use Rattle.aim_msg.specs.declared.script.Line.{Line}
 use Rattle.aim_msg.specs.declared.script.Line.TheVariants as line
+use Rattle.aim_msg.specs.declared.entries.TheConstants.{LATEST_MOMENT}
 use Rattle.aim_geometry.specs.Bounded.{is_outside}
 use Rattle.aim_geometry.specs.Sites.{has_bad_numbers, has_bad_buffers, has_bad_times}
 use Rattle.aim_paths.specs.Building.{policy_fault, finish_fault}
@@ -102,5 +103,5 @@ pub end_kind : (before : List Line) → part_after (last_of before) ≡ in_body 
 end_kind before part = kind_is before line.End ∙ rw part refl
 
 pub event_kind : (before : List Line) (v at : ℕ) (m : Message) (p : Params) → m.body ≡ body.Request p → part_after (last_of before) ≡ in_body
-    → kind_of_fault today before (line.Event v at m) ≡ (if list_any (is_event_of v) before || is_missing_body before (body.Request p) then Some why.Unsupported else if nat_le (vehicles_of before) v then Some why.Vehicle else if nat_lt 1073741824 at then Some why.Moment else None)
+    → kind_of_fault today before (line.Event v at m) ≡ (if list_any (is_event_of v) before || is_missing_body before (body.Request p) then Some why.Unsupported else if nat_le (vehicles_of before) v then Some why.Vehicle else if nat_lt LATEST_MOMENT at then Some why.Moment else None)
 event_kind before v at m p asks part = kind_is before (line.Event v at m) ∙ rw (part, asks) refl

@@ -20,6 +20,7 @@ use Rattle.aim_msg.specs.declared.script.MoveShape.{MoveShape}
 use Rattle.aim_msg.specs.declared.script.Name.{Name}
 use Rattle.aim_msg.specs.declared.script.Line.{Line}
 use Rattle.aim_msg.specs.declared.script.Line.TheVariants as line
+use Rattle.aim_msg.specs.declared.entries.TheConstants.{LATEST_MOMENT, MOST_ENTRIES}
 use Rattle.aim_geometry.specs.declared.ground.Grid.{Grid}
 use Rattle.aim_geometry.specs.declared.ground.Times.{Times}
 use Rattle.aim_geometry.specs.declared.ground.GroundFault.TheVariants as ground_fault_of
@@ -239,11 +240,11 @@ vehicles_fit before b n fault some st =
     vehicles_kind_in_policies before b n st ∙ rw (whole, some) refl
 
 pub vehicles_taken : (before : List Line) (s : Stage) (b : Intersection) (k : State) (n : ℕ) → s ≡ stage.Policies b → vehicles_limit b.grid.spans n ≡ None → (n == 0) ≡ false → None ≡ finish_fault b
-    → k ≡ record { layout = b; vehicles = n; room = 262144; journal = [] } → Stands before s → Takes before (line.Vehicles n) (Ok (stage.Begin k))
+    → k ≡ record { layout = b; vehicles = n; room = MOST_ENTRIES; journal = [] } → Stands before s → Takes before (line.Vehicles n) (Ok (stage.Begin k))
 vehicles_taken before s b k n at within some fault same st =
     let st : Stands before (stage.Policies b) = subst (Stands before) at st in
     let l = line.Vehicles n in
-    let book : State = record { layout = b; vehicles = n; room = 262144; journal = [] } in
+    let book : State = record { layout = b; vehicles = n; room = MOST_ENTRIES; journal = [] } in
     let taken : Takes before l (Ok (stage.Begin book)) = (
       goes before l (vehicles_fit before b n fault some st) (rw (layout_built before b st.says.0) within),
       stands_after before l (stage.Begin book) refl refl (body_first before b n st.says.0, record { plain = st.says.1; room = refl }, refl),
@@ -295,9 +296,9 @@ none_of (Some x) is = absurd (cc)
 -- a request of no kind may be served
 pub may_serve : (k : State) (v at : ℕ) (m : Message) (p : Params) → m.body ≡ body.Request p → IsDesk k → None ≡ request_kind k v at p → MayServe k.layout k.vehicles k.journal v at m
 may_serve k v at m p asks desk is =
-    let a = unguarded (list_any (λ (e : Entry). e.caller == v) k.journal || is_missing_request k.layout p) why.Unsupported (if nat_le k.vehicles v then Some why.Vehicle else if nat_lt 1073741824 at then Some why.Moment else None) is in
-    let b = unguarded (nat_le k.vehicles v) why.Vehicle (if nat_lt 1073741824 at then Some why.Moment else None) (sym a.1) in
-    let c = unguarded (nat_lt 1073741824 at) why.Moment None (sym b.1) in
+    let a = unguarded (list_any (λ (e : Entry). e.caller == v) k.journal || is_missing_request k.layout p) why.Unsupported (if nat_le k.vehicles v then Some why.Vehicle else if nat_lt LATEST_MOMENT at then Some why.Moment else None) is in
+    let b = unguarded (nat_le k.vehicles v) why.Vehicle (if nat_lt LATEST_MOMENT at then Some why.Moment else None) (sym a.1) in
+    let c = unguarded (nat_lt LATEST_MOMENT at) why.Moment None (sym b.1) in
     let fresh = or_parts (list_any (λ (e : Entry). e.caller == v) k.journal) (is_missing_request k.layout p) a.0 in
     let good = or_parts (not (p.accel == 0) || not (p.speed == p.max_speed)) (is_some (bad_field k.layout p)) fresh.1 in
     let steady = or_parts (not (p.accel == 0)) (not (p.speed == p.max_speed)) good.0 in
@@ -305,7 +306,7 @@ may_serve k v at m p asks desk is =
     record {
       layout = desk.plain;
       vehicle = below;
-      moment = ltb-false 1073741824 at c.0;
+      moment = ltb-false LATEST_MOMENT at c.0;
       first = fresh.0;
       request = rw asks (record {
         accel = eqb-true p.accel 0 (not_true (p.accel == 0) steady.0);
@@ -324,7 +325,7 @@ vehicles_opened before s b i n r at fault same opens st =
   where
     go : (r : Result Stage Refusal) → Opens b n r → Stands before (stage.Policies b) → Takes before (line.Vehicles n) r
     go (Ok next) opens st =
-        let book : State = record { layout = b; vehicles = n; room = 262144; journal = [] } in
+        let book : State = record { layout = b; vehicles = n; room = MOST_ENTRIES; journal = [] } in
         subst (λ x. Takes before (line.Vehicles n) (Ok x)) (sym opens.2) (vehicles_taken before (stage.Policies b) b book n refl opens.1 opens.0 fault refl st)
     go (Err (refusal.Bad kind)) opens st =
         let whole : is_some (finish_fault b) ≡ false = rw (sym fault) refl in

@@ -4,6 +4,7 @@ use Rattle.std.specs.Prelude.{ℕ, ◌*◌, ◌==◌, Bool, false, not, nat_lt, 
 use Rattle.aim_msg.specs.declared.script.Line.{Line}
 use Rattle.aim_msg.specs.declared.script.Line.TheVariants as line
 use Rattle.aim_msg.specs.Lines.{name_word}
+use Rattle.aim_msg.specs.declared.entries.TheConstants.{LATEST_MOMENT, MOST_VEHICLES}
 use Rattle.aim_geometry.specs.Bounded.{is_outside}
 use Rattle.aim_geometry.specs.Sites.{has_bad_numbers, has_bad_buffers, has_bad_times}
 use Rattle.aim_paths.specs.Shapes.{stations_of, wide_step}
@@ -63,9 +64,9 @@ is_no_vehicle before (line.Event vehicle moment message) = nat_le (vehicles_of b
 is_no_vehicle before _ = false
 
 abbrev pub is_bad_moment : List Line → Line → Bool
-is_bad_moment before (line.Event vehicle moment message) = nat_lt 1073741824 moment
-is_bad_moment before (line.SwitchTo moment name) = nat_lt 1073741824 moment
-is_bad_moment before (line.StopAt moment) = nat_lt 1073741824 moment
+is_bad_moment before (line.Event vehicle moment message) = nat_lt LATEST_MOMENT moment
+is_bad_moment before (line.SwitchTo moment name) = nat_lt LATEST_MOMENT moment
+is_bad_moment before (line.StopAt moment) = nat_lt LATEST_MOMENT moment
 is_bad_moment before _ = false
 
 abbrev pub is_out_of_order : List Line → Line → Bool
@@ -109,7 +110,7 @@ kind_of_fault missing before l = option_map (λ row. row.0) (find (λ row. row.1
 
 -- the limit that so many vehicles go past, where a vehicle's sheet has so many spans
 abbrev pub vehicles_limit : ℕ → ℕ → Option Limit
-vehicles_limit spans n = if nat_lt 65536 n then Some limit.Vehicles else if nat_lt 16777216 (n * spans) then Some limit.Sheets else None
+vehicles_limit spans n = if nat_lt MOST_VEHICLES n then Some limit.Vehicles else if nat_lt 16777216 (n * spans) then Some limit.Sheets else None
 
 -- the limit that a line without a fault goes past
 abbrev pub limit_of : List Line → Line → Option Limit

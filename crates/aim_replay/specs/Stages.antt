@@ -6,6 +6,7 @@ use Rattle.aim_msg.specs.declared.messages.Params.{Params}
 use Rattle.aim_rules.specs.Bad.{bad as bad_field}
 use Rattle.aim_msg.specs.declared.entries.Entry.{Entry}
 use Rattle.aim_msg.specs.declared.script.Line.{Line}
+use Rattle.aim_msg.specs.declared.entries.TheConstants.{LATEST_MOMENT, MOST_ENTRIES}
 use Rattle.aim_geometry.specs.declared.ground.Times.{Times}
 use Rattle.aim_paths.specs.Intersection.{Intersection}
 use Rattle.aim_geometry.specs.Sites.{has_bad_numbers}
@@ -62,7 +63,7 @@ pub record IsUnbuffered (t : Times) : Type 0 where
 -- the book is over a plain layout, with room for an entry of every line
 pub record IsDesk (k : State) : Type 0 where
   pub plain : IsPlain k.layout
-  pub room : k.room ≡ 262144
+  pub room : k.room ≡ MOST_ENTRIES
 
 -- nothing is said of a layout
 abbrev pub unsaid : Described
@@ -95,7 +96,7 @@ abbrev pub request_kind : State → ℕ → ℕ → Params → Option Kind
 request_kind k v at p =
     if list_any (λ e. e.caller == v) k.journal || is_missing_request k.layout p then Some kind.Unsupported
     else if nat_le k.vehicles v then Some kind.Vehicle
-    else if nat_lt 1073741824 at then Some kind.Moment
+    else if nat_lt LATEST_MOMENT at then Some kind.Moment
     else None
 
 -- the kind of a line whose move is refused
@@ -105,7 +106,7 @@ move_kind_of _ = kind.Move
 
 -- whether a further line may be taken
 abbrev pub MayTake : Stage → Type 0
-MayTake (stage.Body k) = IsDesk k × (length k.journal < 262144)
+MayTake (stage.Body k) = IsDesk k × (length k.journal < MOST_ENTRIES)
 MayTake _ = Unit {0}
 
 -- what a further line comes to
@@ -134,7 +135,7 @@ Makes old new (Some m) = (m.position ≡ length old) × (new ≡ old ++ m.entry 
 
 -- a book is opened, if there is a vehicle, no limit is passed, and there is memory
 abbrev pub Opens : Intersection → ℕ → Result Stage Refusal → Type 0
-Opens i n (Ok next) = (n == 0 ≡ false) × (vehicles_limit i.grid.spans n ≡ None) × (next ≡ stage.Begin (record { layout = i; vehicles = n; room = 262144; journal = [] }))
+Opens i n (Ok next) = (n == 0 ≡ false) × (vehicles_limit i.grid.spans n ≡ None) × (next ≡ stage.Begin (record { layout = i; vehicles = n; room = MOST_ENTRIES; journal = [] }))
 Opens i n (Err (refusal.Bad why)) = (n == 0 ≡ true) × (why ≡ kind.Vehicle)
 Opens i n (Err (refusal.Limit which)) = (n == 0 ≡ false) × (vehicles_limit i.grid.spans n ≡ Some which)
 Opens i n (Err refusal.NoMemory) = Unit {0}

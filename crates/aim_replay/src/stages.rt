@@ -1,6 +1,7 @@
 //! How far a script has come, line by line.
 
 ghost use Rattle.std.specs.Prelude.{◌≡◌, ◌≤◌, ◌||◌, ◌==◌, not, List, [], length, None, Ok, Err, IfOk};
+ghost use Rattle.aim_msg.specs.declared.entries.TheConstants.{MOST_ENTRIES};
 ghost use Rattle.aim_msg.specs.declared.script.Line.{Line};
 ghost use Rattle.aim_msg.specs.declared.script.Name.{Name};
 ghost use Rattle.aim_book.specs.Serving.{IsPlain};
@@ -453,7 +454,7 @@ impl Stage {
     /// What the script comes to if its input ends here, behind so many lines.
     pub fn at_end(&self, lines: u32) -> Decision
         requires lines { lines ≤ 262144 }
-        requires entries { length (journal_at self.now) ≤ 262144 }
+        requires entries { length (journal_at self.now) ≤ MOST_ENTRIES }
         ensures { (before : List Line) → Stands before self.now → length before ≡ lines → result ≡ at_end before }
     {
         match self {

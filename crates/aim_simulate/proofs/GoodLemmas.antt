@@ -4,6 +4,7 @@ use Rattle.std.proofs.lemmas.Bool.Decides.{nat_tests}
 use Rattle.std.proofs.lemmas.Option.{slice_get-get_or}
 use Rattle.aim_msg.specs.declared.messages.Params.{Params}
 use Rattle.aim_msg.specs.declared.replies.Field.TheVariants as field
+use Rattle.aim_msg.specs.declared.entries.TheConstants.{LATEST_MOMENT}
 use Rattle.aim_geometry.specs.Bounded.{is_outside}
 use Rattle.aim_geometry.specs.declared.stations.Station.{Station}
 use Rattle.aim_paths.specs.Intersection.{Intersection, path}
@@ -22,7 +23,7 @@ outside : (n most : ℕ) → is_outside n most ≡ false → (1 ≤ n) × (n ≤
 outside n most h = grind (arith, nat_tests)
 
 pub record IsCrossing (i : Intersection) (p : Params) : Type 0 where
-  pub arrive : p.arrive ≤ 1073741824
+  pub arrive : p.arrive ≤ LATEST_MOMENT
   pub moving : IsMoving p
   pub steps : (fast : Bool) → crossing_steps i p fast ≤ 2048
 
@@ -34,11 +35,11 @@ good_crossing i p h =
     let r4 = if nat_lt 1000 p.accel then Some field.Accel else r5 in
     let r3 = if is_outside p.speed p.max_speed then Some field.Speed else r4 in
     let r2 = if is_outside p.max_speed 4000 then Some field.Max else r3 in
-    let r1 = if nat_lt 1073741824 p.arrive then Some field.Arrive else r2 in
+    let r1 = if nat_lt LATEST_MOMENT p.arrive then Some field.Arrive else r2 in
     let r0 = if is_none (path i p.lane p.turn) then Some field.Turn else r1 in
     let a = if_none (nat_le (length i.lanes) p.lane) field.Lane r0 h in
     let b = if_none (is_none (path i p.lane p.turn)) field.Turn r1 a.1 in
-    let c = if_none (nat_lt 1073741824 p.arrive) field.Arrive r2 b.1 in
+    let c = if_none (nat_lt LATEST_MOMENT p.arrive) field.Arrive r2 b.1 in
     let d = if_none (is_outside p.max_speed 4000) field.Max r3 c.1 in
     let e = if_none (is_outside p.speed p.max_speed) field.Speed r4 d.1 in
     let f = if_none (nat_lt 1000 p.accel) field.Accel r5 e.1 in
@@ -48,7 +49,7 @@ good_crossing i p h =
     let speed = outside p.speed p.max_speed e.0 in
     let few = not_less 2048 (crossing_steps i p false) k.0 in
     record {
-      arrive = not_less 1073741824 p.arrive c.0;
+      arrive = not_less LATEST_MOMENT p.arrive c.0;
       moving = record {
         speed = speed.0;
         most = speed.1;

@@ -3,6 +3,7 @@ use Rattle.std.specs.Prelude.{◌<◌, ◌≤◌, false, nat_lt, nat_le, length,
 use Rattle.aim_msg.specs.declared.messages.Params.{Params}
 use Rattle.aim_msg.specs.declared.replies.Field.{Field}
 use Rattle.aim_msg.specs.declared.replies.Field.TheVariants as field
+use Rattle.aim_msg.specs.declared.entries.TheConstants.{LATEST_MOMENT}
 use Rattle.aim_geometry.specs.Bounded.{is_outside}
 use Rattle.aim_paths.specs.Intersection.{Intersection, path}
 use Rattle.aim_rules.specs.Footprint.{crossing_steps}
@@ -12,7 +13,7 @@ abbrev pub bad_crossing : Intersection → Params → Option Field
 bad_crossing i p =
     if nat_le (length i.lanes) p.lane then Some field.Lane
     else if is_none (path i p.lane p.turn) then Some field.Turn
-    else if nat_lt 1073741824 p.arrive then Some field.Arrive
+    else if nat_lt LATEST_MOMENT p.arrive then Some field.Arrive
     else if is_outside p.max_speed 4000 then Some field.Max
     else if is_outside p.speed p.max_speed then Some field.Speed
     else if nat_lt 1000 p.accel then Some field.Accel

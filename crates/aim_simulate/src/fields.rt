@@ -5,7 +5,7 @@ ghost use Rattle.aim_paths.specs.Intersection.{path};
 ghost use Rattle.aim_rules.specs.Footprint.{crossing_steps};
 ghost use Rattle.aim_simulate.specs.Fields.{IsMoving, bad_crossing as bad_crossing_of};
 
-use aim_msg::{Field, Params};
+use aim_msg::{Field, LATEST_MOMENT, Params};
 use aim_paths::{Layout, Path};
 
 // The number of crossing steps at constant speed.
@@ -28,7 +28,7 @@ pub fn bad_crossing(layout: &Layout, params: &Params) -> Option<Field>
     let Some(path) = Path::of(layout, params.lane, params.turn) else {
         return Some(Field::Turn);
     };
-    if params.arrive > 1_073_741_824 {
+    if params.arrive > LATEST_MOMENT {
         return Some(Field::Arrive);
     }
     if params.max_speed == 0 || params.max_speed > 4_000 {
