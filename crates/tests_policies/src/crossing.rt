@@ -41,7 +41,8 @@ const NORTH: Shape = Shape::Line {
 };
 
 /// Lane 0 goes east, lane 1 north, and they share the tile in row 1, column 2. Policy 0 has no lights; policy 1 has
-/// each lane green for 80 steps after 20 of red, in turn.
+/// each lane green for 80 steps after 20 of red, in turn; policy 2, for emergencies too, has sixteen phases in which the
+/// lanes take turns, each with 20 of red and a green that is longer by one step than the last, the first of 10.
 pub fn crossing(alloc: Global) -> Result<Layout, Fail> {
     let ground = Ground::build(GRID, TIMES).ok().ok_or("no ground")?;
     let mut builder = Builder::new(alloc, ground, 2).ok().ok_or("no builder")?;
@@ -58,5 +59,13 @@ pub fn crossing(alloc: Global) -> Result<Layout, Fail> {
     builder.add_policy(Kind::Light).ok().ok_or(refused)?;
     builder.add_phase(20, 80, 1).ok().ok_or(refused)?;
     builder.add_phase(20, 80, 2).ok().ok_or(refused)?;
+    builder.add_policy(Kind::LightEmerg).ok().ok_or(refused)?;
+    for number in 0..16u32 {
+        let lanes = if number % 2 == 0 { 1 } else { 2 };
+        builder
+            .add_phase(20, 10 + number, lanes)
+            .ok()
+            .ok_or(refused)?;
+    }
     Ok(builder.finish().ok().ok_or("unfinished")?)
 }

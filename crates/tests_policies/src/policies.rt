@@ -15,7 +15,7 @@ fn first_rows(rows: &[u64; 64]) -> [u64; 4] {
 fn phases_go_round(rt: HostRuntime) -> Result<(), Fail> {
     let layout = crossing(rt.alloc())?;
     assert!(rt; Plan::of(&layout, 0).is_none());
-    assert!(rt; Plan::of(&layout, 2).is_none());
+    assert!(rt; Plan::of(&layout, 3).is_none());
     let plan = Plan::of(&layout, 1).expect(&rt, "a light policy");
     for (offset, lanes) in [
         (0, 0),
@@ -33,6 +33,32 @@ fn phases_go_round(rt: HostRuntime) -> Result<(), Fail> {
     assert_eq!(rt; green_within(&plan, 0, 19), 0);
     assert_eq!(rt; green_within(&plan, 99, 119), 1);
     assert_eq!(rt; green_within(&plan, 199, 220), 3);
+    Ok(())
+}
+
+#[test]
+fn sixteen_phases(rt: HostRuntime) -> Result<(), Fail> {
+    let layout = crossing(rt.alloc())?;
+    let plan = Plan::of(&layout, 2).expect(&rt, "a light policy");
+    for (offset, lanes) in [
+        (19, 0),
+        (20, 1),
+        (29, 1),
+        (30, 0),
+        (50, 2),
+        (60, 2),
+        (61, 0),
+        (574, 0),
+        (575, 2),
+        (599, 2),
+        (600, 0),
+        (620, 1),
+        (1_000_000_175, 2),
+    ] {
+        assert_eq!(rt; green_at(&plan, offset), lanes, "at {offset}");
+    }
+    assert_eq!(rt; green_within(&plan, 570, 619), 2);
+    assert_eq!(rt; green_within(&plan, 570, 620), 3);
     Ok(())
 }
 
