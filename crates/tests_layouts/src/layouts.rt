@@ -63,10 +63,10 @@ fn right(m: u32) -> Shape {
 // Asserts what the policies are.
 fn assert_policies(rt: &impl Abort, layout: &Layout) {
     assert_eq!(rt; layout.policies(), 2);
-    assert!(rt; matches!(layout.kind(1), Kind::LightEmerg));
-    assert!(rt; layout.phase(1, 1) == (25, 90, 2));
     assert_eq!(rt; layout.phases(0), 0);
     assert_eq!(rt; layout.phases(1), 2);
+    assert!(rt; layout.phase(1, 1) == (25, 90, 2));
+    assert!(rt; matches!(layout.kind(1), Kind::LightEmerg));
 }
 
 // Asserts what the lanes' tiles are.
