@@ -3,16 +3,7 @@
 # a status other than 0 where anything differs.
 set -uo pipefail
 cd "$(dirname "${BASH_SOURCE[0]}")/.."
-passed=0 failed=0
-
-judge() { # judge WHAT WANTED GOT
-  if [ "$2" = "$3" ]; then
-    passed=$((passed + 1))
-  else
-    failed=$((failed + 1))
-    printf 'building: %s\n  wanted: %s\n  got:    %s\n' "$1" "$2" "$3" >&2
-  fi
-}
+source tests/judge.sh
 
 copy=$(mktemp -d) && trap 'rm -rf "$copy"' EXIT
 mkdir "$copy/tools" "$copy/repository" "$copy/elsewhere" "$copy/temporary"

@@ -2,16 +2,7 @@
 # Runs the program that ./aim built, as a user does. Ends with a status other than 0 where anything differs.
 set -uo pipefail
 cd "$(dirname "${BASH_SOURCE[0]}")/.."
-passed=0 failed=0
-
-judge() { # judge WHAT WANTED GOT
-  if [ "$2" = "$3" ]; then
-    passed=$((passed + 1))
-  else
-    failed=$((failed + 1))
-    printf 'replays: %s\n  wanted: %s\n  got:    %s\n' "$1" "$2" "$3" >&2
-  fi
-}
+source tests/judge.sh
 
 # The text and the status of a run, the text's last newline included.
 run() { # run WORD .. < INPUT
