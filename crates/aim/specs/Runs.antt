@@ -3,7 +3,6 @@ use Rattle.std.specs.Prelude.{◌≡◌, ◌⊎◌, ℕ, List, Option, codes}
 use Rattle.std.specs.Io.KnownBytes.{Appends}
 use Rattle.aim_io.specs.Causes.{Rose}
 use Rattle.aim_io.specs.Known.{AppendsFront}
-use Rattle.aim_replay.specs.Kinds.{Missing}
 use Rattle.aim_replay.specs.Texts.{replay_status}
 
 -- the status is 2 and the usage was written, or it is 5 and a front of it was
@@ -11,6 +10,6 @@ abbrev pub TellsUsage : Option (List ℕ) → Option (List ℕ) → ℕ → Type
 TellsUsage old new result = ((result ≡ 2) × Appends old new (codes "usage\n")) ⊎ ((result ≡ 5) × AppendsFront old new (codes "usage\n"))
 
 -- a whole script, and a source and a sink that didn't fail, give status 0, or memory has run out
-abbrev pub Completes : Missing → List ℕ → ℕ → ℕ → ℕ → ℕ → ℕ → Type 0
-Completes missing bytes source_old source_new sink_old sink_new result =
-    replay_status missing bytes ≡ 0 → (Rose source_old source_new → ⊥) → (Rose sink_old sink_new → ⊥) → (result ≡ 0) ⊎ (result ≡ 7)
+abbrev pub Completes : List ℕ → ℕ → ℕ → ℕ → ℕ → ℕ → Type 0
+Completes bytes source_old source_new sink_old sink_new result =
+    replay_status bytes ≡ 0 → (Rose source_old source_new → ⊥) → (Rose sink_old sink_new → ⊥) → (result ≡ 0) ⊎ (result ≡ 7)

@@ -3,72 +3,70 @@ use Rattle.std.proofs.Common.{◌≡◌, ℕ, [], ◌++◌, List, refl, None, So
 use Rattle.std.specs.Prelude.{codes, replicate}
 use Rattle.std.specs.Fmt.{digits}
 use Rattle.aim_io.specs.Lines.{outcomes_from}
-use Rattle.aim_replay.specs.Said.{layout_of}
-use Rattle.aim_replay.specs.Kinds.{none_missing}
+use Rattle.aim_script.specs.Said.{layout_of}
 use Rattle.aim_replay.specs.Texts.{replay_text, replay_status}
-use Rattle.aim_replay.specs.Today.{today}
 
 abbrev small : List ℕ
 small = codes "aim 1\ngrid 4000 4 100 0 450 4096\ntimes 1500 25 20 0 0\nlanes 2\nmove 0 straight line 0 1500 4000 1500 40\nmove 1 straight line 2500 0 2500 4000 40\npolicy plain fcfs\npolicy lights light\nphase 20 80 0\nphase 20 80 1\npolicy siren emerg\nvehicles 8\nbegin\n"
 
-pub empty : replay_text none_missing None [] ≡ codes "bad line 1 end\n"
+pub empty : replay_text None [] ≡ codes "bad line 1 end\n"
 unfolding digits outcomes_from layout_of
 empty = refl
 
-pub first_confirm : replay_text none_missing None (small ++ codes "0 0 request 1 0 straight 10 500 500 0 1000 700 car\nend\n") ≡ codes "0 0 0 request 1 0 straight 10 500 500 0 1000 700 car -> confirm 0 10 0 0 steady 20\nend 1\n"
+pub first_confirm : replay_text None (small ++ codes "0 0 request 1 0 straight 10 500 500 0 1000 700 car\nend\n") ≡ codes "0 0 0 request 1 0 straight 10 500 500 0 1000 700 car -> confirm 0 10 0 0 steady 20\nend 1\n"
 unfolding digits outcomes_from layout_of
 first_confirm = refl
 
-pub first_confirm_is_whole : replay_status none_missing (small ++ codes "0 0 request 1 0 straight 10 500 500 0 1000 700 car\nend\n") ≡ 0
+pub first_confirm_is_whole : replay_status (small ++ codes "0 0 request 1 0 straight 10 500 500 0 1000 700 car\nend\n") ≡ 0
 unfolding digits outcomes_from layout_of
 first_confirm_is_whole = refl
 
-pub cut_inside_a_line : replay_text none_missing None (small ++ codes "0 0 request 1 0 straight 10 500 500 0 1000 700 car\n1 0 requ") ≡ codes "0 0 0 request 1 0 straight 10 500 500 0 1000 700 car -> confirm 0 10 0 0 steady 20\nbad line 15 words\n"
+pub cut_inside_a_line : replay_text None (small ++ codes "0 0 request 1 0 straight 10 500 500 0 1000 700 car\n1 0 requ") ≡ codes "0 0 0 request 1 0 straight 10 500 500 0 1000 700 car -> confirm 0 10 0 0 steady 20\nbad line 15 words\n"
 unfolding digits outcomes_from layout_of
 cut_inside_a_line = refl
 
-pub without_its_end : replay_text none_missing None (small ++ codes "0 0 request 1 0 straight 10 500 500 0 1000 700 car") ≡ codes "0 0 0 request 1 0 straight 10 500 500 0 1000 700 car -> confirm 0 10 0 0 steady 20\nbad line 15 end\n"
+pub without_its_end : replay_text None (small ++ codes "0 0 request 1 0 straight 10 500 500 0 1000 700 car") ≡ codes "0 0 0 request 1 0 straight 10 500 500 0 1000 700 car -> confirm 0 10 0 0 steady 20\nbad line 15 end\n"
 unfolding digits outcomes_from layout_of
 without_its_end = refl
 
-pub rows_that_do_not_divide_the_side : replay_text none_missing None (codes "aim 1\ngrid 4000 3 100 0 450 4096\n") ≡ codes "bad line 2 grid\n"
+pub rows_that_do_not_divide_the_side : replay_text None (codes "aim 1\ngrid 4000 3 100 0 450 4096\n") ≡ codes "bad line 2 grid\n"
 unfolding digits outcomes_from layout_of
 rows_that_do_not_divide_the_side = refl
 
-pub stations_too_far_apart : replay_text none_missing None (codes "aim 1\ngrid 4000 4 100 0 450 4096\ntimes 1500 25 20 0 0\nlanes 2\nmove 0 straight line 0 1500 4000 1500 39\n") ≡ codes "bad line 5 spacing\n"
+pub stations_too_far_apart : replay_text None (codes "aim 1\ngrid 4000 4 100 0 450 4096\ntimes 1500 25 20 0 0\nlanes 2\nmove 0 straight line 0 1500 4000 1500 39\n") ≡ codes "bad line 5 spacing\n"
 unfolding digits outcomes_from layout_of
 stations_too_far_apart = refl
 
-pub lanes_of_a_phase_that_share_a_tile : replay_text none_missing None (codes "aim 1\ngrid 4000 4 100 0 450 4096\ntimes 1500 25 20 0 0\nlanes 2\nmove 0 straight line 0 1500 4000 1500 40\nmove 1 straight line 2500 0 2500 4000 40\npolicy plain fcfs\npolicy lights light\nphase 20 80 0 1\n") ≡ codes "bad line 9 phase\n"
+pub lanes_of_a_phase_that_share_a_tile : replay_text None (codes "aim 1\ngrid 4000 4 100 0 450 4096\ntimes 1500 25 20 0 0\nlanes 2\nmove 0 straight line 0 1500 4000 1500 40\nmove 1 straight line 2500 0 2500 4000 40\npolicy plain fcfs\npolicy lights light\nphase 20 80 0 1\n") ≡ codes "bad line 9 phase\n"
 unfolding digits outcomes_from layout_of
 lanes_of_a_phase_that_share_a_tile = refl
 
-pub red_below_the_clearance : replay_text none_missing None (codes "aim 1\ngrid 4000 4 100 0 450 4096\ntimes 1500 25 20 0 0\nlanes 2\nmove 0 straight line 0 1500 4000 1500 40\nmove 1 straight line 2500 0 2500 4000 40\npolicy plain fcfs\npolicy lights light\nphase 19 80 0\n") ≡ codes "bad line 9 phase\n"
+pub red_below_the_clearance : replay_text None (codes "aim 1\ngrid 4000 4 100 0 450 4096\ntimes 1500 25 20 0 0\nlanes 2\nmove 0 straight line 0 1500 4000 1500 40\nmove 1 straight line 2500 0 2500 4000 40\npolicy plain fcfs\npolicy lights light\nphase 19 80 0\n") ≡ codes "bad line 9 phase\n"
 unfolding digits outcomes_from layout_of
 red_below_the_clearance = refl
 
-pub chart_of_a_crossing : replay_text none_missing (Some 15) (small ++ codes "0 0 request 1 0 straight 10 500 500 0 1000 700 car\nend\n") ≡ codes "0 0 0 request 1 0 straight 10 500 500 0 1000 700 car -> confirm 0 10 0 0 steady 20\n....\n....\n.###\n....\nend 1\n"
+pub chart_of_a_crossing : replay_text (Some 15) (small ++ codes "0 0 request 1 0 straight 10 500 500 0 1000 700 car\nend\n") ≡ codes "0 0 0 request 1 0 straight 10 500 500 0 1000 700 car -> confirm 0 10 0 0 steady 20\n....\n....\n.###\n....\nend 1\n"
 unfolding digits outcomes_from layout_of
 chart_of_a_crossing = refl
 
 abbrev fleet : List ℕ → List ℕ
 fleet n = codes "aim 1\ngrid 4000 4 100 0 450 4096\ntimes 1500 25 20 0 0\nlanes 2\nmove 0 straight line 0 1500 4000 1500 40\npolicy plain fcfs\nvehicles " ++ n ++ codes "\n"
 
-pub too_many_vehicles : replay_text none_missing None (fleet (codes "65537")) ≡ codes "limit vehicles\n"
+pub too_many_vehicles : replay_text None (fleet (codes "65537")) ≡ codes "limit vehicles\n"
 unfolding digits outcomes_from layout_of
 too_many_vehicles = refl
 
-pub too_many_sheets : replay_text none_missing None (fleet (codes "8192")) ≡ codes "limit sheets\n"
+pub too_many_sheets : replay_text None (fleet (codes "8192")) ≡ codes "limit sheets\n"
 unfolding digits outcomes_from layout_of
 too_many_sheets = refl
 
-pub as_many_sheets_as_allowed : replay_text none_missing None (fleet (codes "4096") ++ codes "begin\nend\n") ≡ codes "end 0\n"
+pub as_many_sheets_as_allowed : replay_text None (fleet (codes "4096") ++ codes "begin\nend\n") ≡ codes "end 0\n"
 unfolding digits outcomes_from layout_of
 as_many_sheets_as_allowed = refl
 
 -- the bytes of a script behind the header of the small crossing, and what their replay prints
 abbrev replayed : List ℕ → List ℕ
-replayed body = replay_text none_missing None (small ++ body)
+replayed body = replay_text None (small ++ body)
 
 pub an_empty_line : replayed (codes "\n") ≡ codes "bad line 14 unknown\n"
 unfolding digits outcomes_from layout_of
@@ -142,96 +140,96 @@ pub a_stop_and_a_switch : replayed (codes "operator 5 switch lights\noperator 6 
 unfolding digits outcomes_from layout_of
 a_stop_and_a_switch = refl
 
-pub version_four : replay_text none_missing None (codes "aim 4\n") ≡ codes "bad line 1 version\n"
+pub version_four : replay_text None (codes "aim 4\n") ≡ codes "bad line 1 version\n"
 unfolding digits outcomes_from layout_of
 version_four = refl
 
-pub version_nought : replay_text none_missing None (codes "aim 0\n") ≡ codes "bad line 1 version\n"
+pub version_nought : replay_text None (codes "aim 0\n") ≡ codes "bad line 1 version\n"
 unfolding digits outcomes_from layout_of
 version_nought = refl
 
-pub a_window_wider_than_the_edge : replay_text none_missing None (codes "aim 2\ngrid 4000 4 100 0 450 4096\ntimes 1500 25 20 5 3 4\nlanes 2\nmove 0 straight line 0 1500 4000 1500 40\nmove 1 straight line 2500 0 2500 4000 40\n") ≡ codes "bad line 3 buffers\n"
+pub a_window_wider_than_the_edge : replay_text None (codes "aim 2\ngrid 4000 4 100 0 450 4096\ntimes 1500 25 20 5 3 4\nlanes 2\nmove 0 straight line 0 1500 4000 1500 40\nmove 1 straight line 2500 0 2500 4000 40\n") ≡ codes "bad line 3 buffers\n"
 unfolding digits outcomes_from layout_of
 a_window_wider_than_the_edge = refl
 
-pub five_times_in_version_two : replay_text none_missing None (codes "aim 2\ngrid 4000 4 100 0 450 4096\ntimes 1500 25 20 0 0\nlanes 2\nmove 0 straight line 0 1500 4000 1500 40\nmove 1 straight line 2500 0 2500 4000 40\n") ≡ codes "bad line 3 words\n"
+pub five_times_in_version_two : replay_text None (codes "aim 2\ngrid 4000 4 100 0 450 4096\ntimes 1500 25 20 0 0\nlanes 2\nmove 0 straight line 0 1500 4000 1500 40\nmove 1 straight line 2500 0 2500 4000 40\n") ≡ codes "bad line 3 words\n"
 unfolding digits outcomes_from layout_of
 five_times_in_version_two = refl
 
-pub six_times_in_version_one : replay_text none_missing None (codes "aim 1\ngrid 4000 4 100 0 450 4096\ntimes 1500 25 20 1 3 4\nlanes 2\nmove 0 straight line 0 1500 4000 1500 40\nmove 1 straight line 2500 0 2500 4000 40\n") ≡ codes "bad line 3 words\n"
+pub six_times_in_version_one : replay_text None (codes "aim 1\ngrid 4000 4 100 0 450 4096\ntimes 1500 25 20 1 3 4\nlanes 2\nmove 0 straight line 0 1500 4000 1500 40\nmove 1 straight line 2500 0 2500 4000 40\n") ≡ codes "bad line 3 words\n"
 unfolding digits outcomes_from layout_of
 six_times_in_version_one = refl
 
-pub a_buffer_wider_than_the_edge : replay_text none_missing None (codes "aim 1\ngrid 4000 4 100 0 450 4096\ntimes 1500 25 20 3 2\nlanes 2\nmove 0 straight line 0 1500 4000 1500 40\nmove 1 straight line 2500 0 2500 4000 40\n") ≡ codes "bad line 3 buffers\n"
+pub a_buffer_wider_than_the_edge : replay_text None (codes "aim 1\ngrid 4000 4 100 0 450 4096\ntimes 1500 25 20 3 2\nlanes 2\nmove 0 straight line 0 1500 4000 1500 40\nmove 1 straight line 2500 0 2500 4000 40\n") ≡ codes "bad line 3 buffers\n"
 unfolding digits outcomes_from layout_of
 a_buffer_wider_than_the_edge = refl
 
-pub a_horizon_too_far : replay_text none_missing None (codes "aim 1\ngrid 4000 4 100 0 450 4096\ntimes 8193 25 20 0 0\nlanes 2\nmove 0 straight line 0 1500 4000 1500 40\nmove 1 straight line 2500 0 2500 4000 40\n") ≡ codes "bad line 3 times\n"
+pub a_horizon_too_far : replay_text None (codes "aim 1\ngrid 4000 4 100 0 450 4096\ntimes 8193 25 20 0 0\nlanes 2\nmove 0 straight line 0 1500 4000 1500 40\nmove 1 straight line 2500 0 2500 4000 40\n") ≡ codes "bad line 3 times\n"
 unfolding digits outcomes_from layout_of
 a_horizon_too_far = refl
 
-pub two_windows : replay_text none_missing None (codes "aim 2\ngrid 4000 4 100 0 450 4096\ntimes 1500 25 20 1 3 4\nlanes 2\nmove 0 straight line 0 1500 4000 1500 40\nmove 1 straight line 2500 0 2500 4000 40\npolicy plain fcfs\nvehicles 8\nbegin\n0 0 request 1 0 straight 10 500 500 0 1000 700 car\n1 0 request 1 1 straight 22 500 500 0 1000 700 car\nend\n") ≡ codes "0 0 0 request 1 0 straight 10 500 500 0 1000 700 car -> confirm 0 10 1 3 steady 20\n1 1 0 request 1 1 straight 22 500 500 0 1000 700 car -> confirm 1 22 1 3 steady 32\nend 2\n"
+pub two_windows : replay_text None (codes "aim 2\ngrid 4000 4 100 0 450 4096\ntimes 1500 25 20 1 3 4\nlanes 2\nmove 0 straight line 0 1500 4000 1500 40\nmove 1 straight line 2500 0 2500 4000 40\npolicy plain fcfs\nvehicles 8\nbegin\n0 0 request 1 0 straight 10 500 500 0 1000 700 car\n1 0 request 1 1 straight 22 500 500 0 1000 700 car\nend\n") ≡ codes "0 0 0 request 1 0 straight 10 500 500 0 1000 700 car -> confirm 0 10 1 3 steady 20\n1 1 0 request 1 1 straight 22 500 500 0 1000 700 car -> confirm 1 22 1 3 steady 32\nend 2\n"
 unfolding digits outcomes_from layout_of
 two_windows = refl
 
-pub lights_that_give_way_in_version_two : replay_text none_missing None (codes "aim 2\ngrid 4000 4 100 0 450 4096\ntimes 1500 25 20 0 0 0\nlanes 2\nmove 0 straight line 0 1500 4000 1500 40\nmove 1 straight line 2500 0 2500 4000 40\npolicy both light-emerg\n") ≡ codes "bad line 7 words\n"
+pub lights_that_give_way_in_version_two : replay_text None (codes "aim 2\ngrid 4000 4 100 0 450 4096\ntimes 1500 25 20 0 0 0\nlanes 2\nmove 0 straight line 0 1500 4000 1500 40\nmove 1 straight line 2500 0 2500 4000 40\npolicy both light-emerg\n") ≡ codes "bad line 7 words\n"
 unfolding digits outcomes_from layout_of
 lights_that_give_way_in_version_two = refl
 
-pub lights_that_give_way : replay_text none_missing None (codes "aim 3\ngrid 4000 4 100 0 450 4096\ntimes 1500 25 20 0 0 0\nlanes 2\nmove 0 straight line 0 1500 4000 1500 40\nmove 1 straight line 2500 0 2500 4000 40\npolicy both light-emerg\nphase 20 80 0\nphase 20 80 1\nvehicles 8\nbegin\n2 16 request 1 1 straight 30 500 500 0 1000 700 car\nend\n") ≡ codes "0 2 16 request 1 1 straight 30 500 500 0 1000 700 car -> reject green 1 2 31 0 next 23 held none\nend 1\n"
+pub lights_that_give_way : replay_text None (codes "aim 3\ngrid 4000 4 100 0 450 4096\ntimes 1500 25 20 0 0 0\nlanes 2\nmove 0 straight line 0 1500 4000 1500 40\nmove 1 straight line 2500 0 2500 4000 40\npolicy both light-emerg\nphase 20 80 0\nphase 20 80 1\nvehicles 8\nbegin\n2 16 request 1 1 straight 30 500 500 0 1000 700 car\nend\n") ≡ codes "0 2 16 request 1 1 straight 30 500 500 0 1000 700 car -> reject green 1 2 31 0 next 23 held none\nend 1\n"
 unfolding digits outcomes_from layout_of
 lights_that_give_way = refl
 
-pub no_policy : replay_text none_missing None (codes "aim 1\ngrid 4000 4 100 0 450 4096\ntimes 1500 25 20 0 0\nlanes 2\nmove 0 straight line 0 1500 4000 1500 40\nmove 1 straight line 2500 0 2500 4000 40\nvehicles 0\n") ≡ codes "bad line 7 phase\n"
+pub no_policy : replay_text None (codes "aim 1\ngrid 4000 4 100 0 450 4096\ntimes 1500 25 20 0 0\nlanes 2\nmove 0 straight line 0 1500 4000 1500 40\nmove 1 straight line 2500 0 2500 4000 40\nvehicles 0\n") ≡ codes "bad line 7 phase\n"
 unfolding digits outcomes_from layout_of
 no_policy = refl
 
-pub no_vehicles : replay_text none_missing None (codes "aim 1\ngrid 4000 4 100 0 450 4096\ntimes 1500 25 20 0 0\nlanes 2\nmove 0 straight line 0 1500 4000 1500 40\nmove 1 straight line 2500 0 2500 4000 40\npolicy plain fcfs\nvehicles 0\n") ≡ codes "bad line 8 vehicle\n"
+pub no_vehicles : replay_text None (codes "aim 1\ngrid 4000 4 100 0 450 4096\ntimes 1500 25 20 0 0\nlanes 2\nmove 0 straight line 0 1500 4000 1500 40\nmove 1 straight line 2500 0 2500 4000 40\npolicy plain fcfs\nvehicles 0\n") ≡ codes "bad line 8 vehicle\n"
 unfolding digits outcomes_from layout_of
 no_vehicles = refl
 
-pub a_name_twice : replay_text none_missing None (codes "aim 1\ngrid 4000 4 100 0 450 4096\ntimes 1500 25 20 0 0\nlanes 2\nmove 0 straight line 0 1500 4000 1500 40\nmove 1 straight line 2500 0 2500 4000 40\npolicy plain light\npolicy plain fcfs\n") ≡ codes "bad line 8 policy\n"
+pub a_name_twice : replay_text None (codes "aim 1\ngrid 4000 4 100 0 450 4096\ntimes 1500 25 20 0 0\nlanes 2\nmove 0 straight line 0 1500 4000 1500 40\nmove 1 straight line 2500 0 2500 4000 40\npolicy plain light\npolicy plain fcfs\n") ≡ codes "bad line 8 policy\n"
 unfolding digits outcomes_from layout_of
 a_name_twice = refl
 
-pub lights_without_a_phase : replay_text none_missing None (codes "aim 1\ngrid 4000 4 100 0 450 4096\ntimes 1500 25 20 0 0\nlanes 2\nmove 0 straight line 0 1500 4000 1500 40\nmove 1 straight line 2500 0 2500 4000 40\npolicy a light\npolicy b fcfs\n") ≡ codes "bad line 8 phase\n"
+pub lights_without_a_phase : replay_text None (codes "aim 1\ngrid 4000 4 100 0 450 4096\ntimes 1500 25 20 0 0\nlanes 2\nmove 0 straight line 0 1500 4000 1500 40\nmove 1 straight line 2500 0 2500 4000 40\npolicy a light\npolicy b fcfs\n") ≡ codes "bad line 8 phase\n"
 unfolding digits outcomes_from layout_of
 lights_without_a_phase = refl
 
-pub a_phase_before_a_policy : replay_text none_missing None (codes "aim 1\ngrid 4000 4 100 0 450 4096\ntimes 1500 25 20 0 0\nlanes 2\nmove 0 straight line 0 1500 4000 1500 40\nmove 1 straight line 2500 0 2500 4000 40\nphase 20 80 0\n") ≡ codes "bad line 7 order\n"
+pub a_phase_before_a_policy : replay_text None (codes "aim 1\ngrid 4000 4 100 0 450 4096\ntimes 1500 25 20 0 0\nlanes 2\nmove 0 straight line 0 1500 4000 1500 40\nmove 1 straight line 2500 0 2500 4000 40\nphase 20 80 0\n") ≡ codes "bad line 7 order\n"
 unfolding digits outcomes_from layout_of
 a_phase_before_a_policy = refl
 
-pub a_phase_without_lights : replay_text none_missing None (codes "aim 1\ngrid 4000 4 100 0 450 4096\ntimes 1500 25 20 0 0\nlanes 2\nmove 0 straight line 0 1500 4000 1500 40\nmove 1 straight line 2500 0 2500 4000 40\npolicy plain fcfs\nphase 20 80 0\n") ≡ codes "bad line 8 phase\n"
+pub a_phase_without_lights : replay_text None (codes "aim 1\ngrid 4000 4 100 0 450 4096\ntimes 1500 25 20 0 0\nlanes 2\nmove 0 straight line 0 1500 4000 1500 40\nmove 1 straight line 2500 0 2500 4000 40\npolicy plain fcfs\nphase 20 80 0\n") ≡ codes "bad line 8 phase\n"
 unfolding digits outcomes_from layout_of
 a_phase_without_lights = refl
 
-pub a_lane_that_is_not_there : replay_text none_missing None (codes "aim 1\ngrid 4000 4 100 0 450 4096\ntimes 1500 25 20 0 0\nlanes 2\nmove 0 straight line 0 1500 4000 1500 40\nmove 1 straight line 2500 0 2500 4000 40\nmove 2 left line 0 1500 4000 1500 40\n") ≡ codes "bad line 7 move\n"
+pub a_lane_that_is_not_there : replay_text None (codes "aim 1\ngrid 4000 4 100 0 450 4096\ntimes 1500 25 20 0 0\nlanes 2\nmove 0 straight line 0 1500 4000 1500 40\nmove 1 straight line 2500 0 2500 4000 40\nmove 2 left line 0 1500 4000 1500 40\n") ≡ codes "bad line 7 move\n"
 unfolding digits outcomes_from layout_of
 a_lane_that_is_not_there = refl
 
-pub a_turn_twice : replay_text none_missing None (codes "aim 1\ngrid 4000 4 100 0 450 4096\ntimes 1500 25 20 0 0\nlanes 2\nmove 0 straight line 0 1500 4000 1500 40\nmove 1 straight line 2500 0 2500 4000 40\nmove 0 straight line 0 1500 4000 1500 40\n") ≡ codes "bad line 7 move\n"
+pub a_turn_twice : replay_text None (codes "aim 1\ngrid 4000 4 100 0 450 4096\ntimes 1500 25 20 0 0\nlanes 2\nmove 0 straight line 0 1500 4000 1500 40\nmove 1 straight line 2500 0 2500 4000 40\nmove 0 straight line 0 1500 4000 1500 40\n") ≡ codes "bad line 7 move\n"
 unfolding digits outcomes_from layout_of
 a_turn_twice = refl
 
-pub seventeen_lanes : replay_text none_missing None (codes "aim 1\ngrid 4000 4 100 0 450 4096\ntimes 1500 25 20 0 0\nlanes 17\n") ≡ codes "bad line 4 lane\n"
+pub seventeen_lanes : replay_text None (codes "aim 1\ngrid 4000 4 100 0 450 4096\ntimes 1500 25 20 0 0\nlanes 17\n") ≡ codes "bad line 4 lane\n"
 unfolding digits outcomes_from layout_of
 seventeen_lanes = refl
 
-pub a_curve_of_too_few_parts : replay_text none_missing None (codes "aim 1\ngrid 4000 4 100 0 450 4096\ntimes 1500 25 20 0 0\nlanes 2\nmove 0 straight line 0 1500 4000 1500 40\nmove 1 straight line 2500 0 2500 4000 40\nmove 0 right curve 0 1500 2500 1500 2500 0 40\n") ≡ codes "bad line 7 spacing\n"
+pub a_curve_of_too_few_parts : replay_text None (codes "aim 1\ngrid 4000 4 100 0 450 4096\ntimes 1500 25 20 0 0\nlanes 2\nmove 0 straight line 0 1500 4000 1500 40\nmove 1 straight line 2500 0 2500 4000 40\nmove 0 right curve 0 1500 2500 1500 2500 0 40\n") ≡ codes "bad line 7 spacing\n"
 unfolding digits outcomes_from layout_of
 a_curve_of_too_few_parts = refl
 
--- what the program leaves out today is told in the place of the line's own kind
-pub unsupported_version : replay_text today None (codes "aim 2\n") ≡ codes "bad line 1 unsupported\n"
+-- what the program leaves out is told in the place of the line's own kind
+pub unsupported_version : replay_text None (codes "aim 2\n") ≡ codes "bad line 1 unsupported\n"
 unfolding digits outcomes_from layout_of
 unsupported_version = refl
 
-pub unsupported_buffer : replay_text today None (codes "aim 1\ngrid 4000 3 100 50 450 4096\n") ≡ codes "bad line 2 unsupported\n"
+pub unsupported_buffer : replay_text None (codes "aim 1\ngrid 4000 3 100 50 450 4096\n") ≡ codes "bad line 2 unsupported\n"
 unfolding digits outcomes_from layout_of
 unsupported_buffer = refl
 
-pub unsupported_order : replay_text today None (codes "operator 0 stop\n") ≡ codes "bad line 1 unsupported\n"
+pub unsupported_order : replay_text None (codes "operator 0 stop\n") ≡ codes "bad line 1 unsupported\n"
 unfolding digits outcomes_from layout_of
 unsupported_order = refl
 
@@ -241,27 +239,27 @@ unfolding digits outcomes_from layout_of
 the_last_refusal_counts = refl
 
 -- at the greatest moment holding is judged, and marked
-pub chart_at_the_greatest_moment : replay_text none_missing (Some 12) (small ++ codes "0 0 request 1 0 straight 10 500 500 0 1000 700 car\n1 12 cancel 1 0\nend") ≡ codes "0 0 0 request 1 0 straight 10 500 500 0 1000 700 car -> confirm 0 10 0 0 steady 20\n1 1 12 cancel 1 0 -> ack 0\n....\n....\n##..\n....\nend 2\n"
+pub chart_at_the_greatest_moment : replay_text (Some 12) (small ++ codes "0 0 request 1 0 straight 10 500 500 0 1000 700 car\n1 12 cancel 1 0\nend") ≡ codes "0 0 0 request 1 0 straight 10 500 500 0 1000 700 car -> confirm 0 10 0 0 steady 20\n1 1 12 cancel 1 0 -> ack 0\n....\n....\n##..\n....\nend 2\n"
 unfolding digits outcomes_from layout_of
 chart_at_the_greatest_moment = refl
 
-pub chart_of_a_step_that_is_past : replay_text none_missing (Some 11) (small ++ codes "0 0 request 1 0 straight 10 500 500 0 1000 700 car\n1 12 cancel 1 0\nend") ≡ codes "0 0 0 request 1 0 straight 10 500 500 0 1000 700 car -> confirm 0 10 0 0 steady 20\n1 1 12 cancel 1 0 -> ack 0\n....\n....\n....\n....\nend 2\n"
+pub chart_of_a_step_that_is_past : replay_text (Some 11) (small ++ codes "0 0 request 1 0 straight 10 500 500 0 1000 700 car\n1 12 cancel 1 0\nend") ≡ codes "0 0 0 request 1 0 straight 10 500 500 0 1000 700 car -> confirm 0 10 0 0 steady 20\n1 1 12 cancel 1 0 -> ack 0\n....\n....\n....\n....\nend 2\n"
 unfolding digits outcomes_from layout_of
 chart_of_a_step_that_is_past = refl
 
-pub too_many_vehicles_today : replay_text today None (fleet (codes "65537")) ≡ codes "limit vehicles\n"
+pub too_many_vehicles_today : replay_text None (fleet (codes "65537")) ≡ codes "limit vehicles\n"
 unfolding digits outcomes_from layout_of
 too_many_vehicles_today = refl
 
-pub as_many_sheets_as_allowed_today : replay_text today None (fleet (codes "4096" ++ codes "\nbegin\nend")) ≡ codes "end 0\n"
+pub as_many_sheets_as_allowed_today : replay_text None (fleet (codes "4096" ++ codes "\nbegin\nend")) ≡ codes "end 0\n"
 unfolding digits outcomes_from layout_of
 as_many_sheets_as_allowed_today = refl
 
-pub too_many_sheets_today : replay_text today None (fleet (codes "4097")) ≡ codes "limit sheets\n"
+pub too_many_sheets_today : replay_text None (fleet (codes "4097")) ≡ codes "limit sheets\n"
 unfolding digits outcomes_from layout_of
 too_many_sheets_today = refl
 
-pub as_many_vehicles_as_allowed : replay_text none_missing None (fleet (codes "65536")) ≡ codes "limit sheets\n"
+pub as_many_vehicles_as_allowed : replay_text None (fleet (codes "65536")) ≡ codes "limit sheets\n"
 unfolding digits outcomes_from layout_of
 as_many_vehicles_as_allowed = refl
 
@@ -276,7 +274,7 @@ unfolding digits outcomes_from layout_of
 the_first_green_step = refl
 
 -- an emergency makes its own lane approached, with the call at hand
-pub an_emergency_beside_another : replay_text none_missing None (codes "aim 1\ngrid 4000 4 100 0 450 4096\ntimes 1500 25 20 0 0\nlanes 2\nmove 0 straight line 0 1500 4000 1500 40\nmove 1 straight line 2500 0 2500 4000 40\npolicy siren emerg\nvehicles 8\nbegin\n1 0 request 1 1 straight 10 500 500 0 1000 700 emergency\n2 0 request 1 0 straight 40 500 500 0 1000 700 emergency\nend") ≡ codes "0 1 0 request 1 1 straight 10 500 500 0 1000 700 emergency -> confirm 0 10 0 0 steady 20\n1 2 0 request 1 0 straight 40 500 500 0 1000 700 emergency -> confirm 1 40 0 0 steady 50\nend 2\n"
+pub an_emergency_beside_another : replay_text None (codes "aim 1\ngrid 4000 4 100 0 450 4096\ntimes 1500 25 20 0 0\nlanes 2\nmove 0 straight line 0 1500 4000 1500 40\nmove 1 straight line 2500 0 2500 4000 40\npolicy siren emerg\nvehicles 8\nbegin\n1 0 request 1 1 straight 10 500 500 0 1000 700 emergency\n2 0 request 1 0 straight 40 500 500 0 1000 700 emergency\nend") ≡ codes "0 1 0 request 1 1 straight 10 500 500 0 1000 700 emergency -> confirm 0 10 0 0 steady 20\n1 2 0 request 1 0 straight 40 500 500 0 1000 700 emergency -> confirm 1 40 0 0 steady 50\nend 2\n"
 unfolding digits outcomes_from layout_of
 an_emergency_beside_another = refl
 

@@ -14,16 +14,15 @@ use Rattle.aim_msg.specs.Texts.{entry_text, spaced}
 use Rattle.aim_msg.specs.declared.entries.Entry.{Entry}
 use Rattle.aim_msg.specs.declared.script.Line.{Line}
 use Rattle.aim_rules.specs.Journals.{journal}
-use Rattle.aim_replay.specs.declared.decisions.Decision.{Decision}
-use Rattle.aim_replay.specs.declared.decisions.Decision.TheVariants as decision
-use Rattle.aim_replay.specs.declared.decisions.Kind.{Kind}
+use Rattle.aim_script.specs.declared.decisions.Decision.{Decision}
+use Rattle.aim_script.specs.declared.decisions.Decision.TheVariants as decision
+use Rattle.aim_script.specs.declared.decisions.Kind.{Kind}
 use Rattle.aim_replay.specs.declared.stages.Made.{Made}
 use Rattle.aim_replay.specs.declared.stages.Stage.{Stage}
 use Rattle.aim_replay.specs.declared.stages.Stage.TheVariants as stage
-use Rattle.aim_replay.specs.Said.{Described, layout_of, calls_of, names_of}
-use Rattle.aim_replay.specs.Verdicts.{Judgement, Verdict, number_after, judge, decides, goes_on, of_fault, at_end, verdict_from, verdict}
+use Rattle.aim_script.specs.Said.{Described, layout_of, calls_of, names_of}
+use Rattle.aim_script.specs.Verdicts.{Judgement, Verdict, number_after, judge, decides, goes_on, of_fault, at_end, verdict_from, verdict}
 use Rattle.aim_replay.specs.Texts.{entry_lines, printed, journal_of, decision_words, replay_text, status_of}
-use Rattle.aim_replay.specs.Today.{today}
 use Rattle.aim_replay.specs.Stands.{IsHeader}
 use Rattle.aim_replay.specs.Stages.{Stands, Says, Judged, Makes, MayTake, journal_at}
 use Rattle.aim_replay.specs.Replays.{LastNeeded, Replays, StopsShort, TakesAtMost, Writes, WritesFront, script_after, unless_decided, entries_text, made_line}
@@ -54,42 +53,42 @@ journal_is before (stage.Body k) says = rw says.0.layout says.0.journal
 journal_is before (stage.Over k) says = rw says.layout says.journal
 
 -- the journal so far is the first of that of the whole script
-begins : (before : List Line) (s : Stage) (os : List Outcome) → Stands before s → Begins (journal_at s) (verdict_from today before os)
-begins before stage.Version os st = nothing_begins (verdict_from today before os)
-begins before stage.Grid os st = nothing_begins (verdict_from today before os)
-begins before (stage.Times g) os st = nothing_begins (verdict_from today before os)
-begins before (stage.Lanes g) os st = nothing_begins (verdict_from today before os)
-begins before (stage.Moves b) os st = nothing_begins (verdict_from today before os)
-begins before (stage.Policies b) os st = nothing_begins (verdict_from today before os)
-begins before (stage.Begin k) os st = journal_of_begins today before os k.journal (rw st.part refl) (journal_is before (stage.Begin k) st.says)
-begins before (stage.Body k) os st = journal_of_begins today before os k.journal (rw st.part refl) (journal_is before (stage.Body k) st.says)
-begins before (stage.Over k) os st = journal_of_begins today before os k.journal (rw st.part refl) (journal_is before (stage.Over k) st.says)
+begins : (before : List Line) (s : Stage) (os : List Outcome) → Stands before s → Begins (journal_at s) (verdict_from before os)
+begins before stage.Version os st = nothing_begins (verdict_from before os)
+begins before stage.Grid os st = nothing_begins (verdict_from before os)
+begins before (stage.Times g) os st = nothing_begins (verdict_from before os)
+begins before (stage.Lanes g) os st = nothing_begins (verdict_from before os)
+begins before (stage.Moves b) os st = nothing_begins (verdict_from before os)
+begins before (stage.Policies b) os st = nothing_begins (verdict_from before os)
+begins before (stage.Begin k) os st = journal_of_begins before os k.journal (rw st.part refl) (journal_is before (stage.Begin k) st.says)
+begins before (stage.Body k) os st = journal_of_begins before os k.journal (rw st.part refl) (journal_is before (stage.Body k) st.says)
+begins before (stage.Over k) os st = journal_of_begins before os k.journal (rw st.part refl) (journal_is before (stage.Over k) st.says)
 
 -- a verdict is made, behind these lines
 abbrev pub IsVerdict : List Line → Decision → Option (List ℕ) → Type 0
-IsVerdict before d bytes = IfSome bytes (λ bs. verdict today bs ≡ record { before = before; decision = d })
+IsVerdict before d bytes = IfSome bytes (λ bs. verdict bs ≡ record { before = before; decision = d })
 
-verdict_goes : (before : List Line) (l : Line) (line : List ℕ) (os : List Outcome) → judge today before (LineOf line) ≡ goes_on l → verdict_from today before (LineOf line ∷ os) ≡ verdict_from today (before ++ l ∷ []) os
+verdict_goes : (before : List Line) (l : Line) (line : List ℕ) (os : List Outcome) → judge before (LineOf line) ≡ goes_on l → verdict_from before (LineOf line ∷ os) ≡ verdict_from (before ++ l ∷ []) os
 verdict_goes before l line os is = rw is refl
 
-verdict_stops : (before : List Line) (d : Decision) (o : Outcome) (os : List Outcome) → judge today before o ≡ decides d → verdict_from today before (o ∷ os) ≡ record { before = before; decision = d }
+verdict_stops : (before : List Line) (d : Decision) (o : Outcome) (os : List Outcome) → judge before o ≡ decides d → verdict_from before (o ∷ os) ≡ record { before = before; decision = d }
 verdict_stops before d o os is = rw is refl
 
-pub decides_more : (before : List Line) (l : Line) (old new : Reader) (bytes rest left : Option (List ℕ)) → judge today before (LineOf new.line) ≡ goes_on l → Decides before old bytes rest → Answers old new rest left (Ok true)
+pub decides_more : (before : List Line) (l : Line) (old new : Reader) (bytes rest left : Option (List ℕ)) → judge before (LineOf new.line) ≡ goes_on l → Decides before old bytes rest → Answers old new rest left (Ok true)
     → Decides (before ++ l ∷ []) new bytes left
 decides_more before l old new None rest left is decided step = tt
 decides_more before l old new (Some bytes) None left is decided step = absurd decided
 decides_more before l old new (Some bytes) (Some xs) None is decided step = absurd step
 decides_more before l old new (Some bytes) (Some xs) (Some ys) is decided step =
-    sym (verdict_goes before l new.line (coming new ys) is) ∙ ap (verdict_from today before) (sym step) ∙ decided
+    sym (verdict_goes before l new.line (coming new ys) is) ∙ ap (verdict_from before) (sym step) ∙ decided
 
-pub ends_line : (before : List Line) (d : Decision) (old new : Reader) (bytes rest left : Option (List ℕ)) → judge today before (LineOf new.line) ≡ decides d → Decides before old bytes rest → Answers old new rest left (Ok true)
+pub ends_line : (before : List Line) (d : Decision) (old new : Reader) (bytes rest left : Option (List ℕ)) → judge before (LineOf new.line) ≡ decides d → Decides before old bytes rest → Answers old new rest left (Ok true)
     → IsVerdict before d bytes
 ends_line before d old new None rest left is decided step = tt
 ends_line before d old new (Some bytes) None left is decided step = absurd decided
 ends_line before d old new (Some bytes) (Some xs) None is decided step = absurd step
 ends_line before d old new (Some bytes) (Some xs) (Some ys) is decided step =
-    sym decided ∙ ap (verdict_from today before) step ∙ verdict_stops before d (LineOf new.line) (coming new ys) is
+    sym decided ∙ ap (verdict_from before) step ∙ verdict_stops before d (LineOf new.line) (coming new ys) is
 
 nothing_comes : (reader : Reader) → coming reader [] ≡ []
 unfolding outcomes_from
@@ -100,7 +99,7 @@ ends_input before old new None rest left decided step = tt
 ends_input before old new (Some bytes) None left decided step = absurd decided
 ends_input before old new (Some bytes) (Some xs) None decided step = absurd step
 ends_input before old new (Some bytes) (Some xs) (Some ys) decided step =
-    sym decided ∙ ap (λ (zs : List ℕ). verdict_from today before (coming old zs)) step.0 ∙ ap (verdict_from today before) (nothing_comes old)
+    sym decided ∙ ap (λ (zs : List ℕ). verdict_from before (coming old zs)) step.0 ∙ ap (verdict_from before) (nothing_comes old)
 
 -- a fault of the input
 stops_there : (old : Reader) (xs : List ℕ) (f : InputFault) → Stops old xs (fault_of f) → coming old xs ≡ Stop f ∷ []
@@ -113,7 +112,7 @@ ends_fault before old new f None rest left decided step = tt
 ends_fault before old new f (Some bytes) None left decided step = absurd decided
 ends_fault before old new f (Some bytes) (Some xs) None decided step = absurd step
 ends_fault before old new f (Some bytes) (Some xs) (Some ys) decided step =
-    sym decided ∙ ap (verdict_from today before) (stops_there old xs f step.1) ∙ verdict_stops before (of_fault f) (Stop f) [] refl
+    sym decided ∙ ap (verdict_from before) (stops_there old xs f step.1) ∙ verdict_stops before (of_fault f) (Stop f) [] refl
 
 -- a verdict that is made is what the bytes come to
 pub told : (before : List Line) (d : Decision) (bytes : Option (List ℕ)) → IsVerdict before d bytes → Comes d bytes
@@ -121,20 +120,20 @@ told before d None is = tt
 told before d (Some bytes) is = ap (λ (v : Verdict). v.decision) is
 
 -- all entries' lines were written
-pub written_all : (before : List Line) (s : Stage) (d : Decision) (bytes old new : Option (List ℕ)) → Says before s → IsVerdict before d bytes → Appends old new (entry_lines 0 (journal_at s)) → Writes bytes old new (entries_text today)
+pub written_all : (before : List Line) (s : Stage) (d : Decision) (bytes old new : Option (List ℕ)) → Says before s → IsVerdict before d bytes → Appends old new (entry_lines 0 (journal_at s)) → Writes bytes old new (entries_text)
 written_all before s d None old new says is written = tt
 written_all before s d (Some bytes) old new says is written =
     subst (Appends old new) (sym (ap (λ v. entry_lines 0 (journal_of v)) is ∙ ap (entry_lines 0) (journal_is before s says))) written
 
 -- what was written is a front of the entries' lines
 pub stops : (before : List Line) (s : Stage) (reader : Reader) (bytes rest old new : Option (List ℕ)) (done todo : List ℕ) → Stands before s → Decides before reader bytes rest → entry_lines 0 (journal_at s) ≡ done ++ todo → Appends old new done
-    → WritesFront bytes old new (entries_text today)
+    → WritesFront bytes old new (entries_text)
 stops before s reader None rest old new done todo st decided split written = tt
 stops before s reader (Some bytes) None old new done todo st decided split written = absurd decided
 stops before s reader (Some bytes) (Some rest) old new done todo st decided split written =
     let b = begins before s (coming reader rest) st in
     let more = entry_lines (length (journal_at s)) b.rest in
-    let text : entries_text today bytes ≡ entry_lines 0 (journal_at s) ++ more =
+    let text : entries_text bytes ≡ entry_lines 0 (journal_at s) ++ more =
     ap (λ v. entry_lines 0 (journal_of v)) (sym decided) ∙ ap (entry_lines 0) b.all ∙ entry_lines-append 0 (journal_at s) b.rest ∙ ap (λ n. entry_lines 0 (journal_at s) ++ entry_lines n b.rest) (omega arith) in
     record {
       front = done;
@@ -143,12 +142,12 @@ stops before s reader (Some bytes) (Some rest) old new done todo st decided spli
       added = written;
     }
 
-pub stops_whole : (before : List Line) (s : Stage) (reader : Reader) (bytes rest old new : Option (List ℕ)) → Stands before s → Decides before reader bytes rest → Appends old new (entry_lines 0 (journal_at s)) → WritesFront bytes old new (entries_text today)
+pub stops_whole : (before : List Line) (s : Stage) (reader : Reader) (bytes rest old new : Option (List ℕ)) → Stands before s → Decides before reader bytes rest → Appends old new (entry_lines 0 (journal_at s)) → WritesFront bytes old new (entries_text)
 stops_whole before s reader bytes rest old new st decided written = stops before s reader bytes rest old new (entry_lines 0 (journal_at s)) [] st decided (sym (append-nil (entry_lines 0 (journal_at s)))) written
 
 -- what was written of a line whose entry's line the sink didn't take whole
 pub stops_inside : (before : List Line) (s : Stage) (old new : Reader) (bytes rest left start mid now : Option (List ℕ)) → Decides before old bytes rest → Answers old new rest left (Ok true) → Appends start mid (entry_lines 0 (journal_at s))
-    → (next : Stage) × Judged before new.line (Ok next) × (made : Option Made) × Makes (journal_at s) (journal_at next) made × AppendsFront mid now (made_line made) → WritesFront bytes start now (entries_text today)
+    → (next : Stage) × Judged before new.line (Ok next) × (made : Option Made) × Makes (journal_at s) (journal_at next) made × AppendsFront mid now (made_line made) → WritesFront bytes start now (entries_text)
 stops_inside before s old new bytes rest left start mid now decided step written (next, (l, is, st), made, makes, front) =
     let done = Appends-trans start mid now _ _ written front.added in
     let first = entry_lines 0 (journal_at s) in
@@ -159,14 +158,14 @@ all_more : (lines : List (List ℕ)) (line : List ℕ) → AllByRecursion IsOpen
 all_more [] line all last = (last, tt)
 all_more (first ∷ lines) line all last = (all.0, all_more lines line all.1 last)
 
-script_more : (start before : List Line) (l : Line) (lines : List (List ℕ)) (line : List ℕ) → script_after today start lines ≡ Some before → judge today before (LineOf line) ≡ goes_on l
-    → script_after today start (lines ++ line ∷ []) ≡ Some (before ++ l ∷ [])
+script_more : (start before : List Line) (l : Line) (lines : List (List ℕ)) (line : List ℕ) → script_after start lines ≡ Some before → judge before (LineOf line) ≡ goes_on l
+    → script_after start (lines ++ line ∷ []) ≡ Some (before ++ l ∷ [])
 script_more start before l [] line is more = let same : start ≡ before = cc in rw (same, more) refl
-script_more start before l (first ∷ lines) line is more = go (judge today start (LineOf first)) is (λ after. script_more after before l lines line)
+script_more start before l (first ∷ lines) line is more = go (judge start (LineOf first)) is (λ after. script_more after before l lines line)
   where
-    go : (j : Judgement) → unless_decided start j (λ after. script_after today after lines) ≡ Some before
-        → ((after : List Line) → script_after today after lines ≡ Some before → judge today before (LineOf line) ≡ goes_on l → script_after today after (lines ++ line ∷ []) ≡ Some (before ++ l ∷ []))
-        → unless_decided start j (λ after. script_after today after (lines ++ line ∷ [])) ≡ Some (before ++ l ∷ [])
+    go : (j : Judgement) → unless_decided start j (λ after. script_after after lines) ≡ Some before
+        → ((after : List Line) → script_after after lines ≡ Some before → judge before (LineOf line) ≡ goes_on l → script_after after (lines ++ line ∷ []) ≡ Some (before ++ l ∷ []))
+        → unless_decided start j (λ after. script_after after (lines ++ line ∷ [])) ≡ Some (before ++ l ∷ [])
     go (decides d) is later = absurd (cc)
     go (goes_on m) is later = later (start ++ m ∷ []) is more
 
@@ -179,7 +178,7 @@ pub record Gives (old new : Reader) (rest left : Option (List ℕ)) : Type 0 whe
   pub step : Answers old new rest left (Ok true)
   pub few : new.given ≤ 262144
 
-took_more : (before : List Line) (l : Line) (old new : Reader) (bytes rest left : Option (List ℕ)) → judge today before (LineOf new.line) ≡ goes_on l → Gives old new rest left → new.ended ≡ false → Took before old bytes rest → Took (before ++ l ∷ []) new bytes left
+took_more : (before : List Line) (l : Line) (old new : Reader) (bytes rest left : Option (List ℕ)) → judge before (LineOf new.line) ≡ goes_on l → Gives old new rest left → new.ended ≡ false → Took before old bytes rest → Took (before ++ l ∷ []) new bytes left
 took_more before l old new bytes rest left is gives going took =
     let line = new.line in
     let count : length (took.lines ++ line ∷ []) ≡ new.given = length-append took.lines (line ∷ []) ∙ ap (λ n. n + 1) took.count ∙ sym (ap (λ (r : Reader). r.given) gives.after) in
@@ -236,7 +235,7 @@ most_fault start left after old_held now old new s f r is kept sound =
     most_held start (input old left) after new (subst (Placed start (input old left)) place r.placed) kept sound
 
 -- after a call that has read, its last read was needed
-needed_read : (bytes before after start now : Option (List ℕ)) (old : Reader) (s : Stage) (last : Option ℕ) → Reached bytes (input old before) start now old s → old.ended ≡ false → Needed old before after last → LastNeeded today bytes after last
+needed_read : (bytes before after start now : Option (List ℕ)) (old : Reader) (s : Stage) (last : Option ℕ) → Reached bytes (input old before) start now old s → old.ended ≡ false → Needed old before after last → LastNeeded bytes after last
 needed_read bytes before after start now old s last r going needed =
     let took = r.took going in
     record {
@@ -255,10 +254,10 @@ needed_read bytes before after start now old s last r going needed =
 -- the last of all reads was needed, if there was one
 pub needed_call : {S : Type 0} (left : S → Option (List ℕ)) (last : S → Option ℕ) (first before after : S) (start now : Option (List ℕ)) (old : Reader) (s : Stage) → Reached (left first) (input old (left before)) start now old s
     → (old.ended ≡ true → after ≡ before) → (after ≡ before) ⊎ Needed old (left before) (left after) (last after)
-    → (before ≡ first) ⊎ LastNeeded today (left first) (left before) (last before) → (after ≡ first) ⊎ LastNeeded today (left first) (left after) (last after)
-needed_call {S = S} left last first before after start now old s r quiet (inl same) needed = subst (λ (x : S). (x ≡ first) ⊎ LastNeeded today (left first) (left x) (last x)) (sym same) needed
+    → (before ≡ first) ⊎ LastNeeded (left first) (left before) (last before) → (after ≡ first) ⊎ LastNeeded (left first) (left after) (last after)
+needed_call {S = S} left last first before after start now old s r quiet (inl same) needed = subst (λ (x : S). (x ≡ first) ⊎ LastNeeded (left first) (left x) (last x)) (sym same) needed
 needed_call {S = S} left last first before after start now old s r quiet (inr read) needed = elim (cases_Bool old.ended) [
-  | inl ended ↦ subst (λ (x : S). (x ≡ first) ⊎ LastNeeded today (left first) (left x) (last x)) (sym (quiet ended)) needed
+  | inl ended ↦ subst (λ (x : S). (x ≡ first) ⊎ LastNeeded (left first) (left x) (last x)) (sym (quiet ended)) needed
   | inr going ↦ inr (needed_read (left first) (left before) (left after) start now old s (last after) r going read)
 ]
 
@@ -303,7 +302,7 @@ reached_start bytes held = record {
     took_start (Some bytes) = record { lines = []; taken = refl; whole = record { each = tt; few = omega arith; script = refl }; count = refl; place = refl }
 
 pub stops_short : (bytes rest left start now : Option (List ℕ)) (old new : Reader) (s : Stage) → Reached bytes rest start now old s → old.ended ≡ false → new.given ≡ old.given → new.place ≡ old.place → ShowsNothing new.given new.place new.held
-    → Keeps rest (input new left) → StopsShort today bytes left start now
+    → Keeps rest (input new left) → StopsShort bytes left start now
 stops_short bytes rest left start now old new s r going given place shows kept =
     let took = r.took going in
     record {
@@ -369,7 +368,7 @@ sound_start = record { few = omega arith; read = omega arith; ended = λ is. ref
 pub knows_start : (left : Option (List ℕ)) → KnowsEnd fresh left
 knows_start left is = absurd (cc)
 
-pub front_reached : (bytes rest start now : Option (List ℕ)) (reader : Reader) (s : Stage) → Reached bytes rest start now reader s → WritesFront bytes start now (entries_text today)
+pub front_reached : (bytes rest start now : Option (List ℕ)) (reader : Reader) (s : Stage) → Reached bytes rest start now reader s → WritesFront bytes start now (entries_text)
 front_reached bytes rest start now reader s r = stops_whole r.before s reader bytes rest start now r.stands r.decides r.written
 
 -- nothing more was written
@@ -378,7 +377,7 @@ written_kept start mid now text first none = subst (Appends start now) (append-n
 
 -- the reader after a fault of the source
 pub short_reached : (bytes left after start now : Option (List ℕ)) (old new : Reader) (f : LineFault) (P : Type 0) (s : Stage) → Reached bytes (input old left) start now old s
-    → new ≡ record old { held = new.held; line = []; fault = Some f } → ShowsNothing new.given new.place new.held × (new.ended ≡ false) × P → Keeps (input old left) (input new after) → StopsShort today bytes after start now
+    → new ≡ record old { held = new.held; line = []; fault = Some f } → ShowsNothing new.given new.place new.held × (new.ended ≡ false) × P → Keeps (input old left) (input new after) → StopsShort bytes after start now
 short_reached bytes left after start now old new f P s r same shows kept =
     let going : old.ended ≡ false = sym (ap (λ (x : Reader). x.ended) same) ∙ shows.1 in
     stops_short bytes (input old left) after start now old new s r going (ap (λ (x : Reader). x.given) same) (ap (λ (x : Reader). x.place) same) shows.0 kept
@@ -386,57 +385,57 @@ short_reached bytes left after start now old new f P s r same shows kept =
 pub fault_told : (bytes rest left start now : Option (List ℕ)) (old new : Reader) (s : Stage) (f : InputFault) → Reached bytes rest start now old s → Answers old new rest left (Err (fault_of f)) → Comes (of_fault f) bytes
 fault_told bytes rest left start now old new s f r step = told r.before (of_fault f) bytes (ends_fault r.before old new f bytes rest left r.decides step)
 
-pub fault_written : (bytes rest left start now : Option (List ℕ)) (old new : Reader) (s : Stage) (f : InputFault) → Reached bytes rest start now old s → Answers old new rest left (Err (fault_of f)) → Writes bytes start now (entries_text today)
+pub fault_written : (bytes rest left start now : Option (List ℕ)) (old new : Reader) (s : Stage) (f : InputFault) → Reached bytes rest start now old s → Answers old new rest left (Err (fault_of f)) → Writes bytes start now (entries_text)
 fault_written bytes rest left start now old new s f r step = written_all r.before s (of_fault f) bytes start now r.stands.says (ends_fault r.before old new f bytes rest left r.decides step) r.written
 
 pub end_told : (bytes rest left start now : Option (List ℕ)) (old new : Reader) (s : Stage) (d : Decision) (r : Reached bytes rest start now old s) → Answers old new rest left (Ok false) → d ≡ at_end r.before → Comes d bytes
 end_told bytes rest left start now old new s d r step is = subst (λ e. Comes e bytes) (sym is) (told r.before (at_end r.before) bytes (ends_input r.before old new bytes rest left r.decides step))
 
-pub end_written : (bytes rest left start now : Option (List ℕ)) (old new : Reader) (s : Stage) → Reached bytes rest start now old s → Answers old new rest left (Ok false) → Writes bytes start now (entries_text today)
+pub end_written : (bytes rest left start now : Option (List ℕ)) (old new : Reader) (s : Stage) → Reached bytes rest start now old s → Answers old new rest left (Ok false) → Writes bytes start now (entries_text)
 end_written bytes rest left start now old new s r step = written_all r.before s (at_end r.before) bytes start now r.stands.says (ends_input r.before old new bytes rest left r.decides step) r.written
 
-pub bad_told : (bytes rest left start now : Option (List ℕ)) (old new : Reader) (s : Stage) (number : ℕ) (kind : Kind) (r : Reached bytes rest start now old s) → Answers old new rest left (Ok true) → judge today r.before (LineOf new.line) ≡ decides (decision.Bad (number_after r.before) kind)
+pub bad_told : (bytes rest left start now : Option (List ℕ)) (old new : Reader) (s : Stage) (number : ℕ) (kind : Kind) (r : Reached bytes rest start now old s) → Answers old new rest left (Ok true) → judge r.before (LineOf new.line) ≡ decides (decision.Bad (number_after r.before) kind)
     → number ≡ old.given + 1 → Comes (decision.Bad number kind) bytes
 bad_told bytes rest left start now old new s number kind r step is same =
     let d = decision.Bad (number_after r.before) kind in
     let count : number_after r.before ≡ number = omega (arith, r.count, same) in
     subst (λ n. Comes (decision.Bad n kind) bytes) count (told r.before d bytes (ends_line r.before d old new bytes rest left is r.decides step))
 
-pub line_told : (bytes rest left start now : Option (List ℕ)) (old new : Reader) (s : Stage) (d : Decision) (r : Reached bytes rest start now old s) → Answers old new rest left (Ok true) → judge today r.before (LineOf new.line) ≡ decides d → Comes d bytes
+pub line_told : (bytes rest left start now : Option (List ℕ)) (old new : Reader) (s : Stage) (d : Decision) (r : Reached bytes rest start now old s) → Answers old new rest left (Ok true) → judge r.before (LineOf new.line) ≡ decides d → Comes d bytes
 line_told bytes rest left start now old new s d r step is = told r.before d bytes (ends_line r.before d old new bytes rest left is r.decides step)
 
-pub bad_written : (bytes rest left start mid now : Option (List ℕ)) (old new : Reader) (s : Stage) (d : Decision) (r : Reached bytes rest start mid old s) → Answers old new rest left (Ok true) → judge today r.before (LineOf new.line) ≡ decides d → Appends mid now []
-    → Writes bytes start now (entries_text today)
+pub bad_written : (bytes rest left start mid now : Option (List ℕ)) (old new : Reader) (s : Stage) (d : Decision) (r : Reached bytes rest start mid old s) → Answers old new rest left (Ok true) → judge r.before (LineOf new.line) ≡ decides d → Appends mid now []
+    → Writes bytes start now (entries_text)
 bad_written bytes rest left start mid now old new s d r step is none =
     written_all r.before s d bytes start now r.stands.says (ends_line r.before d old new bytes rest left is r.decides step) (written_kept start mid now (entry_lines 0 (journal_at s)) r.written none)
 
-pub memory_front : (bytes rest start mid now : Option (List ℕ)) (reader : Reader) (s : Stage) → Reached bytes rest start mid reader s → Appends mid now [] → WritesFront bytes start now (entries_text today)
+pub memory_front : (bytes rest start mid now : Option (List ℕ)) (reader : Reader) (s : Stage) → Reached bytes rest start mid reader s → Appends mid now [] → WritesFront bytes start now (entries_text)
 memory_front bytes rest start mid now reader s r none = stops_whole r.before s reader bytes rest start now r.stands r.decides (written_kept start mid now (entry_lines 0 (journal_at s)) r.written none)
 
 -- the text is the entries' lines and the last line
-text_is : (bytes : List ℕ) (d : Decision) → Comes d (Some bytes) → replay_text today None bytes ≡ entries_text today bytes ++ printed (spaced (decision_words d))
-text_is bytes d comes = ap (λ (e : Decision). entries_text today bytes ++ printed (spaced (decision_words e))) comes
+text_is : (bytes : List ℕ) (d : Decision) → Comes d (Some bytes) → replay_text None bytes ≡ entries_text bytes ++ printed (spaced (decision_words d))
+text_is bytes d comes = ap (λ (e : Decision). entries_text bytes ++ printed (spaced (decision_words e))) comes
 
 -- the last line was written behind the entries' lines
-pub all_written : (bytes start mid now : Option (List ℕ)) (d : Decision) → Comes d bytes → Writes bytes start mid (entries_text today) → Appends mid now (printed (spaced (decision_words d))) → Writes bytes start now (replay_text today None)
+pub all_written : (bytes start mid now : Option (List ℕ)) (d : Decision) → Comes d bytes → Writes bytes start mid (entries_text) → Appends mid now (printed (spaced (decision_words d))) → Writes bytes start now (replay_text None)
 all_written None start mid now d comes first last = tt
 all_written (Some bytes) start mid now d comes first last = subst (Appends start now) (sym (text_is bytes d comes)) (Appends-trans start mid now _ _ first last)
 
 -- a front of the last line was written behind them
-pub front_written : (bytes start mid now : Option (List ℕ)) (d : Decision) → Comes d bytes → Writes bytes start mid (entries_text today) → AppendsFront mid now (printed (spaced (decision_words d))) → WritesFront bytes start now (replay_text today None)
+pub front_written : (bytes start mid now : Option (List ℕ)) (d : Decision) → Comes d bytes → Writes bytes start mid (entries_text) → AppendsFront mid now (printed (spaced (decision_words d))) → WritesFront bytes start now (replay_text None)
 front_written None start mid now d comes first last = tt
 front_written (Some bytes) start mid now d comes first last = record {
-  front = entries_text today bytes ++ last.front;
+  front = entries_text bytes ++ last.front;
   rest = last.rest;
-  whole = text_is bytes d comes ∙ ap (λ (t : List ℕ). entries_text today bytes ++ t) last.whole ∙ sym (append_assoc (entries_text today bytes) last.front last.rest);
+  whole = text_is bytes d comes ∙ ap (λ (t : List ℕ). entries_text bytes ++ t) last.whole ∙ sym (append_assoc (entries_text bytes) last.front last.rest);
   added = Appends-trans start mid now _ _ first last.added;
 }
 
 -- a front of the entries' lines is a front of the text
-pub front_of_text : (bytes start now : Option (List ℕ)) → WritesFront bytes start now (entries_text today) → WritesFront bytes start now (replay_text today None)
+pub front_of_text : (bytes start now : Option (List ℕ)) → WritesFront bytes start now (entries_text) → WritesFront bytes start now (replay_text None)
 front_of_text None start now front = tt
 front_of_text (Some bytes) start now front =
-    let v = verdict today bytes in
+    let v = verdict bytes in
     let last = printed (spaced (decision_words v.decision)) in
     record {
       front = front.front;
@@ -445,6 +444,6 @@ front_of_text (Some bytes) start now front =
       added = front.added;
     }
 
-pub replays : (bytes old new : Option (List ℕ)) (d : Decision) → Comes d bytes → Writes bytes old new (replay_text today None) → IfSome bytes (λ bs. Replays today None bs old new (status_of d))
+pub replays : (bytes old new : Option (List ℕ)) (d : Decision) → Comes d bytes → Writes bytes old new (replay_text None) → IfSome bytes (λ bs. Replays None bs old new (status_of d))
 replays None old new d comes written = tt
 replays (Some bytes) old new d comes written = record { text = written; status = ap status_of (sym comes) }

@@ -9,13 +9,12 @@ use Rattle.aim_msg.specs.declared.script.Line.TheVariants as line
 use Rattle.aim_msg.specs.declared.entries.Entry.{Entry}
 use Rattle.aim_paths.specs.Intersection.{Intersection}
 use Rattle.aim_rules.specs.Journals.{Call, journal, entry_of}
-use Rattle.aim_replay.specs.Order.{Part, part_after, belongs, to_begin, in_body, nothing}
-use Rattle.aim_replay.specs.Said.{layout_of, calls_of, names_of, last_of, name_in, call_in}
-use Rattle.aim_replay.specs.Kinds.{Missing}
-use Rattle.aim_replay.specs.Verdicts.{Verdict, Judgement, judge, goes_on, decides, then_on, verdict_from}
+use Rattle.aim_script.specs.Order.{Part, part_after, belongs, to_begin, in_body, nothing}
+use Rattle.aim_script.specs.Said.{layout_of, calls_of, names_of, last_of, name_in, call_in}
+use Rattle.aim_script.specs.Verdicts.{Verdict, Judgement, judge, goes_on, decides, then_on, verdict_from}
 use Rattle.aim_replay.specs.Texts.{entry_lines, printed, journal_of}
-use Rattle.aim_replay.proofs.AppendLemmas.{last_of_more, IsSilent, layout_same, calls_more}
-use Rattle.aim_replay.proofs.LineLemmas.{goes_on_says, in_order}
+use Rattle.aim_script.proofs.AppendLemmas.{last_of_more, IsSilent, layout_same, calls_more}
+use Rattle.aim_script.proofs.LineLemmas.{goes_on_says, in_order}
 use Rattle.std.specs.Option.{option_to_list}
 
 -- entries' lines, and the lines of more entries
@@ -79,26 +78,26 @@ extends_one before all l k e =
       calls = e.calls ∙ ap (λ (cs : List Call). cs ++ e.more) (calls_more before l k.name) ∙ append_assoc (calls_of before) first e.more;
     }
 
-extends : (missing : Missing) (before : List Line) (os : List Outcome) → is_past (part_after (last_of before)) ≡ true → Extends before (verdict_from missing before os).before
-extends missing before [] past = extends_self before
-extends missing before (o ∷ os) past = go (judge missing before o) refl (λ l. extends missing (before ++ l ∷ []) os)
+extends : (before : List Line) (os : List Outcome) → is_past (part_after (last_of before)) ≡ true → Extends before (verdict_from before os).before
+extends before [] past = extends_self before
+extends before (o ∷ os) past = go (judge before o) refl (λ l. extends (before ++ l ∷ []) os)
   where
-    go : (j : Judgement) → judge missing before o ≡ j → ((l : Line) → is_past (part_after (last_of (before ++ l ∷ []))) ≡ true → Extends (before ++ l ∷ []) (verdict_from missing (before ++ l ∷ []) os).before)
-        → Extends before (then_on before j (λ more. verdict_from missing more os)).before
+    go : (j : Judgement) → judge before o ≡ j → ((l : Line) → is_past (part_after (last_of (before ++ l ∷ []))) ≡ true → Extends (before ++ l ∷ []) (verdict_from (before ++ l ∷ []) os).before)
+        → Extends before (then_on before j (λ more. verdict_from more os)).before
     go (decides d) is later = extends_self before
     go (goes_on l) is later =
-        let kept = keeps (part_after (last_of before)) l past (in_order missing before l (goes_on_says missing before o l is)) in
-        extends_one before (verdict_from missing (before ++ l ∷ []) os).before l kept (later l (rw (last_of_more before l) kept.past))
+        let kept = keeps (part_after (last_of before)) l past (in_order before l (goes_on_says before o l is)) in
+        extends_one before (verdict_from (before ++ l ∷ []) os).before l kept (later l (rw (last_of_more before l) kept.past))
 
 -- the journal so far is the first of that of the whole script
 pub record Begins (h : List Entry) (v : Verdict) : Type 0 where
   pub rest : List Entry
   pub all : journal_of v ≡ h ++ rest
 
-pub journal_of_begins : (missing : Missing) (before : List Line) (os : List Outcome) (h : List Entry) → is_past (part_after (last_of before)) ≡ true → journal (layout_of before) (calls_of before) ≡ h
-    → Begins h (verdict_from missing before os)
-journal_of_begins missing before os h past is =
-    let e = extends missing before os past in
+pub journal_of_begins : (before : List Line) (os : List Outcome) (h : List Entry) → is_past (part_after (last_of before)) ≡ true → journal (layout_of before) (calls_of before) ≡ h
+    → Begins h (verdict_from before os)
+journal_of_begins before os h past is =
+    let e = extends before os past in
     let found = journal_begins (layout_of before) (calls_of before) e.more in
     record {
       rest = found.0;

@@ -6,16 +6,15 @@ use Rattle.aim_io.specs.Lines.{joined_lines}
 use Rattle.aim_io.specs.Known.{AppendsFront}
 use Rattle.aim_io.specs.Reader.{Reader, coming}
 use Rattle.aim_msg.specs.declared.script.Line.{Line}
-use Rattle.aim_replay.specs.declared.decisions.Decision.{Decision}
-use Rattle.aim_replay.specs.declared.decisions.Decision.TheVariants as decision
+use Rattle.aim_script.specs.declared.decisions.Decision.{Decision}
+use Rattle.aim_script.specs.declared.decisions.Decision.TheVariants as decision
 use Rattle.aim_replay.specs.declared.session.Halt.{Halt}
 use Rattle.aim_replay.specs.declared.session.Halt.TheVariants as halt
 use Rattle.aim_replay.specs.declared.stages.Made.{Made}
 use Rattle.aim_replay.specs.declared.stages.Stage.{Stage}
 use Rattle.aim_replay.specs.declared.stages.Refusal.TheVariants as refusal
-use Rattle.aim_replay.specs.Verdicts.{verdict_from, verdict}
+use Rattle.aim_script.specs.Verdicts.{verdict_from, verdict}
 use Rattle.aim_replay.specs.Texts.{entry_lines, printed}
-use Rattle.aim_replay.specs.Today.{today}
 use Rattle.aim_replay.specs.Stages.{Stands, Judged, Makes, journal_at}
 use Rattle.aim_replay.specs.Replays.{AreWhole, made_line}
 
@@ -27,7 +26,7 @@ IsWholeLine bytes = (words : List ℕ) × (bytes ≡ printed words)
 abbrev pub Decides : List Line → Reader → Option (List ℕ) → Option (List ℕ) → Type 0
 Decides before reader None rest = Unit {0}
 Decides before reader (Some bytes) None = ⊥
-Decides before reader (Some bytes) (Some rest) = verdict_from today before (coming reader rest) ≡ verdict today bytes
+Decides before reader (Some bytes) (Some rest) = verdict_from before (coming reader rest) ≡ verdict bytes
 
 -- so many bytes are gone, up to those that are to come
 pub record Placed (bytes rest : Option (List ℕ)) (place : ℕ) : Type 0 where
@@ -39,7 +38,7 @@ pub record Placed (bytes rest : Option (List ℕ)) (place : ℕ) : Type 0 where
 pub record Took (before : List Line) (reader : Reader) (bytes rest : Option (List ℕ)) : Type 0 where
   pub lines : List (List ℕ)
   pub taken : Consumes bytes rest (joined_lines lines)
-  pub whole : AreWhole today lines before
+  pub whole : AreWhole lines before
   pub count : length lines ≡ reader.given
   pub place : length (joined_lines lines) ≡ reader.place
 
@@ -65,7 +64,7 @@ Responds before s line old new (Err halt.NoMemory) = (journal_at s ≡ []) × Ap
 
 -- where the source tells its bytes, they come to the decision
 abbrev pub Comes : Decision → Option (List ℕ) → Type 0
-Comes d bytes = IfSome bytes (λ bs. let v = verdict today bs in v.decision ≡ d)
+Comes d bytes = IfSome bytes (λ bs. let v = verdict bs in v.decision ≡ d)
 
 abbrev pub is_whole : Decision → Bool
 is_whole (decision.Whole entries) = true

@@ -20,15 +20,14 @@ use Rattle.aim_replay.specs.declared.stages.Made.{Made}
 use Rattle.aim_replay.specs.declared.stages.Taken.{Taken}
 use Rattle.aim_replay.specs.declared.stages.Refusal.{Refusal}
 use Rattle.aim_replay.specs.declared.stages.Refusal.TheVariants as refusal
-use Rattle.aim_replay.specs.declared.decisions.Decision.TheVariants as decision
-use Rattle.aim_replay.specs.declared.decisions.Kind.{Kind}
-use Rattle.aim_replay.specs.declared.decisions.Kind.TheVariants as kind
+use Rattle.aim_script.specs.declared.decisions.Decision.TheVariants as decision
+use Rattle.aim_script.specs.declared.decisions.Kind.{Kind}
+use Rattle.aim_script.specs.declared.decisions.Kind.TheVariants as kind
 use Rattle.aim_io.specs.Lines.{Line as LineOf}
-use Rattle.aim_replay.specs.Order.{Part, part_after, is_end, to_version, to_ground, to_times, to_lanes, in_moves, in_policies, to_begin, in_body, nothing}
-use Rattle.aim_replay.specs.Said.{Described, last_of}
-use Rattle.aim_replay.specs.Verdicts.{judge, of_read, goes_on, decides, number_after}
-use Rattle.aim_replay.specs.Today.{today}
-use Rattle.aim_replay.specs.Kinds.{vehicles_limit}
+use Rattle.aim_script.specs.Order.{Part, part_after, is_end, to_version, to_ground, to_times, to_lanes, in_moves, in_policies, to_begin, in_body, nothing}
+use Rattle.aim_script.specs.Said.{Described, last_of}
+use Rattle.aim_script.specs.Verdicts.{judge, of_read, goes_on, decides, number_after}
+use Rattle.aim_script.specs.Kinds.{vehicles_limit}
 use Rattle.aim_replay.specs.Stands.{IsHeader, IsBuilt, IsBody}
 
 -- the part of the script that goes on at the stage
@@ -111,16 +110,16 @@ MayTake _ = Unit {0}
 
 -- what a further line comes to
 abbrev pub Takes : List Line → Line → Result Stage Refusal → Type 0
-Takes before l (Ok next) = (of_read today before (Ok l) ≡ goes_on l) × Stands (before ++ l ∷ []) next
-Takes before l (Err (refusal.Bad why)) = of_read today before (Ok l) ≡ decides (decision.Bad (number_after before) why)
-Takes before l (Err (refusal.Limit which)) = of_read today before (Ok l) ≡ decides (decision.Limit which)
+Takes before l (Ok next) = (of_read before (Ok l) ≡ goes_on l) × Stands (before ++ l ∷ []) next
+Takes before l (Err (refusal.Bad why)) = of_read before (Ok l) ≡ decides (decision.Bad (number_after before) why)
+Takes before l (Err (refusal.Limit which)) = of_read before (Ok l) ≡ decides (decision.Limit which)
 Takes before l (Err refusal.NoMemory) = Unit {0}
 
 -- what further bytes come to
 abbrev pub Judged : List Line → List ℕ → Result Stage Refusal → Type 0
-Judged before bytes (Ok next) = (l : Line) × (judge today before (LineOf bytes) ≡ goes_on l) × Stands (before ++ l ∷ []) next
-Judged before bytes (Err (refusal.Bad why)) = judge today before (LineOf bytes) ≡ decides (decision.Bad (number_after before) why)
-Judged before bytes (Err (refusal.Limit which)) = judge today before (LineOf bytes) ≡ decides (decision.Limit which)
+Judged before bytes (Ok next) = (l : Line) × (judge before (LineOf bytes) ≡ goes_on l) × Stands (before ++ l ∷ []) next
+Judged before bytes (Err (refusal.Bad why)) = judge before (LineOf bytes) ≡ decides (decision.Bad (number_after before) why)
+Judged before bytes (Err (refusal.Limit which)) = judge before (LineOf bytes) ≡ decides (decision.Limit which)
 Judged before bytes (Err refusal.NoMemory) = Unit {0}
 
 -- the stage that is reached

@@ -9,8 +9,7 @@ use Rattle.aim_paths.specs.Added.{Added, AreTaken, added}
 use Rattle.aim_paths.specs.Building.{bare}
 use Rattle.aim_paths.specs.Intersection.{Intersection}
 use Rattle.aim_rules.specs.Journals.{journal}
-use Rattle.aim_replay.specs.Said.{Described, described, version_after, layout_of, vehicles_in, vehicles_of, call_in, calls_of}
-use Rattle.aim_replay.specs.Today.{is_event_of}
+use Rattle.aim_script.specs.Said.{Described, described, version_after, layout_of, vehicles_in, vehicles_of, call_in, calls_of}
 
 -- lines before that of the vehicles: they describe a layout, and nothing else
 pub record IsHeader (before : List Line) (d : Described) : Type 0 where

@@ -7,7 +7,6 @@ ghost use Rattle.aim_io.specs.Known.{AppendsFront};
 ghost use Rattle.aim_msg.specs.declared.script.Line.{Line};
 ghost use Rattle.aim_msg.specs.Texts.{entry_text as text_of, spaced};
 ghost use Rattle.aim_replay.specs.Texts.{decision_words, printed, replay_text};
-ghost use Rattle.aim_replay.specs.Today.{today};
 ghost use Rattle.aim_replay.specs.Stages.{MayTake, Stands, journal_at};
 ghost use Rattle.aim_replay.specs.Replays.{LastNeeded, Replays, StopsShort, TakesAtMost, Writes, WritesFront, entries_text, made_line};
 ghost use Rattle.aim_replay.specs.Sessions.{Comes, IsWholeLine, Responds, is_whole};
@@ -104,12 +103,12 @@ fn replay_lines<S: Source, K: Sink>(
     sink: &mut K,
 ) -> Result<Decision, Stop>
     ensures verdict { IfOk result (λ decision. Comes decision (S.left source.old)) }
-    ensures written { OnOk result (Writes (S.left source.old) (K.held sink.old) (K.held sink.new) (entries_text today)) }
-    ensures front { OnErr result (WritesFront (S.left source.old) (K.held sink.old) (K.held sink.new) (entries_text today)) }
+    ensures written { OnOk result (Writes (S.left source.old) (K.held sink.old) (K.held sink.new) (entries_text)) }
+    ensures front { OnErr result (WritesFront (S.left source.old) (K.held sink.old) (K.held sink.new) (entries_text)) }
     ensures ended { IfOk result (λ decision. is_whole decision ≡ true → IsAtEnd (S.left source.new)) }
     ensures most { TakesAtMost 67108865 (S.left source.old) (S.left source.new) }
-    ensures needed { (source.new ≡ source.old) ⊎ LastNeeded today (S.left source.old) (S.left source.new) (S.last_read source.new) }
-    ensures short { result ≡ Err Stop.Read → StopsShort today (S.left source.old) (S.left source.new) (K.held sink.old) (K.held sink.new) }
+    ensures needed { (source.new ≡ source.old) ⊎ LastNeeded (S.left source.old) (S.left source.new) (S.last_read source.new) }
+    ensures short { result ≡ Err Stop.Read → StopsShort (S.left source.old) (S.left source.new) (K.held sink.old) (K.held sink.new) }
     ensures memory { result ≡ Err Stop.NoMemory → Appends (K.held sink.old) (K.held sink.new) [] }
     ensures read { result ≡ Err Stop.Read → Rose (S.faults source.old) (S.faults source.new) }
     ensures write { result ≡ Err Stop.Write → Rose (K.faults sink.old) (K.faults sink.new) }
@@ -158,12 +157,12 @@ fn replay_script<S: Source, K: Sink>(
     sink: &mut K,
 ) -> Result<Decision, Stop>
     ensures verdict { IfOk result (λ decision. Comes decision (S.left source.old)) }
-    ensures written { OnOk result (Writes (S.left source.old) (K.held sink.old) (K.held sink.new) (replay_text today None)) }
-    ensures front { OnErr result (WritesFront (S.left source.old) (K.held sink.old) (K.held sink.new) (replay_text today None)) }
+    ensures written { OnOk result (Writes (S.left source.old) (K.held sink.old) (K.held sink.new) (replay_text None)) }
+    ensures front { OnErr result (WritesFront (S.left source.old) (K.held sink.old) (K.held sink.new) (replay_text None)) }
     ensures ended { IfOk result (λ decision. is_whole decision ≡ true → IsAtEnd (S.left source.new)) }
     ensures most { TakesAtMost 67108865 (S.left source.old) (S.left source.new) }
-    ensures needed { (source.new ≡ source.old) ⊎ LastNeeded today (S.left source.old) (S.left source.new) (S.last_read source.new) }
-    ensures short { result ≡ Err Stop.Read → StopsShort today (S.left source.old) (S.left source.new) (K.held sink.old) (K.held sink.new) }
+    ensures needed { (source.new ≡ source.old) ⊎ LastNeeded (S.left source.old) (S.left source.new) (S.last_read source.new) }
+    ensures short { result ≡ Err Stop.Read → StopsShort (S.left source.old) (S.left source.new) (K.held sink.old) (K.held sink.new) }
     ensures memory { result ≡ Err Stop.NoMemory → Appends (K.held sink.old) (K.held sink.new) [] }
     ensures read { result ≡ Err Stop.Read → Rose (S.faults source.old) (S.faults source.new) }
     ensures write { result ≡ Err Stop.Write → Rose (K.faults sink.old) (K.faults sink.new) }
@@ -186,17 +185,17 @@ fn replay_script<S: Source, K: Sink>(
 pub fn replay<S: Source, K: Sink>(alloc: Global, source: &mut S, sink: &mut K) -> u8
     // With status 0, 3 or 6 the whole text of the bytes is written, and the status is theirs.
     ensures whole { (result ≡ 0) ⊎ ((result ≡ 3) ⊎ (result ≡ 6)) → IfSome (S.left source.old)
-        (λ bytes. Replays today None bytes (K.held sink.old) (K.held sink.new) result) }
+        (λ bytes. Replays None bytes (K.held sink.old) (K.held sink.new) result) }
     ensures ended { result ≡ 0 → IsAtEnd (S.left source.new) }
 
     // Whatever the status, no more than one byte past the greatest input is taken, and nothing is read behind bytes that
     // decide.
     ensures most { TakesAtMost 67108865 (S.left source.old) (S.left source.new) }
-    ensures needed { (source.new ≡ source.old) ⊎ LastNeeded today (S.left source.old) (S.left source.new) (S.last_read source.new) }
+    ensures needed { (source.new ≡ source.old) ⊎ LastNeeded (S.left source.old) (S.left source.new) (S.last_read source.new) }
 
     // With another status what is written is a front of that text.
-    ensures front { (result ≡ 4) ⊎ ((result ≡ 5) ⊎ (result ≡ 7)) → WritesFront (S.left source.old) (K.held sink.old) (K.held sink.new) (replay_text today None) }
-    ensures short { result ≡ 4 → StopsShort today (S.left source.old) (S.left source.new) (K.held sink.old) (K.held sink.new) }
+    ensures front { (result ≡ 4) ⊎ ((result ≡ 5) ⊎ (result ≡ 7)) → WritesFront (S.left source.old) (K.held sink.old) (K.held sink.new) (replay_text None) }
+    ensures short { result ≡ 4 → StopsShort (S.left source.old) (S.left source.new) (K.held sink.old) (K.held sink.new) }
     ensures memory { result ≡ 7 → Appends (K.held sink.old) (K.held sink.new) [] }
 
     // Each status has its cause.

@@ -5,9 +5,9 @@ ghost use Rattle.aim_msg.specs.declared.entries.TheConstants.{MOST_ENTRIES};
 ghost use Rattle.aim_msg.specs.declared.script.Line.{Line};
 ghost use Rattle.aim_msg.specs.declared.script.Name.{Name};
 ghost use Rattle.aim_book.specs.Serving.{IsPlain};
-ghost use Rattle.aim_replay.specs.Said.{grid_of as grid_from, times_of as times_from, shape_of as shape_from};
-ghost use Rattle.aim_replay.specs.Kinds.{vehicles_limit as limit_on};
-ghost use Rattle.aim_replay.specs.Verdicts.{at_end};
+ghost use Rattle.aim_script.specs.Said.{grid_of as grid_from, times_of as times_from, shape_of as shape_from};
+ghost use Rattle.aim_script.specs.Kinds.{vehicles_limit as limit_on};
+ghost use Rattle.aim_script.specs.Verdicts.{at_end};
 ghost use Rattle.aim_replay.specs.Stages.{Judged, Makes, MayTake, Opens, Stands, Takes, is_missing_request, journal_at, move_kind_of, request_kind, stage_of};
 
 use crate::decisions::{Decision, Kind, Limit};

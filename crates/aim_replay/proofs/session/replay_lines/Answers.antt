@@ -1,7 +1,7 @@
 use Rattle.std.proofs.Common.{arith, ◌+◌, ap, sym, ◌∙◌, refl, inl, Err, true, false}
 use Rattle.aim_io.specs.Lines.{LongLine, TooManyBytes, TooManyLines}
 use Rattle.aim_io.specs.Reader.{Reader}
-use Rattle.aim_replay.specs.declared.decisions.Decision.TheVariants as decision
+use Rattle.aim_script.specs.declared.decisions.Decision.TheVariants as decision
 use Rattle.aim_replay.proofs.SessionLemmas.{Gives, on_true, sound_start, knows_start, reached_start, reached_more, front_reached, short_reached, fault_told, fault_written, end_told, end_written, bad_told, bad_written, line_told, stops_inside, memory_front, most_call, most_fault, needed_call, left_at_end, on_false}
 use Rattle.aim_replay.proofs.session.replay_lines.Goals as goal
 

@@ -1,0 +1,8 @@
+use Rattle.aim_io.specs.Lines.{outcomes_of}
+use Rattle.aim_script.specs.Verdicts.{verdict}
+use Rattle.aim_script.proofs.FirstLemmas.{first_that_decides}
+use Rattle.aim_script.proofs.CallLemmas.{journal_legal}
+use Rattle.aim_script.proofs.laws.journal_of_a_verdict_is_legal.Goals as goal
+
+pub returns : goal.returns
+returns c bytes = journal_legal (outcomes_of bytes) (verdict bytes) (first_that_decides (outcomes_of bytes))

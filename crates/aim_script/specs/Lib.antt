@@ -1,0 +1,9 @@
+pub mod Order
+pub mod Said
+pub mod Kinds
+pub mod Verdicts
+pub mod First
+pub mod Decided
+pub mod Versions
+pub mod Names
+pub mod Headers

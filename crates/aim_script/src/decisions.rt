@@ -1,0 +1,154 @@
+//! What a script comes to, and the line that says so.
+
+ghost use Rattle.std.specs.Prelude.{◌≡◌, ◌<◌, ◌≤◌, ◌+◌, ◌++◌, ◌∷◌, [], length, take};
+ghost use Rattle.aim_msg.specs.Texts.{spaced};
+ghost use Rattle.aim_msg.specs.Writing.{added};
+ghost use Rattle.aim_script.specs.Decided.{decision_words, kind_text, limit_text, printed};
+
+use aim_msg::{LineKind, Text};
+
+/// Why a line of a script is at fault.
+#[derive(Clone, Copy)]
+pub enum Kind {
+    /// It has more than 400 bytes.
+    Long,
+    /// The input is at its end, and no `end` line came.
+    End,
+    /// It spells no line.
+    Spelling(LineKind),
+    /// A line of that form may not stand at that place.
+    Order,
+    /// The version isn't 1, 2 or 3.
+    Version,
+    /// A number of the grid is out of its range, or the number of rows doesn't divide the side.
+    Grid,
+    /// The early or the late buffer exceeds the edge buffer.
+    Buffers,
+    /// One of the times is out of its range.
+    Times,
+    /// There are no lanes, or more than 16.
+    Lane,
+    /// The lane isn't there or has that turn already, or the shape is out of its ranges.
+    Move,
+    /// Two stations of the path are farther apart than the spacing.
+    Spacing,
+    /// The policy's name was given before, or the name of a switch wasn't.
+    Policy,
+    /// The policy or phase can't be added, or a policy or a phase is missing.
+    Phase,
+    /// There are no vehicles, or the vehicle isn't one of those declared.
+    Vehicle,
+    /// The moment is above 1,073,741,824.
+    Moment,
+}
+
+/// What a script goes past.
+#[derive(Clone, Copy)]
+pub enum Limit {
+    /// So many bytes.
+    Bytes,
+    /// So many lines.
+    Lines,
+    /// So many vehicles.
+    Vehicles,
+    /// So many spans in the sheets of all vehicles.
+    Sheets,
+}
+
+/// What a script comes to.
+#[derive(Clone, Copy)]
+pub enum Decision {
+    /// The line of this number, counted from 1, is the first at fault.
+    Bad(u32, Kind),
+    /// The input goes past a limit.
+    Limit(Limit),
+    /// The script is whole, and has so many entries.
+    Whole(u32),
+}
+
+// The word for a kind of line that can't be read.
+fn spelling_text(kind: LineKind) -> &'static [u8]
+    ensures text { result.now ≡ kind_text (Kind.Spelling kind) }
+    ensures short { length result.now ≤ 11 }
+{
+    match kind {
+        LineKind::Words => b"words",
+        LineKind::Number => b"number",
+        LineKind::Range => b"range",
+        LineKind::Unknown => b"unknown",
+    }
+}
+
+// The word for a kind of line at fault.
+fn kind_text(kind: Kind) -> &'static [u8]
+    ensures text { result.now ≡ kind_text kind }
+    ensures short { length result.now ≤ 11 }
+{
+    match kind {
+        Kind::Long => b"long",
+        Kind::End => b"end",
+        Kind::Spelling(kind) => spelling_text(kind),
+        Kind::Order => b"order",
+        Kind::Version => b"version",
+        Kind::Grid => b"grid",
+        Kind::Buffers => b"buffers",
+        Kind::Times => b"times",
+        Kind::Lane => b"lane",
+        Kind::Move => b"move",
+        Kind::Spacing => b"spacing",
+        Kind::Policy => b"policy",
+        Kind::Phase => b"phase",
+        Kind::Vehicle => b"vehicle",
+        Kind::Moment => b"moment",
+    }
+}
+
+// The word for a limit.
+fn limit_text(limit: Limit) -> &'static [u8]
+    ensures text { result.now ≡ limit_text limit }
+    ensures short { length result.now ≤ 11 }
+{
+    match limit {
+        Limit::Bytes => b"bytes",
+        Limit::Lines => b"lines",
+        Limit::Vehicles => b"vehicles",
+        Limit::Sheets => b"sheets",
+    }
+}
+
+// Adds the words of the last line.
+fn put_decision(text: &mut Text, decision: Decision)
+    requires { text.old ≡ [] }
+    ensures words { text.new ≡ added [] (decision_words decision) }
+    ensures fits { length text.new ≤ 50 }
+{
+    match decision {
+        Decision::Bad(number, kind) => {
+            text.word(b"bad");
+            text.word(b"line");
+            text.number(number);
+            text.word(kind_text(kind));
+        }
+        Decision::Limit(limit) => {
+            text.word(b"limit");
+            text.word(limit_text(limit));
+        }
+        Decision::Whole(entries) => {
+            text.word(b"end");
+            text.number(entries);
+        }
+    }
+}
+
+/// Puts the last line of a replay at the front of `line`, its byte 10 included, and says how long
+/// it is. Takes no memory.
+pub fn last_line(decision: Decision, line: &mut [u8; 400]) -> usize
+    ensures text { take result line.new ≡ printed (spaced (decision_words decision)) }
+    ensures fits { result ≤ 400 }
+{
+    let mut text = Text::new();
+    put_decision(&mut text, decision);
+    let len = text.give(line);
+    line[len] = b'\n';
+    len + 1
+}

@@ -1,0 +1,356 @@
+//! How far the header of a script has come, line by line.
+
+ghost use Rattle.std.specs.Prelude.{◌≡◌, List, []};
+ghost use Rattle.aim_msg.specs.declared.script.Line.{Line};
+ghost use Rattle.aim_msg.specs.declared.script.Times5.{Times5};
+ghost use Rattle.aim_msg.specs.declared.script.Times6.{Times6};
+ghost use Rattle.aim_msg.specs.Lines.{IsName};
+ghost use Rattle.aim_script.specs.Said.{grid_of as grid_from, kind_of, shape_of as shape_from, times6_of as times_from_six, times_of as times_from, version_after};
+ghost use Rattle.aim_script.specs.Versions.{version_number};
+ghost use Rattle.aim_script.specs.Headers.{AddsPolicy, Closes, Goes, HasName, Heeds, SaysNoMore, Stands, StandsAt, move_kind_of};
+
+use crate::decisions::Kind;
+use crate::names::Names;
+use crate::settings::Setting;
+use crate::versions::ScriptVersion;
+use aim_geometry::{Grid, Ground, GroundFault, Times};
+use aim_msg::{Grid6, Line, MoveShape, Name, Times5, Times6, Turn};
+use aim_paths::builders::{Builder, LayoutFault};
+use aim_paths::{Kind as PolicyKind, Shape};
+use std::alloc::Global;
+
+/// Where a header stands, and what is kept of the lines so far.
+#[derive(Drop)]
+pub enum Place {
+    /// The line of the version comes next.
+    Version,
+    /// The line of the grid comes next.
+    Grid,
+    /// The line of the times comes next.
+    Times(Grid),
+    /// The line of the lanes comes next.
+    Lanes(Ground),
+    /// Moves come, or the first policy.
+    Moves(Builder),
+    /// Policies and phases come, or the line of the vehicles.
+    Policies(Builder, Names),
+}
+
+/// The header of a script so far: its lines before that of the vehicles.
+#[derive(Drop)]
+pub struct Header {
+    version: ScriptVersion,
+    place: Place,
+}
+
+/// What a line of a header that isn't refused comes to.
+#[derive(Drop)]
+pub enum Headed {
+    /// The header goes on.
+    More(Header),
+    /// It was the line of the vehicles: `begin` comes next.
+    Whole(Setting),
+}
+
+/// Why a line isn't taken.
+#[derive(Clone, Copy)]
+pub enum Refusal {
+    /// It is at fault.
+    Bad(Kind),
+    /// Memory has run out.
+    NoMemory,
+}
+
+// The grid of a line.
+fn grid_of(grid: &Grid6) -> Grid
+    ensures { result ≡ grid_from grid.now }
+{
+    Grid {
+        side: grid.side,
+        n: grid.n,
+        spacing: grid.spacing,
+        fixed: grid.fixed,
+        half: grid.half,
+        spans: grid.spans,
+    }
+}
+
+// The times of a line with five numbers.
+fn times_of(times: &Times5) -> Times
+    ensures { result ≡ times_from times.now }
+{
+    Times {
+        horizon: times.horizon,
+        longest: times.longest,
+        clearance: times.clearance,
+        early: times.internal,
+        late: times.internal,
+        edge: times.edge,
+    }
+}
+
+// The times of a line with six numbers.
+fn times_of_six(times: &Times6) -> Times
+    ensures { result ≡ times_from_six times.now }
+{
+    Times {
+        horizon: times.horizon,
+        longest: times.longest,
+        clearance: times.clearance,
+        early: times.early,
+        late: times.late,
+        edge: times.edge,
+    }
+}
+
+// The shape of a line.
+fn shape_of(shape: &MoveShape) -> Shape
+    ensures { result ≡ shape_from shape.now }
+{
+    match *shape {
+        MoveShape::Line { x0, y0, x1, y1, m } => Shape::Line { x0, y0, x1, y1, m },
+        MoveShape::Curve {
+            x0,
+            y0,
+            x1,
+            y1,
+            x2,
+            y2,
+            m,
+        } => Shape::Curve {
+            x0,
+            y0,
+            x1,
+            y1,
+            x2,
+            y2,
+            m,
+        },
+    }
+}
+
+// The kind of policy of a line.
+fn policy_kind(kind: u8) -> PolicyKind
+    ensures { result ≡ kind_of kind }
+{
+    match kind {
+        0 => PolicyKind::Fcfs,
+        1 => PolicyKind::Emerg,
+        2 => PolicyKind::Light,
+        _ => PolicyKind::LightEmerg,
+    }
+}
+
+// The kind of a line whose move is refused.
+fn move_kind(fault: LayoutFault) -> Kind
+    ensures { result ≡ move_kind_of fault }
+{
+    match fault {
+        LayoutFault::Spacing { .. } => Kind::Spacing,
+        _ => Kind::Move,
+    }
+}
+
+// Adds a policy, whose name is new, to those of a layout.
+fn with_policy(
+    mut builder: Builder,
+    mut names: Names,
+    name: &Name,
+    kind: u8,
+) -> Result<Place, Refusal>
+    requires { IsName name.now }
+    ensures { AddsPolicy builder names name.now kind result }
+{
+    match names.declare(name) {
+        Ok(true) => match builder.add_policy(policy_kind(kind)) {
+            Ok(()) => Ok(Place::Policies(builder, names)),
+            Err(_) => Err(Refusal::Bad(Kind::Phase)),
+        },
+        Ok(false) => Err(Refusal::Bad(Kind::Policy)),
+        Err(_) => Err(Refusal::NoMemory),
+    }
+}
+
+// Ends a layout for so many vehicles.
+fn closed(
+    version: ScriptVersion,
+    builder: Builder,
+    names: Names,
+    vehicles: u32,
+) -> Result<Headed, Refusal>
+    ensures { Closes version builder names vehicles result }
+{
+    match builder.finish() {
+        Err(_) => Err(Refusal::Bad(Kind::Phase)),
+        Ok(_layout) if vehicles == 0 => Err(Refusal::Bad(Kind::Vehicle)),
+        Ok(layout) => Ok(Headed::Whole(Setting {
+            version,
+            layout,
+            names,
+            vehicles,
+        })),
+    }
+}
+
+impl Place {
+    // Takes the line of the grid.
+    fn grid(&self, grid: &Grid6) -> Result<Place, Refusal>
+        ensures { (before : List Line) → StandsAt before self.now → Goes before (Line.Grid grid.now) result }
+    {
+        match self {
+            Place::Grid => {
+                let read = grid_of(grid);
+                if read.is_bad() {
+                    return Err(Refusal::Bad(Kind::Grid));
+                }
+                Ok(Place::Times(read))
+            }
+            _ => Err(Refusal::Bad(Kind::Order)),
+        }
+    }
+
+    // Takes the line of the times.
+    fn times(&self, times: Times) -> Result<Place, Refusal>
+        ensures five { (before : List Line) (t : Times5) → times ≡ times_from t → StandsAt before self.now → Goes before (Line.Times t) result }
+        ensures six { (before : List Line) (t : Times6) → times ≡ times_from_six t → StandsAt before self.now → Goes before (Line.Times6 t) result }
+    {
+        match self {
+            Place::Times(grid) => match Ground::build(*grid, times) {
+                Ok(ground) => Ok(Place::Lanes(ground)),
+                Err(GroundFault::Grid) => Err(Refusal::Bad(Kind::Grid)),
+                Err(GroundFault::Buffers) => Err(Refusal::Bad(Kind::Buffers)),
+                Err(GroundFault::Times) => Err(Refusal::Bad(Kind::Times)),
+            },
+            _ => Err(Refusal::Bad(Kind::Order)),
+        }
+    }
+
+    // Takes the line of the lanes.
+    fn lanes(&self, alloc: Global, lanes: u32) -> Result<Place, Refusal>
+        ensures { (before : List Line) → StandsAt before self.now → Goes before (Line.Lanes lanes) result }
+    {
+        match self {
+            Place::Lanes(ground) => match Builder::new(alloc, *ground, lanes) {
+                Ok(builder) => Ok(Place::Moves(builder)),
+                Err(LayoutFault::NoMemory) => Err(Refusal::NoMemory),
+                Err(_) => Err(Refusal::Bad(Kind::Lane)),
+            },
+            _ => Err(Refusal::Bad(Kind::Order)),
+        }
+    }
+
+    // Takes the line of a move.
+    fn turn(self, lane: u8, turn: Turn, shape: &MoveShape) -> Result<Place, Refusal>
+        ensures { (before : List Line) → StandsAt before self → Goes before (Line.Move lane turn shape.now) result }
+    {
+        match self {
+            Place::Moves(mut builder) => {
+                match builder.add_move(u32::from(lane), turn, shape_of(shape)) {
+                    Ok(()) => Ok(Place::Moves(builder)),
+                    Err(fault) => Err(Refusal::Bad(move_kind(fault))),
+                }
+            }
+            _other => Err(Refusal::Bad(Kind::Order)),
+        }
+    }
+    // Takes the line of a policy.
+    fn policy(self, alloc: Global, name: &Name, kind: u8) -> Result<Place, Refusal>
+        requires { IsName name.now }
+        ensures { (before : List Line) → StandsAt before self → Goes before (Line.Policy name.now kind) result }
+    {
+        match self {
+            Place::Moves(builder) => with_policy(builder, Names::new(alloc), name, kind),
+            Place::Policies(builder, names) => with_policy(builder, names, name, kind),
+            _other => Err(Refusal::Bad(Kind::Order)),
+        }
+    }
+
+    // Takes the line of a phase.
+    fn phase(self, red: u32, green: u32, lanes: u16) -> Result<Place, Refusal>
+        ensures { (before : List Line) → StandsAt before self → Goes before (Line.Phase red green lanes) result }
+    {
+        match self {
+            Place::Policies(mut builder, names) => match builder.add_phase(red, green, lanes) {
+                Ok(()) => Ok(Place::Policies(builder, names)),
+                Err(_) => Err(Refusal::Bad(Kind::Phase)),
+            },
+            _other => Err(Refusal::Bad(Kind::Order)),
+        }
+    }
+
+    // Takes the line of the vehicles.
+    fn vehicles(self, version: ScriptVersion, vehicles: u32) -> Result<Headed, Refusal>
+        ensures { (before : List Line) → version_after before ≡ version_number version → StandsAt before self → Heeds before (Line.Vehicles vehicles) result }
+    {
+        match self {
+            Place::Moves(_builder) => Err(Refusal::Bad(Kind::Phase)),
+            Place::Policies(builder, names) => closed(version, builder, names, vehicles),
+            _other => Err(Refusal::Bad(Kind::Order)),
+        }
+    }
+
+    // Takes the line of the version.
+    fn version(&self, number: u32) -> Result<Headed, Refusal>
+        ensures { (before : List Line) → StandsAt before self.now → Heeds before (Line.Version number) result }
+    {
+        match self {
+            Place::Version => match ScriptVersion::of(number) {
+                Some(version) => Ok(Headed::More(Header {
+                    version,
+                    place: Place::Grid,
+                })),
+                None => Err(Refusal::Bad(Kind::Version)),
+            },
+            _ => Err(Refusal::Bad(Kind::Order)),
+        }
+    }
+}
+
+// The header at the place that a line leads to.
+fn more(version: ScriptVersion, place: Result<Place, Refusal>) -> Result<Headed, Refusal>
+    ensures { (before : List Line) (l : Line) → version_after before ≡ version_number version → SaysNoMore l → Goes before l place → Heeds before l result }
+{
+    match place {
+        Ok(place) => Ok(Headed::More(Header { version, place })),
+        Err(why) => Err(why),
+    }
+}
+
+impl Header {
+    /// The header of a script of which no line was read.
+    pub fn new() -> Header
+        ensures { Stands [] result }
+    {
+        Header {
+            version: ScriptVersion::One,
+            place: Place::Version,
+        }
+    }
+
+    /// The version in which the next line is read.
+    pub fn version(&self) -> ScriptVersion
+        ensures { result ≡ self.now.version }
+    {
+        self.version
+    }
+
+    /// Takes the next line of a script.
+    pub fn take(self, alloc: Global, line: &Line) -> Result<Headed, Refusal>
+        requires { HasName line.now }
+        ensures { (before : List Line) → Stands before self → Heeds before line.now result }
+    {
+        let Header { version, place } = self;
+        match line {
+            Line::Version(number) => place.version(*number),
+            Line::Grid(grid) => more(version, place.grid(grid)),
+            Line::Times(times) => more(version, place.times(times_of(times))),
+            Line::Times6(times) => more(version, place.times(times_of_six(times))),
+            Line::Lanes(lanes) => more(version, place.lanes(alloc, *lanes)),
+            Line::Move { lane, turn, shape } => more(version, place.turn(*lane, *turn, shape)),
+            Line::Policy { name, kind } => more(version, place.policy(alloc, name, *kind)),
+            Line::Phase { red, green, lanes } => more(version, place.phase(*red, *green, *lanes)),
+            Line::Vehicles(vehicles) => place.vehicles(version, *vehicles),
+            _ => Err(Refusal::Bad(Kind::Order)),
+        }
+    }
+}

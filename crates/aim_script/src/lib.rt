@@ -1,0 +1,15 @@
+//! Scripts: what their lines say, which line decides, and the header of a script, line by line.
+#![tactic(auto)]
+
+mod decisions;
+mod headers;
+pub mod laws;
+mod names;
+mod settings;
+mod versions;
+
+pub use decisions::{Decision, Kind, Limit, last_line};
+pub use headers::{Header, Headed, Refusal};
+pub use names::Names;
+pub use settings::Setting;
+pub use versions::ScriptVersion;
