@@ -1,10 +1,2 @@
-pub mod Examples
-pub mod MoreExamples
-pub mod FirstLemmas
-pub mod LineLemmas
-pub mod AppendLemmas
-pub mod KindLemmas
-pub mod TextLemmas
-pub mod CallLemmas
+pub mod SheetLemmas
 pub mod StageLemmas
-pub mod SessionLemmas

@@ -1,11 +1,4 @@
-pub mod Order
-pub mod Said
-pub mod Kinds
-pub mod Verdicts
-pub mod Texts
-pub mod First
-pub mod Today
-pub mod Stands
+pub mod BookStub
+pub mod Servers
+pub mod Charted
 pub mod Stages
-pub mod Replays
-pub mod Sessions

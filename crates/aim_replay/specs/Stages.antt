@@ -1,129 +1,93 @@
 -- What is known of the lines of a script so far, at each stage of its replay.
 -- No public clause cites it: only contracts of private functions.
-use Rattle.std.specs.Prelude.{◌≡◌, ℕ, ◌<◌, ◌==◌, Bool, true, false, List, [], ◌∷◌, ◌++◌, ◌||◌, not, nat_lt, nat_le, length, Option, Some, None, is_some, Result, Ok, Err, if◌then◌else◌}
-use Rattle.std.specs.List.{list_any}
-use Rattle.aim_msg.specs.declared.messages.Params.{Params}
-use Rattle.aim_rules.specs.Bad.{bad as bad_field}
+use Rattle.std.specs.Prelude.{◌≡◌, ℕ, ◌<◌, ◌≤◌, Bool, true, false, List, [], ◌∷◌, ◌++◌, length, Option, Some, None, Result, Ok, Err, nat_le, nat_lt, if◌then◌else◌}
 use Rattle.aim_msg.specs.declared.entries.Entry.{Entry}
+use Rattle.aim_msg.specs.declared.entries.TheConstants.{LATEST_MOMENT, MOST_ENTRIES, OPERATOR}
+use Rattle.aim_msg.specs.declared.entries.Act.TheVariants as act
+use Rattle.aim_msg.specs.declared.entries.Order.{Order}
 use Rattle.aim_msg.specs.declared.script.Line.{Line}
-use Rattle.aim_msg.specs.declared.entries.TheConstants.{LATEST_MOMENT, MOST_ENTRIES}
-use Rattle.aim_geometry.specs.declared.ground.Times.{Times}
-use Rattle.aim_paths.specs.Intersection.{Intersection}
-use Rattle.aim_geometry.specs.Sites.{has_bad_numbers}
-use Rattle.aim_book.specs.State.{State}
-use Rattle.aim_book.specs.Serving.{IsPlain}
-use Rattle.aim_paths.specs.declared.builders.LayoutFault.{LayoutFault}
-use Rattle.aim_paths.specs.declared.builders.LayoutFault.TheVariants as fault
+use Rattle.aim_io.specs.Lines.{Line as LineOf}
+use Rattle.aim_rules.specs.Journals.{Call, journal, entry_of}
+use Rattle.aim_script.specs.declared.decisions.Decision.{Decision}
+use Rattle.aim_script.specs.declared.decisions.Decision.TheVariants as decision
+use Rattle.aim_script.specs.declared.decisions.Kind.{Kind}
+use Rattle.aim_script.specs.declared.decisions.Kind.TheVariants as kind
+use Rattle.aim_script.specs.Order.{part_after, is_end, in_body, nothing}
+use Rattle.aim_script.specs.Said.{version_after, names_of, layout_of, vehicles_of, calls_of, last_of}
+use Rattle.aim_script.specs.Kinds.{vehicles_limit}
+use Rattle.aim_script.specs.Verdicts.{judge, of_read, goes_on, decides, number_after}
+use Rattle.aim_script.specs.Versions.{version_number}
+use Rattle.aim_script.specs.Headers.{Stands as StandsAsHeader, IsSet}
+use Rattle.aim_script.specs.declared.settings.Setting.{Setting}
+use Rattle.aim_replay.specs.declared.stages.Play.{Play}
 use Rattle.aim_replay.specs.declared.stages.Stage.{Stage}
 use Rattle.aim_replay.specs.declared.stages.Stage.TheVariants as stage
 use Rattle.aim_replay.specs.declared.stages.Made.{Made}
 use Rattle.aim_replay.specs.declared.stages.Taken.{Taken}
 use Rattle.aim_replay.specs.declared.stages.Refusal.{Refusal}
 use Rattle.aim_replay.specs.declared.stages.Refusal.TheVariants as refusal
-use Rattle.aim_script.specs.declared.decisions.Decision.TheVariants as decision
-use Rattle.aim_script.specs.declared.decisions.Kind.{Kind}
-use Rattle.aim_script.specs.declared.decisions.Kind.TheVariants as kind
-use Rattle.aim_io.specs.Lines.{Line as LineOf}
-use Rattle.aim_script.specs.Order.{Part, part_after, is_end, to_version, to_ground, to_times, to_lanes, in_moves, in_policies, to_begin, in_body, nothing}
-use Rattle.aim_script.specs.Said.{Described, last_of}
-use Rattle.aim_script.specs.Verdicts.{judge, of_read, goes_on, decides, number_after}
-use Rattle.aim_script.specs.Kinds.{vehicles_limit}
-use Rattle.aim_replay.specs.Stands.{IsHeader, IsBuilt, IsBody}
-
--- the part of the script that goes on at the stage
-abbrev pub part_of : Stage → Part
-part_of stage.Version = to_version
-part_of stage.Grid = to_ground
-part_of (stage.Times g) = to_times
-part_of (stage.Lanes s) = to_lanes
-part_of (stage.Moves b) = in_moves
-part_of (stage.Policies b) = in_policies
-part_of (stage.Begin k) = to_begin
-part_of (stage.Body k) = in_body
-part_of (stage.Over k) = nothing
-
-abbrev pub is_over : Stage → Bool
-is_over (stage.Over k) = true
-is_over _ = false
+use Rattle.aim_replay.specs.declared.stages.Finish.{Finish}
+use Rattle.aim_replay.specs.declared.stages.Finish.TheVariants as finish
 
 -- the journal so far
-abbrev pub journal_at : Stage → List Entry
-journal_at (stage.Begin k) = k.journal
-journal_at (stage.Body k) = k.journal
-journal_at (stage.Over k) = k.journal
-journal_at _ = []
+abbrev pub journal_at : {L : Type 0} → Stage L → List Entry
+journal_at (stage.Header h) = []
+journal_at (stage.Begin s) = []
+journal_at (stage.Body p) = p.server.journal
+journal_at (stage.Over p) = p.server.journal
 
--- no buffers in time
-pub record IsUnbuffered (t : Times) : Type 0 where
-  pub early : t.early ≡ 0
-  pub late : t.late ≡ 0
-  pub edge : t.edge ≡ 0
+-- from `begin` on: the manager's layout, names and vehicles are what the lines say, and its journal is theirs
+pub record IsPlayed {L : Type 0} (before : List Line) (p : Play L) : Type 0 where
+  pub version : version_after before ≡ version_number p.version
+  pub layout : layout_of before ≡ p.server.layout
+  pub named : names_of before ≡ p.names
+  pub numbered : length p.names ≡ length p.server.layout.policies
+  pub declared : vehicles_of before ≡ p.server.vehicles
+  pub journal : journal p.server.layout (calls_of before) ≡ p.server.journal
+  pub few : length p.server.journal ≤ length before
 
--- the book is over a plain layout, with room for an entry of every line
-pub record IsDesk (k : State) : Type 0 where
-  pub plain : IsPlain k.layout
-  pub room : k.room ≡ MOST_ENTRIES
-
--- nothing is said of a layout
-abbrev pub unsaid : Described
-unsaid = record { grid = None; times = None; lanes = None; added = [] }
-
--- the layout so far, or the book, is what the lines say
-abbrev pub Says : List Line → Stage → Type 0
-Says before stage.Version = IsHeader before unsaid
-Says before stage.Grid = IsHeader before unsaid
-Says before (stage.Times g) = IsHeader before (record unsaid { grid = Some g }) × (has_bad_numbers g ≡ false)
-Says before (stage.Lanes s) = IsHeader before (record unsaid { grid = Some s.grid; times = Some s.times }) × IsUnbuffered s.times
-Says before (stage.Moves b) = IsBuilt before b × IsUnbuffered b.times × (b.policies ≡ [])
-Says before (stage.Policies b) = IsBuilt before b × IsPlain b
-Says before (stage.Begin k) = IsBody before k.layout k.vehicles k.journal × IsDesk k × (k.journal ≡ [])
-Says before (stage.Body k) = IsBody before k.layout k.vehicles k.journal × IsDesk k
-Says before (stage.Over k) = IsBody before k.layout k.vehicles k.journal
+-- there is a vehicle, and there are not too many
+pub record IsOpen (s : Setting) : Type 0 where
+  pub some : 0 < s.vehicles
+  pub within : vehicles_limit s.layout.grid.spans s.vehicles ≡ None
 
 -- the stage stands for these lines
-pub record Stands (before : List Line) (s : Stage) : Type 0 where
-  pub part : part_after (last_of before) ≡ part_of s
-  pub over : is_end (last_of before) ≡ is_over s
-  pub says : Says before s
-
--- whether a request accelerates, or couldn't be granted on any history
-abbrev pub is_missing_request : Intersection → Params → Bool
-is_missing_request i p = not (p.accel == 0) || not (p.speed == p.max_speed) || is_some (bad_field i p)
-
--- what is wrong with a request of a vehicle v at some moment
-abbrev pub request_kind : State → ℕ → ℕ → Params → Option Kind
-request_kind k v at p =
-    if list_any (λ e. e.caller == v) k.journal || is_missing_request k.layout p then Some kind.Unsupported
-    else if nat_le k.vehicles v then Some kind.Vehicle
-    else if nat_lt LATEST_MOMENT at then Some kind.Moment
-    else None
-
--- the kind of a line whose move is refused
-abbrev pub move_kind_of : LayoutFault → Kind
-move_kind_of (fault.Spacing lane turn station) = kind.Spacing
-move_kind_of _ = kind.Move
+abbrev pub Stands : {L : Type 0} → List Line → Stage L → Type 0
+Stands before (stage.Header h) = StandsAsHeader before h
+Stands before (stage.Begin s) = IsSet before s × IsOpen s
+Stands before (stage.Body p) = (part_after (last_of before) ≡ in_body) × (is_end (last_of before) ≡ false) × IsPlayed before p
+Stands before (stage.Over p) = (part_after (last_of before) ≡ nothing) × (is_end (last_of before) ≡ true) × IsPlayed before p
 
 -- whether a further line may be taken
-abbrev pub MayTake : Stage → Type 0
-MayTake (stage.Body k) = IsDesk k × (length k.journal < MOST_ENTRIES)
-MayTake _ = Unit {0}
+abbrev pub MayTake : {L : Type 0} → Stage L → Type 0
+MayTake (stage.Header h) = Unit {0}
+MayTake (stage.Begin s) = IsOpen s
+MayTake (stage.Body p) = (length p.server.journal < MOST_ENTRIES) × (length p.names ≡ length p.server.layout.policies)
+MayTake (stage.Over p) = Unit {0}
+
+-- the version in which a further line is read
+abbrev pub version_at : {L : Type 0} → Stage L → ℕ
+version_at (stage.Header h) = version_number h.version
+version_at (stage.Begin s) = version_number s.version
+version_at (stage.Body p) = version_number p.version
+version_at (stage.Over p) = version_number p.version
 
 -- what a further line comes to
-abbrev pub Takes : List Line → Line → Result Stage Refusal → Type 0
+abbrev pub Takes : {L : Type 0} → List Line → Line → Result (Stage L) Refusal → Type 0
 Takes before l (Ok next) = (of_read before (Ok l) ≡ goes_on l) × Stands (before ++ l ∷ []) next
 Takes before l (Err (refusal.Bad why)) = of_read before (Ok l) ≡ decides (decision.Bad (number_after before) why)
 Takes before l (Err (refusal.Limit which)) = of_read before (Ok l) ≡ decides (decision.Limit which)
 Takes before l (Err refusal.NoMemory) = Unit {0}
 
 -- what further bytes come to
-abbrev pub Judged : List Line → List ℕ → Result Stage Refusal → Type 0
+abbrev pub Judged : {L : Type 0} → List Line → List ℕ → Result (Stage L) Refusal → Type 0
 Judged before bytes (Ok next) = (l : Line) × (judge before (LineOf bytes) ≡ goes_on l) × Stands (before ++ l ∷ []) next
 Judged before bytes (Err (refusal.Bad why)) = judge before (LineOf bytes) ≡ decides (decision.Bad (number_after before) why)
 Judged before bytes (Err (refusal.Limit which)) = judge before (LineOf bytes) ≡ decides (decision.Limit which)
 Judged before bytes (Err refusal.NoMemory) = Unit {0}
 
 -- the stage that is reached
-abbrev pub stage_of : Result Taken Refusal → Result Stage Refusal
+abbrev pub stage_of : {L : Type 0} → Result (Taken L) Refusal → Result (Stage L) Refusal
 stage_of (Ok t) = Ok t.stage
 stage_of (Err why) = Err why
 
@@ -132,9 +96,27 @@ abbrev pub Makes : List Entry → List Entry → Option Made → Type 0
 Makes old new None = new ≡ old
 Makes old new (Some m) = (m.position ≡ length old) × (new ≡ old ++ m.entry ∷ [])
 
--- a book is opened, if there is a vehicle, no limit is passed, and there is memory
-abbrev pub Opens : Intersection → ℕ → Result Stage Refusal → Type 0
-Opens i n (Ok next) = (n == 0 ≡ false) × (vehicles_limit i.grid.spans n ≡ None) × (next ≡ stage.Begin (record { layout = i; vehicles = n; room = MOST_ENTRIES; journal = [] }))
-Opens i n (Err (refusal.Bad why)) = (n == 0 ≡ true) × (why ≡ kind.Vehicle)
-Opens i n (Err (refusal.Limit which)) = (n == 0 ≡ false) × (vehicles_limit i.grid.spans n ≡ Some which)
-Opens i n (Err refusal.NoMemory) = Unit {0}
+-- what the script comes to
+abbrev pub decision_of : {L : Type 0} → Finish L → Decision
+decision_of (finish.Bad number why) = decision.Bad number why
+decision_of (finish.Limit which) = decision.Limit which
+decision_of (finish.Whole s) = decision.Whole (length s.journal)
+
+-- where the script is whole, the manager is that of its lines
+abbrev pub IsOfLines : {L : Type 0} → List Line → Finish L → Type 0
+IsOfLines before (finish.Whole s) = (layout_of before ≡ s.layout) × (journal s.layout (calls_of before) ≡ s.journal)
+IsOfLines before _ = Unit {0}
+
+-- what is wrong with an event, where there are so many vehicles
+abbrev pub event_kind : ℕ → ℕ → ℕ → Option Kind
+event_kind vehicles v at = if nat_le vehicles v then Some kind.Vehicle else if nat_lt LATEST_MOMENT at then Some kind.Moment else None
+
+-- the call of an order
+abbrev pub order_call : ℕ → Order → Call
+order_call at o = record { caller = OPERATOR; moment = at; act = act.Order o }
+
+-- the order was answered
+abbrev pub IsOrdered : {L : Type 0} → Play L → ℕ → Order → Stage L → Type 0
+IsOrdered p at o (stage.Body q) =
+    (q.version ≡ p.version) × (q.names ≡ p.names) × (q.server ≡ record p.server { journal = p.server.journal ++ entry_of p.server.layout p.server.journal (order_call at o) ∷ [] })
+IsOrdered p at o _ = ⊥

@@ -1,9 +1,8 @@
 //! Replays of scripts: what a script says, line by line, and what its replay prints.
 #![tactic(auto)]
 
-mod decisions;
-pub mod laws;
-mod session;
+mod servers;
 mod stages;
+mod stub;
 
-pub use session::replay;
+pub use stages::Stage;

@@ -1,62 +1,62 @@
 //! How far a script has come, line by line.
 
-ghost use Rattle.std.specs.Prelude.{◌≡◌, ◌≤◌, ◌||◌, ◌==◌, not, List, [], length, None, Ok, Err, IfOk};
-ghost use Rattle.aim_msg.specs.declared.entries.TheConstants.{MOST_ENTRIES};
+ghost use Rattle.std.specs.Prelude.{◌≡◌, ◌≤◌, List, [], length, None, Ok, Err, IfOk};
+ghost use Rattle.aim_msg.specs.declared.entries.TheConstants.{LATEST_MOMENT, OPERATOR};
+ghost use Rattle.aim_rules.specs.Legal.{IsOfLayout};
+ghost use Rattle.aim_script.specs.Versions.{version_number};
 ghost use Rattle.aim_msg.specs.declared.script.Line.{Line};
-ghost use Rattle.aim_msg.specs.declared.script.Name.{Name};
-ghost use Rattle.aim_book.specs.Serving.{IsPlain};
-ghost use Rattle.aim_script.specs.Said.{grid_of as grid_from, times_of as times_from, shape_of as shape_from};
+ghost use Rattle.aim_msg.specs.Lines.{IsName};
 ghost use Rattle.aim_script.specs.Kinds.{vehicles_limit as limit_on};
 ghost use Rattle.aim_script.specs.Verdicts.{at_end};
-ghost use Rattle.aim_replay.specs.Stages.{Judged, Makes, MayTake, Opens, Stands, Takes, is_missing_request, journal_at, move_kind_of, request_kind, stage_of};
+ghost use Rattle.aim_script.specs.Headers.{HasName, IsSet, Stands as StandsAsHeader};
+ghost use Rattle.aim_replay.specs.Stages.{IsOfLines, IsOpen, IsOrdered, Judged, Makes, MayTake, Stands, Takes, decision_of, event_kind, journal_at, stage_of, version_at};
 
-use crate::decisions::{Decision, Kind, Limit};
-use aim_book::{Book, Full, OpenFault, bad_field, has_called};
-use aim_geometry::{Grid, Ground, GroundFault, Times};
+use crate::servers::Server;
 use aim_msg::{
-    Act, Body, Entry, Grid6, LATEST_MOMENT, Line, MOST_ENTRIES, MOST_VEHICLES, Message, MoveShape,
-    Params, Times5, Turn, read_line,
+    Act, Entry, LATEST_MOMENT, Line, MOST_VEHICLES, Message, Name, OPERATOR, Order, read_line,
 };
-use aim_paths::builders::{Builder, LayoutFault};
-use aim_paths::{Kind as PolicyKind, Layout, Shape};
+use aim_script::{Decision, Header, Headed, Kind, Limit, Names, ScriptVersion, Setting};
+use aim_tiles::Steps;
 use std::alloc::Global;
+use std::sync::ledger::Ledger;
+
+/// The manager of a script, and what its lines are read with.
+#[derive(Drop)]
+pub struct Play<L: Ledger> {
+    pub version: ScriptVersion,
+    pub names: Names,
+    pub server: Server<L>,
+}
 
 /// How far a script has come, and what is kept of the lines so far.
 #[derive(Drop)]
-pub enum Stage {
-    /// The line of the version comes next.
-    Version,
-    /// The line of the grid comes next.
-    Grid,
-    /// The line of the times comes next.
-    Times(Grid),
-    /// The line of the lanes comes next.
-    Lanes(Ground),
-    /// Moves come, or the first policy.
-    Moves(Builder),
-    /// Policies come, or the line of the vehicles.
-    Policies(Builder),
+pub enum Stage<L: Ledger> {
+    /// The lines before that of the vehicles.
+    Header(Header),
     /// `begin` comes next.
-    Begin(Book),
-    /// Events come, or `end`.
-    Body(Book),
+    Begin(Setting),
+    /// Events and orders come, or `end`.
+    Body(Play<L>),
     /// Nothing comes any more.
-    Over(Book),
+    Over(Play<L>),
 }
 
 /// An entry that a line made, and its position in the journal.
+#[derive(Clone, Copy)]
 pub struct Made {
     pub position: u32,
     pub entry: Entry,
 }
 
 /// What taking a line comes to: how far the script has come, and the entry that the line made.
-pub struct Taken {
-    pub stage: Stage,
+#[derive(Drop)]
+pub struct Taken<L: Ledger> {
+    pub stage: Stage<L>,
     pub made: Option<Made>,
 }
 
 /// Why a line isn't taken.
+#[derive(Clone, Copy)]
 pub enum Refusal {
     /// It is at fault.
     Bad(Kind),
@@ -66,98 +66,19 @@ pub enum Refusal {
     NoMemory,
 }
 
+/// What a script comes to.
+#[derive(Drop)]
+pub enum Finish<L: Ledger> {
+    /// The line of this number, counted from 1, is the first at fault.
+    Bad(u32, Kind),
+    /// The input goes past a limit.
+    Limit(Limit),
+    /// The script is whole: this is its manager.
+    Whole(Server<L>),
+}
+
 // The most spans in the sheets of all vehicles, one sheet for each.
 const MOST_SPANS: u64 = 16_777_216;
-
-// The grid of a line.
-fn grid_of(grid: &Grid6) -> Grid
-    ensures { result ≡ grid_from grid.now }
-{
-    Grid {
-        side: grid.side,
-        n: grid.n,
-        spacing: grid.spacing,
-        fixed: grid.fixed,
-        half: grid.half,
-        spans: grid.spans,
-    }
-}
-
-// The times of a line.
-fn times_of(times: &Times5) -> Times
-    ensures { result ≡ times_from times.now }
-{
-    Times {
-        horizon: times.horizon,
-        longest: times.longest,
-        clearance: times.clearance,
-        early: times.internal,
-        late: times.internal,
-        edge: times.edge,
-    }
-}
-
-// Whether a line of times asks for buffers.
-fn has_buffers(times: &Times5) -> bool
-    ensures { result ≡ (not (times.now.internal == 0) || not (times.now.edge == 0)) }
-{
-    times.internal != 0 || times.edge != 0
-}
-
-// The shape of a line.
-fn shape_of(shape: &MoveShape) -> Shape
-    ensures { result ≡ shape_from shape.now }
-{
-    match *shape {
-        MoveShape::Line { x0, y0, x1, y1, m } => Shape::Line { x0, y0, x1, y1, m },
-        MoveShape::Curve {
-            x0,
-            y0,
-            x1,
-            y1,
-            x2,
-            y2,
-            m,
-        } => Shape::Curve {
-            x0,
-            y0,
-            x1,
-            y1,
-            x2,
-            y2,
-            m,
-        },
-    }
-}
-
-// Whether the request accelerates, or couldn't be granted on any history.
-fn is_missing(book: &Book, params: &Params) -> bool
-    requires { IsPlain book.now.layout }
-    ensures { result ≡ is_missing_request book.now.layout params.now }
-{
-    if params.accel != 0 || params.speed != params.max_speed {
-        return true;
-    }
-    bad_field(book.layout(), params).is_some()
-}
-
-// What is wrong with a request of a vehicle.
-fn request_fault(book: &Book, vehicle: u32, moment: u32, params: &Params) -> Option<Kind>
-    requires { IsPlain book.now.layout }
-    ensures { result ≡ request_kind book.now vehicle moment params.now }
-{
-    let is_second = has_called(book.journal(), vehicle);
-    let is_missing = is_missing(book, params);
-    if is_second || is_missing {
-        Some(Kind::Unsupported)
-    } else if vehicle >= book.vehicles() {
-        Some(Kind::Vehicle)
-    } else if moment > LATEST_MOMENT {
-        Some(Kind::Moment)
-    } else {
-        None
-    }
-}
 
 // The limit that so many vehicles go past, where a vehicle's sheet has so many spans.
 fn vehicles_limit(spans: u32, vehicles: u32) -> Option<Limit>
@@ -172,43 +93,21 @@ fn vehicles_limit(spans: u32, vehicles: u32) -> Option<Limit>
     }
 }
 
-// Opens the book of a layout for so many vehicles.
-fn opened(alloc: Global, layout: Layout, vehicles: u32) -> Result<Stage, Refusal>
-    ensures { Opens layout vehicles result }
+// What is wrong with an event of a vehicle.
+fn event_fault<L: Ledger>(server: &Server<L>, vehicle: u32, moment: u32) -> Option<Kind>
+    ensures { result ≡ event_kind server.now.vehicles vehicle moment }
 {
-    if let Some(limit) = vehicles_limit(layout.ground().grid().spans, vehicles) {
-        return Err(Refusal::Limit(limit));
-    }
-    match Book::open(alloc, layout, vehicles, MOST_ENTRIES) {
-        Ok(book) => Ok(Stage::Begin(book)),
-        Err(OpenFault::NoMemory) => Err(Refusal::NoMemory),
-        Err(_) => Err(Refusal::Bad(Kind::Vehicle)),
-    }
-}
-
-// Ends a layout, and opens its book for so many vehicles.
-fn closed(alloc: Global, builder: Builder, vehicles: u32) -> Result<Stage, Refusal>
-    ensures takes { (before : List Line) → Stands before (Stage.Policies builder) → Takes before (Line.Vehicles vehicles) result }
-    ensures grows { IfOk result (λ next. journal_at next ≡ []) }
-{
-    match builder.finish() {
-        Ok(layout) => opened(alloc, layout, vehicles),
-        Err(_) => Err(Refusal::Bad(Kind::Phase)),
-    }
-}
-
-// The kind of a line whose move is refused.
-fn move_kind(fault: LayoutFault) -> Kind
-    ensures { result ≡ move_kind_of fault }
-{
-    match fault {
-        LayoutFault::Spacing { .. } => Kind::Spacing,
-        _ => Kind::Move,
+    if vehicle >= server.vehicles() {
+        Some(Kind::Vehicle)
+    } else if moment > LATEST_MOMENT {
+        Some(Kind::Moment)
+    } else {
+        None
     }
 }
 
 // What a line that makes no entry comes to.
-fn without_entry(next: Result<Stage, Refusal>) -> Result<Taken, Refusal>
+fn without_entry<L: Ledger>(next: Result<Stage<L>, Refusal>) -> Result<Taken<L>, Refusal>
     ensures stage { stage_of result ≡ next }
     ensures none { IfOk result (λ t. t.made ≡ None) }
 {
@@ -218,226 +117,202 @@ fn without_entry(next: Result<Stage, Refusal>) -> Result<Taken, Refusal>
     }
 }
 
-// Serves a request of a vehicle.
-fn served(
-    mut book: Book,
-    vehicle: u32,
-    moment: u32,
-    message: &Message,
-    params: &Params,
-) -> Result<Taken, Refusal>
-    requires may { MayTake (Stage.Body book) }
-    requires asks { message.now.body ≡ Body.Request params.now }
-    ensures takes { (before : List Line) → Stands before (Stage.Body book) → Takes before (Line.Event vehicle moment message.now) (stage_of result) }
-    ensures makes { IfOk result (λ t. Makes book.journal (journal_at t.stage) t.made) }
-    ensures memory { result ≡ Err Refusal.NoMemory → ⊥ }
+// Takes a line of the header.
+fn headed<L: Ledger>(header: Header, alloc: Global, line: &Line) -> Result<Stage<L>, Refusal>
+    requires { HasName line.now }
+    ensures takes { (before : List Line) → StandsAsHeader before header → Takes before line.now result }
+    ensures same { IfOk result (λ next. journal_at next ≡ []) }
 {
-    if let Some(kind) = request_fault(&book, vehicle, moment, params) {
-        return Err(Refusal::Bad(kind));
-    }
-    let position = book.journal().len() as u32;
-    match book.serve(vehicle, moment, *message) {
-        Ok(reply) => {
-            let act = Act::Message(*message);
-            let entry = Entry {
-                caller: vehicle,
-                moment,
-                act,
-                reply,
-            };
-            let made = Some(Made { position, entry });
-            let stage = Stage::Body(book);
-            Ok(Taken { stage, made })
+    match header.take(alloc, line) {
+        Ok(Headed::More(header)) => Ok(Stage::Header(header)),
+        Ok(Headed::Whole(setting)) => {
+            let spans = setting.layout.ground().grid().spans;
+            match vehicles_limit(spans, setting.vehicles) {
+                Some(limit) => Err(Refusal::Limit(limit)),
+                None => Ok(Stage::Begin(setting)),
+            }
         }
-        Err(Full) => unreachable!(),
+        Err(aim_script::Refusal::Bad(kind)) => Err(Refusal::Bad(kind)),
+        Err(aim_script::Refusal::NoMemory) => Err(Refusal::NoMemory),
     }
 }
 
-impl Stage {
-    // Takes the line of the version.
-    fn version(&self, version: u32) -> Result<Stage, Refusal>
-        ensures takes { (before : List Line) → Stands before self.now → Takes before (Line.Version version) result }
-        ensures same { IfOk result (λ next. journal_at next ≡ journal_at self.now) }
-        ensures memory { result ≡ Err Refusal.NoMemory → ⊥ }
-    {
-        match self {
-            Stage::Version => match version {
-                1 => Ok(Stage::Grid),
-                2 | 3 => Err(Refusal::Bad(Kind::Unsupported)),
-                _ => Err(Refusal::Bad(Kind::Version)),
-            },
-            _ => Err(Refusal::Bad(Kind::Order)),
-        }
-    }
-
-    // Takes the line of the grid.
-    fn grid(&self, grid: &Grid6) -> Result<Stage, Refusal>
-        ensures takes { (before : List Line) → Stands before self.now → Takes before (Line.Grid grid.now) result }
-        ensures same { IfOk result (λ next. journal_at next ≡ journal_at self.now) }
-        ensures memory { result ≡ Err Refusal.NoMemory → ⊥ }
-    {
-        match self {
-            Stage::Grid if grid.fixed != 0 => Err(Refusal::Bad(Kind::Unsupported)),
-            Stage::Grid => {
-                let read = grid_of(grid);
-                if read.is_bad() {
-                    return Err(Refusal::Bad(Kind::Grid));
-                }
-                Ok(Stage::Times(read))
+// Takes the line behind that of the vehicles.
+fn begun<L: Ledger>(setting: Setting, alloc: Global, line: &Line) -> Result<Stage<L>, Refusal>
+    requires { IsOpen setting }
+    ensures takes { (before : List Line) → IsSet before setting → Takes before line.now result }
+    ensures same { IfOk result (λ next. journal_at next ≡ []) }
+{
+    match line {
+        Line::Begin => {
+            let Setting {
+                version,
+                layout,
+                names,
+                vehicles,
+            } = setting;
+            match Server::open(alloc, layout, vehicles) {
+                Ok(server) => Ok(Stage::Body(Play {
+                    version,
+                    names,
+                    server,
+                })),
+                Err(_) => Err(Refusal::NoMemory),
             }
-            _ => Err(Refusal::Bad(Kind::Order)),
         }
+        _ => Err(Refusal::Bad(Kind::Order)),
     }
+}
 
-    // Takes the line of the times.
-    fn times(&self, times: &Times5) -> Result<Stage, Refusal>
-        ensures takes { (before : List Line) → Stands before self.now → Takes before (Line.Times times.now) result }
-        ensures same { IfOk result (λ next. journal_at next ≡ journal_at self.now) }
-        ensures memory { result ≡ Err Refusal.NoMemory → ⊥ }
+// Answers a message of a vehicle.
+fn served<L: Ledger>(
+    mut play: Play<L>,
+    vehicle: u32,
+    moment: u32,
+    message: &Message,
+    steps: &mut Steps<L>,
+) -> Result<Taken<L>, Refusal>
+    requires { MayTake (Stage.Body play) }
+    ensures takes { (before : List Line) → Stands before (Stage.Body play) → Takes before (Line.Event vehicle moment message.now) (stage_of result) }
+    ensures makes { IfOk result (λ t. Makes play.server.journal (journal_at t.stage) t.made) }
+    ensures memory { result ≡ Err Refusal.NoMemory → ⊥ }
+{
+    if let Some(kind) = event_fault(&play.server, vehicle, moment) {
+        return Err(Refusal::Bad(kind));
+    }
+    let position = play.server.entries();
+    let reply = play.server.serve(vehicle, moment, message, steps);
+    let entry = Entry {
+        caller: vehicle,
+        moment,
+        act: Act::Message(*message),
+        reply,
+    };
+    Ok(Taken {
+        stage: Stage::Body(play),
+        made: Some(Made { position, entry }),
+    })
+}
+
+// Answers an order of the operator.
+fn ordered<L: Ledger>(
+    mut play: Play<L>,
+    moment: u32,
+    order: Order,
+    steps: &mut Steps<L>,
+) -> Taken<L>
+    requires may { MayTake (Stage.Body play) }
+    requires moment { moment ≤ LATEST_MOMENT }
+    requires order { IsOfLayout play.server.layout play.server.vehicles OPERATOR (Act.Order order) }
+    ensures stage { IsOrdered play moment order result.stage }
+    ensures makes { Makes play.server.journal (journal_at result.stage) result.made }
+{
+    let position = play.server.entries();
+    let reply = play.server.operate(moment, order, steps);
+    let entry = Entry {
+        caller: OPERATOR,
+        moment,
+        act: Act::Order(order),
+        reply,
+    };
+    Taken {
+        stage: Stage::Body(play),
+        made: Some(Made { position, entry }),
+    }
+}
+
+// Takes a switch to the policy of a name.
+fn switched<L: Ledger>(
+    play: Play<L>,
+    moment: u32,
+    name: &Name,
+    steps: &mut Steps<L>,
+) -> Result<Taken<L>, Refusal>
+    requires may { MayTake (Stage.Body play) }
+    requires name { IsName name.now }
+    ensures takes { (before : List Line) → Stands before (Stage.Body play) → Takes before (Line.SwitchTo moment name.now) (stage_of result) }
+    ensures makes { IfOk result (λ t. Makes play.server.journal (journal_at t.stage) t.made) }
+    ensures memory { result ≡ Err Refusal.NoMemory → ⊥ }
+{
+    let Some(policy) = play.names.number(name) else {
+        return Err(Refusal::Bad(Kind::Policy));
+    };
+    if moment > LATEST_MOMENT {
+        return Err(Refusal::Bad(Kind::Moment));
+    }
+    // There are as many names as policies, and so few.
+    let count = play.server.layout().policies();
+    prove!(policy < count as usize);
+    Ok(ordered(play, moment, Order::Switch(policy as u8), steps))
+}
+
+// Takes a stop.
+fn stopped<L: Ledger>(play: Play<L>, moment: u32, steps: &mut Steps<L>) -> Result<Taken<L>, Refusal>
+    requires { MayTake (Stage.Body play) }
+    ensures takes { (before : List Line) → Stands before (Stage.Body play) → Takes before (Line.StopAt moment) (stage_of result) }
+    ensures makes { IfOk result (λ t. Makes play.server.journal (journal_at t.stage) t.made) }
+    ensures memory { result ≡ Err Refusal.NoMemory → ⊥ }
+{
+    if moment > LATEST_MOMENT {
+        return Err(Refusal::Bad(Kind::Moment));
+    }
+    Ok(ordered(play, moment, Order::Stop, steps))
+}
+
+// Takes a line of the body.
+fn played<L: Ledger>(play: Play<L>, line: &Line, steps: &mut Steps<L>) -> Result<Taken<L>, Refusal>
+    requires may { MayTake (Stage.Body play) }
+    requires name { HasName line.now }
+    ensures takes { (before : List Line) → Stands before (Stage.Body play) → Takes before line.now (stage_of result) }
+    ensures makes { IfOk result (λ t. Makes play.server.journal (journal_at t.stage) t.made) }
+    ensures memory { result ≡ Err Refusal.NoMemory → ⊥ }
+{
+    match line {
+        Line::Event {
+            vehicle,
+            moment,
+            message,
+        } => served(play, *vehicle, *moment, message, steps),
+        Line::SwitchTo { moment, name } => switched(play, *moment, name, steps),
+        Line::StopAt { moment } => stopped(play, *moment, steps),
+        Line::End => Ok(Taken {
+            stage: Stage::Over(play),
+            made: None,
+        }),
+        _ => Err(Refusal::Bad(Kind::Order)),
+    }
+}
+
+impl<L: Ledger> Stage<L> {
+    // The version in which the next line is read.
+    fn version(&self) -> ScriptVersion
+        ensures { version_number result ≡ version_at self.now }
     {
         match self {
-            Stage::Times(_) if has_buffers(times) => Err(Refusal::Bad(Kind::Unsupported)),
-            Stage::Times(grid) => match Ground::build(*grid, times_of(times)) {
-                Ok(ground) => Ok(Stage::Lanes(ground)),
-                Err(GroundFault::Grid) => Err(Refusal::Bad(Kind::Grid)),
-                Err(GroundFault::Buffers) => Err(Refusal::Bad(Kind::Buffers)),
-                Err(GroundFault::Times) => Err(Refusal::Bad(Kind::Times)),
-            },
-            _ => Err(Refusal::Bad(Kind::Order)),
-        }
-    }
-
-    // Takes the line of the lanes.
-    fn lanes(&self, alloc: Global, lanes: u32) -> Result<Stage, Refusal>
-        ensures takes { (before : List Line) → Stands before self.now → Takes before (Line.Lanes lanes) result }
-        ensures same { IfOk result (λ next. journal_at next ≡ journal_at self.now) }
-        ensures memory { result ≡ Err Refusal.NoMemory → journal_at self.now ≡ [] }
-    {
-        match self {
-            Stage::Lanes(ground) => match Builder::new(alloc, *ground, lanes) {
-                Ok(builder) => Ok(Stage::Moves(builder)),
-                Err(LayoutFault::NoMemory) => Err(Refusal::NoMemory),
-                Err(_) => Err(Refusal::Bad(Kind::Lane)),
-            },
-            _ => Err(Refusal::Bad(Kind::Order)),
-        }
-    }
-
-    // Takes the line of a move.
-    fn turn(self, lane: u8, turn: Turn, shape: &MoveShape) -> Result<Stage, Refusal>
-        ensures takes { (before : List Line) → Stands before self → Takes before (Line.Move lane turn shape.now) result }
-        ensures same { IfOk result (λ next. journal_at next ≡ journal_at self) }
-        ensures memory { result ≡ Err Refusal.NoMemory → ⊥ }
-    {
-        match self {
-            Stage::Moves(mut builder) => {
-                match builder.add_move(u32::from(lane), turn, shape_of(shape)) {
-                    Ok(()) => Ok(Stage::Moves(builder)),
-                    Err(fault) => Err(Refusal::Bad(move_kind(fault))),
-                }
-            }
-            _other => Err(Refusal::Bad(Kind::Order)),
-        }
-    }
-
-    // Takes the line of a policy.
-    fn policy(self, kind: u8) -> Result<Stage, Refusal>
-        ensures takes { (before : List Line) (name : Name) → Stands before self → Takes before (Line.Policy name kind) result }
-        ensures same { IfOk result (λ next. journal_at next ≡ journal_at self) }
-        ensures memory { result ≡ Err Refusal.NoMemory → ⊥ }
-    {
-        match self {
-            Stage::Moves(_builder) if kind != 0 => Err(Refusal::Bad(Kind::Unsupported)),
-            Stage::Moves(mut builder) => match builder.add_policy(PolicyKind::Fcfs) {
-                Ok(()) => Ok(Stage::Policies(builder)),
-                Err(_) => Err(Refusal::Bad(Kind::Phase)),
-            },
-            Stage::Policies(_builder) => Err(Refusal::Bad(Kind::Unsupported)),
-            _other => Err(Refusal::Bad(Kind::Order)),
-        }
-    }
-
-    // Takes the line of the vehicles.
-    fn vehicles(self, alloc: Global, vehicles: u32) -> Result<Stage, Refusal>
-        ensures takes { (before : List Line) → Stands before self → Takes before (Line.Vehicles vehicles) result }
-        ensures same { IfOk result (λ next. journal_at next ≡ journal_at self) }
-        ensures memory { result ≡ Err Refusal.NoMemory → journal_at self ≡ [] }
-    {
-        match self {
-            Stage::Moves(_builder) => Err(Refusal::Bad(Kind::Phase)),
-            Stage::Policies(builder) => closed(alloc, builder, vehicles),
-            _other => Err(Refusal::Bad(Kind::Order)),
-        }
-    }
-
-    // Takes `begin`.
-    fn begin(self) -> Result<Stage, Refusal>
-        ensures takes { (before : List Line) → Stands before self → Takes before Line.Begin result }
-        ensures same { IfOk result (λ next. journal_at next ≡ journal_at self) }
-        ensures memory { result ≡ Err Refusal.NoMemory → ⊥ }
-    {
-        match self {
-            Stage::Begin(book) => Ok(Stage::Body(book)),
-            _other => Err(Refusal::Bad(Kind::Order)),
-        }
-    }
-
-    // Takes a message of a vehicle, and answers it.
-    fn event(self, vehicle: u32, moment: u32, message: &Message) -> Result<Taken, Refusal>
-        requires { MayTake self }
-        ensures takes { (before : List Line) → Stands before self → Takes before (Line.Event vehicle moment message.now) (stage_of result) }
-        ensures makes { IfOk result (λ t. Makes (journal_at self) (journal_at t.stage) t.made) }
-        ensures memory { result ≡ Err Refusal.NoMemory → ⊥ }
-    {
-        match message.body {
-            Body::Request(params) => match self {
-                Stage::Body(book) => served(book, vehicle, moment, message, &params),
-                _other => Err(Refusal::Bad(Kind::Order)),
-            },
-            _ => Err(Refusal::Bad(Kind::Unsupported)),
-        }
-    }
-
-    // Takes `end`.
-    fn end(self) -> Result<Stage, Refusal>
-        ensures takes { (before : List Line) → Stands before self → Takes before Line.End result }
-        ensures same { IfOk result (λ next. journal_at next ≡ journal_at self) }
-        ensures memory { result ≡ Err Refusal.NoMemory → ⊥ }
-    {
-        match self {
-            Stage::Body(book) => Ok(Stage::Over(book)),
-            _other => Err(Refusal::Bad(Kind::Order)),
+            Stage::Header(header) => header.version(),
+            Stage::Begin(setting) => setting.version,
+            Stage::Body(play) | Stage::Over(play) => play.version,
         }
     }
 
     // Takes a line.
-    fn after(self, alloc: Global, line: &Line) -> Result<Taken, Refusal>
-        requires { MayTake self }
+    fn after(self, alloc: Global, line: &Line, steps: &mut Steps<L>) -> Result<Taken<L>, Refusal>
+        requires may { MayTake self }
+        requires name { HasName line.now }
         ensures takes { (before : List Line) → Stands before self → Takes before line.now (stage_of result) }
         ensures makes { IfOk result (λ t. Makes (journal_at self) (journal_at t.stage) t.made) }
         ensures memory { result ≡ Err Refusal.NoMemory → journal_at self ≡ [] }
     {
-        match line {
-            Line::Version(version) => without_entry(self.version(*version)),
-            Line::Grid(grid) => without_entry(self.grid(grid)),
-            Line::Times(times) => without_entry(self.times(times)),
-            Line::Lanes(lanes) => without_entry(self.lanes(alloc, *lanes)),
-            Line::Move { lane, turn, shape } => without_entry(self.turn(*lane, *turn, shape)),
-            Line::Policy { kind, .. } => without_entry(self.policy(*kind)),
-            Line::Vehicles(vehicles) => without_entry(self.vehicles(alloc, *vehicles)),
-            Line::Begin => without_entry(self.begin()),
-            Line::Event {
-                vehicle,
-                moment,
-                message,
-            } => self.event(*vehicle, *moment, message),
-            Line::End => without_entry(self.end()),
-            _ => Err(Refusal::Bad(Kind::Unsupported)),
+        match self {
+            Stage::Header(header) => without_entry(headed(header, alloc, line)),
+            Stage::Begin(setting) => without_entry(begun(setting, alloc, line)),
+            Stage::Body(play) => played(play, line, steps),
+            Stage::Over(_play) => Err(Refusal::Bad(Kind::Order)),
         }
     }
 
-    /// Takes the next line of a script, without its byte 10, and answers its event, if it is one.
-    pub fn take(self, alloc: Global, bytes: &[u8]) -> Result<Taken, Refusal>
+    /// Takes the next line of a script, without its byte 10, and answers its event or order, if it is one.
+    pub fn take(self, alloc: Global, bytes: &[u8], steps: &mut Steps<L>) -> Result<Taken<L>, Refusal>
         requires { MayTake self }
         ensures judged { (before : List Line) → Stands before self → Judged before bytes.now (stage_of result) }
         ensures makes { IfOk result (λ t. Makes (journal_at self) (journal_at t.stage) t.made) }
@@ -445,21 +320,34 @@ impl Stage {
         // Memory is taken before the first event alone.
         ensures memory { result ≡ Err Refusal.NoMemory → journal_at self ≡ [] }
     {
-        match read_line(bytes, 1) {
-            Ok(line) => self.after(alloc, &line),
+        match read_line(bytes, self.version().number()) {
+            Ok(line) => self.after(alloc, &line, steps),
             Err(kind) => Err(Refusal::Bad(Kind::Spelling(kind))),
         }
     }
 
     /// What the script comes to if its input ends here, behind so many lines.
-    pub fn at_end(&self, lines: u32) -> Decision
+    pub fn at_end(self, lines: u32) -> Finish<L>
         requires lines { lines ≤ 262144 }
-        requires entries { length (journal_at self.now) ≤ MOST_ENTRIES }
-        ensures { (before : List Line) → Stands before self.now → length before ≡ lines → result ≡ at_end before }
+        ensures decision { (before : List Line) → Stands before self → length before ≡ lines → decision_of result ≡ at_end before }
+        ensures lines { (before : List Line) → Stands before self → IsOfLines before result }
     {
         match self {
-            Stage::Over(book) => Decision::Whole(book.journal().len() as u32),
-            _ => Decision::Bad(lines + 1, Kind::End),
+            Stage::Over(play) => Finish::Whole(play.server),
+            _other => Finish::Bad(lines + 1, Kind::End),
+        }
+    }
+}
+
+impl<L: Ledger> Finish<L> {
+    /// The decision that it is.
+    pub fn decision(&self) -> Decision
+        ensures { result ≡ decision_of self.now }
+    {
+        match self {
+            Finish::Bad(number, kind) => Decision::Bad(*number, *kind),
+            Finish::Limit(limit) => Decision::Limit(*limit),
+            Finish::Whole(server) => Decision::Whole(server.entries()),
         }
     }
 }

@@ -1,8 +1,0 @@
-use Rattle.aim_replay.proofs.SessionLemmas.{front_of_text, front_written}
-use Rattle.aim_replay.proofs.session.replay_script.Goals as goal
-
-pub returns-in-Err-clause-front : goal.returns-in-Err-clause-front
-returns-in-Err-clause-front g c = front_of_text _ _ _ c.in-Err.ensures.front
-
-pub returns-in-Err-put_decision-clause-front : goal.returns-in-Err-put_decision-clause-front
-returns-in-Err-put_decision-clause-front g c = front_written _ _ _ _ _ c.in-Ok.ensures.verdict c.in-Ok.ensures.written c.in-Err-put_decision.ensures.err
