@@ -1,2 +1,5 @@
 pub mod SheetLemmas
 pub mod StageLemmas
+pub mod ChartLemmas
+pub mod TextLemmas
+pub mod SessionLemmas

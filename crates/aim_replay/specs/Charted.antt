@@ -1,6 +1,6 @@
--- What a row of masks says of a row of a chart.
+-- What a row of masks says of a row of a chart, and the texts of rows.
 -- No public clause cites it: only contracts of private functions.
-use Rattle.std.specs.Prelude.{◌≡◌, ℕ, Bool, ◌&&◌, not, nat_lt, List, length}
+use Rattle.std.specs.Prelude.{◌≡◌, ℕ, Bool, ◌&&◌, not, nat_lt, List, length, if◌then◌else◌}
 use Rattle.std.specs.List.{list_any}
 use Rattle.aim_msg.specs.declared.entries.Entry.{Entry}
 use Rattle.aim_geometry.specs.Bounded.{some_below}
@@ -10,6 +10,7 @@ use Rattle.aim_paths.specs.Intersection.{Intersection}
 use Rattle.aim_rules.specs.History.{fresh, now_of}
 use Rattle.aim_rules.specs.Holds.{reservations, is_granted}
 use Rattle.aim_rules.specs.Claims.{is_claimed}
+use Rattle.aim_rules.specs.Charts.{blank_row, chart_row}
 use Rattle.aim_book.specs.State.{State}
 
 -- whether some vehicle holds the cell after a history
@@ -24,3 +25,11 @@ claims_cell i h c = some_below (length i.lanes) (λ lane. is_claimed i h lane c)
 pub record MarksRow (s : State) (row step held claimed : ℕ) : Type 0 where
   pub held_columns : (col : ℕ) → has_bit held col ≡ (not (nat_lt step (now_of s.journal 0)) && holds_cell s.layout s.journal (record { row = row; col = col; step = step }))
   pub claimed_columns : (col : ℕ) → has_bit claimed col ≡ (not (nat_lt step (now_of s.journal 0)) && claims_cell s.layout s.journal (record { row = row; col = col; step = step }))
+
+-- the character of a column of a row
+abbrev pub mark_of : ℕ → ℕ → ℕ → ℕ
+mark_of held claimed col = if has_bit held col then 35 else if has_bit claimed col then 103 else 46
+
+-- a row of the chart of a step
+abbrev pub row_text : Intersection → List Entry → ℕ → ℕ → List ℕ
+row_text i h step row = if nat_lt step (now_of h 0) then blank_row i else chart_row i h (reservations i (fresh h) (now_of h 0)) step row

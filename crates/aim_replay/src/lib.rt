@@ -1,8 +1,11 @@
 //! Replays of scripts: what a script says, line by line, and what its replay prints.
 #![tactic(auto)]
 
+mod charts;
+mod outputs;
 mod servers;
+mod session;
 mod stages;
 mod stub;
 
-pub use stages::Stage;
+pub use session::replay;

@@ -1,0 +1,8 @@
+use Rattle.aim_replay.proofs.SessionLemmas.{front_of_text, front_written}
+use Rattle.aim_replay.proofs.session.replay_script.Goals as goal
+
+pub returns-in-Err-clause-front : goal.returns-in-Err-clause-front
+returns-in-Err-clause-front g c = front_of_text _ _ _ _ c.in-Err.ensures.front
+
+pub returns-in-Err-put_ending-clause-front : goal.returns-in-Err-put_ending-clause-front
+returns-in-Err-put_ending-clause-front g c = front_written _ _ _ _ _ _ c.in-Ok.ensures.verdict c.in-Ok.ensures.written c.in-Err-put_ending.ensures.err
