@@ -7,7 +7,8 @@ ghost use Rattle.aim_io.specs.Causes.{Rose};
 ghost use Rattle.aim_io.specs.Known.{AppendsFront};
 ghost use Rattle.aim_replay.specs.Replays.{LastNeeded, Replays, StopsShort, TakesAtMost, WritesFront};
 ghost use Rattle.aim_replay.specs.Texts.{replay_text};
-ghost use Rattle.aim.specs.Commands.{command_of as command_in};
+ghost use Rattle.aim.specs.declared.words.Command.{Command};
+ghost use Rattle.aim.specs.Commands.{asked_in, command_of as command_in};
 ghost use Rattle.aim.specs.Runs.{Completes, TellsUsage};
 
 use crate::words::{Command, command_of};
@@ -35,9 +36,10 @@ pub fn run<S: Source, K: Sink>(alloc: Global, words: &[String], source: &mut S, 
     ensures outside { command_in (map string_bytes words.now) ≡ None → (source.new ≡ source.old) × TellsUsage (K.held sink.old) (K.held sink.new) result }
     ensures inside { result ≡ 2 → command_in (map string_bytes words.now) ≡ None }
 
-    // With status 0, 3 or 6 the whole text of the source's bytes is written, and the status is theirs.
-    ensures whole { (result ≡ 0) ⊎ ((result ≡ 3) ⊎ (result ≡ 6)) → IfSome (S.left source.old)
-        (λ bytes. Replays None bytes (K.held sink.old) (K.held sink.new) result) }
+    // With status 0, 3 or 6 the whole text of the source's bytes is written, the chart included that the words ask for, and
+    // the status is theirs.
+    ensures whole { (command : Command) → command_in (map string_bytes words.now) ≡ Some command → (result ≡ 0) ⊎ ((result ≡ 3) ⊎ (result ≡ 6)) → IfSome (S.left source.old)
+        (λ bytes. Replays (asked_in command) bytes (K.held sink.old) (K.held sink.new) result) }
     ensures ended { result ≡ 0 → IsAtEnd (S.left source.new) }
 
     // Whatever the status, no more than one byte past the greatest input is taken, and nothing is read behind bytes that
@@ -46,8 +48,8 @@ pub fn run<S: Source, K: Sink>(alloc: Global, words: &[String], source: &mut S, 
     ensures needed { (source.new ≡ source.old) ⊎ LastNeeded (S.left source.old) (S.left source.new) (S.last_read source.new) }
 
     // With status 4, 5 or 7 what is written is a front of that text.
-    ensures front { command_in (map string_bytes words.now) ≡ Some Command.Replay → (result ≡ 4) ⊎ ((result ≡ 5) ⊎ (result ≡ 7))
-        → WritesFront (S.left source.old) (K.held sink.old) (K.held sink.new) (replay_text None) }
+    ensures front { (command : Command) → command_in (map string_bytes words.now) ≡ Some command → (result ≡ 4) ⊎ ((result ≡ 5) ⊎ (result ≡ 7))
+        → WritesFront (S.left source.old) (K.held sink.old) (K.held sink.new) (replay_text (asked_in command)) }
     ensures short { result ≡ 4 → StopsShort (S.left source.old) (S.left source.new) (K.held sink.old) (K.held sink.new) }
     ensures memory { result ≡ 7 → Appends (K.held sink.old) (K.held sink.new) [] }
 
@@ -57,11 +59,12 @@ pub fn run<S: Source, K: Sink>(alloc: Global, words: &[String], source: &mut S, 
     ensures source { S.faults source.old ≤ S.faults source.new }
     ensures sink { K.faults sink.old ≤ K.faults sink.new }
     ensures statuses { (result ≡ 0) ⊎ ((result ≡ 2) ⊎ ((result ≡ 3) ⊎ ((result ≡ 4) ⊎ ((result ≡ 5) ⊎ ((result ≡ 6) ⊎ (result ≡ 7)))))) }
-    ensures complete { command_in (map string_bytes words.now) ≡ Some Command.Replay → IfSome (S.left source.old)
+    ensures complete { (command : Command) → command_in (map string_bytes words.now) ≡ Some command → IfSome (S.left source.old)
         (λ bytes. Completes bytes (S.faults source.old) (S.faults source.new) (K.faults sink.old) (K.faults sink.new) result) }
 {
     match command_of(words) {
         None => tell_usage(sink),
-        Some(Command::Replay) => replay(alloc, source, sink),
+        Some(Command::Replay) => replay(alloc, source, sink, None),
+        Some(Command::Chart(step)) => replay(alloc, source, sink, Some(step)),
     }
 }

@@ -1,5 +1,6 @@
 -- How a replay goes on with one more line, and how it ends.
-use Rattle.std.proofs.Common.{◌≡◌, ◌⊎◌, inl, inr, ℕ, ◌+◌, ◌<◌, ◌≤◌, Bool, true, false, List, [], ◌∷◌, ◌++◌, length, Option, Some, None, IfSome, Ok, Err, refl, sym, ap, ◌∙◌, subst, arith, append_assoc, append-nil, length-append}
+use Rattle.std.proofs.Common.{◌≡◌, ◌⊎◌, inl, inr, ℕ, ◌+◌, ◌<◌, ◌≤◌, Bool, true, false, List, [], ◌∷◌, ◌++◌, length, Option, Some, None, IfSome, Result, Ok, Err, refl, sym, ap, ◌∙◌, subst, arith, append_assoc, append-nil, length-append}
+use Rattle.std.specs.Prelude.{OnErr}
 use Rattle.std.specs.List.{AllByRecursion}
 use Rattle.std.specs.Bool.{OnTrue, OnFalse}
 use Rattle.std.specs.Io.KnownBytes.{Appends, Consumes, Keeps, IsAtEnd, prepend_known}
@@ -412,6 +413,32 @@ bad_written bytes rest left start mid now old new s d r step is none =
 
 pub memory_front : {L : Type 0} (bytes rest start mid now : Option (List ℕ)) (reader : Reader) (s : Stage L) → Reached bytes rest start mid reader s → Appends mid now [] → WritesFront bytes start now entries_text
 memory_front bytes rest start mid now reader s r none = stops_whole r.before s reader bytes rest start now r.stands r.decides (written_kept start mid now (entry_lines 0 (journal_at s)) r.written none)
+
+-- where memory runs out, nothing was written
+pub memory_nothing : {L : Type 0} (bytes rest start mid now : Option (List ℕ)) (reader : Reader) (s : Stage L) → Reached bytes rest start mid reader s → journal_at s ≡ [] → Appends mid now [] → Appends start now []
+memory_nothing bytes rest start mid now reader s r empty none = Appends-trans start mid now [] [] (rw empty at r.written) none
+
+-- a front of the first of two texts is a front of both
+pub front_first : (old new : Option (List ℕ)) (first second : List ℕ) → AppendsFront old new first → AppendsFront old new (first ++ second)
+front_first old new first second part = record {
+  front = part.front;
+  rest = part.rest ++ second;
+  whole = ap (λ (t : List ℕ). t ++ second) part.whole ∙ append_assoc part.front part.rest second;
+  added = part.added;
+}
+
+-- a front of the second, behind the first
+pub front_second : (old mid new : Option (List ℕ)) (first second : List ℕ) → Appends old mid first → AppendsFront mid new second → AppendsFront old new (first ++ second)
+front_second old mid new first second done part = record {
+  front = first ++ part.front;
+  rest = part.rest;
+  whole = ap (λ (t : List ℕ). first ++ t) part.whole ∙ sym (append_assoc first part.front part.rest);
+  added = Appends-trans old mid new _ _ done part.added;
+}
+
+pub on_err : {T E : Type 0} (r : Result T E) (P Q : Type 0) → (P → Q) → OnErr r P → OnErr r Q
+on_err (Ok x) P Q f h = tt
+on_err (Err e) P Q f h = f h
 
 -- the chart of the verdict is that of the manager
 chart_same : {L : Type 0} (asked : Option ℕ) (f : Finish L) (v : Verdict) → IsOfLines v.before f → chart_lines asked (decision_of f) (layout_of v.before) (journal_of v) ≡ chart_text asked f

@@ -9,7 +9,7 @@ ghost use Rattle.aim_script.specs.Headers.{Stands as StandsAsHeader};
 ghost use Rattle.aim_replay.specs.Texts.{replay_text};
 ghost use Rattle.aim_replay.specs.Stages.{MayTake, Stands, decision_of};
 ghost use Rattle.aim_replay.specs.Replays.{LastNeeded, Replays, StopsShort, TakesAtMost, Writes, WritesFront, entries_text};
-ghost use Rattle.aim_replay.specs.Sessions.{Comes, Responds, ending_text, is_whole};
+ghost use Rattle.aim_replay.specs.Sessions.{Comes, Responds, chart_text, ending_text, is_whole};
 
 use crate::charts::put_chart;
 use crate::outputs::{put_decision, put_made};
@@ -111,8 +111,23 @@ fn replay_lines<S: Source, K: Sink, L: Ledger>(
     }
 }
 
-// Writes what stands behind the lines of the entries: the chart, if one is asked for and the script
-// is whole, and the last line.
+// Writes the chart of a step, if one is asked for and the script is whole.
+fn put_asked<K: Sink, L: Ledger>(
+    sink: &mut K,
+    finish: &Finish<L>,
+    chart: Option<u32>,
+) -> Result<(), Failed>
+    ensures ok { OnOk result (Appends (K.held sink.old) (K.held sink.new) (chart_text chart finish.now)) }
+    ensures err { OnErr result (AppendsFront (K.held sink.old) (K.held sink.new) (chart_text chart finish.now)) }
+    ensures cause { HasCause (K.faults sink.old) (K.faults sink.new) result }
+{
+    match (finish, chart) {
+        (Finish::Whole(server), Some(step)) => put_chart(sink, server, step),
+        _ => Ok(()),
+    }
+}
+
+// Writes what stands behind the lines of the entries: the chart, and the last line.
 fn put_ending<K: Sink, L: Ledger>(
     sink: &mut K,
     finish: &Finish<L>,
@@ -122,10 +137,10 @@ fn put_ending<K: Sink, L: Ledger>(
     ensures err { OnErr result (AppendsFront (K.held sink.old) (K.held sink.new) (ending_text chart finish.now)) }
     ensures cause { HasCause (K.faults sink.old) (K.faults sink.new) result }
 {
-    if let (Finish::Whole(server), Some(step)) = (finish, chart) {
-        put_chart(sink, server, step)?;
+    match put_asked(sink, finish, chart) {
+        Err(failed) => Err(failed),
+        Ok(()) => put_decision(sink, finish.decision()),
     }
-    put_decision(sink, finish.decision())
 }
 
 // Replays a script, and says what it comes to.

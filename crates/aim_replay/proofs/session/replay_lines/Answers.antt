@@ -3,12 +3,12 @@ use Rattle.aim_io.specs.Lines.{LongLine, TooManyBytes, TooManyLines}
 use Rattle.aim_io.specs.Reader.{Reader}
 use Rattle.aim_script.specs.declared.decisions.Kind.TheVariants as why
 use Rattle.aim_replay.specs.declared.stages.Finish.TheVariants as finish
-use Rattle.aim_replay.proofs.SessionLemmas.{Gives, on_true, sound_start, knows_start, reached_start, reached_more, front_reached, short_reached, fault_told, fault_written, end_told, end_written, bad_told, bad_written, limit_told, stops_inside, memory_front, most_call, most_fault, needed_call, left_at_end, on_false}
+use Rattle.aim_replay.proofs.SessionLemmas.{Gives, on_true, sound_start, knows_start, reached_start, reached_more, front_reached, short_reached, fault_told, fault_written, end_told, end_written, bad_told, bad_written, limit_told, stops_inside, memory_front, memory_nothing, most_call, most_fault, needed_call, left_at_end, on_false}
 use Rattle.aim_replay.proofs.session.replay_lines.Goals as goal
 
 pub lines-init : goal.lines-init
 lines-init g c = record {
-  reached = rw c.new-reader.ensures (reached_start _ (g.S.Source.left c.args.source.now) (g.K.Sink.held c.args.sink.now) ?);
+  reached = rw c.new-reader.ensures (reached_start _ (g.S.Source.left c.args.source.now) (g.K.Sink.held c.args.sink.now) c.new.ensures);
   number = sym (ap (λ (r : Reader). r.given) c.new-reader.ensures);
   no_fault = ap (λ (r : Reader). r.fault) c.new-reader.ensures;
   sound = rw c.new-reader.ensures sound_start;
@@ -213,3 +213,9 @@ returns-in-Err-NoMemory-clause-needed g c = needed_call g.S.Source.left g.S.Sour
 pub returns-in-Ok-false-clause-ended : goal.returns-in-Ok-false-clause-ended
 returns-in-Ok-false-clause-ended g c _ =
     left_at_end c.advance.new.self _ (c.advance.ensures.knows c.lines.invariant.knows) (on_false _ c.in-Ok-false.field-0-test c.in-Ok-false.ensures.end)
+
+pub returns-in-Err-NoMemory-clause-memory : goal.returns-in-Err-NoMemory-clause-memory
+returns-in-Err-NoMemory-clause-memory g c _ =
+    let i = c.lines.invariant in
+    let responds = rw c.in-Err-NoMemory.field-0-is at (c.in-Err-NoMemory.ensures.responds i.reached.before i.reached.stands) in
+    memory_nothing _ _ _ _ _ _ _ i.reached responds.0 responds.1
