@@ -1,3 +1,6 @@
+pub mod Examples
+pub mod MoreExamples
+pub mod ScriptExamples
 pub mod SheetLemmas
 pub mod StageLemmas
 pub mod ChartLemmas
