@@ -17,6 +17,20 @@ pub enum Command {
     Chart(u32),
 }
 
+// Whether the byte is a digit.
+fn is_digit(b: u8) -> bool
+    ensures { result ≡ is_digit b }
+{
+    b.is_ascii_digit()
+}
+
+// Whether all bytes are digits.
+fn are_digits(word: &[u8]) -> bool
+    ensures { result ≡ list_all is_digit word.now }
+{
+    word.iter().all(|b| is_digit(*b))
+}
+
 // Whether the word is digits, with no 0 before others.
 fn is_number(word: &[u8]) -> bool
     ensures { result ≡ is_number_word word.now }
@@ -24,7 +38,7 @@ fn is_number(word: &[u8]) -> bool
     match word {
         [] => false,
         [b'0', _, ..] => false,
-        _ => word.iter().all(|b| b.is_ascii_digit()),
+        _ => are_digits(word),
     }
 }
 

@@ -1,0 +1,38 @@
+"""Runs the program that ./aim built over the cases of tests/cases, as a user does. Ends with a status other than 0 where
+anything differs. A case is a folder with `words` (one a line), `input`, `output` and `status`; its name says what it shows."""
+import pathlib
+import subprocess
+import sys
+
+TOP = pathlib.Path(__file__).resolve().parent.parent
+PROGRAM = TOP / "crates/aim/out/aim"
+
+
+def difference(case):
+    """What differs in a case: nothing where it passes."""
+    words = (case / "words").read_text().splitlines()
+    with open(case / "input", "rb") as script:
+        done = subprocess.run([PROGRAM, *words], stdin=script, stdout=subprocess.PIPE, timeout=60, check=False)
+    wanted = (case / "output").read_bytes()
+    status = int((case / "status").read_text())
+    if done.returncode != status:
+        return f"status {done.returncode}, wanted {status}"
+    if done.stdout != wanted:
+        pairs = zip(done.stdout.split(b"\n") + [b""], wanted.split(b"\n") + [b""])
+        return next((f"{got!r}, wanted {want!r}" for got, want in pairs if got != want), "another number of lines")
+    return ""
+
+
+def main():
+    cases = sorted(case for case in (TOP / "tests/cases").iterdir() if case.is_dir())
+    failed = 0
+    for case in cases:
+        differs = difference(case)
+        if differs:
+            failed += 1
+            print(f"cases: {case.name}: {differs}", file=sys.stderr)
+    print(f"cases: {len(cases) - failed} passed, {failed} failed")
+    return 1 if failed or not cases else 0
+
+
+sys.exit(main())
