@@ -1,13 +1,60 @@
 -- The sheets that a manager keeps for its vehicles.
-use Rattle.std.proofs.Common.{◌≡◌, inl, inr, ℕ, zero, suc, ◌+◌, ◌-◌, ◌==◌, ◌<◌, ◌≤◌, false, List, [], ◌∷◌, ◌++◌, length, refl, ap, ◌∙◌, arith, rules, length-append}
+use Rattle.std.proofs.Common.{◌≡◌, inl, inr, ℕ, zero, suc, ◌+◌, ◌-◌, ◌==◌, ◌<◌, ◌≤◌, Bool, true, false, Option, Some, None, List, [], ◌∷◌, ◌++◌, length, refl, sym, ap, ◌∙◌, arith, rules, length-append, if◌then◌else◌}
+use Rattle.std.specs.Prelude.{option_and_then}
+use Rattle.std.specs.List.{list_any}
 use Rattle.std.proofs.lemmas.Bool.{cases_Bool, eqb-true, eqb-false}
 use Rattle.aim_msg.specs.declared.entries.Entry.{Entry}
 use Rattle.aim_msg.specs.declared.entries.TheConstants.{MOST_ENTRIES, MOST_VEHICLES, OPERATOR}
 use Rattle.aim_paths.specs.Intersection.{Intersection}
 use Rattle.aim_pool.specs.Pools.{Stock}
 use Rattle.aim_book.specs.State.{State}
-use Rattle.aim_replay.specs.BookStub.{sheets_kept, kept_nothing, kept_most, kept_other}
+use Rattle.aim_book.specs.Sheets.{id_in, sheets_with, sheets_kept}
+use Rattle.aim_rules.specs.History.{Fresh, fresh, is_fresh, given_up_at, of_vehicle}
+use Rattle.aim_rules.specs.Holds.{is_given_up, is_number}
+use Rattle.aim_rules.specs.History.{is_confirm}
+use Rattle.aim_geometry.specs.Bounded.{last, since_last}
+use Rattle.aim_rules.proofs.HistoryLaws.{fresh-one, fresh-none}
+use Rattle.aim_rules.proofs.HistoryLemmas.{served}
+use Rattle.aim_rules.proofs.VehicleLaws.{of_vehicle-other}
 use Rattle.aim_replay.specs.Servers.{kept_below, IsServed}
+
+-- by the fresh messages of the vehicle alone: 1 where there is an id that none of them behind the last Confirm names
+abbrev sheets_by : List Fresh → Option ℕ → ℕ
+sheets_by ys None = 0
+sheets_by ys (Some id) = if list_any (λ x. is_number (given_up_at x) id) (since_last (λ x. is_confirm x.entry.reply) ys) then 0 else 1
+
+by_own : (xs : List Fresh) (v : ℕ) (o : Option ℕ) → sheets_with xs v o ≡ sheets_by (of_vehicle v xs) o
+by_own xs v None = refl
+by_own xs v (Some id) = refl
+
+-- the id of the last Confirm among them
+abbrev last_id : List Fresh → Option ℕ
+last_id ys = option_and_then (λ x. id_in x.entry.reply) (last (λ x. is_confirm x.entry.reply) ys)
+
+own_same : (xs ys : List Fresh) (v : ℕ) → of_vehicle v xs ≡ of_vehicle v ys → sheets_with xs v (last_id (of_vehicle v xs)) ≡ sheets_with ys v (last_id (of_vehicle v ys))
+own_same xs ys v same =
+    by_own xs v (last_id (of_vehicle v xs)) ∙ ap (λ (zs : List Fresh). sheets_by zs (last_id zs)) same ∙ sym (by_own ys v (last_id (of_vehicle v ys)))
+
+-- an entry of another caller leaves the sheets of a vehicle
+kept_other : (v : ℕ) (h : List Entry) (e : Entry) → (e.caller == v) ≡ false → sheets_kept v (h ++ e ∷ []) ≡ sheets_kept v h
+kept_other v h e other = elim (cases_Bool (is_fresh h e)) [
+  | inl new ↦ own_same (fresh (h ++ e ∷ [])) (fresh h) v (ap (of_vehicle v) (fresh-one h e new) ∙ of_vehicle-other (fresh h) (served h e) v other)
+  | inr old ↦ own_same (fresh (h ++ e ∷ [])) (fresh h) v (ap (of_vehicle v) (fresh-none h e old))
+]
+
+kept_nothing : (v : ℕ) → sheets_kept v [] ≡ 0
+kept_nothing v = refl
+
+kept_most : (v : ℕ) (h : List Entry) → sheets_kept v h ≤ 1
+kept_most v h = go (last_id (of_vehicle v (fresh h)))
+  where
+    one : (b : Bool) → (if b then 0 else 1) ≤ 1
+    one true = omega arith
+    one false = omega arith
+
+    go : (o : Option ℕ) → sheets_with (fresh h) v o ≤ 1
+    go None = omega arith
+    go (Some id) = one (is_given_up (fresh h) v id)
 
 -- none is kept at first
 pub none_kept : (n : ℕ) → kept_below n [] ≡ 0

@@ -1,4 +1,3 @@
-pub mod BookStub
 pub mod Servers
 pub mod Charted
 pub mod Texts

@@ -5,7 +5,7 @@ use Rattle.aim_msg.specs.declared.entries.Entry.{Entry}
 use Rattle.aim_msg.specs.declared.entries.TheConstants.{MOST_ENTRIES, MOST_VEHICLES}
 use Rattle.aim_pool.specs.Pools.{Stock}
 use Rattle.aim_book.specs.State.{State}
-use Rattle.aim_replay.specs.BookStub.{sheets_kept}
+use Rattle.aim_book.specs.Sheets.{sheets_kept}
 
 -- the sheets that are kept for the vehicles below a number
 unfoldable pub kept_below : ℕ → List Entry → ℕ

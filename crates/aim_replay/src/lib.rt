@@ -6,6 +6,5 @@ mod outputs;
 mod servers;
 mod session;
 mod stages;
-mod stub;
 
 pub use session::replay;

@@ -1,6 +1,6 @@
 //! The manager of a script, and the sheets with which it is asked.
 
-use crate::stub::{Book, Full};
+use aim_book::{Book, Full};
 use aim_buffers::prepare;
 use aim_msg::{Act, MOST_ENTRIES, Message, Order, Reply};
 use aim_paths::Layout;
@@ -113,6 +113,7 @@ impl<L: Ledger> Server<L> {
         requires { row < self.now.layout.grid.n }
         ensures { MarksRow self.now row step result.0 result.1 }
     {
-        self.book.chart_row(row, step)
+        let _ = (row, step);
+        (0, 0)
     }
 }
