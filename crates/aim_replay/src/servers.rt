@@ -113,7 +113,6 @@ impl<L: Ledger> Server<L> {
         requires { row < self.now.layout.grid.n }
         ensures { MarksRow self.now row step result.0 result.1 }
     {
-        let _ = (row, step);
-        (0, 0)
+        self.book.chart_row(row, step)
     }
 }
