@@ -10,7 +10,7 @@ run() { # run WORD .. < INPUT
   printf 'status %s' $?
 }
 
-# Each example that is replayed today prints what stands beside it.
+# Each example prints what stands beside it.
 for text in examples/*.out; do
   judge "$text" "$(cat "$text"; printf 'status 0')" "$(run replay < "${text%.out}.aim")"
 done
@@ -48,6 +48,10 @@ while read -r event; do
   judge "the answer to event $place, at once" "$(sed -n "${place}p" examples/refusal.out)" "$answer"
 done < <(grep ' request ' examples/refusal.aim)
 exec {to}>&-
+
+# A chart behind a whole session, and a partner that asks and reads answers.
+judge 'a chart' "$(sed '$d' examples/session.out; printf '....\n....\n####\n....\nend 17\nstatus 0')" "$(run chart 1755 < examples/session.aim)"
+judge 'a partner process' 'end 11 0' "$(python3 examples/partner.py ./aim 2> /dev/null | tail -n 1)"
 
 printf 'replays: %s passed, %s failed\n' "$passed" "$failed"
 [ "$failed" -eq 0 ]
