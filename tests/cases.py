@@ -1,5 +1,6 @@
-"""Runs the program that ./aim built over the cases of tests/cases, as a user does. Ends with a status other than 0 where
-anything differs. A case is a folder with `words` (one a line), `input`, `output` and `status`; its name says what it shows."""
+"""Runs the program that ./aim built over the cases of tests/cases, as a user does. Ends with a status other than 0
+where anything differs. A case is a folder with `words` (one a line), `input`, `output` and `status`; its name says what
+it shows."""
 import pathlib
 import subprocess
 import sys

@@ -1,5 +1,5 @@
-"""Runs the program that ./aim built in surroundings that cut, fill and break what it reads and writes. Ends with a status
-other than 0 where anything differs."""
+"""Runs the program that ./aim built in surroundings that cut, fill and break what it reads and writes. Ends with a
+status other than 0 where anything differs."""
 import os
 import pathlib
 import subprocess
@@ -67,7 +67,8 @@ def bytes_everywhere():
         for byte in (b"\0", b"\t", b"\xff", b"\r"):
             status, text = run(SCRIPT[:place] + byte + SCRIPT[place + 1 :], "replay")
             kinds = (b"unknown", b"words", b"number")
-            judge(f"byte {byte!r} at {place}", True, status == 3 and text in [b"bad line 14 " + k + b"\n" for k in kinds])
+            texts = [b"bad line 14 " + kind + b"\n" for kind in kinds]
+            judge(f"byte {byte!r} at {place}", True, status == 3 and text in texts)
 
 
 def great_inputs():
