@@ -1,7 +1,5 @@
-//! Tests of the calls of the book and of the replay, and what each of them shows that no clause says.
+//! Tests of the call of the replay, and what it shows that no clause says.
 #![tactic(auto)]
 
-#[cfg(test)]
-mod book;
 #[cfg(test)]
 mod replay;
