@@ -156,7 +156,7 @@ pub fn prepare(layout: &Layout, message: &Message, first: Sheet, second: Sheet) 
     }
 }
 
-// The same for a message that has params.
+// Prepares a message that has params: finds the field that is wrong, if one is, and writes the cells of the trials.
 fn prepare_request(
     layout: &Layout,
     message: &Message,

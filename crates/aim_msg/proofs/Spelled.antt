@@ -96,7 +96,7 @@ meaning_back spell (row ∷ rows) other w s h = elim (cases_Bool (bytes_eq w row
   | inr not ↦ rw not (meaning_back spell rows other w s.1 (one_of_rest (bytes_eq w row.0) (is_one_of (row_words rows) w) h not))
 ]
 
--- the same where the last word has the other meaning
+-- a word of the rows, or the one word for the other meaning behind them, is spelled as its meaning
 pub meaning_last : {A : Type 0} (spell : A → List ℕ) (rows : List (List ℕ × A)) (other : A) (w : List ℕ)
     → SpelledRows spell rows → is_one_of (row_words rows ++ spell other ∷ []) w ≡ true → spell (meaning rows other w) ≡ w
 meaning_last spell [] other w s h = elim (cases_Bool (bytes_eq w (spell other))) [

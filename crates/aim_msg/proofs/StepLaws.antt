@@ -40,7 +40,7 @@ bind_read {A = A} {B = B} p value ws f b later h = by_fault (fault_at p ws)
     by_fault None = h
     by_fault (Some k) = refl
 
--- the same with something after it
+-- a word is read, then the rest by g, and what g gives goes on to f: the word's fault is the first
 pub bind_more : {A B C : Type 0} (p : Place) (value : List ℕ → A) (ws : Words) (g : A × Words → Result B LineKind) (f : B → Result C LineKind) (c : C) (later : Option LineKind)
     → (g (value (first ws), rest ws) >>= f) ≡ unless c later → ((read_in p value ws >>= g) >>= f) ≡ unless c (option_or (fault_at p ws) later)
 unfolding read_in
