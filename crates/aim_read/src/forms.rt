@@ -209,7 +209,6 @@ fn in_version(form: LineForm, version: u8) -> LineForm
 }
 
 // The form of a line that only its first word chooses.
-#[tactic(auto, using(crate::proofs::TableLaws::mapped))]
 fn plain_form(word: &[u8], version: u8) -> Result<LineForm, LineKind>
     ensures { result ≡ plain_form version word.now }
 {

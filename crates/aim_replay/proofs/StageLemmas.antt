@@ -6,7 +6,7 @@ use Rattle.std.specs.Bool.{IsTrue}
 use Rattle.std.specs.Prelude.{◌↔◌}
 use Rattle.aim_io.specs.Lines.{Line as LineOf}
 use Rattle.aim_msg.specs.declared.script.LineKind.{LineKind}
-use Rattle.aim_msg.specs.Reading.{line_at}
+use Rattle.aim_read.specs.Reading.{line_at}
 use Rattle.aim_rules.specs.Bad.{bad as bad_field}
 use Rattle.aim_paths.specs.declared.policies.Kind.TheVariants as kind
 use Rattle.aim_msg.specs.declared.messages.Message.{Message}

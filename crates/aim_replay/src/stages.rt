@@ -15,10 +15,11 @@ use aim_book::{Book, Full, OpenFault, bad_field, has_called};
 use aim_geometry::{Grid, Ground, GroundFault, Times};
 use aim_msg::{
     Act, Body, Entry, Grid6, LATEST_MOMENT, Line, MOST_ENTRIES, MOST_VEHICLES, Message, MoveShape,
-    Params, Times5, Turn, read_line,
+    Params, Times5, Turn,
 };
 use aim_paths::builders::{Builder, LayoutFault};
 use aim_paths::{Kind as PolicyKind, Layout, Shape};
+use aim_read::read_line;
 use std::alloc::Global;
 
 /// How far a script has come, and what is kept of the lines so far.
