@@ -22,7 +22,7 @@ use Rattle.aim_read.specs.Faults.{words_of, first, rest, begins_with_digit}
 use Rattle.aim_read.specs.Forms.{message_form, shape_form, plan_form, line_form, has_count}
 use Rattle.aim_read.specs.Reading.{line_in, line_at}
 use Rattle.aim_read.specs.Ranges.{Is32, AreParams, IsMessage, IsLine}
-use Rattle.aim_read.specs.Steps.{vehicle_in, message_in, grid_in, times_in, times6_in, move_in, policy_in, lanes_in, phase_in, event_in, switch_in, stop_in, plan_in, change_plan_in, cancel_plan_in, up_in, down_in, behind_keyword, steps_in}
+use Rattle.aim_read.specs.Steps.{vehicle_in, message_in, numbers_in, grid_in, times_in, times6_in, move_in, policy_in, lanes_in, phase_in, event_in, switch_in, stop_in, plan_in, change_plan_in, cancel_plan_in, up_in, down_in, behind_keyword, steps_in}
 use Rattle.aim_read.proofs.NumberLaws.{decimal_number, number_begins}
 use Rattle.aim_read.proofs.WordLaws.{AreWords, words_spaced}
 use Rattle.aim_read.proofs.LineWords.{message_are_words, line_are_words}
@@ -190,7 +190,7 @@ plan_again version vehicle first lead resend p ahead r k = elim (cases_Bool (ver
 -- and is read from them
 steps_again : (version : ℕ) (l : Line) → IsLine l → KeepsRanges version l
     → steps_in version (form_of_line version l) (behind_keyword (form_of_line version l) (line_words version l)) ≡ Ok l
-unfolding steps_in grid_in times_in times6_in move_in policy_in phase_in event_in switch_in stop_in plan_in change_plan_in cancel_plan_in up_in down_in
+unfolding steps_in numbers_in grid_in times_in times6_in move_in policy_in phase_in event_in switch_in stop_in plan_in change_plan_in cancel_plan_in up_in down_in
 steps_again version (line.Version n) r k = rw (n32 n [] r) refl
 steps_again version (line.Grid g) r k =
     rw (n32 g.side _ r.side, n32 g.n _ r.n, n32 g.spacing _ r.spacing, n32 g.fixed _ r.fixed, n32 g.half _ r.half, n32 g.spans _ r.spans) refl

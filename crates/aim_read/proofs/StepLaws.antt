@@ -1,5 +1,5 @@
 -- Reading word by word gives what the tables of places say.
-use Rattle.std.proofs.Common.{◌≡◌, ℕ, ◌+◌, ◌-◌, ◌^◌, List, [], ◌∷◌, ◌++◌, length, map, replicate, Option, Some, None, Result, Ok, Err, refl, ap, ◌∙◌, arith, append_assoc, append-nil, add-zero, zero-add}
+use Rattle.std.proofs.Common.{◌≡◌, ℕ, ◌+◌, ◌-◌, ◌^◌, List, [], ◌∷◌, ◌++◌, length, map, replicate, Option, Some, None, Result, Ok, Err, refl, ap, ◌∙◌, sym, zero, suc, arith, append_assoc, append-nil, add-zero, zero-add}
 use Rattle.std.specs.Prelude.{fold}
 use Rattle.std.specs.Option.{option_or}
 use Rattle.std.proofs.lemmas.List.{length-append}
@@ -23,7 +23,7 @@ use Rattle.aim_read.specs.Faults.{Place, first, rest, from, word_at, value_of, f
 use Rattle.aim_read.specs.Forms.{fate, lane_places, fate_places, vehicle_places, params_places, message_places, shape_places, line_places}
 use Rattle.aim_read.specs.Faults.{number32}
 use Rattle.aim_read.specs.Reading.{at, unless, fate_of, fates_of, params_at, body_of, message_of, shape_of, line_of, is_emergency}
-use Rattle.aim_read.specs.Steps.{◌>>=◌, with_rest, read_in, vehicle_in, params_in, body_in, message_in, shape_in, grid_in, times_in, times6_in, move_in, policy_in, lanes_in, phase_in, event_in, switch_in, stop_in, plan_in, change_plan_in, cancel_plan_in, fates_in, up_in, down_in, behind_keyword, steps_in}
+use Rattle.aim_read.specs.Steps.{◌>>=◌, with_rest, read_in, vehicle_in, params_in, body_in, message_in, numbers_in, shape_in, grid_in, times_in, times6_in, move_in, policy_in, lanes_in, phase_in, event_in, switch_in, stop_in, plan_in, change_plan_in, cancel_plan_in, fates_in, up_in, down_in, behind_keyword, steps_in}
 
 -- where no fault stands before, the rest decides
 pub bind_unless : {A B : Type 0} (x : A) (fault : Option LineKind) (f : A → Result B LineKind) (b : B) (later : Option LineKind)
@@ -54,10 +54,24 @@ pub bind_assoc : {A B C : Type 0} (r : Result A LineKind) (g : A → Result B Li
 bind_assoc (Ok a) g f = refl
 bind_assoc (Err k) g f = refl
 
+-- the numbers of so many words
+abbrev pub numbers_at : ℕ → Words → List ℕ
+numbers_at zero ws = []
+numbers_at (suc n) ws = value_of (first ws) ∷ numbers_at n (rest ws)
+
 -- the faults of some places, and then those behind them
 abbrev pub faults_then : List Place → Words → Option LineKind → Option LineKind
 faults_then [] words later = later
 faults_then (p ∷ ps) words later = option_or (fault_at p words) (faults_then ps (rest words) later)
+
+pub numbers_step : {B : Type 0} (before : List ℕ) (n : ℕ) (ws : Words) (f : List ℕ × Words → Result B LineKind) (b : B) (later : Option LineKind)
+    → f (before ++ numbers_at n ws, from n ws) ≡ unless b later
+    → (numbers_in before n ws >>= f) ≡ unless b (faults_then (replicate n number32) ws later)
+unfolding numbers_in
+numbers_step before zero ws f b later h = ap (λ xs. f (xs, ws)) (sym (append-nil before)) ∙ h
+numbers_step before (suc n) ws f b later h =
+    bind_more _ _ _ _ _ _ _ (numbers_step (before ++ value_of (first ws) ∷ []) n (rest ws) f b later
+    (ap (λ xs. f (xs, from n (rest ws))) (append_assoc before (value_of (first ws) ∷ []) (numbers_at n (rest ws))) ∙ h))
 
 abbrev vehicle_at : ℕ → Turn → ℕ → Words → Params
 vehicle_at lane turn arrive words = record {
@@ -168,7 +182,7 @@ last_list r a (Some k) f h = rw h refl
 pub steps_are : (version : ℕ) (f : LineForm) (ws : Words) → steps_in version f (behind_keyword f ws) ≡ unless (line_of f ws) (first_fault (line_places version f ws) ws)
 unfolding steps_in grid_in times_in times6_in move_in policy_in phase_in event_in switch_in stop_in plan_in change_plan_in cancel_plan_in up_in down_in
 steps_are version form.Version ws = bind_read _ _ _ _ _ _ refl
-steps_are version form.Grid ws = bind_read _ _ _ _ _ _ (bind_read _ _ _ _ _ _ (bind_read _ _ _ _ _ _ (bind_read _ _ _ _ _ _ (bind_read _ _ _ _ _ _ (bind_read _ _ _ _ _ _ refl)))))
+steps_are version form.Grid ws = numbers_step [] 6 (rest ws) _ _ None refl
 steps_are version form.Times ws = bind_read _ _ _ _ _ _ (bind_read _ _ _ _ _ _ (bind_read _ _ _ _ _ _ (bind_read _ _ _ _ _ _ (bind_read _ _ _ _ _ _ refl))))
 steps_are version form.Times6 ws = bind_read _ _ _ _ _ _ (bind_read _ _ _ _ _ _ (bind_read _ _ _ _ _ _ (bind_read _ _ _ _ _ _ (bind_read _ _ _ _ _ _ (bind_read _ _ _ _ _ _ refl)))))
 steps_are version form.Lanes ws = bind_read _ _ _ _ _ _ refl

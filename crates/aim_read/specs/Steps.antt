@@ -1,6 +1,6 @@
 -- Reading word by word: a value and the words behind it, or the kind of the first fault. Only contracts of private
 -- functions cite it.
-use Rattle.std.specs.Prelude.{ℕ, ◌+◌, ◌-◌, ◌^◌, ◌≡◌, Bool, true, false, List, [], ◌∷◌, ◌++◌, length, replicate, Option, Some, None, Result, Ok, Err, if◌then◌else◌}
+use Rattle.std.specs.Prelude.{ℕ, zero, suc, get_or, ◌+◌, ◌-◌, ◌^◌, ◌≡◌, Bool, true, false, List, [], ◌∷◌, ◌++◌, length, replicate, Option, Some, None, Result, Ok, Err, if◌then◌else◌}
 use Rattle.std.specs.Borrow.{Bor}
 use Rattle.aim_msg.specs.declared.messages.Turn.{Turn}
 use Rattle.aim_msg.specs.declared.messages.Params.{Params}
@@ -13,6 +13,7 @@ use Rattle.aim_msg.specs.declared.script.FateList.{FateList}
 use Rattle.aim_msg.specs.declared.script.Line.{Line}
 use Rattle.aim_msg.specs.declared.script.Line.TheVariants as line
 use Rattle.aim_msg.specs.declared.script.LineKind.{LineKind}
+use Rattle.aim_msg.specs.declared.script.LineKind.TheVariants as kind
 use Rattle.aim_read.specs.declared.forms.MessageForm.{MessageForm}
 use Rattle.aim_read.specs.declared.forms.MessageForm.TheVariants as message
 use Rattle.aim_read.specs.declared.forms.OrderForm.TheVariants as order
@@ -22,6 +23,7 @@ use Rattle.aim_read.specs.declared.forms.LineForm.{LineForm}
 use Rattle.aim_read.specs.declared.forms.LineForm.TheVariants as form
 use Rattle.aim_msg.specs.Texts.{Words}
 use Rattle.aim_read.specs.Faults.{words_of, first, rest, Place, name, number32, number8, turns, classes, fault_at, word_fault, number_fault, value_of}
+use Rattle.aim_read.specs.Tables.{look_up}
 use Rattle.aim_read.specs.Forms.{fate, kinds, windows}
 use Rattle.aim_read.specs.Reading.{unless, turn_of, is_emergency, is_early, name_of, kind_of, fate_of}
 
@@ -53,6 +55,18 @@ words_left (Some bytes) = words_of bytes.now
 
 abbrev pub number_in : Words → Read ℕ
 number_in words = read_in number32 value_of words
+
+-- so many numbers, behind those that are there
+unfoldable pub numbers_in : List ℕ → ℕ → Words → Read (List ℕ)
+numbers_in numbers zero words = Ok (numbers, words)
+numbers_in numbers (suc count) words = do
+  n ← number_in words
+  numbers_in (numbers ++ n.0 ∷ []) count n.1
+
+-- what the row of the first word says
+unfoldable pub choice_in : {A : Type 0} → List (List ℕ × A) → Words → Read A
+choice_in rows [] = Err kind.Words
+choice_in rows (w ∷ ws) = with_rest ws (look_up kind.Words rows w)
 
 unfoldable pub vehicle_in : ℕ → Turn → ℕ → Words → Read Params
 vehicle_in lane turn arrive words = do
@@ -112,13 +126,8 @@ shape_in way.Curve words = do
 
 unfoldable pub grid_in : Words → Result Line LineKind
 grid_in words = do
-  side ← number_in words
-  n ← number_in side.1
-  spacing ← number_in n.1
-  fixed ← number_in spacing.1
-  half ← number_in fixed.1
-  spans ← number_in half.1
-  Ok (line.Grid (record { side = side.0; n = n.0; spacing = spacing.0; fixed = fixed.0; half = half.0; spans = spans.0 }))
+  n ← numbers_in [] 6 words
+  Ok (line.Grid (record { side = get_or n.0 0 0; n = get_or n.0 1 0; spacing = get_or n.0 2 0; fixed = get_or n.0 3 0; half = get_or n.0 4 0; spans = get_or n.0 5 0 }))
 
 unfoldable pub times_in : Words → Result Line LineKind
 times_in words = do

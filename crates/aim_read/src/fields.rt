@@ -1,8 +1,9 @@
 // The fields of texts. Each is a word, or is read with the fields beside it.
-ghost use Rattle.std.specs.Prelude.{bytes_eq, codes};
+ghost use Rattle.std.specs.Prelude.{bytes_eq, codes, []};
 ghost use Rattle.aim_read.specs.Faults.{value_of, turns, classes, number32, number8};
 ghost use Rattle.aim_read.specs.Reading.{turn_of, is_emergency};
-ghost use Rattle.aim_read.specs.Steps.{Gives, read_in, vehicle_in, params_in, body_in, message_in};
+ghost use Rattle.aim_read.specs.Tables.{rows_of};
+ghost use Rattle.aim_read.specs.Steps.{Gives, read_in, numbers_in, choice_in, vehicle_in, params_in, body_in, message_in};
 
 use crate::forms::MessageForm;
 use crate::numbers::number;
@@ -18,6 +19,27 @@ pub fn number32(words: &mut Words<'_>) -> Result<u32, LineKind>
     let word = words.word()?;
     let n = number(word, 0, u64::from(u32::MAX))?;
     Ok(n as u32)
+}
+
+/// So many numbers of 32 bits.
+#[tactic(auto, unfolding(crate::specs::Steps::numbers_in))]
+pub fn numbers<const N: usize>(words: &mut Words<'_>) -> Result<[u32; N], LineKind>
+    ensures { Gives result words.new (numbers_in [] N words.old) }
+{
+    let mut numbers = [0; N];
+    for i in 0..N {
+        numbers[i] = number32(words)?;
+    }
+    Ok(numbers)
+}
+
+/// What a table's row says of the next word.
+#[tactic(auto, unfolding(crate::specs::Steps::choice_in))]
+pub fn choice<F: Copy>(words: &mut Words<'_>, rows: &[(&[u8], F)]) -> Result<F, LineKind>
+    ensures { Gives result words.new (choice_in (rows_of rows.now) words.old) }
+{
+    let word = words.word()?;
+    look_up(rows, LineKind::Words, word)
 }
 
 /// A number of a byte.

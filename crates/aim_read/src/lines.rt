@@ -7,7 +7,7 @@ ghost use Rattle.aim_read.specs.Forms.{kinds, windows};
 ghost use Rattle.aim_read.specs.Reading.{name_of, kind_of, is_early};
 ghost use Rattle.aim_read.specs.Steps.{Gives, read_in, shape_in, grid_in, times_in, times6_in, move_in, policy_in, event_in, switch_in, stop_in, window_in, plan_in, change_plan_in, cancel_plan_in};
 
-use crate::fields::{message, number8, number32, turn, vehicle};
+use crate::fields::{message, number8, number32, numbers, turn, vehicle};
 use crate::forms::{MessageForm, ShapeForm};
 use crate::words::Words;
 use aim_msg::{Grid6, Line, LineKind, MoveShape, Name, Times5, Times6};
@@ -90,13 +90,14 @@ fn window(words: &mut Words<'_>, windowed: bool) -> Result<bool, LineKind>
 pub fn grid(words: &mut Words<'_>) -> Result<Line, LineKind>
     ensures { result ≡ grid_in words.old }
 {
+    let [side, n, spacing, fixed, half, spans] = numbers::<6>(words)?;
     Ok(Line::Grid(Grid6 {
-        side: number32(words)?,
-        n: number32(words)?,
-        spacing: number32(words)?,
-        fixed: number32(words)?,
-        half: number32(words)?,
-        spans: number32(words)?,
+        side,
+        n,
+        spacing,
+        fixed,
+        half,
+        spans,
     }))
 }
 
