@@ -59,26 +59,20 @@ const TURNS: [(&[u8], Turn); 3] = [
 ];
 
 /// A turn.
-#[tactic(auto, using(crate::proofs::TableLaws::turn_said), unfolding(crate::specs::Steps::read_in))]
 pub fn turn(words: &mut Words<'_>) -> Result<Turn, LineKind>
     ensures { Gives result words.new (read_in turns turn_of words.old) }
 {
-    let word = words.word()?;
-    look_up(&TURNS, LineKind::Words, word)
+    choice(words, &TURNS)
 }
 
-#[tactic(auto, unfolding(crate::specs::Steps::read_in))]
+// Whether a vehicle of that class is an emergency vehicle.
+const CLASSES: [(&[u8], bool); 2] = [(b"car", false), (b"emergency", true)];
+
+#[tactic(auto, using(crate::proofs::TableLaws::class_read))]
 fn is_emergency(words: &mut Words<'_>) -> Result<bool, LineKind>
     ensures { Gives result words.new (read_in classes is_emergency words.old) }
 {
-    let word = words.word()?;
-    if word == b"car".as_slice() {
-        Ok(false)
-    } else if word == b"emergency".as_slice() {
-        Ok(true)
-    } else {
-        Err(LineKind::Words)
-    }
+    choice(words, &CLASSES)
 }
 
 /// SPEED MAX ACCEL LENGTH WIDTH CLASS, behind the lane, the turn and the arrival.

@@ -7,7 +7,7 @@ ghost use Rattle.aim_read.specs.Forms.{kinds, windows};
 ghost use Rattle.aim_read.specs.Reading.{name_of, kind_of, is_early};
 ghost use Rattle.aim_read.specs.Steps.{Gives, read_in, shape_in, grid_in, times_in, times6_in, move_in, policy_in, event_in, switch_in, stop_in, window_in, plan_in, change_plan_in, cancel_plan_in};
 
-use crate::fields::{message, number8, number32, numbers, turn, vehicle};
+use crate::fields::{choice, message, number8, number32, numbers, turn, vehicle};
 use crate::forms::{MessageForm, ShapeForm};
 use crate::words::Words;
 use aim_msg::{Grid6, Line, LineKind, MoveShape, Name, Times5, Times6};
@@ -48,40 +48,41 @@ fn name(words: &mut Words<'_>) -> Result<Name, LineKind>
     })
 }
 
+// The numbers of the kinds of policies, in versions 1 and 2.
+const KINDS: [(&[u8], u8); 3] = [(b"fcfs", 0), (b"emerg", 1), (b"light", 2)];
+
+// The numbers of the kinds of policies, in version 3.
+const KINDS_3: [(&[u8], u8); 4] = [
+    (b"fcfs", 0),
+    (b"emerg", 1),
+    (b"light", 2),
+    (b"light-emerg", 3),
+];
+
 // The number of a kind of policy.
-#[tactic(auto, unfolding(crate::specs::Steps::read_in))]
+#[tactic(auto, using(crate::proofs::TableLaws::kind_read))]
 fn kind(words: &mut Words<'_>, version: u8) -> Result<u8, LineKind>
     ensures { Gives result words.new (read_in (kinds version) kind_of words.old) }
 {
-    let word = words.word()?;
-    if word == b"fcfs".as_slice() {
-        Ok(0)
-    } else if word == b"emerg".as_slice() {
-        Ok(1)
-    } else if word == b"light".as_slice() {
-        Ok(2)
-    } else if version == 3 && word == b"light-emerg".as_slice() {
-        Ok(3)
+    if version == 3 {
+        choice(words, &KINDS_3)
     } else {
-        Err(LineKind::Words)
+        choice(words, &KINDS)
     }
 }
 
+// Whether a driver with that window may enter early.
+const WINDOWS: [(&[u8], bool); 2] = [(b"early", true), (b"start", false)];
+
 // Whether a driver may enter early. A plan without a window says nothing of it.
-#[tactic(auto, unfolding(crate::specs::Steps::read_in))]
+#[tactic(auto, using(crate::proofs::TableLaws::window_read))]
 fn window(words: &mut Words<'_>, windowed: bool) -> Result<bool, LineKind>
     ensures { Gives result words.new (window_in windowed words.old) }
 {
-    if !windowed {
-        return Ok(false);
-    }
-    let word = words.word()?;
-    if word == b"early".as_slice() {
-        Ok(true)
-    } else if word == b"start".as_slice() {
-        Ok(false)
+    if windowed {
+        choice(words, &WINDOWS)
     } else {
-        Err(LineKind::Words)
+        Ok(false)
     }
 }
 

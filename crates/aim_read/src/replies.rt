@@ -5,10 +5,9 @@ ghost use Rattle.aim_read.specs.Entries.{paces, is_fast, fields, field_of, numbe
 ghost use Rattle.aim_read.specs.Steps.{Gives, read_in};
 ghost use Rattle.aim_read.specs.EntrySteps.{green_in, taken_in, reason_in, confirm_in, standing_in, reject_in, reply_in, answer_in};
 
-use crate::fields::{number8, number32};
+use crate::fields::{choice, number8, number32};
 use crate::forms::{ReasonForm, ReplyForm, reason_form, reply_form};
 use crate::numbers::{begins_with_digit, number};
-use crate::tables::look_up;
 use crate::words::Words;
 use aim_msg::{Field, LineKind, Reason, Reply};
 
@@ -33,12 +32,10 @@ const FIELDS: [(&[u8], Field); 10] = [
     (b"spans", Field::Spans),
 ];
 
-#[tactic(auto, using(crate::proofs::TableLaws::field_said), unfolding(crate::specs::Steps::read_in))]
 fn field(words: &mut Words<'_>) -> Result<Field, LineKind>
     ensures { Gives result words.new (read_in fields field_of words.old) }
 {
-    let word = words.word()?;
-    look_up(&FIELDS, LineKind::Words, word)
+    choice(words, &FIELDS)
 }
 
 // ROW COL STEP LANE
@@ -88,19 +85,14 @@ fn reason(words: &mut Words<'_>, form: ReasonForm) -> Result<Reason, LineKind>
     }
 }
 
-// Whether a vehicle accelerates.
-#[tactic(auto, unfolding(crate::specs::Steps::read_in))]
+// Whether a vehicle accelerates at that pace.
+const PACES: [(&[u8], bool); 2] = [(b"fast", true), (b"steady", false)];
+
+#[tactic(auto, using(crate::proofs::TableLaws::pace_read))]
 fn is_fast(words: &mut Words<'_>) -> Result<bool, LineKind>
     ensures { Gives result words.new (read_in paces is_fast words.old) }
 {
-    let word = words.word()?;
-    if word == b"fast".as_slice() {
-        Ok(true)
-    } else if word == b"steady".as_slice() {
-        Ok(false)
-    } else {
-        Err(LineKind::Words)
-    }
+    choice(words, &PACES)
 }
 
 // The reservation that is held, if one is.
