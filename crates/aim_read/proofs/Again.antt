@@ -22,7 +22,7 @@ use Rattle.aim_read.specs.Faults.{Place, number, name, rest, number8, turns, cla
 use Rattle.aim_read.specs.Forms.{windows}
 use Rattle.aim_read.specs.Reading.{turn_of, is_emergency, is_early, name_of}
 use Rattle.aim_read.specs.Ranges.{Is32, Is8, AreParams, IsBody, IsMessage, IsShape}
-use Rattle.aim_read.specs.Steps.{read_in, number_in, vehicle_in, params_in, body_in, message_in, shape_in}
+use Rattle.aim_read.specs.Steps.{read_in, number_in, vehicle_in, params_in, body_in, message_in, numbers_in, shape_in}
 use Rattle.aim_read.proofs.NumberLaws.{number_good, value_decimal}
 
 -- a word without fault is read
@@ -100,7 +100,7 @@ form_of_shape (shape.Line x0 y0 x1 y1 m) = way.Line
 form_of_shape (shape.Curve x0 y0 x1 y1 x2 y2 m) = way.Curve
 
 pub shape_again : (s : MoveShape) → IsShape s → shape_in (form_of_shape s) (rest (shape_words s)) ≡ Ok s
-unfolding shape_in
+unfolding shape_in numbers_in
 shape_again (shape.Line x0 y0 x1 y1 m) r = rw (n32 x0 _ r.0, n32 y0 _ r.1, n32 x1 _ r.2, n32 y1 _ r.3, n32 m _ r.4) refl
 shape_again (shape.Curve x0 y0 x1 y1 x2 y2 m) r =
     rw (n32 x0 _ r.0, n32 y0 _ r.1, n32 x1 _ r.2, n32 y1 _ r.3, n32 x2 _ r.4, n32 y2 _ r.5, n32 m _ r.6) refl

@@ -145,8 +145,8 @@ shape_step : (s : ShapeForm) (ws : Words) (f : MoveShape → Result Line LineKin
     → f (shape_of s ws) ≡ Ok l
     → (shape_in s ws >>= f) ≡ unless l (first_fault (shape_places s) ws)
 unfolding shape_in
-shape_step way.Line ws f l h = bind_more _ _ _ _ _ _ _ (bind_more _ _ _ _ _ _ _ (bind_more _ _ _ _ _ _ _ (bind_more _ _ _ _ _ _ _ (bind_more _ _ _ _ _ _ _ h))))
-shape_step way.Curve ws f l h = bind_more _ _ _ _ _ _ _ (bind_more _ _ _ _ _ _ _ (bind_more _ _ _ _ _ _ _ (bind_more _ _ _ _ _ _ _ (bind_more _ _ _ _ _ _ _ (bind_more _ _ _ _ _ _ _ (bind_more _ _ _ _ _ _ _ h))))))
+shape_step way.Line ws f l h = bind_assoc (numbers_in [] 5 ws) _ f ∙ numbers_step [] 5 ws _ l None h
+shape_step way.Curve ws f l h = bind_assoc (numbers_in [] 7 ws) _ f ∙ numbers_step [] 7 ws _ l None h
 
 lanes_are : (lanes low : ℕ) (ws : Words) → lanes_in lanes low ws ≡ unless (fold (λ a w. a + 2 ^ value_of w) lanes ws) (first_fault (lane_places low ws) ws)
 unfolding lanes_in
@@ -183,8 +183,8 @@ pub steps_are : (version : ℕ) (f : LineForm) (ws : Words) → steps_in version
 unfolding steps_in grid_in times_in times6_in move_in policy_in phase_in event_in switch_in stop_in plan_in change_plan_in cancel_plan_in up_in down_in
 steps_are version form.Version ws = bind_read _ _ _ _ _ _ refl
 steps_are version form.Grid ws = numbers_step [] 6 (rest ws) _ _ None refl
-steps_are version form.Times ws = bind_read _ _ _ _ _ _ (bind_read _ _ _ _ _ _ (bind_read _ _ _ _ _ _ (bind_read _ _ _ _ _ _ (bind_read _ _ _ _ _ _ refl))))
-steps_are version form.Times6 ws = bind_read _ _ _ _ _ _ (bind_read _ _ _ _ _ _ (bind_read _ _ _ _ _ _ (bind_read _ _ _ _ _ _ (bind_read _ _ _ _ _ _ (bind_read _ _ _ _ _ _ refl)))))
+steps_are version form.Times ws = numbers_step [] 5 (rest ws) _ _ None refl
+steps_are version form.Times6 ws = numbers_step [] 6 (rest ws) _ _ None refl
 steps_are version form.Lanes ws = bind_read _ _ _ _ _ _ refl
 steps_are version (form.Move s) ws = bind_read _ _ _ _ _ _ (bind_read _ _ _ _ _ _ (shape_step s (from 4 ws) _ _ refl))
 steps_are version form.Policy ws = bind_read _ _ _ _ _ _ (bind_read _ _ _ _ _ _ refl)

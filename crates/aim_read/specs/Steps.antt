@@ -108,21 +108,11 @@ message_in m words = do
 
 unfoldable pub shape_in : ShapeForm → Words → Result MoveShape LineKind
 shape_in way.Line words = do
-  x0 ← number_in words
-  y0 ← number_in x0.1
-  x1 ← number_in y0.1
-  y1 ← number_in x1.1
-  m ← number_in y1.1
-  Ok (shape.Line x0.0 y0.0 x1.0 y1.0 m.0)
+  n ← numbers_in [] 5 words
+  Ok (shape.Line (get_or n.0 0 0) (get_or n.0 1 0) (get_or n.0 2 0) (get_or n.0 3 0) (get_or n.0 4 0))
 shape_in way.Curve words = do
-  x0 ← number_in words
-  y0 ← number_in x0.1
-  x1 ← number_in y0.1
-  y1 ← number_in x1.1
-  x2 ← number_in y1.1
-  y2 ← number_in x2.1
-  m ← number_in y2.1
-  Ok (shape.Curve x0.0 y0.0 x1.0 y1.0 x2.0 y2.0 m.0)
+  n ← numbers_in [] 7 words
+  Ok (shape.Curve (get_or n.0 0 0) (get_or n.0 1 0) (get_or n.0 2 0) (get_or n.0 3 0) (get_or n.0 4 0) (get_or n.0 5 0) (get_or n.0 6 0))
 
 unfoldable pub grid_in : Words → Result Line LineKind
 grid_in words = do
@@ -131,22 +121,13 @@ grid_in words = do
 
 unfoldable pub times_in : Words → Result Line LineKind
 times_in words = do
-  horizon ← number_in words
-  longest ← number_in horizon.1
-  clearance ← number_in longest.1
-  internal ← number_in clearance.1
-  edge ← number_in internal.1
-  Ok (line.Times (record { horizon = horizon.0; longest = longest.0; clearance = clearance.0; internal = internal.0; edge = edge.0 }))
+  n ← numbers_in [] 5 words
+  Ok (line.Times (record { horizon = get_or n.0 0 0; longest = get_or n.0 1 0; clearance = get_or n.0 2 0; internal = get_or n.0 3 0; edge = get_or n.0 4 0 }))
 
 unfoldable pub times6_in : Words → Result Line LineKind
 times6_in words = do
-  horizon ← number_in words
-  longest ← number_in horizon.1
-  clearance ← number_in longest.1
-  early ← number_in clearance.1
-  late ← number_in early.1
-  edge ← number_in late.1
-  Ok (line.Times6 (record { horizon = horizon.0; longest = longest.0; clearance = clearance.0; early = early.0; late = late.0; edge = edge.0 }))
+  n ← numbers_in [] 6 words
+  Ok (line.Times6 (record { horizon = get_or n.0 0 0; longest = get_or n.0 1 0; clearance = get_or n.0 2 0; early = get_or n.0 3 0; late = get_or n.0 4 0; edge = get_or n.0 5 0 }))
 
 unfoldable pub move_in : ShapeForm → Words → Result Line LineKind
 move_in s words = do

@@ -107,12 +107,13 @@ pub fn grid(words: &mut Words<'_>) -> Result<Line, LineKind>
 pub fn times(words: &mut Words<'_>) -> Result<Line, LineKind>
     ensures { result ≡ times_in words.old }
 {
+    let [horizon, longest, clearance, internal, edge] = numbers::<5>(words)?;
     Ok(Line::Times(Times5 {
-        horizon: number32(words)?,
-        longest: number32(words)?,
-        clearance: number32(words)?,
-        internal: number32(words)?,
-        edge: number32(words)?,
+        horizon,
+        longest,
+        clearance,
+        internal,
+        edge,
     }))
 }
 
@@ -121,13 +122,14 @@ pub fn times(words: &mut Words<'_>) -> Result<Line, LineKind>
 pub fn times6(words: &mut Words<'_>) -> Result<Line, LineKind>
     ensures { result ≡ times6_in words.old }
 {
+    let [horizon, longest, clearance, early, late, edge] = numbers::<6>(words)?;
     Ok(Line::Times6(Times6 {
-        horizon: number32(words)?,
-        longest: number32(words)?,
-        clearance: number32(words)?,
-        early: number32(words)?,
-        late: number32(words)?,
-        edge: number32(words)?,
+        horizon,
+        longest,
+        clearance,
+        early,
+        late,
+        edge,
     }))
 }
 
@@ -135,19 +137,13 @@ pub fn times6(words: &mut Words<'_>) -> Result<Line, LineKind>
 fn shape(words: &mut Words<'_>, form: ShapeForm) -> Result<MoveShape, LineKind>
     ensures { result ≡ shape_in form words.old }
 {
-    let x0 = number32(words)?;
-    let y0 = number32(words)?;
-    let x1 = number32(words)?;
-    let y1 = number32(words)?;
     match form {
         ShapeForm::Line => {
-            let m = number32(words)?;
+            let [x0, y0, x1, y1, m] = numbers::<5>(words)?;
             Ok(MoveShape::Line { x0, y0, x1, y1, m })
         }
         ShapeForm::Curve => {
-            let x2 = number32(words)?;
-            let y2 = number32(words)?;
-            let m = number32(words)?;
+            let [x0, y0, x1, y1, x2, y2, m] = numbers::<7>(words)?;
             Ok(MoveShape::Curve {
                 x0,
                 y0,
