@@ -56,7 +56,7 @@ window_again true ws = refl
 window_again false ws = refl
 
 pub vehicle_again : (p : Params) (ws : Words) → AreParams p → vehicle_in p.lane p.turn p.arrive (vehicle_words p ++ ws) ≡ Ok (p, ws)
-unfolding vehicle_in
+unfolding vehicle_in numbers_in
 vehicle_again p ws r =
     rw (n32 p.speed _ r.speed, n32 p.max_speed _ r.max_speed, n32 p.accel _ r.accel, n32 p.length _ r.len, n32 p.width _ r.width, class_again p.emergency ws) refl
 

@@ -21,7 +21,7 @@ use Rattle.aim_msg.specs.Actors.{IsCallerOf}
 use Rattle.aim_read.specs.Faults.{either, just, rest, words_of, begins_with_digit, fault_at}
 use Rattle.aim_read.specs.Entries.{callers, caller_of, paces, is_fast, fields, field_of, helds, held_of, entry_in, entry_at}
 use Rattle.aim_read.specs.Ranges.{Is32, IsBody, IsAct, IsReason, IsReply, IsEntry}
-use Rattle.aim_read.specs.Steps.{Read, read_in}
+use Rattle.aim_read.specs.Steps.{Read, read_in, numbers_in}
 use Rattle.aim_read.specs.EntrySteps.{word_in, nothing, end_in, order_in, act_in, green_in, taken_in, reason_in, confirm_in, standing_in, reject_in, reply_in, answer_in, call_in, entry_steps}
 use Rattle.aim_read.proofs.NumberLaws.{number_good, value_decimal, decimal_number, number_begins}
 use Rattle.aim_read.proofs.WordLaws.{IsWord, AreWords, words_spaced, words_append}
@@ -150,7 +150,7 @@ reject_again (reason.Taken row col step by) ws r = rw (reason_again (reason.Take
 reject_again (reason.Reused seq) ws r = rw (reason_again (reason.Reused seq) ws r) refl
 
 pub answer_again : (r : Reply) → IsReply r → answer_in (reply_words r) ≡ Ok (r, [])
-unfolding answer_in word_in reply_in confirm_in
+unfolding answer_in word_in reply_in confirm_in numbers_in
 answer_again (reply.Confirm id start before after accelerate end) r =
     rw (n32 id _ r.0, n32 start _ r.1, n32 before _ r.2, n32 after _ r.3, pace_again accelerate _, n32 end _ r.4) refl
 answer_again (reply.Reject because next held) r = reject_again because _ r.0 ∙ standing_again because next held [] r.1 r.2

@@ -25,9 +25,9 @@ use Rattle.aim_read.specs.Tables.{look_up}
 use Rattle.aim_read.specs.Forms.{message_forms, order_forms, reply_forms, reason_forms, message_form, order_form, reply_form, reason_form, message_places}
 use Rattle.aim_read.specs.Reading.{at, unless, message_of}
 use Rattle.aim_read.specs.Entries.{callers, caller_of, reason_places, reason_of, standing_places, reject_of, refusal_places, refusal_of, reply_places, reply_of, answer_places, answer_of, order_places, order_of, order_act_places, order_act_of, message_act_places, message_act_of, act_places, act_of, entry_places, entry_of, entry_in}
-use Rattle.aim_read.specs.Steps.{◌>>=◌, message_in}
+use Rattle.aim_read.specs.Steps.{◌>>=◌, numbers_in, message_in}
 use Rattle.aim_read.specs.EntrySteps.{word_in, end_in, order_in, act_in, green_in, taken_in, reason_in, confirm_in, standing_in, reject_in, reply_in, answer_in, call_in, entry_steps}
-use Rattle.aim_read.proofs.StepLaws.{bind_read, bind_more, bind_assoc, faults_then, message_step}
+use Rattle.aim_read.proofs.StepLaws.{bind_read, bind_more, bind_assoc, faults_then, numbers_step, message_step}
 
 -- the fault of a word in no row
 look_up_fault : {F : Type 0} (fault : LineKind) (rows : List (List ℕ × F)) (word : List ℕ) (k : LineKind) → look_up fault rows word ≡ Err k → k ≡ fault
@@ -145,7 +145,7 @@ reply_step : {B : Type 0} (a : ReplyForm) (ws : Words) (f : Reply × Words → R
     → (reply_in a ws >>= f) ≡ unless b (faults_then (reply_places a ws) ws later)
 unfolding reply_in confirm_in reject_in word_in
 reply_step answer.Confirm ws f b later h =
-    bind_more _ _ _ _ _ _ _ (bind_more _ _ _ _ _ _ _ (bind_more _ _ _ _ _ _ _ (bind_more _ _ _ _ _ _ _ (bind_more _ _ _ _ _ _ _ (bind_more _ _ _ _ _ _ _ h)))))
+    bind_assoc (numbers_in [] 4 ws) _ f ∙ numbers_step [] 4 ws _ b _ (bind_more _ _ _ _ _ _ _ (bind_more _ _ _ _ _ _ _ h))
 reply_step answer.Reject [] f b later h = refl
 reply_step answer.Reject (w ∷ ws) f b later h = refusal w ws f b later (reason_form w) (look_up_fault kind.Words reason_forms w) h
 reply_step answer.Ack ws f b later h = bind_more _ _ _ _ _ _ _ h

@@ -176,7 +176,7 @@ plan_again : (version vehicle first lead resend : ℕ) (p : Params) (ahead : Boo
     → Is32 vehicle × Is32 first × Is32 lead × Is32 resend × AreParams p → (p.arrive ≡ 0) × (ahead ≡ true → version ≡ 3)
     → steps_in version (plan_form version) (behind_keyword (plan_form version) (line_words version (line.PlanFor vehicle first lead resend p ahead)))
     ≡ Ok (line.PlanFor vehicle first lead resend p ahead)
-unfolding steps_in plan_in
+unfolding steps_in numbers_in plan_in
 plan_again version vehicle first lead resend p ahead r k = elim (cases_Bool (version == 3)) [
   | inl is ↦ rw is (rw (n32 vehicle _ r.0, n32 first _ r.1, n32 lead _ r.2, n32 resend _ r.3, n8 p.lane _ r.4.lane, turn_again p.turn _, plan_vehicle p _ r.4 k.0, window_again ahead []) refl)
   | inr not ↦ rw not (rw (n32 vehicle _ r.0, n32 first _ r.1, n32 lead _ r.2, n32 resend _ r.3, n8 p.lane _ r.4.lane, turn_again p.turn _, plan_vehicle p [] r.4 k.0)

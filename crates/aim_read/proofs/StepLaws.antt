@@ -90,7 +90,7 @@ vehicle_step : {B : Type 0} (lane : ℕ) (turn : Turn) (arrive : ℕ) (ws : Word
     → f (vehicle_at lane turn arrive ws, from 6 ws) ≡ unless b later
     → (vehicle_in lane turn arrive ws >>= f) ≡ unless b (faults_then vehicle_places ws later)
 unfolding vehicle_in
-vehicle_step lane turn arrive ws f b later h = bind_more _ _ _ _ _ _ _ (bind_more _ _ _ _ _ _ _ (bind_more _ _ _ _ _ _ _ (bind_more _ _ _ _ _ _ _ (bind_more _ _ _ _ _ _ _ (bind_more _ _ _ _ _ _ _ h)))))
+vehicle_step lane turn arrive ws f b later h = bind_assoc (numbers_in [] 5 ws) _ f ∙ numbers_step [] 5 ws _ b _ (bind_more _ _ _ _ _ _ _ h)
 
 params_step : {B : Type 0} (ws : Words) (f : Params × Words → Result B LineKind) (b : B) (later : Option LineKind)
     → f (params_at ws 0 (at ws 2) 3, from 9 ws) ≡ unless b later
@@ -195,9 +195,9 @@ steps_are version (form.Event m) ws = bind_read _ _ _ _ _ _ (bind_read _ _ _ _ _
 steps_are version (form.Order order.Switch) ws = bind_read _ _ _ _ _ _ (bind_read _ _ _ _ _ _ refl)
 steps_are version (form.Order order.Stop) ws = bind_read _ _ _ _ _ _ refl
 steps_are version form.Until ws = bind_read _ _ _ _ _ _ refl
-steps_are version form.Plan ws = bind_read _ _ _ _ _ _ (bind_read _ _ _ _ _ _ (bind_read _ _ _ _ _ _ (bind_read _ _ _ _ _ _ (bind_read _ _ _ _ _ _ (bind_read _ _ _ _ _ _ (vehicle_step _ _ _ _ _ _ None refl))))))
-steps_are version form.PlanInWindow ws = bind_read _ _ _ _ _ _ (bind_read _ _ _ _ _ _ (bind_read _ _ _ _ _ _ (bind_read _ _ _ _ _ _ (bind_read _ _ _ _ _ _ (bind_read _ _ _ _ _ _ (vehicle_step _ _ _ _ _ _ _ (bind_read _ _ _ _ _ _ refl)))))))
-steps_are version form.ChangePlan ws = bind_read _ _ _ _ _ _ (bind_read _ _ _ _ _ _ (bind_read _ _ _ _ _ _ refl))
+steps_are version form.Plan ws = numbers_step [] 4 (rest ws) _ _ _ (bind_read _ _ _ _ _ _ (bind_read _ _ _ _ _ _ (vehicle_step _ _ _ _ _ _ None refl)))
+steps_are version form.PlanInWindow ws = numbers_step [] 4 (rest ws) _ _ _ (bind_read _ _ _ _ _ _ (bind_read _ _ _ _ _ _ (vehicle_step _ _ _ _ _ _ _ (bind_read _ _ _ _ _ _ refl))))
+steps_are version form.ChangePlan ws = numbers_step [] 3 (rest ws) _ _ None refl
 steps_are version form.CancelPlan ws = bind_read _ _ _ _ _ _ (bind_read _ _ _ _ _ _ refl)
 steps_are version form.Up ws = bind_read _ _ _ _ _ _ (last_list _ _ _ _ (fates_all (from 2 ws)))
 steps_are version form.Down ws = bind_read _ _ _ _ _ _ (last_list _ _ _ _ (fates_all (from 2 ws)))

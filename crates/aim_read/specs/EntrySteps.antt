@@ -1,5 +1,5 @@
 -- Reading an entry word by word. Only contracts of private functions cite it.
-use Rattle.std.specs.Prelude.{ℕ, List, [], ◌∷◌, Option, Some, None, unwrap_or, Result, Ok, Err, codes}
+use Rattle.std.specs.Prelude.{ℕ, get_or, List, [], ◌∷◌, Option, Some, None, unwrap_or, Result, Ok, Err, codes}
 use Rattle.aim_msg.specs.declared.entries.Act.{Act}
 use Rattle.aim_msg.specs.declared.entries.Act.TheVariants as act
 use Rattle.aim_msg.specs.declared.entries.Order.{Order}
@@ -21,7 +21,7 @@ use Rattle.aim_msg.specs.Texts.{Words}
 use Rattle.aim_read.specs.Faults.{just, number8, value_of}
 use Rattle.aim_read.specs.Forms.{message_form, order_form, reply_form, reason_form}
 use Rattle.aim_read.specs.Entries.{callers, caller_of, paces, is_fast, fields, field_of, number64, helds, held_of}
-use Rattle.aim_read.specs.Steps.{◌>>=◌, Read, read_in, number_in, message_in}
+use Rattle.aim_read.specs.Steps.{◌>>=◌, Read, read_in, number_in, numbers_in, message_in}
 
 -- the first word, whatever it is
 unfoldable pub word_in : Words → Read (List ℕ)
@@ -90,13 +90,10 @@ reason_in why.Reused words = number_in words >>= λ n. Ok (reason.Reused n.0, n.
 
 unfoldable pub confirm_in : Words → Read Reply
 confirm_in words = do
-  id ← number_in words
-  start ← number_in id.1
-  early ← number_in start.1
-  late ← number_in early.1
-  accelerate ← read_in paces is_fast late.1
+  n ← numbers_in [] 4 words
+  accelerate ← read_in paces is_fast n.1
   last ← number_in accelerate.1
-  Ok (reply.Confirm id.0 start.0 early.0 late.0 accelerate.0 last.0, last.1)
+  Ok (reply.Confirm (get_or n.0 0 0) (get_or n.0 1 0) (get_or n.0 2 0) (get_or n.0 3 0) accelerate.0 last.0, last.1)
 
 unfoldable pub standing_in : Reason → Words → Read Reply
 standing_in because words = do

@@ -70,13 +70,9 @@ choice_in rows (w ∷ ws) = with_rest ws (look_up kind.Words rows w)
 
 unfoldable pub vehicle_in : ℕ → Turn → ℕ → Words → Read Params
 vehicle_in lane turn arrive words = do
-  speed ← number_in words
-  max_speed ← number_in speed.1
-  accel ← number_in max_speed.1
-  size ← number_in accel.1
-  width ← number_in size.1
-  class ← read_in classes is_emergency width.1
-  Ok (record { lane = lane; turn = turn; arrive = arrive; speed = speed.0; max_speed = max_speed.0; accel = accel.0; length = size.0; width = width.0; emergency = class.0 }, class.1)
+  n ← numbers_in [] 5 words
+  class ← read_in classes is_emergency n.1
+  Ok (record { lane = lane; turn = turn; arrive = arrive; speed = get_or n.0 0 0; max_speed = get_or n.0 1 0; accel = get_or n.0 2 0; length = get_or n.0 3 0; width = get_or n.0 4 0; emergency = class.0 }, class.1)
 
 unfoldable pub params_in : Words → Read Params
 params_in words = do
@@ -179,22 +175,17 @@ window_in windowed words = if windowed then read_in windows is_early words else 
 
 unfoldable pub plan_in : Bool → Words → Result Line LineKind
 plan_in windowed words = do
-  vehicle ← number_in words
-  first ← number_in vehicle.1
-  lead ← number_in first.1
-  resend ← number_in lead.1
-  lane ← read_in number8 value_of resend.1
+  n ← numbers_in [] 4 words
+  lane ← read_in number8 value_of n.1
   turn ← read_in turns turn_of lane.1
   params ← vehicle_in lane.0 turn.0 0 turn.1
   ahead ← window_in windowed params.1
-  Ok (line.PlanFor vehicle.0 first.0 lead.0 resend.0 params.0 ahead.0)
+  Ok (line.PlanFor (get_or n.0 0 0) (get_or n.0 1 0) (get_or n.0 2 0) (get_or n.0 3 0) params.0 ahead.0)
 
 unfoldable pub change_plan_in : Words → Result Line LineKind
 change_plan_in words = do
-  vehicle ← number_in words
-  step ← number_in vehicle.1
-  lead ← number_in step.1
-  Ok (line.ChangeAt vehicle.0 step.0 lead.0)
+  n ← numbers_in [] 3 words
+  Ok (line.ChangeAt (get_or n.0 0 0) (get_or n.0 1 0) (get_or n.0 2 0))
 
 unfoldable pub cancel_plan_in : Words → Result Line LineKind
 cancel_plan_in words = do

@@ -80,16 +80,18 @@ fn is_emergency(words: &mut Words<'_>) -> Result<bool, LineKind>
 pub fn vehicle(words: &mut Words<'_>, lane: u8, turn: Turn, arrive: u32) -> Result<Params, LineKind>
     ensures { Gives result words.new (vehicle_in lane turn arrive words.old) }
 {
+    let [speed, max_speed, accel, length, width] = numbers::<5>(words)?;
+    let emergency = is_emergency(words)?;
     Ok(Params {
         lane,
         turn,
         arrive,
-        speed: number32(words)?,
-        max_speed: number32(words)?,
-        accel: number32(words)?,
-        length: number32(words)?,
-        width: number32(words)?,
-        emergency: is_emergency(words)?,
+        speed,
+        max_speed,
+        accel,
+        length,
+        width,
+        emergency,
     })
 }
 

@@ -211,10 +211,7 @@ pub fn switch(words: &mut Words<'_>) -> Result<Line, LineKind>
 pub fn plan(words: &mut Words<'_>, windowed: bool) -> Result<Line, LineKind>
     ensures { result ≡ plan_in windowed words.old }
 {
-    let number = number32(words)?;
-    let first = number32(words)?;
-    let lead = number32(words)?;
-    let resend = number32(words)?;
+    let [number, first, lead, resend] = numbers::<4>(words)?;
     let lane = number8(words)?;
     let turn = turn(words)?;
     let params = vehicle(words, lane, turn, 0)?;
@@ -234,10 +231,11 @@ pub fn plan(words: &mut Words<'_>, windowed: bool) -> Result<Line, LineKind>
 pub fn change_plan(words: &mut Words<'_>) -> Result<Line, LineKind>
     ensures { result ≡ change_plan_in words.old }
 {
+    let [vehicle, step, lead] = numbers::<3>(words)?;
     Ok(Line::ChangeAt {
-        vehicle: number32(words)?,
-        step: number32(words)?,
-        lead: number32(words)?,
+        vehicle,
+        step,
+        lead,
     })
 }
 

@@ -5,7 +5,7 @@ ghost use Rattle.aim_read.specs.Entries.{paces, is_fast, fields, field_of, numbe
 ghost use Rattle.aim_read.specs.Steps.{Gives, read_in};
 ghost use Rattle.aim_read.specs.EntrySteps.{green_in, taken_in, reason_in, confirm_in, standing_in, reject_in, reply_in, answer_in};
 
-use crate::fields::{choice, number8, number32};
+use crate::fields::{choice, number8, number32, numbers};
 use crate::forms::{ReasonForm, ReplyForm, reason_form, reply_form};
 use crate::numbers::{begins_with_digit, number};
 use crate::words::Words;
@@ -115,13 +115,16 @@ fn held(words: &mut Words<'_>) -> Result<Option<u32>, LineKind>
 fn confirm(words: &mut Words<'_>) -> Result<Reply, LineKind>
     ensures { Gives result words.new (confirm_in words.old) }
 {
+    let [id, start, early, late] = numbers::<4>(words)?;
+    let accelerate = is_fast(words)?;
+    let last = number32(words)?;
     Ok(Reply::Confirm {
-        id: number32(words)?,
-        start: number32(words)?,
-        early: number32(words)?,
-        late: number32(words)?,
-        accelerate: is_fast(words)?,
-        last: number32(words)?,
+        id,
+        start,
+        early,
+        late,
+        accelerate,
+        last,
     })
 }
 
