@@ -1,15 +1,16 @@
-pub mod TestLemmas
-pub mod ServedLemmas
-pub mod AnswerLemmas
-pub mod CrossingLemmas
-pub mod TakingLemmas
-pub mod BlockLemmas
-pub mod DistanceLemmas
-pub mod RowLemmas
-pub mod FootprintLemmas
-pub mod MovingLemmas
-pub mod ReplyLemmas
-pub mod SpanLemmas
-pub mod TakenLemmas
-pub mod BookLemmas
-pub mod PolicyLemmas
+mod SpanSteps
+mod RowLemmas
+mod GreenLemmas
+mod BeforeLemmas
+mod ConflictLemmas
+mod HeldLemmas
+mod EarlyLemmas
+mod FreeLemmas
+mod KeepingLemmas
+mod ManagedLemmas
+mod GrantedLemmas
+mod NextLemmas
+mod ServedLemmas
+mod SameLemmas
+mod SheetLemmas
+mod NewLemmas

@@ -1,109 +1,158 @@
--- Histories of served messages: each is fresh, and each vehicle has one.
-use Rattle.std.proofs.Common.{◌≡◌, ℕ, zero, suc, ◌<◌, true, false, ◌||◌, List, [], ◌∷◌, ◌++◌, length, take, get_or, None, arith, refl, ◌∙◌, ap, append_assoc, eq-eqb, ◌⊎◌, inl, inr}
-use Rattle.std.specs.Prelude.{◌==◌}
-use Rattle.std.proofs.lemmas.Bool.{eqb-true}
-use Rattle.std.proofs.lemmas.List.{append-nil}
-use Rattle.std.proofs.lemmas.List.Folds.{list_any-append}
-use Rattle.std.proofs.lemmas.List.Elements.{filter-append}
-use Rattle.aim_msg.specs.declared.entries.Act.{Act}
+-- What is kept after one more fresh message is what the longer history says.
+use Rattle.std.proofs.Common.{◌≡◌, ℕ, ◌<◌, ◌≤◌, Bool, true, false, ◌||◌, List, [], ◌∷◌, ◌++◌, length, Option, Some, None, refl, sym, ◌∙◌, ap, arith, subst, append-nil}
+use Rattle.std.specs.Prelude.{option_map, if◌then◌else◌, slice_set, slice_index_or}
+use Rattle.std.proofs.lemmas.List.{length-set}
+use Rattle.std.proofs.lemmas.Bool.{leb-true, and_parts}
+use Rattle.aim_geometry.specs.Cells.{Cell}
 use Rattle.aim_msg.specs.declared.entries.Act.TheVariants as act
 use Rattle.aim_msg.specs.declared.entries.Entry.{Entry}
-use Rattle.aim_geometry.specs.Bounded.{last}
+use Rattle.aim_msg.specs.declared.entries.TheConstants.{LATEST_MOMENT}
+use Rattle.aim_msg.specs.declared.messages.Params.{Params}
+use Rattle.aim_msg.specs.declared.replies.Reply.{Reply}
 use Rattle.aim_paths.specs.Intersection.{Intersection}
-use Rattle.aim_rules.specs.History.{Fresh, fresh, fresh_after, is_fresh, is_fresh_message, is_fresh_seq, message_of, of_vehicle, is_stop}
-use Rattle.aim_rules.specs.Timeline.{policy_at, is_from_at, change_with}
-use Rattle.aim_rules.specs.Answer.{is_stopped}
-use Rattle.aim_rules.proofs.HistoryLemmas.{served, last-append}
-use Rattle.aim_book.specs.Serving.{has_called, AreServed, IsServed, ActsSteady}
-use Rattle.aim_book.proofs.TestLemmas.{or_false, or_left, or_right, decided}
+use Rattle.aim_pool.specs.Spans.{in_spans}
+use Rattle.aim_tiles.specs.Cells.{has_cell as has_taken}
+use Rattle.aim_tiles.specs.Sheets.{AreAhead, AreTiles}
+use Rattle.aim_buffers.specs.Requests.{IsPreparedFor, Request}
+use Rattle.aim_emerg.specs.Calls.{call_of}
+use Rattle.aim_emerg.proofs.CallLaws.{calls_more}
+use Rattle.aim_fcfs.specs.Distances.{distances_with}
+use Rattle.aim_fcfs.proofs.DistanceLaws.{distances_entry}
+use Rattle.aim_rules.specs.Answer.{answer, is_stopped}
+use Rattle.aim_geometry.specs.Bounded.{min_with}
+use Rattle.aim_rules.specs.Distance.{asked_from, is_blocked_reply}
+use Rattle.aim_rules.specs.History.{Fresh, fresh, is_confirm, is_fresh, is_fresh_seq, now_of, params_at, params_of}
+use Rattle.aim_rules.specs.Holds.{is_fast, is_granted, is_granted_with}
+use Rattle.aim_rules.specs.Kept.{kept}
+use Rattle.aim_rules.specs.Known.{answer_fresh_by}
+use Rattle.aim_rules.specs.Legal.{IsLegal}
+use Rattle.aim_rules.proofs.CellLemmas.{cells_inside}
+use Rattle.aim_rules.proofs.HistoryLaws.{fresh-one}
+use Rattle.aim_rules.proofs.LegalLemmas.{IsLegal-append}
+use Rattle.aim_rules.proofs.PolicyLaws.{changes-snoc, is_stopped-snoc}
+use Rattle.aim_session.specs.declared.sessions.Look.TheVariants as look
+use Rattle.aim_session.specs.Kept.{no_session, session_after}
+use Rattle.aim_session.specs.Looks.{look_of}
+use Rattle.aim_session.proofs.SessionLaws.{sessions_more}
+use Rattle.aim_book.specs.Asking.{AreCalling}
+use Rattle.aim_book.specs.Keeping.{IsManaged, granted_sheet, is_changed, is_taken_then, row_next}
+use Rattle.aim_book.specs.Reserved.{AreReserved, HasRoom, IsRowOf, row_of, spans_in}
+use Rattle.aim_book.specs.declared.desks.Desk.{Desk}
+use Rattle.aim_book.specs.declared.reservations.Reservation.{Reservation}
+use Rattle.aim_book.specs.declared.reservations.Reservations.{Reservations}
+use Rattle.aim_book.proofs.GrantedLemmas.{confirmed_asks, granted_cells, granted_later, granted_tiles}
+use Rattle.aim_book.proofs.ManagedLemmas.{answer_new, apart, calling, fresh_now, known_of}
+use Rattle.aim_book.proofs.NextLemmas.{reserved_next}
 
--- a caller without an entry has used no sequence number
-pub is_fresh_seq-first : (h : List Entry) (v seq : ℕ) → has_called v h ≡ false → is_fresh_seq h v seq ≡ true
-is_fresh_seq-first [] v seq none = refl
-is_fresh_seq-first (e ∷ h) v seq none = let n = or_false (e.caller == v) (has_called v h) none in rw (n.0, is_fresh_seq-first h v seq n.1) refl
-
--- a served message is fresh
-pub is_fresh-served : (i : Intersection) (before : List Entry) (e : Entry) → IsServed i before e → is_fresh before e ≡ true
-is_fresh-served i before e s = go e.act s.request
+-- the cells of a reservation are of tiles of the table
+row_inside : (i : Intersection) (size : ℕ) (o : Option Fresh) (row : Option Reservation) → size ≡ i.grid.n → IsRowOf i o row → AreTiles size (spans_in row)
+row_inside i size o None e of = λ c t. absurd (cc)
+row_inside i size None (Some r) e of = absurd of
+row_inside i size (Some x) (Some r) e of = λ c t. rw e (go (params_at x) c (sym (of.cells c) ∙ t))
   where
-    go : (a : Act) → ActsSteady i a → is_fresh_message before e.caller (message_of a) ≡ true
-    go (act.Message m) r = is_fresh_seq-first before e.caller m.seq s.first
-    go (act.Order o) r = absurd r
+    go : (p : Option Params) (c : Cell) → is_granted_with i x.entry.reply c p ≡ true → (c.row < i.grid.n) × (c.col < i.grid.n)
+    go None c t = absurd (cc)
+    go (Some p) c t = cells_inside i p (is_fast x.entry.reply) c t
 
--- the fresh messages, where each entry is one
-abbrev pub placed : List Entry → List Entry → List Fresh
-placed before [] = []
-placed before (e ∷ es) = served before e ∷ placed (before ++ e ∷ []) es
+pub row_tiles : {L : Type 0} (i : Intersection) (n : ℕ) (xs : List Fresh) (at v : ℕ) (r : Reservations L) → AreReserved i n xs at r → v < n → AreTiles r.table.size (spans_in (row_of r.rows.items v))
+row_tiles i n xs at v r are l = row_inside i r.table.size (kept xs v) (row_of r.rows.items v) are.size (are.rows v l)
 
-fresh_after-served : (i : Intersection) (before es : List Entry) → AreServed i before es → fresh_after before es ≡ placed before es
-fresh_after-served i before [] s = refl
-fresh_after-served i before (e ∷ es) s = rw (is_fresh-served i before e s.0, fresh_after-served i (before ++ e ∷ []) es s.1) refl
-
-pub fresh-served : (i : Intersection) (h : List Entry) → AreServed i [] h → fresh h ≡ placed [] h
-fresh-served i h s = fresh_after-served i [] h s
-
-pub placed-append : (before xs ys : List Entry) → placed before (xs ++ ys) ≡ placed before xs ++ placed (before ++ xs) ys
-placed-append before [] ys = rw (append-nil before) refl
-placed-append before (x ∷ xs) ys = rw (placed-append (before ++ x ∷ []) xs ys, append_assoc before (x ∷ []) xs) refl
-
-pub of_vehicle-none : (v : ℕ) (before es : List Entry) → has_called v es ≡ false → of_vehicle v (placed before es) ≡ []
-of_vehicle-none v before [] none = refl
-of_vehicle-none v before (e ∷ es) none = let n = or_false (e.caller == v) (has_called v es) none in rw (n.0, of_vehicle-none v (before ++ e ∷ []) es n.1) refl
-
--- a caller with an entry has no later one
-pub has_called-later : (i : Intersection) (v : ℕ) (before es : List Entry) → AreServed i before es → has_called v before ≡ true → has_called v es ≡ false
-has_called-later i v before [] s had = refl
-has_called-later i v before (e ∷ es) s had =
-    let again : has_called v (before ++ e ∷ []) ≡ true = rw (list_any-append (λ e. e.caller == v) before (e ∷ [])) (or_left (has_called v before) (e.caller == v || false) had) in
-    rw (has_called-later i v (before ++ e ∷ []) es s.1 again) (other (decided (e.caller == v)))
+-- the sheet of a reservation has the layout's room
+pub row_room : {L : Type 0} (i : Intersection) (n : ℕ) (xs : List Fresh) (at v : ℕ) (r : Reservations L) → AreReserved i n xs at r → v < n → HasRoom i.grid.spans (option_map (λ q. q.sheet) (row_of r.rows.items v))
+row_room i n xs at v r are l = go (kept xs v) (row_of r.rows.items v) (are.rows v l)
   where
-    other : (e.caller == v ≡ true) ⊎ (e.caller == v ≡ false) → (e.caller == v || false) ≡ false
-    other (inl t) = absurd (let same : e.caller ≡ v = eqb-true e.caller v t in let none : has_called v before ≡ false = rw same at s.0.first in cc)
-    other (inr f) = rw f refl
+    go : (o : Option Fresh) (row : Option Reservation) → IsRowOf i o row → HasRoom i.grid.spans (option_map (λ q. q.sheet) row)
+    go o None of = tt
+    go None (Some q) of = absurd of
+    go (Some x) (Some q) of = of.room
 
--- the one fresh message of an entry's vehicle
-pub of_vehicle-one : (i : Intersection) (before es : List Entry) (e : Entry) → AreServed i before (e ∷ es) → of_vehicle e.caller (placed [] (before ++ e ∷ es)) ≡ served before e ∷ []
-of_vehicle-one i before es e s =
-    let here : (e.caller == e.caller) ≡ true = eq-eqb e.caller e.caller refl in
-    let had : has_called e.caller (before ++ e ∷ []) ≡ true =
-    rw (list_any-append (λ x. x.caller == e.caller) before (e ∷ []), here) (or_right (has_called e.caller before) true refl) in
-    ap (of_vehicle e.caller) (placed-append [] before (e ∷ es))
-    ∙ filter-append (λ x. x.entry.caller == e.caller) (placed [] before) (placed before (e ∷ es))
-    ∙ rw (of_vehicle-none e.caller [] before s.0.first, here, of_vehicle-none e.caller (before ++ e ∷ []) es (has_called-later i e.caller (before ++ e ∷ []) es s.1 had)) refl
-
--- one more served message
-pub AreServed-append : (i : Intersection) (before es : List Entry) (e : Entry) → AreServed i before es → IsServed i (before ++ es) e → AreServed i before (es ++ e ∷ [])
-AreServed-append i before [] e s more = (rw append-nil at more, tt)
-AreServed-append i before (x ∷ es) e s more = (s.0, AreServed-append i (before ++ x ∷ []) es e s.1 (rw (append_assoc before (x ∷ []) es) more))
-
--- each entry is served after those before it
-pub IsServed-at : (i : Intersection) (before es : List Entry) (k : ℕ) (d : Entry) → AreServed i before es → k < length es → IsServed i (before ++ take k es) (get_or es k d)
-IsServed-at i before [] k d s l = absurd (omega arith)
-IsServed-at i before (x ∷ es) zero d s l = rw (append-nil before) s.0
-IsServed-at i before (x ∷ es) (suc k) d s l =
-    let r = IsServed-at i (before ++ x ∷ []) es k d s.1 (omega arith) in
-    rw append_assoc at r
-
--- no order stands in the history
-pub is_stopped-served : (i : Intersection) (before es : List Entry) → AreServed i before es → is_stopped es ≡ false
-is_stopped-served i before [] s = refl
-is_stopped-served i before (e ∷ es) s = rw (go e.act s.0.request, is_stopped-served i (before ++ e ∷ []) es s.1) refl
+many_distances : (ds : List (Option ℕ)) (now : ℕ) (r : Reply) (o : Option Params) → length (distances_with ds now r o) ≡ length ds
+many_distances ds now r None = refl
+many_distances ds now r (Some p) = go (is_confirm r) (is_blocked_reply r)
   where
-    go : (a : Act) → ActsSteady i a → is_stop a ≡ false
-    go (act.Message m) r = refl
-    go (act.Order o) r = absurd r
+    go : (a b : Bool) → length (if a then slice_set ds p.lane None else if b then slice_set ds p.lane (Some (min_with (asked_from now p) (slice_index_or ds p.lane None))) else ds) ≡ length ds
+    go true b = length-set ds p.lane None
+    go false true = length-set ds p.lane (Some (min_with (asked_from now p) (slice_index_or ds p.lane None)))
+    go false false = refl
 
--- no switch does
-pub last-switch : (i : Intersection) (before es : List Entry) (at : ℕ) → AreServed i before es → last (λ e. is_from_at (change_with e.act e.reply) at) es ≡ None
-last-switch i before [] at s = refl
-last-switch i before (e ∷ es) at s =
-    last-append (λ e. is_from_at (change_with e.act e.reply) at) (e ∷ []) es
-    ∙ rw (last-switch i (before ++ e ∷ []) es at s.1) (go e.act s.0.request)
-  where
-    go : (a : Act) → ActsSteady i a → last (λ e. is_from_at (change_with a e.reply) at) (e ∷ []) ≡ None
-    go (act.Message m) r = refl
-    go (act.Order o) r = absurd r
+or_nothing : (b : Bool) → (b || false) ≡ b
+or_nothing true = refl
+or_nothing false = refl
 
--- the first policy is always in force
-pub policy_at-served : (i : Intersection) (h : List Entry) (at : ℕ) → AreServed i [] h → policy_at h at ≡ record { policy = 0; from = 0 }
-policy_at-served i h at s = rw (last-switch i [] h at s) refl
+module _ {L : Type 0} (i : Intersection) (n : ℕ) (h : List Entry) (v moment place : ℕ) (d : Desk L) (calls : List (Option (ℕ × ℕ))) (r : Request) (m : IsManaged i n h (now_of h moment) d calls) (l : v < n)
+    (is_new : look_of (slice_index_or d.sessions v no_session).last r.message ≡ look.Fresh) (prepared : IsPreparedFor i r) where
+  abbrev said : Reply
+  said = answer_fresh_by i (known_of i n h v moment) r.message.body
+
+  new_seq : is_fresh_seq h v r.message.seq ≡ true
+  new_seq = fresh_now i n h v moment d calls m l r.message is_new said
+
+  answered : answer i h v moment (act.Message r.message) ≡ said
+  answered = answer_new i n h v moment d calls m l r.message is_new
+
+  -- the calls that were noted say where emergencies come
+  pub calling_noted : (noted : List (Option (ℕ × ℕ))) → noted ≡ slice_set calls v (call_of i (params_of r.message.body)) → (p : Params) → params_of r.message.body ≡ Some p → AreCalling i (known_of i n h v moment) p noted
+  calling_noted noted is p asks =
+      subst (λ cs. AreCalling i (known_of i n h v moment) p cs) (sym (is ∙ ap (λ o. slice_set calls v (call_of i o)) asks)) (calling i n h v moment d calls m l p)
+
+  pub tiles_granted : is_confirm said ≡ true → AreTiles i.grid.n (granted_sheet r said).spans
+  tiles_granted e = granted_tiles i h v moment (known_of i n h v moment) r m.valid prepared new_seq answered e
+
+  pub later_granted : is_confirm said ≡ true → AreAhead (now_of h moment) i.times.horizon (granted_sheet r said).spans
+  later_granted e = granted_later i h v moment (known_of i n h v moment) r m.valid prepared new_seq answered e
+
+  room_granted : (b : Bool) → (if b then r.first else r.second).room ≡ i.grid.spans
+  room_granted true = prepared.first_room
+  room_granted false = prepared.second_room
+
+  module _ (reply : Reply) (is : reply ≡ said) (at_place : place ≡ length h) (late : moment ≤ LATEST_MOMENT) where
+    abbrev e : Entry
+    e = record { caller = v; moment = moment; act = act.Message r.message; reply = reply }
+
+    abbrev x : Fresh
+    x = record { place = length h; now = now_of h moment; entry = e }
+
+    fresh_entry : is_fresh h e ≡ true
+    fresh_entry = fresh_now i n h v moment d calls m l r.message is_new reply
+
+    legal_next : IsLegal i n (h ++ e ∷ [])
+    legal_next = IsLegal-append i n h e m.legal (record { moment = late; caller = ((let f = m.few in omega arith), l) }) (is ∙ sym answered)
+
+    granted_is : is_confirm reply ≡ true → (c : Cell) → in_spans (granted_sheet r reply).spans c ≡ is_granted i x c
+    granted_is confirmed c =
+        let a = confirmed_asks i (known_of i n h v moment) r.message.body (rw (← is) confirmed) in
+        let cells = granted_cells i h v moment (known_of i n h v moment) r m.valid prepared new_seq answered (rw (← is) confirmed) a.0 a.1 c in
+        subst (λ q. in_spans (granted_sheet r q).spans c ≡ is_granted_with i q c (params_of r.message.body)) (sym is) (cells ∙ ap (is_granted_with i said c) (sym a.1))
+
+    later_is : is_confirm reply ≡ true → (c : Cell) → in_spans (granted_sheet r reply).spans c ≡ true → now_of h moment ≤ c.step
+    later_is confirmed c t =
+        let later = later_granted (rw (← is) confirmed) in
+        leb-true (now_of h moment) c.step (and_parts _ _ (later c (rw (← is) t))).0
+
+    pub managed_next : (next : Desk L) (noted : List (Option (ℕ × ℕ))) → noted ≡ slice_set calls v (call_of i (params_of r.message.body)) →
+        next.sessions ≡ slice_set d.sessions v (session_after r.message reply (slice_index_or d.sessions v no_session).next) →
+        next.distances ≡ distances_with d.distances d.reservations.table.current reply (params_of r.message.body) →
+        next.timeline ≡ d.timeline → next.has_lights ≡ d.has_lights → next.stopped ≡ d.stopped →
+        next.reservations.rows.items ≡ slice_set d.reservations.rows.items v (row_next (row_of d.reservations.rows.items v) place r reply) →
+        next.reservations.table ≡ record d.reservations.table { cells = next.reservations.table.cells } →
+        ((c : Cell) → has_taken next.reservations.table c ≡ is_taken_then d.reservations.table (row_of d.reservations.rows.items v) (row_next (row_of d.reservations.rows.items v) place r reply) (is_changed (row_of d.reservations.rows.items v) r reply) c) →
+        IsManaged i n (h ++ e ∷ []) (now_of h moment) next noted
+    managed_next next noted calls_is sessions_is distances_is timeline_is lights_is stopped_is rows_is table_is cells_is = record {
+      valid = m.valid;
+      legal = legal_next;
+      few = m.few;
+      desk = record {
+        sessions = rw sessions_is (sessions_more d.sessions h e r.message m.desk.sessions (let q = m.desk.callers in omega arith) refl is_new);
+        callers = rw (sessions_is, length-set) m.desk.callers;
+        reserved = subst (λ xs. AreReserved i n xs (now_of h moment) next.reservations) (sym (fresh-one h e fresh_entry))
+            (reserved_next i n (fresh h) x v place (now_of h moment) r r.message d.reservations next.reservations m.desk.reserved (apart i n h v moment d calls m l) l refl refl (sym at_place)
+            granted_is later_is (room_granted (is_fast reply)) rows_is table_is cells_is);
+        changes = rw (timeline_is, changes-snoc h e, append-nil) m.desk.changes;
+        distances = (let q = distances_entry d.distances h e m.desk.sixteen fresh_entry m.desk.distances in rw (distances_is, m.desk.reserved.current) q);
+        sixteen = rw (distances_is, many_distances d.distances d.reservations.table.current reply (params_of r.message.body)) m.desk.sixteen;
+        lights = rw lights_is m.desk.lights;
+        stopped = rw (stopped_is, m.desk.stopped) (sym (is_stopped-snoc h e ∙ or_nothing (is_stopped h)));
+      };
+      calls_are = rw calls_is (calls_more i calls h e r.message m.calls_are (let q = m.calls_many in omega arith) fresh_entry refl);
+      calls_many = rw (calls_is, length-set) m.calls_many;
+    }

@@ -1,9 +1,9 @@
 pub mod State
-pub mod Serving
-pub mod Takings
-pub mod Distances
-pub mod Rows
-pub mod Footprints
-pub mod Moving
-pub mod Replies
-pub mod Conflicts
+pub mod Sheets
+pub mod SpanSteps
+pub mod Reserved
+pub mod Desk
+pub mod Blocking
+pub mod Asking
+pub mod Keeping
+pub mod Books

@@ -1,15 +1,24 @@
 //! The book: a layout and the journal of what was asked and answered over it.
 
-use crate::answers::answer_request;
-use aim_msg::{Act, Body, Entry, MOST_ENTRIES, MOST_VEHICLES, Message, Reply};
+use crate::desks::Desk;
+use crate::reservations::Reservations;
+use aim_buffers::Prepared;
+use aim_emerg::Approaches;
+use aim_fcfs::Distances;
+use aim_msg::{Act, Entry, MOST_ENTRIES, MOST_VEHICLES, OPERATOR, Order, Reply};
 use aim_paths::Layout;
-use std::alloc::Global;
+use aim_pool::Pool;
+use aim_session::Sessions;
+use aim_switch::Timeline;
+use aim_tiles::Steps;
+use std::alloc::{AllocError, Global};
 use std::marker::Model;
+use std::sync::ledger::Ledger;
 
 /// Why a book isn't opened.
 #[derive(Clone, Copy, Debug, PartialEq, Eq)]
 pub enum OpenFault {
-    /// There is no memory for the journal.
+    /// There is no memory for the book.
     NoMemory,
     /// The number of vehicles isn't 1 to 65,536.
     Vehicles,
@@ -21,39 +30,46 @@ pub enum OpenFault {
 #[derive(Clone, Copy, Debug, PartialEq, Eq)]
 pub struct Full;
 
-/// A manager for one thread. Its journal has room for a fixed number of entries, and is always a legal history.
+/// A manager for one thread. Its journal has room for a fixed number of entries, and is always a legal history. All its
+/// memory is taken by `open`. The words of its table are counted in the ledger `L`.
 #[derive(Drop)]
-pub struct Book {
+pub struct Book<L: Ledger> {
     layout: Layout,
     vehicles: u32,
     room: u32,
     journal: Vec<Entry>,
+    desk: Desk<L>,
+    approaches: Approaches,
 }
 
-impl Model for Book {
-    ghost use Rattle.std.specs.Prelude.{◌≤◌, [], length, vec_capacity};
+impl<L: Ledger> Model for Book<L> {
+    ghost use Rattle.std.specs.Prelude.{vec_capacity};
     ghost use Rattle.aim_book.specs.State.{State};
 
     ghost Value = { State };
 
-    ghost use Rattle.aim_msg.specs.declared.entries.TheConstants.{MOST_ENTRIES, MOST_VEHICLES};
-    ghost use Rattle.aim_rules.specs.Legal.{IsLegal};
-    ghost use Rattle.aim_book.specs.Serving.{AreServed};
+    ghost use Rattle.aim_book.specs.Books.{IsBook};
 
     ghost view = { λ b. record { layout = b.layout; vehicles = b.vehicles; room = b.room; journal = b.journal.items } };
 
-    ghost invariant = { λ b. (IsLegal b.layout b.vehicles b.journal.items) × (AreServed b.layout [] b.journal.items) × (length b.journal.items ≤ b.room) × (b.room ≤ vec_capacity b.journal) × (b.room ≤ MOST_ENTRIES) × (b.vehicles ≤ MOST_VEHICLES) };
+    ghost invariant = { λ b. IsBook b.layout b.vehicles b.room b.journal.items (vec_capacity b.journal) b.desk b.approaches };
 }
 
-impl Book {
-    ghost use Rattle.std.specs.Prelude.{◌≡◌, ◌<◌, ◌≤◌, ◌⊎◌, ◌++◌, ◌∷◌, [], ◌↔◌, length, IfOk, OnErr, IsErr, Err};
-    ghost use Rattle.aim_msg.specs.declared.entries.TheConstants.{MOST_ENTRIES, MOST_VEHICLES};
+impl<L: Ledger> Book<L> {
+    ghost use Rattle.std.specs.Prelude.{◌≡◌, ◌+◌, ◌<◌, ◌≤◌, ◌⊎◌, ◌++◌, ◌∷◌, [], ◌↔◌, length, IfOk, OnErr, IsErr, Err};
+    ghost use Rattle.aim_msg.specs.declared.entries.TheConstants.{LATEST_MOMENT, MOST_ENTRIES, MOST_VEHICLES, OPERATOR};
+    ghost use Rattle.aim_buffers.specs.Requests.{IsPreparedFor};
     ghost use Rattle.aim_rules.specs.Answer.{answer};
-    ghost use Rattle.aim_rules.specs.Legal.{IsLegal};
-    ghost use Rattle.aim_book.specs.Serving.{MayServe};
+    ghost use Rattle.aim_rules.specs.Legal.{IsLegal, IsOfLayout};
+    ghost use Rattle.aim_book.specs.Sheets.{sheets_kept};
 
     /// A book with an empty journal, for that many vehicles and that many entries. It takes all its memory here.
-    pub fn open(alloc: Global, layout: Layout, vehicles: u32, room: u32) -> Result<Book, OpenFault>
+    pub fn open(
+        alloc: Global,
+        layout: Layout,
+        vehicles: u32,
+        room: u32,
+    ) -> Result<Book<L>, OpenFault>
         ensures book { IfOk result (λ b. b ≡ record { layout = layout; vehicles = vehicles; room = room; journal = [] }) }
         ensures legal { IfOk result (λ b. IsLegal b.layout b.vehicles b.journal) }
         ensures vehicles { (result ≡ Err OpenFault.Vehicles) ↔ ((vehicles ≡ 0) ⊎ (MOST_VEHICLES < vehicles)) }
@@ -65,23 +81,73 @@ impl Book {
         if room == 0 || room > MOST_ENTRIES {
             return Err(OpenFault::Room);
         }
-        match Vec::with_capacity(alloc, room as usize) {
-            Ok(journal) => Ok(Book {
-                layout,
-                vehicles,
-                room,
-                journal,
-            }),
-            Err(_) => Err(OpenFault::NoMemory),
+        match opened(alloc, layout, vehicles, room) {
+            Ok(book) => Ok(book),
+            Err(AllocError) => Err(OpenFault::NoMemory),
         }
     }
 
-    /// Answers a message of a vehicle at a moment, and keeps both in the journal.
-    pub fn serve(&mut self, vehicle: u32, moment: u32, message: Message) -> Result<Reply, Full>
-        requires { MayServe self.old.layout self.old.vehicles self.old.journal vehicle moment message }
-        ensures reply { IfOk result (λ r. r ≡ answer self.old.layout self.old.journal vehicle moment (Act.Message message)) }
+    /// Answers a message of a vehicle at a moment, and keeps both in the journal. The cells were prepared before: the sheet of
+    /// the trial that a fresh Confirm grants is kept, and each sheet that isn't kept comes into `back`.
+    pub fn serve(
+        &mut self,
+        vehicle: u32,
+        moment: u32,
+        prepared: Prepared,
+        back: &mut Pool,
+        steps: &mut Steps<L>,
+    ) -> Result<Reply, Full>
+        requires vehicle { vehicle < self.old.vehicles }
+        requires moment { moment ≤ LATEST_MOMENT }
+        requires prepared { IsPreparedFor self.old.layout prepared }
+        requires count { back.old.count ≤ 1000000 }
+        requires room { back.old.room ≡ self.old.layout.grid.spans }
+        ensures reply { IfOk result (λ r. r ≡ answer self.old.layout self.old.journal vehicle moment (Act.Message prepared.message)) }
         ensures entry { IfOk result (λ r. self.new
-            ≡ record self.old { journal = self.old.journal ++ (record { caller = vehicle; moment = moment; act = Act.Message message; reply = r }) ∷ [] }) }
+            ≡ record self.old { journal = self.old.journal ++ (record { caller = vehicle; moment = moment; act = Act.Message prepared.message; reply = r }) ∷ [] }) }
+        ensures full { IsErr result ↔ (length self.old.journal ≡ self.old.room) }
+        ensures err { OnErr result (self.new ≡ self.old) }
+        ensures legal { IsLegal self.new.layout self.new.vehicles self.new.journal }
+        ensures sheets { back.new.count + sheets_kept vehicle self.new.journal ≡ back.old.count + sheets_kept vehicle self.old.journal + 2 }
+        ensures pool { back.new.room ≡ back.old.room }
+    {
+        let place = self.journal.len();
+        if place == self.room as usize {
+            prepared.give_back(back);
+            return Err(Full);
+        }
+        let message = *prepared.message();
+        let reply = self.desk.serve(
+            &self.layout,
+            &mut self.approaches,
+            vehicle,
+            place as u32,
+            moment,
+            prepared,
+            back,
+            steps,
+        );
+        self.journal.push_reserved(Entry {
+            caller: vehicle,
+            moment,
+            act: Act::Message(message),
+            reply,
+        });
+        Ok(reply)
+    }
+
+    /// Takes an order of the operator at a moment, and keeps it with its answer in the journal.
+    pub fn operate(
+        &mut self,
+        moment: u32,
+        order: Order,
+        steps: &mut Steps<L>,
+    ) -> Result<Reply, Full>
+        requires moment { moment ≤ LATEST_MOMENT }
+        requires order { IsOfLayout self.old.layout self.old.vehicles OPERATOR (Act.Order order) }
+        ensures reply { IfOk result (λ r. r ≡ answer self.old.layout self.old.journal OPERATOR moment (Act.Order order)) }
+        ensures entry { IfOk result (λ r. self.new
+            ≡ record self.old { journal = self.old.journal ++ (record { caller = OPERATOR; moment = moment; act = Act.Order order; reply = r }) ∷ [] }) }
         ensures full { IsErr result ↔ (length self.old.journal ≡ self.old.room) }
         ensures err { OnErr result (self.new ≡ self.old) }
         ensures legal { IsLegal self.new.layout self.new.vehicles self.new.journal }
@@ -89,19 +155,25 @@ impl Book {
         if self.journal.len() == self.room as usize {
             return Err(Full);
         }
-        let Body::Request(params) = message.body else {
-            unreachable!()
-        };
-        let reply = answer_request(&self.layout, &self.journal, moment, &params);
-        let entry = Entry {
-            caller: vehicle,
+        let reply = self.desk.operate(&self.layout, moment, order, steps);
+        self.journal.push_reserved(Entry {
+            caller: OPERATOR,
             moment,
-            act: Act::Message(message),
+            act: Act::Order(order),
             reply,
-        };
-        match self.journal.push(entry) {
-            Ok(()) => Ok(reply),
-            Err(_) => Err(Full),
+        });
+        Ok(reply)
+    }
+
+    /// How many sheets are kept for the vehicle: 1 where it has a fresh Confirm, past or not, that no later fresh CANCEL or
+    /// DONE of it names, else 0.
+    pub fn kept(&self, vehicle: u32) -> u32
+        requires { vehicle < self.now.vehicles }
+        ensures { result ≡ sheets_kept vehicle self.now.journal }
+    {
+        match self.desk.reservations.row(vehicle) {
+            Some(_) => 1,
+            None => 0,
         }
     }
 
@@ -123,6 +195,8 @@ impl Book {
             vehicles: _,
             room: _,
             journal,
+            desk: _,
+            approaches: _,
         } = self;
         journal
     }
@@ -140,4 +214,52 @@ impl Book {
     {
         &self.layout
     }
+}
+
+ghost use Rattle.std.specs.Prelude.{◌≡◌, ◌<◌, ◌≤◌, [], IsTrue, IfOk};
+ghost use Rattle.std.specs.List.{list_any};
+ghost use Rattle.aim_msg.specs.declared.entries.TheConstants.{MOST_ENTRIES, MOST_VEHICLES};
+ghost use Rattle.aim_book.specs.Desk.{is_lit};
+
+// Whether some policy of the layout has lights.
+fn has_lights(layout: &Layout) -> bool
+    ensures { result ≡ is_lit layout.now }
+{
+    for policy in 0..layout.policies() {
+        if layout.kind(policy).has_lights() {
+            return true;
+        }
+    }
+    false
+}
+
+// A book of so many vehicles and so many entries.
+fn opened<L: Ledger>(
+    alloc: Global,
+    layout: Layout,
+    vehicles: u32,
+    room: u32,
+) -> Result<Book<L>, AllocError>
+    requires vehicles { vehicles ≤ MOST_VEHICLES }
+    requires room { room ≤ MOST_ENTRIES }
+    ensures { IfOk result (λ b. b ≡ record { layout = layout; vehicles = vehicles; room = room; journal = [] }) }
+{
+    let n = layout.ground().grid().n;
+    let horizon = layout.ground().times().horizon;
+    let desk = Desk {
+        sessions: Sessions::new(alloc, vehicles)?,
+        reservations: Reservations::new(alloc, n, horizon, vehicles)?,
+        timeline: Timeline::new(alloc, room)?,
+        distances: Distances::new(),
+        has_lights: has_lights(&layout),
+        stopped: false,
+    };
+    Ok(Book {
+        approaches: Approaches::new(alloc, vehicles)?,
+        journal: Vec::with_capacity(alloc, room as usize)?,
+        layout,
+        vehicles,
+        room,
+        desk,
+    })
 }

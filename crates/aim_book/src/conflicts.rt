@@ -1,58 +1,153 @@
-//! The first cell of a crossing that another one has.
+//! The first cell of a crossing that can't be had, and why.
 
-ghost use Rattle.std.specs.Prelude.{◌≡◌, ℕ, ◌<◌, ◌≤◌, false, [], IfSome, IfNone};
-ghost use Rattle.aim_rules.specs.Footprint.{crossing_steps};
-ghost use Rattle.aim_book.specs.Conflicts.{IsFirstConflict};
-ghost use Rattle.aim_book.specs.Moving.{IsMoving};
-ghost use Rattle.aim_book.specs.Serving.{AreServed, IsPlain};
-ghost use Rattle.aim_book.specs.Takings.{IsFirstShared, SharesNone};
+ghost use Rattle.std.specs.Prelude.{◌≡◌, ℕ, ◌+◌, ◌<◌, ◌≤◌, ◌&&◌, ◌||◌, Bool, IsTrue, ◌↔◌, length, Some, is_none};
+ghost use Rattle.aim_geometry.specs.Cells.{Cell, cell_at};
+ghost use Rattle.aim_msg.specs.declared.messages.Params.{Params};
+ghost use Rattle.aim_paths.specs.Intersection.{Intersection};
+ghost use Rattle.aim_pool.specs.Spans.{in_spans};
+ghost use Rattle.aim_tiles.specs.Sheets.{AreTiles};
+ghost use Rattle.aim_rules.specs.Known.{Known, blocked_in, first_blocked_by};
+ghost use Rattle.aim_book.specs.Blocking.{AreAsked, Before, IsLeastOf, is_green, is_held};
+ghost use Rattle.aim_book.specs.Desk.{Tells, is_lit};
+ghost use Rattle.aim_book.specs.Reserved.{row_of, spans_in};
 
-use crate::footprints::{add_footprint, step_count};
-use crate::rows::first_common;
-use crate::takings::{holder, taken_rows};
-use aim_msg::{Entry, Params};
+use crate::desks::Desk;
+use crate::greens::{first_green, green_lane};
+use aim_msg::Reason;
 use aim_paths::Layout;
+use aim_pool::Sheet;
+use aim_tiles::Steps;
+use std::sync::ledger::Ledger;
 
-/// A tile that is taken in a step, and the vehicle that has it.
-#[derive(Drop)]
-pub struct Conflict {
-    pub row: u8,
-    pub col: u8,
-    pub step: u32,
-    pub by: u32,
+// Whether a cell, a step, a row and a column, is before another one.
+fn is_before(a: (u32, u8, u8), b: (u32, u8, u8)) -> bool
+    ensures { IsTrue result ↔ Before (cell_at a.0 a.1 a.2) (cell_at b.0 b.1 b.2) }
+{
+    a.0 < b.0 || a.0 == b.0 && (a.1 < b.1 || a.1 == b.1 && a.2 < b.2)
 }
 
-// The first tile of a step of the crossing that an entry has, by row and column.
-fn shared_tile(layout: &Layout, entries: &[Entry], params: &Params, k: u32) -> Option<(u8, u8)>
-    requires plain { IsPlain layout.now }
-    requires served { AreServed layout.now [] entries.now }
-    requires moving { IsMoving params.now }
-    requires step { k < crossing_steps layout.now params.now false }
-    requires few { k ≤ 50000000 }
-    ensures found { IfSome result (λ t. IsFirstShared layout.now entries.now params.now k t.0 t.1) }
-    ensures none { IfNone result (SharesNone layout.now entries.now params.now k) }
+// The least of two cells, if there are any.
+fn least(a: Option<(u32, u8, u8)>, b: Option<(u32, u8, u8)>) -> Option<(u32, u8, u8)>
+    ensures { (p q : Cell → Bool) → IsLeastOf p a → IsLeastOf q b → IsLeastOf (λ c. p c || q c) result }
 {
-    let _ground = layout.ground();
-    let mut own = [0; 64];
-    add_footprint(&mut own, layout, params, k);
-    let taken = taken_rows(layout, entries, params.arrive + k);
-    first_common(&own, &taken)
+    match (a, b) {
+        (Some(first), Some(second)) => {
+            if is_before(second, first) {
+                b
+            } else {
+                a
+            }
+        }
+        (None, _) => b,
+        (_, None) => a,
+    }
 }
 
-/// The first cell of the crossing that an entry has, by step, row and column.
-pub fn first_conflict(layout: &Layout, entries: &[Entry], params: &Params) -> Option<Conflict>
-    requires plain { IsPlain layout.now }
-    requires served { AreServed layout.now [] entries.now }
-    requires moving { IsMoving params.now }
-    ensures found { IfSome result (IsFirstConflict layout.now entries.now params.now) }
-    ensures none { IfNone result ((k : ℕ) → k < crossing_steps layout.now params.now false → SharesNone layout.now entries.now params.now k) }
-{
-    for k in 0..step_count(layout, params) {
-        if let Some((row, col)) = shared_tile(layout, entries, params, k) {
-            let step = params.arrive + k;
-            let by = holder(layout, entries, row, col, step);
-            return Some(Conflict { row, col, step, by });
+impl<L: Ledger> Desk<L> {
+    // The least cell of the sheet that another lane than the one claims or another vehicle has taken.
+    fn first_blocked(
+        &self,
+        layout: &Layout,
+        vehicle: u32,
+        lane: u8,
+        sheet: &Sheet,
+        steps: &mut Steps<L>,
+    ) -> Option<(u32, u8, u8)>
+        requires there { vehicle < length self.now.reservations.rows.items }
+        requires lights { self.now.has_lights ≡ is_lit layout.now }
+        requires size { self.now.reservations.table.size ≡ layout.now.grid.n }
+        requires tiles { AreTiles layout.now.grid.n sheet.now.spans }
+        ensures least { IsLeastOf (λ c. in_spans sheet.now.spans c && (is_green layout.now self.now.timeline.pushed lane c || is_held self.now.reservations.table (spans_in (row_of self.now.reservations.rows.items vehicle)) c)) result }
+        ensures cost { steps.new ≤ steps.old + length sheet.now.spans }
+        ensures counted { steps.old ≤ steps.new }
+    {
+        let taken = self.reservations.first_taken(vehicle, sheet, steps);
+        if self.has_lights {
+            least(first_green(layout, &self.timeline, lane, sheet), taken)
+        } else {
+            taken
         }
     }
-    None
+
+    // Why the cell can't be had, if it can't: a lane claims it, or else a vehicle has taken it.
+    fn why_blocked(
+        &self,
+        layout: &Layout,
+        vehicle: u32,
+        lane: u8,
+        cell: (u32, u8, u8),
+    ) -> Option<Reason>
+        requires row { cell.1 < layout.now.grid.n }
+        requires col { cell.2 < layout.now.grid.n }
+        requires few { length self.now.reservations.rows.items ≤ 65536 }
+        ensures { (k : Known) (p : Params) (place : ℕ) → Tells layout.now vehicle place k self.now → p.lane ≡ lane → k.now ≤ cell.0 → result ≡ blocked_in layout.now k p (cell_at cell.0 cell.1 cell.2) }
+    {
+        // This call only tells the ranges of the grid.
+        let _ground = layout.ground();
+        let (step, row, col) = cell;
+        if let Some(lane) = green_lane(layout, &self.timeline, lane, step, row, col) {
+            return Some(Reason::Green {
+                row,
+                col,
+                step,
+                lane,
+            });
+        }
+        match self.reservations.holder(vehicle, step, row, col) {
+            Some(by) => Some(Reason::Taken { row, col, step, by }),
+            None => None,
+        }
+    }
+
+    /// Whether the cells of the sheet, those of a crossing in the lane, can all be had.
+    pub(crate) fn is_free(
+        &self,
+        layout: &Layout,
+        vehicle: u32,
+        lane: u8,
+        sheet: &Sheet,
+        steps: &mut Steps<L>,
+    ) -> bool
+        requires there { vehicle < length self.now.reservations.rows.items }
+        requires lights { self.now.has_lights ≡ is_lit layout.now }
+        requires size { self.now.reservations.table.size ≡ layout.now.grid.n }
+        requires tiles { AreTiles layout.now.grid.n sheet.now.spans }
+        ensures free { (k : Known) (p : Params) (fast : Bool) (place : ℕ) → Tells layout.now vehicle place k self.now → AreAsked layout.now k p fast sheet.now.spans → p.lane ≡ lane → result ≡ is_none (first_blocked_by layout.now k p fast) }
+        ensures cost { steps.new ≤ steps.old + length sheet.now.spans }
+        ensures counted { steps.old ≤ steps.new }
+    {
+        // This call only tells the ranges of the times.
+        let _ground = layout.ground();
+        match self.first_blocked(layout, vehicle, lane, sheet, steps) {
+            Some(_) => false,
+            None => true,
+        }
+    }
+
+    /// Why the cells of the sheet, those of a crossing in the lane, can't all be had, if they can't: the reason of the
+    /// least of them.
+    pub(crate) fn conflict(
+        &self,
+        layout: &Layout,
+        vehicle: u32,
+        lane: u8,
+        sheet: &Sheet,
+        steps: &mut Steps<L>,
+    ) -> Option<Reason>
+        requires there { vehicle < length self.now.reservations.rows.items }
+        requires few { length self.now.reservations.rows.items ≤ 65536 }
+        requires lights { self.now.has_lights ≡ is_lit layout.now }
+        requires size { self.now.reservations.table.size ≡ layout.now.grid.n }
+        requires tiles { AreTiles layout.now.grid.n sheet.now.spans }
+        ensures reason { (k : Known) (p : Params) (fast : Bool) (place : ℕ) → Tells layout.now vehicle place k self.now → AreAsked layout.now k p fast sheet.now.spans → p.lane ≡ lane → result ≡ first_blocked_by layout.now k p fast }
+        ensures cost { steps.new ≤ steps.old + length sheet.now.spans }
+        ensures counted { steps.old ≤ steps.new }
+    {
+        // This call only tells the ranges of the times.
+        let _ground = layout.ground();
+        match self.first_blocked(layout, vehicle, lane, sheet, steps) {
+            Some(cell) => self.why_blocked(layout, vehicle, lane, cell),
+            None => None,
+        }
+    }
 }

@@ -7,13 +7,14 @@ use Rattle.aim_rules.specs.History.{params_of}
 use Rattle.aim_buffers.specs.Requests.{IsPreparedFor}
 
 pub none_prepared : (i : Intersection) (m : Message) (first second : Spans) → params_of m.body ≡ None → first ≡ record { spans = []; room = i.grid.spans } → second ≡ record { spans = []; room = i.grid.spans } →
-    IsPreparedFor i (record { message = m; bad = None; first = first; second = second })
+    IsPreparedFor i (record { message = m; bad = None; steps = record { fast = 0; steady = 0 }; first = first; second = second })
 none_prepared i m first second none a b = record {
   field = rw none refl;
   first_room = rw a refl;
   second_room = rw b refl;
   steady = λ p h. absurd (let e : None ≡ Some p = rw none at h in cc);
   fast = λ p h _. absurd (let e : None ≡ Some p = rw none at h in cc);
+  steps = λ p h. absurd (let e : None ≡ Some p = rw none at h in cc);
   unmade = λ p h _. absurd (let e : None ≡ Some p = rw none at h in cc);
   empty = λ h. (rw a refl, rw b refl);
 }

@@ -9,4 +9,4 @@ mod requests;
 mod rows;
 mod trials;
 
-pub use requests::{Prepared, prepare};
+pub use requests::{Prepared, TrialSteps, prepare};

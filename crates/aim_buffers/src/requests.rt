@@ -1,15 +1,16 @@
 //! Prepared requests.
 
-ghost use Rattle.std.specs.Prelude.{◌≡◌, ◌<◌, ◌≤◌, ◌+◌, [], None, Some, true, false, length, OnErr, OnOk, is_none, option_map};
+ghost use Rattle.std.specs.Prelude.{◌≡◌, ◌<◌, ◌≤◌, ◌+◌, ◌&&◌, nat_lt, [], None, Some, true, false, length, OnErr, OnOk, IfOk, option_map, if◌then◌else◌};
+ghost use Rattle.std.specs.Result.{result_err};
 ghost use Rattle.aim_geometry.specs.Bounded.{ceil_div};
 ghost use Rattle.aim_paths.specs.Intersection.{Intersection, path as path_of, stations};
 ghost use Rattle.aim_rules.specs.History.{params_of};
-ghost use Rattle.aim_rules.specs.Bad.{bad as bad_of, is_fast_made as is_fast_made_of, needs_too_many_spans};
+ghost use Rattle.aim_rules.specs.Bad.{bad as bad_of, is_fast_made as is_fast_made_of, needs_too_many_spans, span_count};
+ghost use Rattle.aim_rules.specs.Footprint.{crossing_steps};
 ghost use Rattle.aim_simulate.specs.Fields.{bad_crossing as bad_crossing_of};
 ghost use Rattle.aim_simulate.specs.Fills.{AreRectsOf};
 ghost use Rattle.aim_simulate.specs.Windows.{AreSteady};
-ghost use Rattle.aim_buffers.specs.Cells.{HaveCells};
-ghost use Rattle.aim_buffers.specs.Requests.{IsPreparedFor, fast_sheet, steady_sheet};
+ghost use Rattle.aim_buffers.specs.Requests.{IsPreparedFor, IsStepsOf, IsTrialOf, fast_sheet, steady_sheet};
 
 use crate::trials::write_trial;
 use aim_geometry::TileRect;
@@ -41,6 +42,42 @@ fn fill_path(layout: &Layout, params: &Params, path: &Path, rects: &mut [TileRec
     are_steady(rects)
 }
 
+/// How many crossing steps each trial has. Both are 0 where there is no trial.
+#[derive(Clone, Copy)]
+pub struct TrialSteps {
+    /// Those of the fast trial, 0 where it isn't made.
+    pub fast: u32,
+    /// Those of the steady trial.
+    pub steady: u32,
+}
+
+// Writes the cells of the fast trial into an empty sheet, where that trial is made, and says how many steps it has.
+fn write_fast(
+    layout: &Layout,
+    params: &Params,
+    path: &Path,
+    rects: &[TileRect],
+    is_steady: bool,
+    sheet: &mut Sheet,
+) -> Result<u32, SheetFull>
+    requires good { bad_crossing_of layout.now params.now ≡ None }
+    requires found { path_of layout.now params.now.lane params.now.turn ≡ Some path.now }
+    requires round { AreRectsOf layout.now.grid (ceil_div params.now.width 2 + layout.now.grid.spacing + layout.now.grid.fixed) (stations layout.now params.now.lane params.now.turn) rects.now }
+    requires steady { is_steady ≡ true → AreSteady rects.now }
+    requires empty { sheet.old ≡ record { spans = []; room = layout.now.grid.spans } }
+    ensures fast { OnOk result (is_fast_made_of params.now ≡ true → IsTrialOf layout.now params.now true sheet.new.spans) }
+    ensures steps { IfOk result (λ steps. steps ≡ (if is_fast_made_of params.now then crossing_steps layout.now params.now true else 0)) }
+    ensures unmade { OnOk result (is_fast_made_of params.now ≡ false → sheet.new.spans ≡ []) }
+    ensures fit { OnOk result ((is_fast_made_of params.now && nat_lt layout.now.grid.spans (span_count layout.now params.now true)) ≡ false) }
+    ensures full { OnErr result ((is_fast_made_of params.now && nat_lt layout.now.grid.spans (span_count layout.now params.now true)) ≡ true) }
+    ensures room { sheet.new.room ≡ sheet.old.room }
+{
+    if !is_fast_made(params) {
+        return Ok(0);
+    }
+    write_trial(sheet, layout, params, true, path, rects, is_steady)
+}
+
 // Writes the cells of the trials into two empty sheets, with a list of rectangles of the path's length.
 fn write_trials(
     layout: &Layout,
@@ -49,14 +86,15 @@ fn write_trials(
     rects: &mut [TileRect],
     first: &mut Sheet,
     second: &mut Sheet,
-) -> Result<(), SheetFull>
+) -> Result<TrialSteps, SheetFull>
     requires good { bad_crossing_of layout.now params.now ≡ None }
     requires found { path_of layout.now params.now.lane params.now.turn ≡ Some path.now }
     requires rects { length rects.old ≡ length path.now }
     requires first { first.old ≡ record { spans = []; room = layout.now.grid.spans } }
     requires second { second.old ≡ record { spans = []; room = layout.now.grid.spans } }
-    ensures steady { OnOk result (HaveCells layout.now params.now false second.new.spans) }
-    ensures fast { OnOk result (is_fast_made_of params.now ≡ true → HaveCells layout.now params.now true first.new.spans) }
+    ensures steady { OnOk result (IsTrialOf layout.now params.now false second.new.spans) }
+    ensures fast { OnOk result (is_fast_made_of params.now ≡ true → IsTrialOf layout.now params.now true first.new.spans) }
+    ensures steps { IfOk result (IsStepsOf layout.now params.now) }
     ensures unmade { OnOk result (is_fast_made_of params.now ≡ false → first.new.spans ≡ []) }
     ensures fit { OnOk result (needs_too_many_spans layout.now params.now ≡ false) }
     ensures full { OnErr result (needs_too_many_spans layout.now params.now ≡ true) }
@@ -64,11 +102,9 @@ fn write_trials(
     ensures second_room { second.new.room ≡ second.old.room }
 {
     let is_steady = fill_path(layout, params, path, rects);
-    write_trial(second, layout, params, false, path, rects, is_steady)?;
-    if is_fast_made(params) {
-        write_trial(first, layout, params, true, path, rects, is_steady)?;
-    }
-    Ok(())
+    let steady = write_trial(second, layout, params, false, path, rects, is_steady)?;
+    let fast = write_fast(layout, params, path, rects, is_steady, first)?;
+    Ok(TrialSteps { fast, steady })
 }
 
 // Writes the cells of the trials into two empty sheets, or gives the field that is wrong and leaves both empty.
@@ -77,23 +113,24 @@ fn write_request(
     params: &Params,
     first: &mut Sheet,
     second: &mut Sheet,
-) -> Option<Field>
+) -> Result<TrialSteps, Field>
     requires first { first.old ≡ record { spans = []; room = layout.now.grid.spans } }
     requires second { second.old ≡ record { spans = []; room = layout.now.grid.spans } }
-    ensures field { result ≡ bad_of layout.now params.now }
-    ensures steady { result ≡ None → HaveCells layout.now params.now false second.new.spans }
-    ensures fast { result ≡ None → is_fast_made_of params.now ≡ true → HaveCells layout.now params.now true first.new.spans }
-    ensures unmade { result ≡ None → is_fast_made_of params.now ≡ false → first.new.spans ≡ [] }
-    ensures first_empty { is_none result ≡ false → first.new.spans ≡ [] }
-    ensures second_empty { is_none result ≡ false → second.new.spans ≡ [] }
+    ensures field { result_err result ≡ bad_of layout.now params.now }
+    ensures steady { OnOk result (IsTrialOf layout.now params.now false second.new.spans) }
+    ensures fast { OnOk result (is_fast_made_of params.now ≡ true → IsTrialOf layout.now params.now true first.new.spans) }
+    ensures steps { IfOk result (IsStepsOf layout.now params.now) }
+    ensures unmade { OnOk result (is_fast_made_of params.now ≡ false → first.new.spans ≡ []) }
+    ensures first_empty { OnErr result (first.new.spans ≡ []) }
+    ensures second_empty { OnErr result (second.new.spans ≡ []) }
     ensures first_room { first.new.room ≡ first.old.room }
     ensures second_room { second.new.room ≡ second.old.room }
 {
     if let Some(field) = bad_crossing(layout, params) {
-        return Some(field);
+        return Err(field);
     }
     let Some(path) = Path::of(layout, params.lane, params.turn) else {
-        return Some(Field::Turn);
+        return Err(Field::Turn);
     };
     let mut table = [TileRect {
         row0: 0,
@@ -103,11 +140,11 @@ fn write_request(
     }; 4097];
     let count = path.stations().len();
     match write_trials(layout, params, &path, &mut table[..count], first, second) {
-        Ok(()) => None,
+        Ok(steps) => Ok(steps),
         Err(SheetFull) => {
             first.clear();
             second.clear();
-            Some(Field::Spans)
+            Err(Field::Spans)
         }
     }
 }
@@ -118,6 +155,7 @@ fn write_request(
 pub struct Prepared {
     message: Message,
     bad: Option<Field>,
+    steps: TrialSteps,
     first: Sheet,
     second: Sheet,
 }
@@ -130,9 +168,9 @@ impl Model for Prepared {
     ghost use Rattle.aim_paths.specs.Intersection.{Intersection};
     ghost use Rattle.aim_buffers.specs.Requests.{IsPreparedFor};
 
-    ghost view = { λ p. record { message = p.message; bad = p.bad; first = p.first; second = p.second } };
+    ghost view = { λ p. record { message = p.message; bad = p.bad; steps = p.steps; first = p.first; second = p.second } };
 
-    ghost invariant = { λ p. (i : Intersection) × IsPreparedFor i (record { message = p.message; bad = p.bad; first = p.first; second = p.second }) };
+    ghost invariant = { λ p. (i : Intersection) × IsPreparedFor i (record { message = p.message; bad = p.bad; steps = p.steps; first = p.first; second = p.second }) };
 }
 
 /// Prepares a message for a manager over the layout: finds the field that is wrong, if one is, and writes the cells of
@@ -150,11 +188,15 @@ pub fn prepare(layout: &Layout, message: &Message, first: Sheet, second: Sheet) 
         Body::Cancel(_) | Body::Done(_) => Prepared {
             message: *message,
             bad: None,
+            steps: NO_STEPS,
             first,
             second,
         },
     }
 }
+
+// The steps of no trial.
+const NO_STEPS: TrialSteps = TrialSteps { fast: 0, steady: 0 };
 
 // Prepares a message that has params: finds the field that is wrong, if one is, and writes the cells of the trials.
 fn prepare_request(
@@ -170,10 +212,14 @@ fn prepare_request(
     ensures message { result.message ≡ message.now }
     ensures prepared { IsPreparedFor layout.now result }
 {
-    let bad = write_request(layout, params, &mut first, &mut second);
+    let (bad, steps) = match write_request(layout, params, &mut first, &mut second) {
+        Ok(steps) => (None, steps),
+        Err(field) => (Some(field), NO_STEPS),
+    };
     Prepared {
         message: *message,
         bad,
+        steps,
         first,
         second,
     }
@@ -193,6 +239,13 @@ impl Prepared {
         ensures { result ≡ self.now.bad }
     {
         self.bad
+    }
+
+    /// How many crossing steps each trial has.
+    pub fn steps(&self) -> TrialSteps
+        ensures { result ≡ self.now.steps }
+    {
+        self.steps
     }
 
     /// The cells of the fast trial. None where that trial isn't made, for a message that is no request, and where a field
@@ -224,6 +277,21 @@ impl Prepared {
         }
     }
 
+    /// Both sheets: that of the fast trial, and that of the steady one.
+    pub fn into_sheets(self) -> (Sheet, Sheet)
+        ensures first { result.0 ≡ self.first }
+        ensures second { result.1 ≡ self.second }
+    {
+        let Prepared {
+            message: _,
+            bad: _,
+            steps: _,
+            first,
+            second,
+        } = self;
+        (first, second)
+    }
+
     /// Gives both sheets to the pool.
     pub fn give_back(self, pool: &mut Pool)
         requires count { pool.old.count ≤ 1000000 }
@@ -231,12 +299,7 @@ impl Prepared {
         requires second { self.second.room ≡ pool.old.room }
         ensures { pool.new ≡ record pool.old { count = pool.old.count + 2 } }
     {
-        let Prepared {
-            message: _,
-            bad: _,
-            first,
-            second,
-        } = self;
+        let (first, second) = self.into_sheets();
         pool.give(first);
         pool.give(second);
     }

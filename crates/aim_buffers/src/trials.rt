@@ -1,9 +1,10 @@
 //! The cells of a trial, written into a sheet.
 
-ghost use Rattle.std.specs.Prelude.{◌≡◌, ℕ, ◌<◌, ◌≤◌, ◌+◌, ◌-◌, ◌*◌, ◌&&◌, min, nat_le, true, [], length, OnErr, OnOk, Some, None, if◌then◌else◌};
+ghost use Rattle.std.specs.Prelude.{◌≡◌, ℕ, ◌<◌, ◌≤◌, ◌+◌, ◌-◌, ◌*◌, ◌&&◌, min, nat_le, true, [], length, OnErr, OnOk, IfOk, Some, None, if◌then◌else◌};
 ghost use Rattle.aim_geometry.specs.Bounded.{ceil_div};
 ghost use Rattle.aim_paths.specs.Intersection.{path as path_of, stations};
 ghost use Rattle.aim_rules.specs.Bad.{span_count};
+ghost use Rattle.aim_rules.specs.Footprint.{crossing_steps};
 ghost use Rattle.aim_simulate.specs.Fields.{bad_crossing};
 ghost use Rattle.aim_simulate.specs.Fills.{AreRectsOf};
 ghost use Rattle.aim_simulate.specs.Windows.{AreRects, AreSteady, IsWindow, is_under};
@@ -179,7 +180,7 @@ fn write_cells(
     Ok(())
 }
 
-/// Writes the cells of a trial into an empty sheet.
+/// Writes the cells of a trial into an empty sheet, and says how many crossing steps it has.
 pub fn write_trial(
     sheet: &mut Sheet,
     layout: &Layout,
@@ -188,13 +189,15 @@ pub fn write_trial(
     path: &Path,
     rects: &[TileRect],
     is_steady: bool,
-) -> Result<(), SheetFull>
+) -> Result<u32, SheetFull>
     requires good { bad_crossing layout.now params.now ≡ None }
     requires found { path_of layout.now params.now.lane params.now.turn ≡ Some path.now }
     requires round { AreRectsOf layout.now.grid (ceil_div params.now.width 2 + layout.now.grid.spacing + layout.now.grid.fixed) (stations layout.now params.now.lane params.now.turn) rects.now }
     requires steady { is_steady ≡ true → AreSteady rects.now }
     requires empty { sheet.old.spans ≡ [] }
     ensures cells { OnOk result (HaveCells layout.now params.now fast sheet.new.spans) }
+    ensures spans { OnOk result (length sheet.new.spans ≡ span_count layout.now params.now fast) }
+    ensures steps { IfOk result (λ steps. steps ≡ crossing_steps layout.now params.now fast) }
     ensures fits { OnOk result (span_count layout.now params.now fast ≤ sheet.old.room) }
     ensures full { OnErr result (sheet.old.room < span_count layout.now params.now fast) }
     ensures room { sheet.new.room ≡ sheet.old.room }
@@ -214,5 +217,5 @@ pub fn write_trial(
     )?;
     // This call only tells that the spans fit the sheet's room.
     let _spans = sheet.spans();
-    Ok(())
+    Ok(count as u32)
 }

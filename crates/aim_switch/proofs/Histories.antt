@@ -40,7 +40,7 @@ claimed_by i h lane c = ap (λ b. in_lane_tiles i lane c.row c.col && b)
     (list_any-range_same (c.step - i.times.clearance) (c.step + 1 - (c.step - i.times.clearance)) (λ s. has_lane (green_in i (changes h) s) lane) (λ s. has_lane (green_at i h s) lane)
     (λ s a b. ap (λ f. has_lane (green_lanes (slice_get i.policies f.policy) (s - f.from)) lane) (sym (policy_at-changes h s))))
 
-some_least : (n : ℕ) (test : ℕ → Bool) → is_some (least_below n test) ≡ some_below n test
+pub some_least : (n : ℕ) (test : ℕ → Bool) → is_some (least_below n test) ≡ some_below n test
 some_least zero test = refl
 some_least (suc n) test = go (least_below n test) (test n) ∙ ap (λ b. b || test n) (some_least n test)
   where

@@ -87,8 +87,8 @@ impl Timeline {
         claimed_rows(layout, self.claimants(layout, step), except)
     }
 
-    // The set of lanes that are green at the step or were so at most the clearance before.
-    fn claimants(&self, layout: &Layout, step: u32) -> u16
+    /// The set of lanes that are green at the step or were so at most the clearance before: bit i is lane i.
+    pub fn claimants(&self, layout: &Layout, step: u32) -> u16
         ensures green { (lane : ℕ) → has_lane result lane ≡ list_any (λ s. has_lane (green_in layout.now self.now.pushed s) lane)
             (range_with_len (step - layout.now.times.clearance) (step + 1 - (step - layout.now.times.clearance))) }
         ensures there { (lane : ℕ) → has_lane result lane ≡ true → lane < length layout.now.lanes }

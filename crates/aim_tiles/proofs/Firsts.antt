@@ -116,34 +116,32 @@ no_higher_column a b e f le = elim (cases_eq a.col b.col) [
   | inr other ↦ rw (equal a.step b.step e, equal a.row b.row f, less a.col b.col (omega arith)) refl
 ]
 
-module _ (words : List ℕ) (size horizon now : ℕ) (spans own : List Span) (table : TakenCells) (is : view_of words size horizon now ≡ table) where
-  abbrev hits : Span → Cell → Bool
-  hits = is_hit words size horizon now own
+-- a test of cells, asked of the cells of spans
+module _ (passes : Cell → Bool) (spans : List Span) where
+  abbrev pub hits : Span → Cell → Bool
+  hits span cell = in_span span cell && passes cell
 
-  held : (cell : Cell) → has_cell table cell ≡ is_marked words size horizon now cell
-  held cell = sym (ap (λ (t : TakenCells). has_cell t cell) is) ∙ contains-marked_cells words size horizon now cell
+  -- a hit at one of the spans is a cell of theirs that passes
+  passed_of_hit : (k : ℕ) (d : Span) (cell : Cell) → k < length spans → hits (get_or spans k d) cell ≡ true → (in_spans spans cell && passes cell) ≡ true
+  passed_of_hit k d cell lt hit =
+      let parts = and_parts (in_span (get_or spans k d) cell) (passes cell) hit in
+      and_from (in_spans spans cell) (passes cell) (list_any_at (λ s. in_span s cell) spans k d lt parts.0) parts.1
 
-  -- a hit at one of the spans is taken
-  taken_of_hit : (k : ℕ) (d : Span) (cell : Cell) → k < length spans → hits (get_or spans k d) cell ≡ true → is_taken table spans own cell ≡ true
-  taken_of_hit k d cell lt hit =
-      let parts = and_parts (in_span (get_or spans k d) cell) (is_marked words size horizon now cell && not (in_spans own cell)) hit in
-      and_from (in_spans spans cell) (has_cell table cell && not (in_spans own cell)) (list_any_at (λ s. in_span s cell) spans k d lt parts.0) (ap (λ b. b && not (in_spans own cell)) (held cell) ∙ parts.1)
-
-  -- and a taken cell is a hit at one of them
+  -- and such a cell is a hit at one of them
   record HitAt (cell : Cell) : Type 0 where
     at : ℕ
     within : at < length spans
     hit : (d : Span) → hits (get_or spans at d) cell ≡ true
 
-  hit_of_taken : (cell : Cell) → is_taken table spans own cell ≡ true → HitAt cell
-  hit_of_taken cell taken =
-      let parts = and_parts (in_spans spans cell) (has_cell table cell && not (in_spans own cell)) taken in
+  hit_of_passed : (cell : Cell) → (in_spans spans cell && passes cell) ≡ true → HitAt cell
+  hit_of_passed cell passed =
+      let parts = and_parts (in_spans spans cell) (passes cell) passed in
       let found = Any-from_list_any (λ s. in_span s cell) spans parts.0 in
-      let hit : hits found.1 cell ≡ true = and_from (in_span found.1 cell) (is_marked words size horizon now cell && not (in_spans own cell)) found.4 (sym (ap (λ b. b && not (in_spans own cell)) (held cell)) ∙ parts.1) in
+      let hit : hits found.1 cell ≡ true = and_from (in_span found.1 cell) (passes cell) found.4 parts.1 in
       record { at = found.0; within = found.2; hit = λ d. subst (λ (s : Span). hits s cell ≡ true) (sym (get_or_default spans found.0 d found.1 found.2 ∙ found.3)) hit }
 
   place_of_hit : (span : Span) (cell : Cell) → hits span cell ≡ true → (span.step ≡ cell.step) × (span.row ≡ cell.row)
-  place_of_hit span cell hit = is_at_parts span cell.step cell.row (and_parts (is_at span cell.step cell.row) (has_bit span.mask cell.col) (and_parts (in_span span cell) (is_marked words size horizon now cell && not (in_spans own cell)) hit).0).0
+  place_of_hit span cell hit = is_at_parts span cell.step cell.row (and_parts (is_at span cell.step cell.row) (has_bit span.mask cell.col) (and_parts (in_span span cell) (passes cell) hit).0).0
 
   module _ (rising : AreRising spans) (cell : Cell) (first : IsFirstHit hits spans cell) where
     e : Span
@@ -172,24 +170,42 @@ module _ (words : List ℕ) (size horizon now : ℕ) (spans own : List Span) (ta
           | inr (inr after) ↦ absurd (both_ways (hits (get_or spans hit.at e) other) (first.before hit.at e after other) (hit.hit e))
         ]
 
-    pub first_taken_is : IsFirst (is_taken table spans own) cell
-    first_taken_is = record {
-      passes = taken_of_hit first.place e cell first.within (first.hit e);
-      least = λ other taken. least other (hit_of_taken other taken);
+    -- the first hit is the first cell of the spans that passes
+    pub first_of_spans : IsFirst (λ c. in_spans spans c && passes c) cell
+    first_of_spans = record {
+      passes = passed_of_hit first.place e cell first.within (first.hit e);
+      least = λ other passed. least other (hit_of_passed other passed);
     }
 
-  pub none_taken : ((k : ℕ) (d : Span) → k < length spans → IsClear hits (get_or spans k d)) → (cell : Cell) → is_taken table spans own cell ≡ false
-  none_taken clear cell = false_from_ne_true (is_taken table spans own cell) (λ taken. (let h : HitAt cell = hit_of_taken cell taken in
+  -- where no span has a hit no cell of theirs passes
+  pub none_of_spans : ((k : ℕ) (d : Span) → k < length spans → IsClear hits (get_or spans k d)) → (cell : Cell) → (in_spans spans cell && passes cell) ≡ false
+  none_of_spans clear cell = false_from_ne_true (in_spans spans cell && passes cell) (λ passed. (let h : HitAt cell = hit_of_passed cell passed in
       both_ways (hits (get_or spans h.at (record { step = 0; row = 0; mask = 0 })) cell) (clear h.at (record { step = 0; row = 0; mask = 0 }) h.within cell) (h.hit (record { step = 0; row = 0; mask = 0 }))))
+
+-- the first of the cells that pass one test is that of those that pass another one, which says the same
+pub first_same : (p q : Cell → Bool) (cell : Cell) → ((c : Cell) → p c ≡ q c) → IsFirst p cell → IsFirst q cell
+first_same p q cell same first = record {
+  passes = sym (same cell) ∙ first.passes;
+  least = λ other t. first.least other (same other ∙ t);
+}
+
+-- a marked cell that is none of the own ones is taken
+pub taken_same : (words : List ℕ) (size horizon now : ℕ) (spans own : List Span) (table : TakenCells) → view_of words size horizon now ≡ table → (c : Cell) →
+    (in_spans spans c && (is_marked words size horizon now c && not (in_spans own c))) ≡ is_taken table spans own c
+taken_same words size horizon now spans own table is c =
+    ap (λ b. in_spans spans c && (b && not (in_spans own c))) (sym (sym (ap (λ (t : TakenCells). has_cell t c) is) ∙ contains-marked_cells words size horizon now c))
 
 -- what a search gives is first, and where it gives none there is none
 pub taken_found : (words : List ℕ) (size horizon now : ℕ) (spans read own : List Span) (table : TakenCells) (found : Option (ℕ × ℕ × ℕ)) → view_of words size horizon now ≡ table → read ≡ spans → AreRising read
     → IfSome found (λ r. IsFirstHit (is_hit words size horizon now own) read (cell_at r.0 r.1 r.2)) → IfSome found (λ r. IsFirst (is_taken table spans own) (cell_at r.0 r.1 r.2))
 taken_found words size horizon now spans read own table found is same rising first =
     some_then found (λ r. IsFirstHit (is_hit words size horizon now own) read (cell_at r.0 r.1 r.2)) (λ r. IsFirst (is_taken table spans own) (cell_at r.0 r.1 r.2))
-    (λ r hit. subst (λ (ss : List Span). IsFirst (is_taken table ss own) (cell_at r.0 r.1 r.2)) same (first_taken_is words size horizon now read own table is rising (cell_at r.0 r.1 r.2) hit)) first
+    (λ r hit. subst (λ (ss : List Span). IsFirst (is_taken table ss own) (cell_at r.0 r.1 r.2)) same
+    (first_same (λ c. in_spans read c && (is_marked words size horizon now c && not (in_spans own c))) (is_taken table read own) (cell_at r.0 r.1 r.2) (taken_same words size horizon now read own table is)
+    (first_of_spans (λ c. is_marked words size horizon now c && not (in_spans own c)) read rising (cell_at r.0 r.1 r.2) hit))) first
 
 pub taken_none : (words : List ℕ) (size horizon now : ℕ) (spans read own : List Span) (table : TakenCells) (found : Option (ℕ × ℕ × ℕ)) → view_of words size horizon now ≡ table → read ≡ spans
     → IfNone found ((k : ℕ) (d : Span) → k < length read → IsClear (is_hit words size horizon now own) (get_or read k d)) → IfNone found ((cell : Cell) → is_taken table spans own cell ≡ false)
-taken_none words size horizon now spans read own table None is same clear = λ cell. subst (λ (ss : List Span). is_taken table ss own cell ≡ false) same (none_taken words size horizon now read own table is clear cell)
+taken_none words size horizon now spans read own table None is same clear = λ cell. subst (λ (ss : List Span). is_taken table ss own cell ≡ false) same
+    (sym (taken_same words size horizon now read own table is cell) ∙ none_of_spans (λ c. is_marked words size horizon now c && not (in_spans own c)) read clear cell)
 taken_none words size horizon now spans read own table (Some r) is same clear = tt

@@ -1,29 +1,25 @@
-use Rattle.std.proofs.Common.{◌≡◌, ◌<◌, ◌∷◌, [], arith, length-append}
-use Rattle.std.specs.Vec.{vec_len, vec_capacity}
+use Rattle.std.proofs.Common.{◌≡◌, ◌<◌, [], ◌∷◌, ◌++◌, length, sym, ◌∙◌, ap, arith, subst}
 use Rattle.aim_msg.specs.declared.entries.Act.TheVariants as act
-use Rattle.aim_rules.specs.Answer.{answer}
-use Rattle.aim_book.proofs.BookLemmas.{entry_with, legal_now, legal_more, served_more}
+use Rattle.aim_msg.specs.declared.entries.Entry.{Entry}
+use Rattle.aim_rules.specs.History.{now_of}
+use Rattle.aim_book.specs.Keeping.{IsManaged, row_count}
+use Rattle.aim_book.specs.Reserved.{row_of}
+use Rattle.aim_book.specs.Sheets.{sheets_kept}
+use Rattle.aim_book.proofs.SheetLemmas.{count_is}
 use Rattle.aim_book.proofs.book.Book.serve.Goals as goal
 
-pub answer_request-reply-requires-clause-now : goal.answer_request-reply-requires-clause-now
-answer_request-reply-requires-clause-now c = rw c.deref.ensures.value (legal_now _ _ _ _ c.self.invariant.0 c.requires.moment)
-
-pub invariant_of-self : goal.invariant_of-self
-invariant_of-self c =
-    let may = rw (← c.self.view_is) at c.requires in
-    let answered : c.answer_request-reply.result ≡ answer c.self.inside.layout c.self.inside.journal.items c.args.vehicle c.args.moment (act.Message c.args.message) =
-    rw c.deref.ensures.value at (c.answer_request-reply.ensures c.args.vehicle c.args.message (rw c.deref.ensures.value may.first) c.in-Request.is) in
-    let room : vec_len c.self.inside.journal < vec_capacity c.self.inside.journal = omega (arith, c.self.invariant.2, c.self.invariant.3, c.len.ensures) in
-    let ok = c.push.ensures.succeeds room in
-    let items = rw ok at c.push.ensures.items in
-    rw items (
-      legal_more c.self.inside.layout c.self.inside.vehicles c.self.inside.journal.items c.args.vehicle c.args.moment c.args.message c.answer_request-reply.result c.self.invariant.5 c.self.invariant.0 may answered,
-      served_more c.self.inside.layout c.self.inside.vehicles c.self.inside.journal.items c.args.vehicle c.args.moment c.args.message c.answer_request-reply.result c.self.invariant.1 may,
-      omega (arith, c.self.invariant.2, c.len.ensures, length-append c.self.inside.journal.items (entry_with c.args.vehicle c.args.moment c.args.message c.answer_request-reply.result ∷ [])),
-      omega (arith, c.self.invariant.3, c.push.ensures.capacity),
-      c.self.invariant.4,
-      c.self.invariant.5,
-    )
-
-pub returns-clause-legal : goal.returns-clause-legal
-returns-clause-legal c = (invariant_of-self c).0
+pub returns-clause-sheets : goal.returns-clause-sheets
+returns-clause-sheets g c =
+    let b = c.self.inside in
+    let v = c.args.vehicle in
+    let n = length b.desk.sessions in
+    let managed = c.self.invariant.managed in
+    let m : IsManaged b.layout n b.journal.items (now_of b.journal.items 0) b.desk b.approaches = subst (λ k. IsManaged b.layout k b.journal.items (now_of b.journal.items 0) b.desk b.approaches) (sym managed.desk.callers) managed in
+    let l : v < n = (let q : v < b.vehicles = rw (← c.self.view_is) at c.requires.vehicle in let e = managed.desk.callers in omega arith) in
+    let before : row_count (row_of b.desk.reservations.rows.items v) ≡ sheets_kept v b.journal.items = count_is b.layout n b.journal.items v (row_of b.desk.reservations.rows.items v) m.legal (m.desk.reserved.rows v l) in
+    let e : Entry = record { caller = v; moment = c.args.moment; act = act.Message c.args.prepared.message; reply = c.serve-reply.result } in
+    let next = c.serve-reply.ensures.managed b.journal.items m (let q : c.len-place.result ≡ length b.journal.items = omega (arith, c.len-place.ensures) in q) in
+    let after : row_count (row_of c.serve-reply.new.self.reservations.rows.items v) ≡ sheets_kept v (b.journal.items ++ e ∷ []) = count_is b.layout n (b.journal.items ++ e ∷ []) v (row_of c.serve-reply.new.self.reservations.rows.items v) next.legal (next.desk.reserved.rows v l) in
+    let items : sheets_kept v c.push_reserved.new.self.items ≡ sheets_kept v (b.journal.items ++ e ∷ []) = ap (sheets_kept v) (c.push_reserved.ensures.items ∙ ap (λ msg. b.journal.items ++ record { caller = v; moment = c.args.moment; act = act.Message msg; reply = c.serve-reply.result } ∷ []) c.message-message.ensures.message) in
+    let journal : sheets_kept v b.journal.items ≡ sheets_kept v c.args.self.now.journal = (λ j. sheets_kept v (c.self.view_is j).journal) in
+    omega (arith, c.serve-reply.ensures.sheets, before, after, items, journal)

@@ -1,0 +1,32 @@
+use Rattle.std.proofs.Common.{◌≡◌, length, sym, ◌∙◌, ap, arith, length-append, subst}
+use Rattle.aim_rules.specs.Answer.{answer}
+use Rattle.aim_msg.specs.declared.entries.Act.TheVariants as act
+use Rattle.aim_msg.specs.declared.entries.TheConstants.{OPERATOR}
+use Rattle.aim_rules.specs.Kept.{changes}
+use Rattle.aim_rules.specs.Legal.{IsOfLayout}
+use Rattle.aim_book.proofs.SheetLemmas.{changes_fit}
+use Rattle.aim_book.proofs.book.Book.operate.Goals as goal
+
+pub operate-reply-requires-clause-room : goal.operate-reply-requires-clause-room
+operate-reply-requires-clause-room g c =
+    let b = c.self.inside in
+    let same : length b.desk.timeline.pushed ≡ length (changes b.journal.items) = ap length c.self.invariant.managed.desk.changes in
+    let few = changes_fit b.journal.items in
+    omega (arith, same, few, c.self.invariant.timeline, c.self.invariant.fits, c.len.ensures, c.if-len-self.false)
+
+pub invariant_of-self : goal.invariant_of-self
+invariant_of-self g c =
+    let b = c.self.inside in
+    let of : IsOfLayout b.layout b.vehicles OPERATOR (act.Order c.args.order) = subst (λ v. IsOfLayout v.layout v.vehicles OPERATOR (act.Order c.args.order)) (sym c.self.view_is) c.requires.order in
+    record {
+      managed = rw c.push_reserved.ensures.items (c.operate-reply.ensures.managed b.vehicles b.journal.items b.approaches c.self.invariant.managed of);
+      fits = rw (c.push_reserved.ensures.items, length-append) (omega (arith, c.self.invariant.fits, c.len.ensures, c.if-len-self.false));
+      reserved = omega (arith, c.self.invariant.reserved, c.push_reserved.ensures.capacity);
+      most = c.self.invariant.most;
+      timeline = c.operate-reply.ensures.room ∙ c.self.invariant.timeline;
+    }
+
+pub returns-clause-reply : goal.returns-clause-reply
+returns-clause-reply g c =
+    let b = c.self.inside in
+    subst (λ v. c.operate-reply.result ≡ answer v.layout v.journal OPERATOR c.args.moment (act.Order c.args.order)) c.self.view_is (c.operate-reply.ensures.reply b.vehicles b.journal.items b.approaches c.self.invariant.managed)

@@ -1,0 +1,9 @@
+use Rattle.std.proofs.Common.{◌≡◌, None, le-ltb, ◌∙◌, sym}
+use Rattle.aim_rules.specs.Bad.{bad}
+use Rattle.aim_book.proofs.EarlyLemmas.{early_is, field_is}
+use Rattle.aim_book.proofs.desks.Desk.early_reason.Goals as goal
+
+pub returns-clause-reason : goal.returns-clause-reason
+returns-clause-reason g c = λ k place tells calling.
+    let good : bad c.args.layout.now c.args.params.now ≡ None = sym (field_is c.args.layout.now c.args.params.now c.args.prepared.now c.requires.asking) ∙ sym c.bad.ensures ∙ c.in_default.is in
+    early_is c.args.layout.now c.args.vehicle place k c.args.params.now c.args.self.now c.now-now.result c.standing-next.result c.timely_reason.result tells c.now-now.ensures.now c.standing-next.ensures (le-ltb _ _ c.if-now-next.false) good (c.timely_reason.ensures.reason k c.args.vehicle place tells calling)

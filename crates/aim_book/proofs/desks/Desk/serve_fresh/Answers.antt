@@ -1,0 +1,92 @@
+use Rattle.std.proofs.Common.{◌≡◌, length, sym, ◌∙◌, ap, subst, true}
+use Rattle.std.specs.Prelude.{slice_set, slice_index_or}
+use Rattle.aim_msg.specs.declared.messages.Message.{Message}
+use Rattle.aim_fcfs.specs.Distances.{distances_with}
+use Rattle.aim_session.specs.Kept.{no_session, session_after}
+use Rattle.aim_emerg.specs.Calls.{call_of}
+use Rattle.aim_rules.specs.History.{fresh, is_confirm, now_of, params_of}
+use Rattle.aim_rules.specs.Known.{answer_fresh_by}
+use Rattle.aim_book.specs.Desk.{Tells}
+use Rattle.aim_book.proofs.ManagedLemmas.{answer_new, known_of, tells}
+use Rattle.aim_book.proofs.ServedLemmas.{calling_noted, later_granted, managed_next, row_tiles, tiles_granted}
+use Rattle.aim_book.proofs.desks.Desk.serve_fresh.Goals as goal
+
+pub answer_fresh-reply-requires-clause-there : goal.answer_fresh-reply-requires-clause-there
+answer_fresh-reply-requires-clause-there g c =
+    let m = c.requires.managed in
+    (tells c.args.layout.now (length c.args.self.now.sessions) m.0 c.args.vehicle m.1 c.args.self.now c.args.approaches.now m.2 c.requires.vehicle).there
+
+pub returns-clause-reply : goal.returns-clause-reply
+returns-clause-reply g c = λ h moment m place.
+    let i = c.args.layout.now in
+    let n = length c.args.self.now.sessions in
+    let r = c.args.prepared in
+    let k = known_of i n h c.args.vehicle moment in
+    let noted : c.note.new.self ≡ slice_set c.args.approaches.now c.args.vehicle (call_of i (params_of r.message.body)) = c.note.ensures ∙ ap (λ o. slice_set c.args.approaches.now c.args.vehicle o) c.call_in.ensures.call in
+    let told : Tells i c.args.vehicle c.args.place k c.args.self.now = subst (λ p. Tells i c.args.vehicle p k c.args.self.now) (sym place) (tells i n h c.args.vehicle moment c.args.self.now c.args.approaches.now m c.requires.vehicle) in
+    let said : c.answer_fresh-reply.result ≡ answer_fresh_by i k r.message.body
+    = c.answer_fresh-reply.ensures.reply k told (calling_noted i n h c.args.vehicle moment c.args.place c.args.self.now c.args.approaches.now r m c.requires.vehicle c.requires.fresh c.requires.prepared c.note.new.self noted) in
+    said ∙ sym (answer_new i n h c.args.vehicle moment c.args.self.now c.args.approaches.now m c.requires.vehicle r.message c.requires.fresh)
+
+pub keep-requires-2-clause-own : goal.keep-requires-2-clause-own
+keep-requires-2-clause-own g c =
+    let m = c.requires.managed in
+    rw c.keep_distance.ensures.rest (row_tiles c.args.layout.now (length c.args.self.now.sessions) (fresh m.0) (now_of m.0 m.1) c.args.vehicle c.args.self.now.reservations m.2.desk.reserved c.requires.vehicle)
+
+pub keep-requires-2-clause-tiles : goal.keep-requires-2-clause-tiles
+keep-requires-2-clause-tiles g c = λ confirmed.
+    let i = c.args.layout.now in
+    let n = length c.args.self.now.sessions in
+    let r = c.args.prepared in
+    let managed = c.requires.managed in
+    let h = managed.0 in
+    let moment = managed.1 in
+    let m = managed.2 in
+    let k = known_of i n h c.args.vehicle moment in
+    let noted : c.note.new.self ≡ slice_set c.args.approaches.now c.args.vehicle (call_of i (params_of r.message.body)) = c.note.ensures ∙ ap (λ o. slice_set c.args.approaches.now c.args.vehicle o) c.call_in.ensures.call in
+    let told : Tells i c.args.vehicle c.args.place k c.args.self.now = subst (λ p. Tells i c.args.vehicle p k c.args.self.now) (sym managed.3) (tells i n h c.args.vehicle moment c.args.self.now c.args.approaches.now m c.requires.vehicle) in
+    let said : c.answer_fresh-reply.result ≡ answer_fresh_by i k r.message.body
+    = c.answer_fresh-reply.ensures.reply k told (calling_noted i n h c.args.vehicle moment c.args.place c.args.self.now c.args.approaches.now r m c.requires.vehicle c.requires.fresh c.requires.prepared c.note.new.self noted) in
+    let size : c.args.self.now.reservations.table.size ≡ i.grid.n = m.desk.reserved.size in
+    let confirmed_so : is_confirm (answer_fresh_by i k r.message.body) ≡ true = sym (ap is_confirm said) ∙ confirmed in
+    rw (c.keep_distance.ensures.rest, size, said) (tiles_granted i n h c.args.vehicle moment c.args.place c.args.self.now c.args.approaches.now r m c.requires.vehicle c.requires.fresh c.requires.prepared confirmed_so)
+
+pub keep-requires-2-clause-ahead : goal.keep-requires-2-clause-ahead
+keep-requires-2-clause-ahead g c = λ confirmed.
+    let i = c.args.layout.now in
+    let n = length c.args.self.now.sessions in
+    let r = c.args.prepared in
+    let managed = c.requires.managed in
+    let h = managed.0 in
+    let moment = managed.1 in
+    let m = managed.2 in
+    let k = known_of i n h c.args.vehicle moment in
+    let noted : c.note.new.self ≡ slice_set c.args.approaches.now c.args.vehicle (call_of i (params_of r.message.body)) = c.note.ensures ∙ ap (λ o. slice_set c.args.approaches.now c.args.vehicle o) c.call_in.ensures.call in
+    let told : Tells i c.args.vehicle c.args.place k c.args.self.now = subst (λ p. Tells i c.args.vehicle p k c.args.self.now) (sym managed.3) (tells i n h c.args.vehicle moment c.args.self.now c.args.approaches.now m c.requires.vehicle) in
+    let said : c.answer_fresh-reply.result ≡ answer_fresh_by i k r.message.body
+    = c.answer_fresh-reply.ensures.reply k told (calling_noted i n h c.args.vehicle moment c.args.place c.args.self.now c.args.approaches.now r m c.requires.vehicle c.requires.fresh c.requires.prepared c.note.new.self noted) in
+    let confirmed_so : is_confirm (answer_fresh_by i k r.message.body) ≡ true = sym (ap is_confirm said) ∙ confirmed in
+    let current : c.args.self.now.reservations.table.current ≡ now_of h moment = m.desk.reserved.current in
+    let horizon : c.args.self.now.reservations.table.horizon ≡ i.times.horizon = m.desk.reserved.horizon in
+    rw (c.keep_distance.ensures.rest, current, horizon, said) (later_granted i n h c.args.vehicle moment c.args.place c.args.self.now c.args.approaches.now r m c.requires.vehicle c.requires.fresh c.requires.prepared confirmed_so)
+
+pub returns-clause-managed : goal.returns-clause-managed
+returns-clause-managed g c = λ h moment m place late.
+    let i = c.args.layout.now in
+    let n = length c.args.self.now.sessions in
+    let r = c.args.prepared in
+    let k = known_of i n h c.args.vehicle moment in
+    let noted : c.note.new.self ≡ slice_set c.args.approaches.now c.args.vehicle (call_of i (params_of r.message.body)) = c.note.ensures ∙ ap (λ o. slice_set c.args.approaches.now c.args.vehicle o) c.call_in.ensures.call in
+    let told : Tells i c.args.vehicle c.args.place k c.args.self.now = subst (λ p. Tells i c.args.vehicle p k c.args.self.now) (sym place) (tells i n h c.args.vehicle moment c.args.self.now c.args.approaches.now m c.requires.vehicle) in
+    let said : c.answer_fresh-reply.result ≡ answer_fresh_by i k r.message.body
+    = c.answer_fresh-reply.ensures.reply k told (calling_noted i n h c.args.vehicle moment c.args.place c.args.self.now c.args.approaches.now r m c.requires.vehicle c.requires.fresh c.requires.prepared c.note.new.self noted) in
+    managed_next i n h c.args.vehicle moment c.args.place c.args.self.now c.args.approaches.now r m c.requires.vehicle c.requires.fresh c.requires.prepared
+    c.answer_fresh-reply.result said place late _ c.note.new.self noted
+    ((λ j. (c.keep_distance.ensures.rest j).sessions) ∙ c.keep.ensures ∙ ap (λ e. slice_set c.args.self.now.sessions c.args.vehicle (session_after e c.answer_fresh-reply.result (slice_index_or c.args.self.now.sessions c.args.vehicle no_session).next)) c.message.ensures.message)
+    (c.keep_distance.ensures.distances ∙ ap (λ (e : Message). distances_with c.args.self.now.distances c.args.self.now.reservations.table.current c.answer_fresh-reply.result (params_of e.body)) c.message.ensures.message)
+    (λ j. (c.keep_distance.ensures.rest j).timeline)
+    (λ j. (c.keep_distance.ensures.rest j).has_lights)
+    (λ j. (c.keep_distance.ensures.rest j).stopped)
+    (rw c.keep_distance.ensures.rest at c.keep-2.ensures.rows)
+    (rw c.keep_distance.ensures.rest at c.keep-2.ensures.table)
+    (rw c.keep_distance.ensures.rest at c.keep-2.ensures.cells)

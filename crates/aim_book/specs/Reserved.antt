@@ -1,0 +1,60 @@
+-- The reservations that a manager keeps, and how they follow a history.
+-- No public clause cites it: only contracts of private functions.
+use Rattle.std.specs.Prelude.{◌≡◌, ℕ, ◌<◌, Bool, ◌&&◌, nat_le, List, [], length, Option, Some, None, slice_index_or}
+use Rattle.aim_geometry.specs.Cells.{Cell}
+use Rattle.aim_paths.specs.Intersection.{Intersection}
+use Rattle.aim_pool.specs.declared.spans.Span.{Span}
+use Rattle.aim_pool.specs.Sheets.{Spans}
+use Rattle.aim_pool.specs.Spans.{in_spans}
+use Rattle.aim_tiles.specs.Cells.{has_cell}
+use Rattle.aim_rules.specs.History.{Fresh}
+use Rattle.aim_rules.specs.Holds.{is_granted}
+use Rattle.aim_rules.specs.Kept.{kept, is_owned}
+use Rattle.aim_book.specs.declared.reservations.Reservation.{Reservation}
+use Rattle.aim_book.specs.declared.reservations.Reservations.{Reservations}
+
+-- the vehicle's reservation
+abbrev pub row_of : List (Option Reservation) → ℕ → Option Reservation
+row_of rows v = slice_index_or rows v None
+
+-- the spans of a reservation, if there is one
+abbrev pub spans_in : Option Reservation → List Span
+spans_in None = []
+spans_in (Some r) = r.sheet.spans
+
+-- whether the vehicle has reserved the cell
+abbrev pub is_reserved : List (Option Reservation) → ℕ → Cell → Bool
+is_reserved rows v c = in_spans (spans_in (row_of rows v)) c
+
+-- how many sheets there are
+abbrev pub sheet_count : Option Spans → ℕ
+sheet_count None = 0
+sheet_count (Some sheet) = 1
+
+-- the sheet, if there is one, has this room
+abbrev pub HasRoom : ℕ → Option Spans → Type 0
+HasRoom room None = Unit {0}
+HasRoom room (Some sheet) = sheet.room ≡ room
+
+-- the reservation is the one that a Confirm grants
+pub record IsReservationOf (i : Intersection) (x : Fresh) (r : Reservation) : Type 0 where
+  pub id : r.id ≡ x.place
+  pub cells : (c : Cell) → in_spans r.sheet.spans c ≡ is_granted i x c
+  pub room : r.sheet.room ≡ i.grid.spans
+
+-- there is a reservation exactly where a Confirm is kept, and it is that one's
+abbrev pub IsRowOf : Intersection → Option Fresh → Option Reservation → Type 0
+IsRowOf i None None = Unit {0}
+IsRowOf i (Some x) (Some r) = IsReservationOf i x r
+IsRowOf i None (Some r) = ⊥
+IsRowOf i (Some x) None = ⊥
+
+-- after fresh messages, at a time: each vehicle's reservation is what it keeps, and the table has the cells of these that
+-- are not past
+pub record AreReserved {L : Type 0} (i : Intersection) (n : ℕ) (xs : List Fresh) (at : ℕ) (r : Reservations L) : Type 0 where
+  pub many : length r.rows.items ≡ n
+  pub rows : (v : ℕ) → v < n → IsRowOf i (kept xs v) (row_of r.rows.items v)
+  pub size : r.table.size ≡ i.grid.n
+  pub horizon : r.table.horizon ≡ i.times.horizon
+  pub current : r.table.current ≡ at
+  pub cells : (c : Cell) → has_cell r.table c ≡ (nat_le at c.step && is_owned i n xs c)
