@@ -76,7 +76,8 @@ def tile_lines(text):
     return sections
 
 
-DRAWN_UNDER = """(() => { const found = {}; state.layers.names = false; setCrossing(%d);
+DRAWN_UNDER = """(() => { const found = {}; setCrossing(%d);
+  for (const layer of ['names', 'paths', 'reserved', 'greens']) state.layers[layer] = false;
   for (let step = Math.max(0, %d); step <= %d; step++) { state.pinned = null; state.time = step; drawPlan();
     for (const [v, tiles] of view.under) for (const tile of tiles) (found[v + ' ' + tile] ??= []).push(step); }
   return [crossingNow().layout.n, found]; })()"""
@@ -162,7 +163,7 @@ def check_outputs(page):
         elif each.words[0] != "replay":
             check_tiles(page, each)
             check_letters(page, each)
-        page.run("state.layers.names = true; setTime(state.run.first); for (let t = state.run.first; t < state.run.last;"
+        page.run("for (const layer in state.layers) state.layers[layer] = true; setTime(state.run.first); for (let t = state.run.first; t < state.run.last;"
                  "t += (state.run.last - state.run.first) / 40) { setTime(t); drawNow(); }")
 
 
@@ -283,6 +284,7 @@ CHANGED = """(async () => { const found = [], script = %s, output = %s, letters 
   for (let i = 0; i < %d; i++) { const s = i %% 3 ? script : change(script), o = i %% 3 ? change(output) : output;
     try { const run = await new Run(await readScript(s, 's', steady), await readOutput(o, 'o', steady)).settle(steady);
       if (run.faults.some(f => !f.message)) found.push(i);
+      if (i %% 4 === 0) { show(run); for (const t of [run.first, run.last]) if (state.run) { setTime(t); drawNow(); entryBy(1); showDetails(); drawNow(); } }
     } catch (error) { found.push([i, String(error.stack).slice(0, 300)]); } }
   return found; })()"""
 
@@ -295,7 +297,7 @@ def check_cuts(page):
         judge(f"{name}: the output, cut", [], page.run(CUTS % (json.dumps(output), "readOutput")))
         wanted = [[len(script) - 1, None]]
         judge(f"{name}: the script, cut", wanted, page.run(CUTS % (json.dumps(script), "readScript")))
-        judge(f"{name}: changed bytes", [], page.run(CHANGED % (json.dumps(script), json.dumps(output), 600)))
+        judge(f"{name}: changed bytes", [], page.run(CHANGED % (json.dumps(script), json.dumps(output), 400)))
 
 
 # A text of an example, what is put in the place of what, and what the page tells of it.
@@ -333,6 +335,16 @@ def check_wrong(page):
     judge("another script's output", "lights.out, line 1: the script has no policy 1", page.told()[:46])
     page.choose(runs.ROOT / "README.md")
     judge("no script at all", "README.md, line 1: this is neither a script", page.told()[:43])
+    page.choose(runs.EXAMPLES / "refusal.out")
+    judge("an output alone", "The output is read. Open its script", page.told()[:35])
+    page.browser.choose_files([str(runs.EXAMPLES / "refusal.aim")])
+    judge("and then its script", [True, ""], [page.wait("crossingNow()?.journal.count === 6"), page.told()])
+    texts = [[path.name, path.read_text()] for path in (runs.EXAMPLES / "lossy.aim", runs.OUTPUTS / "lossy.out")]
+    page.run(f"(() => {{ const d = new DataTransfer(); for (const [name, text] of {json.dumps(texts)}) d.items.add(new File([text], "
+             "name)); document.dispatchEvent(new DragEvent('drop', { dataTransfer: d, bubbles: true })); })()")
+    judge("files that are dropped", True, page.wait("crossingNow()?.journal.count === 12"))
+    page.choose(runs.EXAMPLES / "phases.aim", runs.OUTPUTS / "siren.out")
+    judge("another drive's output", "siren.out, line 1: the script's plan of vehicle 0", page.told()[:49])
     page.choose(runs.EXAMPLES / "refusal.aim")
     judge("a script alone", ["The layout alone", 2], [page.told()[:16], page.run("crossingNow().layout.lanes.length")])
 
