@@ -177,6 +177,9 @@ def on_canvas(page, row, col):
 
 def check_presses(page):
     page.open(runs.EXAMPLES / "refusal.aim", runs.EXAMPLES / "refusal.out", after="#step=13")
+    words = [row.split(" ") for row in page.run("[...document.querySelectorAll('#rows button')].map(b => b.innerText.replace(/\\s+/g, ' '))")]
+    judge("rows of the timeline", ["asks 6", "confirmed 2", "refused: late 1", "refused: far 1", "refused: distance 1", "refused: taken 1"],
+          [" ".join(row) for row in words])
     page.browser.press(*on_canvas(page, 1, 0.8))
     judge("a press on a vehicle", "Vehicle 0", page.text("#details h2"))
     judge("its messages and answers", 2, page.run("document.querySelectorAll('#letters [role=button]').length"))
@@ -205,6 +208,8 @@ def check_presses(page):
     judge("a repeated letter", 1, sum(label.endswith(" twice") for label in labels))
     page.run("choose({ kind: 'vehicle', v: 1 })")
     judge("a late letter", True, "4 late" in page.text("#letters"))
+    judge("faults of links on the timeline", [["lost", 1], ["late", 1], ["repeated", 1]],
+          page.run("rowsOf(crossingNow()).filter(row => row.letters).map(row => [row.word, row.count])"))
     page.open(runs.EXAMPLES / "route.aim", runs.OUTPUTS / "route.out", after="#vehicle=1")
     page.browser.press_in("#crossings button:nth-child(2)")
     judge("the other crossing", 1, page.run("state.at"))
@@ -309,7 +314,7 @@ WRONG = (
     ("refusal.aim", "aim 1\n", "aim 1\r\n", "refusal.aim, line 1: it ends with a carriage return"),
     ("refusal.aim", "3 8 request", "9 8 request", "refusal.aim, line 13: VEHICLE is 0 to 7, not 9."),
     ("refusal.out", "3 3 8", "4 3 8", "refusal.out, line 4: the entry's position is 3, not \"4\"; a line is missing"),
-    ("refusal.out", "taken 1 2 13 0", "taken 1 2 13", "refusal.out, line 2: the reason taken has 4 words behind it"),
+    ("refusal.out", "taken 1 2 13 0", "taken 1 2 13", "refusal.out, line 2: the reason is: taken ROW COL STEP BY, and \"next\" can't stand for BY."),
     ("refusal.out", "steady 20", "steady 21", "refusal.out, line 1: by the layout of the script this crossing ends at"),
     ("refusal.out", "end 6", "end 5", "refusal.out, line 7: end 6 is wanted: so many entries stand before."),
     ("refusal.out", "end 6\n", "", "refusal.out, line 7: the text is at its end: the last line is `end N`"),

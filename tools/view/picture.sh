@@ -13,4 +13,6 @@ folder=$(mktemp -d) && trap 'rm -rf "$folder"' EXIT
 "$browser" --headless --no-sandbox --disable-gpu --disable-dev-shm-usage --hide-scrollbars --user-data-dir="$folder/user" \
   --window-size="${5:-1100,780}" --virtual-time-budget=4000 --screenshot="$folder/picture.png" \
   "file://$folder/page.html#$3" > "$folder/said" 2>&1 || { cat "$folder/said" >&2; exit 1; }
+# With pngquant the picture has at most 256 colours, which is a third of the bytes.
+! command -v pngquant > /dev/null || pngquant --force --ext .png --nofs 256 "$folder/picture.png"
 cp "$folder/picture.png" "$4"
