@@ -1,5 +1,5 @@
 #!/usr/bin/env bash
-# Tests of the page tools/view/view.html, in a Chromium without a window, which is installed from Debian's packages where
+# Tests of the page tools/view/view.html, in a Chromium without a window. It is installed from Debian's packages where
 # that can be done. What isn't tested is said. Ends with a status other than 0 where anything differs.
 set -uo pipefail
 cd "$(dirname "${BASH_SOURCE[0]}")/.."
@@ -14,13 +14,15 @@ has_browser() {
   return 1
 }
 
-# As root, or by a sudo that asks for nothing. The lists of packages are read anew only where they don't know the package.
+# As root, or by a sudo that asks for nothing. Lists of packages are read anew only where they don't know the package.
 install_browser() {
   command -v apt-get > /dev/null || return 1
   local as=()
   [ "$(id -u)" -eq 0 ] || as=(sudo -n)
   [ "$(id -u)" -eq 0 ] || sudo -n true 2> /dev/null || return 1
-  local install=(timeout 60 "${as[@]}" env DEBIAN_FRONTEND=noninteractive apt-get install -y -q --no-install-recommends chromium-headless-shell)
+  tell 'installing chromium-headless-shell from the packages of this system'
+  local install=(timeout 60 "${as[@]}" env DEBIAN_FRONTEND=noninteractive
+    apt-get install -y -q --no-install-recommends chromium-headless-shell)
   "${install[@]}" > /dev/null 2>&1 && return 0
   timeout 30 "${as[@]}" apt-get update -q > /dev/null 2>&1 && "${install[@]}" > /dev/null 2>&1
 }
@@ -30,7 +32,6 @@ if ! command -v python3 > /dev/null; then
   exit 0
 fi
 if ! has_browser; then
-  tell 'installing chromium-headless-shell from the packages of this system'
   install_browser
 fi
 if has_browser; then

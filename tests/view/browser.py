@@ -1,6 +1,5 @@
-"""A Chromium without a window, led over its debugging pipe: pages, keys, presses, pictures. Python's own modules alone."""
+"""A Chromium without a window, led over its debugging pipe: pages, keys, presses. Python's own modules alone."""
 
-import base64
 import json
 import os
 import select
@@ -126,11 +125,12 @@ class Browser:
                       buttons=1 if kind == "mousePressed" else 0)
         self.settle()
 
-    def press_in(self, selector, right=None, down=None):
-        """A press in an element: in its middle, or so far right of and below its corner."""
-        box = self.run(f"(() => {{ const e = document.querySelector({json.dumps(selector)}); e.scrollIntoView({{block: "
-                       f"'nearest'}}); const b = e.getBoundingClientRect(); return [b.x, b.y, b.width, b.height]; }})()")
-        self.press(box[0] + (box[2] / 2 if right is None else right), box[1] + (box[3] / 2 if down is None else down))
+    def press_in(self, selector):
+        """A press in the middle of an element."""
+        box = self.run(f"(() => {{ const found = document.querySelector({json.dumps(selector)}); "
+                       "found.scrollIntoView({ block: 'nearest' }); const { x, y, width, height } = "
+                       "found.getBoundingClientRect(); return [x, y, width, height]; })()")
+        self.press(box[0] + box[2] / 2, box[1] + box[3] / 2)
 
     def key(self, key, shift=False):
         """A key, by the name that pages see."""
@@ -150,11 +150,6 @@ class Browser:
         root = self.call("DOM.getDocument")["root"]["nodeId"]
         node = self.call("DOM.querySelector", nodeId=root, selector="#files")["nodeId"]
         self.call("DOM.setFileInputFiles", files=[os.path.abspath(path) for path in paths], nodeId=node)
-
-    def picture(self, path, **words):
-        data = self.call("Page.captureScreenshot", format="png", **words)["data"]
-        with open(path, "wb") as file:
-            file.write(base64.b64decode(data))
 
     def close(self):
         try:

@@ -1,14 +1,16 @@
 """How well colours are told apart: contrast of texts, and the colours of vehicles as eyes of four kinds see them."""
 
 # Text over ground, and the least contrast: 4.5 for words, 3 for signs.
-TEXTS = (("ink", "card", 4.5), ("ink", "page", 4.5), ("ink", "pick", 4.5), ("soft", "card", 4.5), ("accent", "card", 4.5),
-         ("on-accent", "accent", 4.5), ("fault", "fault-back", 4.5), ("ink", "fault-back", 4.5), ("lamp", "card", 3),
+TEXTS = (("ink", "card", 4.5), ("ink", "page", 4.5), ("ink", "pick", 4.5), ("soft", "card", 4.5),
+         ("accent", "card", 4.5), ("on-accent", "accent", 4.5), ("fault", "fault-back", 4.5),
+         ("ink", "fault-back", 4.5), ("lamp", "card", 3),
          ("named", "card", 3), ("wait", "card", 3), ("fault", "card", 4.5))
 
 # What an eye that lacks one kind of cone makes of linear red, green and blue (Machado, Oliveira, Fernandes 2009).
 EYES = {
     "all cones": ((1, 0, 0), (0, 1, 0), (0, 0, 1)),
-    "no long cones": ((0.152286, 1.052583, -0.204868), (0.114503, 0.786281, 0.099216), (-0.003882, -0.048116, 1.051998)),
+    "no long cones": ((0.152286, 1.052583, -0.204868), (0.114503, 0.786281, 0.099216),
+                      (-0.003882, -0.048116, 1.051998)),
     "no middle cones": ((0.367322, 0.860646, -0.227968), (0.280085, 0.672501, 0.047413), (-0.01182, 0.04294, 0.968881)),
     "no short cones": ((1.255528, -0.076749, -0.178779), (-0.078411, 0.930809, 0.147602), (0.004733, 0.691367, 0.3039)),
 }

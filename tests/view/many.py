@@ -35,7 +35,8 @@ def drive(count=256):
         lane, lead, speed = next(some) % 12, 100 + next(some) % 100, 200 + next(some) % 61
         lines.append(f"plan {v} {33 * v} {lead} 50 {lane} {TURNS[lane % 3]} {speed} 300 2 4500 1900 car\n")
         if v % 5 == 0:
-            lines.append(f"up {v} {('l', 'r', '7 l', 'd d 20')[v // 5 % 4]}\ndown {v} {('d l', '9', 'r r', 'd')[v // 5 % 4]}\n")
+            up, down = (("l", "d l"), ("r", "9"), ("7 l", "r r"), ("d d 20", "d"))[v // 5 % 4]
+            lines.append(f"up {v} {up}\ndown {v} {down}\n")
     return "".join(lines) + "end\n"
 
 

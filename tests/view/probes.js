@@ -17,7 +17,8 @@ function drawnUnder(at, from, to) {
 // One sign for each tile, the north row first, as a chart has them.
 function chartOf(sign) {
   const { n } = crossingNow().layout, rows = [];
-  for (let row = n - 1; row >= 0; row--) rows.push(Array.from({ length: n }, (_, col) => sign(row, col, row * n + col)).join(""));
+  for (let row = n - 1; row >= 0; row--)
+    rows.push(Array.from({ length: n }, (_, col) => sign(row, col, row * n + col)).join(""));
   return rows.join("\n");
 }
 
@@ -41,7 +42,8 @@ function paintedChart() {
 
 // The letters of each vehicle of each crossing: vehicle, way, text, and the steps in which they are due.
 function lettersDue() {
-  return state.run.crossings.map(crossing => [...crossing.letters].flatMap(([v, all]) => all.map(({ way, text, due }) => [v, way, text, due])));
+  return state.run.crossings.map(crossing => [...crossing.letters.values()].flat()
+    .map(({ v, way, text, due }) => [v, way, text, due]));
 }
 
 // The place in the window of a point of the plan, by row and column.
@@ -89,7 +91,8 @@ async function thrownByChanges(script, output, count) {
   for (let i = 0; i < count; i++) {
     const texts = i % 3 ? [script, change(output)] : [change(script), output];
     try {
-      const run = await new Run(await readScript(texts[0], "s", steady), await readOutput(texts[1], "o", steady)).settle(steady);
+      const read = [await readScript(texts[0], "s", steady), await readOutput(texts[1], "o", steady)];
+      const run = await new Run(...read).settle(steady);
       if (run.faults.some(fault => !fault.message)) found.push([i, "no message"]);
       if (i % 4 === 0) lookAt(run);
     } catch (error) {

@@ -31,9 +31,12 @@ def words_of(script):
 
 
 def stored():
-    """All stored outputs: NAME.out beside an example or among the outputs, and NAME.chart-STEP.out."""
+    """All stored outputs: NAME.out beside a script or among the outputs, and NAME.chart-STEP.out.
+
+    The scripts are the examples, and those that stand among the outputs since they show nothing but what is tested.
+    """
     found = []
-    for script in sorted(EXAMPLES.glob("*.aim")):
+    for script in sorted(EXAMPLES.glob("*.aim")) + sorted(OUTPUTS.glob("*.aim")):
         for folder in (EXAMPLES, OUTPUTS):
             if (folder / f"{script.stem}.out").is_file():
                 found.append(Stored(script, folder / f"{script.stem}.out", words_of(script)))
