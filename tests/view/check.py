@@ -358,6 +358,9 @@ def check_widths(page):
         for name in ("siren", "route", "lossy", "twelve-lanes"):
             page.open(runs.EXAMPLES / f"{name}.aim", runs.OUTPUTS / f"{name}.out", after="#vehicle=0")
             judge(f"{name} at a width of {wide}", wide, page.run("document.documentElement.scrollWidth"))
+    page.browser.size(1100, 640)
+    page.open(runs.EXAMPLES / "refusal.aim", runs.EXAMPLES / "refusal.out")
+    judge("the plan in a low window", [300, 300, 300], page.run("[plan.clientWidth, plan.width, plan.height]"))
     page.browser.size(1280, 900)
 
 
@@ -409,7 +412,11 @@ PARTS = (check_outputs, check_presses, check_links_and_routes, check_tab_key, ch
 
 def check_page():
     with tempfile.TemporaryDirectory() as folder:
-        chromium = browser.Browser()
+        try:
+            chromium = browser.Browser()
+        except (browser.Failed, OSError) as error:
+            print(f"view: not tested: the page, since the Chromium here doesn't start: {error}")
+            return
         try:
             page = Page(chromium, folder)
             for part in PARTS:
