@@ -248,6 +248,14 @@ def check_choosing_keys(page):
     for name in ("ArrowUp", "ArrowUp", "ArrowRight", "Enter"):
         key(name)
     judge("a tile by keys", "Tile row 13, column 13", page.title())
+    page.run("document.querySelector('#details button.plain').focus()")
+    key("Enter")
+    judge("the focus stays where things change", ["Vehicle 6", "H2"],
+          [page.title(), page.run("document.activeElement.tagName")])
+    page.run("document.querySelector('#rows button').focus()")
+    key("Enter")
+    judge("and in the rows", "asks", page.run("document.activeElement.querySelector('.word')?.textContent"))
+    key("Enter")
     page.run("list.focus()")
     key("ArrowDown")
     key("ArrowDown")

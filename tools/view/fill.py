@@ -23,17 +23,19 @@ def filled(texts):
     return page.replace(PLACE, PLACE.replace("null", given))
 
 
-def read(name):
-    """A file's text under its name; bytes that are no text become question marks."""
-    data = sys.stdin.buffer.read() if name == "-" else pathlib.Path(name).read_bytes()
-    return ("output" if name == "-" else pathlib.Path(name).name), data.decode("utf-8", "replace")
+def read(name, role):
+    """A file's text under its name, standard input's under its role; bytes that are no text become question marks."""
+    if name == "-":
+        return role, sys.stdin.buffer.read().decode("utf-8", "replace")
+    path = pathlib.Path(name)
+    return path.name, path.read_bytes().decode("utf-8", "replace")
 
 
 def main(words):
     if not 1 <= len(words) <= 2:
         raise SystemExit(__doc__)
     try:
-        texts = [read(name) for name in words]
+        texts = [read(name, role) for name, role in zip(words, ("script", "output"))]
     except OSError as error:
         raise SystemExit(f"fill.py: {error}") from None
     sys.stdout.write(filled(texts))
