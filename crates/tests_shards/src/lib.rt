@@ -1,0 +1,7 @@
+//! Tests of sharded claims.
+#![tactic(auto)]
+
+#[cfg(test)]
+mod ordinary;
+#[cfg(test)]
+mod shared;
