@@ -1,5 +1,6 @@
 -- Worked rows of claim histories.
 use Rattle.std.proofs.Common.{◌≡◌, ℕ, Bool, true, false, List, [], ◌∷◌, refl}
+use Rattle.aim_geometry.specs.Cells.{cell_at}
 use Rattle.aim_pool.specs.declared.spans.Span.{Span}
 use Rattle.aim_shards.specs.declared.claims.ClaimAct.{ClaimAct}
 use Rattle.aim_shards.specs.declared.claims.ClaimAct.TheVariants as act
@@ -79,7 +80,7 @@ freeing_ones_own = refl
 
 -- a cell that both have is why a claim is refused
 why_refused : IsAnswer (record { spans = span 5 0 3 ∷ span 5 1 3 ∷ []; room = 2 } ∷ record { spans = span 5 1 6 ∷ []; room = 1 } ∷ []) (entry 0 0 (act.Claim 0) true ∷ []) 1 (act.Claim 1) false
-why_refused = ((5, 1, 1), refl, refl)
+why_refused = (cell_at 5 1 1, refl, refl)
 
 -- a set in all quadrants, one in one, and one in none, which touches the first
 in_all : touched middle 4 ≡ 3 ∷ 2 ∷ 1 ∷ 0 ∷ []

@@ -4,7 +4,7 @@ use Rattle.std.specs.Prelude.{bit_and}
 use Rattle.std.specs.List.{list_any}
 use Rattle.std.proofs.lemmas.Bool.{eqb-true, eq-eqb, and_parts, and_from}
 use Rattle.aim_pool.specs.declared.spans.Span.{Span}
-use Rattle.aim_geometry.specs.Cells.{Cell}
+use Rattle.aim_geometry.specs.Cells.{Cell, cell_at}
 use Rattle.aim_geometry.specs.Rects.{has_bit}
 use Rattle.aim_pool.specs.Spans.{is_at, in_span, in_spans}
 use Rattle.aim_geometry.proofs.Bits.{has_bit_and}
@@ -53,7 +53,7 @@ span_shares s t h =
     let parts = and_parts (is_at s t.step t.row) (not (bit_and s.mask t.mask == 0)) h in
     let c = some_column (bit_and s.mask t.mask) (λ e. differ (sym (parts.1) ∙ ap not (eq-eqb (bit_and s.mask t.mask) 0 e))) in
     let both = and_parts (has_bit s.mask c.0) (has_bit t.mask c.0) (sym (has_bit_and s.mask t.mask c.0) ∙ c.1) in (
-      (t.step, t.row, c.0),
+      cell_at t.step t.row c.0,
       and_from (is_at s t.step t.row) (has_bit s.mask c.0) parts.0 both.0,
       and_from (is_at t t.step t.row) (has_bit t.mask c.0) (and_from (t.step == t.step) (t.row == t.row) (eq-eqb t.step t.step refl) (eq-eqb t.row t.row refl)) both.1,
     )

@@ -81,6 +81,10 @@ taken_out {q = q} a = record { is = ap (λ (y : Me (Option Quarter) View). y.1) 
 pub as_it_was : {q : ℕ} {k : Quarter} {m m1 m2 : Me (Option Quarter) View} → TakesOut q k m m1 → PutsIn q k m1 m2 → m2 ≡ m
 as_it_was {m = m} a b = put_back_is a b ∙ (λ i. (m.0, sym a.was i))
 
+-- where the value put in is the one
+pub put_same : {q : ℕ} {k k' : Quarter} {m m' : Me (Option Quarter) View} → k' ≡ k → PutsIn q k' m m' → PutsIn q k m m'
+put_same {q = q} {m = m} {m' = m'} e p = subst (λ (k : Quarter). PutsIn q k m m') e p
+
 pub value_is : {q : ℕ} {k : Quarter} {m m' : Me (Option Quarter) View} → (h : InHand q m) → TakesOut q k m m' → k ≡ h.value
 value_is h a = in_hand (sym a.was ∙ h.is)
 

@@ -45,12 +45,7 @@ fn clear<L: Ledger>(table: IdleTable, sheet: &Sheet, blank: Blank) -> (IdleTable
 }
 
 // Takes the sheet's cells, or lets go of them, as the entry says.
-fn change<L: Ledger>(
-    table: IdleTable,
-    entry: &ClaimEntry,
-    sheet: &Sheet,
-    blank: Blank,
-) -> IdleTable
+fn change<L: Ledger>(table: IdleTable, entry: &ClaimEntry, sheet: &Sheet, blank: Blank) -> IdleTable
     requires name { blank.name ≡ L.name }
     requires parts { blank.parts ≡ L.parts }
     requires some { 0 < blank.parts }

@@ -76,7 +76,8 @@ fn is_free(desk: &Desk, seat: &mut Chair, quadrant: usize, sheet: &Sheet) -> boo
     ensures seat { (seat.new.table_id ≡ seat.old.table_id) × (seat.new.id ≡ seat.old.id) × (seat.new.me ≡ seat.old.me) }
     ensures free { (h : InHand quadrant seat.old.me) → IsClear h.value.table sheet.now.spans result }
 {
-    let (quarter, free) = take(desk, seat, quadrant).look(sheet);
+    let taken = take(desk, seat, quadrant);
+    let (quarter, free) = taken.look(sheet);
     put(desk, seat, quadrant, quarter);
     free
 }

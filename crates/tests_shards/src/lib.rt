@@ -2,6 +2,8 @@
 #![tactic(auto)]
 
 #[cfg(test)]
+mod gate;
+#[cfg(test)]
 mod ordinary;
 #[cfg(test)]
 mod shared;
