@@ -13,9 +13,7 @@ use crate::rule::Desk;
 use crate::sets::{Quartered, choose};
 use crate::standing::{look_up, stand};
 use crate::turns::{make, take_turns};
-use aim_pool::Sheet;
 use std::marker::Model;
-use std::snapshot::Snapshot;
 use std::sync::Wait;
 
 /// The ticket of a call, and its answer.
@@ -38,8 +36,6 @@ pub trait Hold: Sync {
 #[derive(Drop)]
 pub struct Shards {
     pub(crate) desk: Desk,
-    pub(crate) size: u32,
-    pub(crate) sets: Snapshot<Vec<Sheet>>,
     pub(crate) quarters: Vec<Quartered>,
     pub(crate) nothing: Quartered,
 }
@@ -52,9 +48,9 @@ impl Model for Shards {
 
     ghost Value = { ShardsModel };
 
-    ghost view = { λ s. record { table = s.desk.shared.table_id; size = s.size; sets = s.sets.value.items; quarters = s.quarters.items; numbers = s.desk.shared.key.numbers.value.items; calls = s.desk.shared.key.calls } };
+    ghost view = { λ s. record { table = s.desk.shared.table_id; size = s.desk.shared.key.size; sets = s.desk.shared.key.sheets.value.items; quarters = s.quarters.items; numbers = s.desk.shared.key.numbers.value.items; calls = s.desk.shared.key.calls } };
 
-    ghost invariant = { λ s. (s.desk.shared.table_id.words ≡ 9) × (s.desk.shared.table_id.slots ≡ 4) × (s.desk.shared.key.sets.value.items ≡ s.quarters.items) × SameParts s.nothing [] × AreCut (half_of s.size) s.sets.value.items s.quarters.items };
+    ghost invariant = { λ s. (s.desk.shared.table_id.words ≡ 9) × (s.desk.shared.table_id.slots ≡ 4) × (s.desk.shared.key.sets.value.items ≡ s.quarters.items) × SameParts s.nothing [] × AreCut (half_of s.desk.shared.key.size) s.desk.shared.key.sheets.value.items s.quarters.items };
 }
 
 impl Shards {

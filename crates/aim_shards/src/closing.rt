@@ -95,8 +95,6 @@ impl Shards {
     {
         let Shards {
             desk,
-            size: _,
-            sets: _,
             quarters: _,
             nothing: _,
         } = self;

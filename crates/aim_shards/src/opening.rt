@@ -90,6 +90,7 @@ fn laid(
     alloc: Global,
     n: u32,
     horizon: u32,
+    sheets: &Vec<Sheet>,
     sets: &Vec<Quartered>,
     numbers: &Vec<u32>,
     calls: u32,
@@ -100,6 +101,7 @@ fn laid(
     requires distinct { AllPairs (λ m n. m ≢ n) numbers.now.items }
     requires few { (length numbers.now.items ≤ 64) × (calls ≤ 1024) }
     ensures counts { IfOk result (λ r. (r.0.shared.table_id.words ≡ 9) × (r.0.shared.table_id.slots ≡ 4)) }
+    ensures grid { IfOk result (λ r. (r.0.shared.key.size ≡ n) × (r.0.shared.key.sheets.value.items ≡ sheets.now.items)) }
     ensures key { IfOk result (λ r. (r.0.shared.key.sets.value.items ≡ sets.now.items) × (r.0.shared.key.numbers.value.items ≡ numbers.now.items) × (r.0.shared.key.calls ≡ calls)) }
     ensures seat { IfOk result (λ r. (r.1.table_id ≡ r.0.shared.table_id) × (r.1.me ≡ (opening_view sets.now.items numbers.now.items calls, []))) }
 {
@@ -114,6 +116,8 @@ fn laid(
     slots.push_reserved(Some(third));
     slots.push_reserved(Some(fourth));
     let about = Opening {
+        size: n,
+        sheets: Snapshot::of(sheets),
         sets: Snapshot::of(sets),
         numbers: Snapshot::of(numbers),
         calls,
@@ -146,7 +150,7 @@ impl Shards {
         let quarters = quarter_all(alloc, n, &sets)?;
         let nothing = no_cells(alloc)?;
         let mut passes = Vec::with_capacity(alloc, numbers.len())?;
-        let (desk, mut root) = laid(alloc, n, horizon, &quarters, &numbers, calls)?;
+        let (desk, mut root) = laid(alloc, n, horizon, &sets, &quarters, &numbers, calls)?;
         for number in &numbers {
             let standing = Vec::with_capacity(alloc, calls as usize)?;
             let seat = desk.shared.split_seat::<Deal>(&mut root);
@@ -160,8 +164,6 @@ impl Shards {
         }
         let shards = Shards {
             desk,
-            size: n,
-            sets: Snapshot::of(&sets),
             quarters,
             nothing,
         };

@@ -5,13 +5,17 @@ ghost use Rattle.aim_shards.specs.Ruled.{Ruled, keeping, no_terms, opening_view,
 use crate::quarter::Quarter;
 use crate::sets::Quartered;
 use crate::view::View;
+use aim_pool::Sheet;
 use atomic_table::{Join, Play, Seat, Split, Table, TableRule};
 use std::alloc::Global;
 use std::snapshot::Snapshot;
 
-/// What the rule is told once: the sets, the callers' numbers, and how many calls each may make.
+/// What was fixed at the opening: the rows and columns of the grid, the sets, their parts in the quadrants, the callers'
+/// numbers, and how many calls each may make. The rule speaks of the last three.
 #[derive(Drop)]
 pub struct Opening {
+    pub size: u32,
+    pub sheets: Snapshot<Vec<Sheet>>,
     pub sets: Snapshot<Vec<Quartered>>,
     pub numbers: Snapshot<Vec<u32>>,
     pub calls: u32,

@@ -1,15 +1,16 @@
 //! Two callers in two threads.
 
 ghost use Rattle.std.specs.Prelude.{◌≡◌, ◌<◌, length};
+ghost use Rattle.std.specs.Thread.{IsSync};
 ghost use Rattle.aim_shards.specs.Models.{IsPassOf, IsSamePass};
 
 use crate::shared::{NoHold, block, opened};
-use aim_shards::{Claimed, Full, Hold, OpenedShards, ShardPass, Shards, history};
+use aim_shards::{Hold, OpenedShards, ShardPass, Shards, history};
 use std::alloc::Global;
 use std::sync::Wait;
 use std::sync::atomic::{AtomicBool, Ordering};
 use std::test::Fail;
-use std::thread::{join, yield_now};
+use std::thread::{Threads, join, yield_now};
 
 // How often a hold looks.
 const LOOKS: u32 = 1_000_000;
@@ -31,28 +32,53 @@ impl Hold for Waits<'_> {
     }
 }
 
-// Claims the set.
-fn claim<R: Wait, H: Hold>(
-    rt: &R,
-    shards: &Shards,
-    mut pass: ShardPass,
-    set: u32,
-    hold: &H,
-) -> (ShardPass, Result<Claimed, Full>)
-    requires own { IsPassOf shards.now pass }
-    requires set { set < length shards.now.sets }
-    ensures { IsSamePass pass result.0 }
-{
-    let answer = shards.claim(rt, &mut pass, set, hold);
-    (pass, answer)
+// A caller's pass, and the ticket of its claim, if that was answered yes.
+#[derive(Drop)]
+struct Made {
+    pass: ShardPass,
+    ticket: Option<u32>,
 }
 
-// The ticket of a claim that was answered yes.
-fn ticket_of(answer: Result<Claimed, Full>) -> Option<u32> {
-    match answer {
+// Claims the set.
+fn claim<R: Wait, H: Hold>(rt: &R, shards: &Shards, mut pass: ShardPass, set: u32, hold: &H) -> Made
+    requires own { IsPassOf shards.now pass }
+    requires set { set < length shards.now.sets }
+    ensures { IsSamePass pass result.pass }
+{
+    let ticket = match shards.claim(rt, &mut pass, set, hold) {
         Ok(claimed) if claimed.yes => Some(claimed.ticket),
         _ => None,
-    }
+    };
+    Made { pass, ticket }
+}
+
+// Claims the first set, and holds it until another thread has claimed the second one.
+fn side_by_side<R: Threads + Wait + Sync>(
+    rt: &R,
+    shards: &Shards,
+    first: ShardPass,
+    second: ShardPass,
+    open: &AtomicBool,
+) -> (Made, Made)
+    requires own { IsPassOf shards.now first × IsPassOf shards.now second }
+    requires sets { length shards.now.sets ≡ 2 }
+    ensures { IsSamePass first result.0.pass × IsSamePass second result.1.pass }
+{
+    join(
+        rt,
+        move || -> Made
+            requires { IsSync R.row × IsPassOf shards.now first × (length shards.now.sets ≡ 2) }
+            ensures { IsSamePass first result.pass }
+        { claim(rt, shards, first, 0, &Waits { open }) },
+        move || -> Made
+            requires { IsSync R.row × IsPassOf shards.now second × (length shards.now.sets ≡ 2) }
+            ensures { IsSamePass second result.pass }
+        {
+            let made = claim(rt, shards, second, 1, &NoHold);
+            open.store(true, Ordering::SeqCst);
+            made
+        },
+    )
 }
 
 #[test]
@@ -67,28 +93,11 @@ fn claims_of_two_quadrants_do_not_wait_for_each_other(rt: HostRuntime) -> Result
         unreachable!()
     };
     let open = AtomicBool::new(false);
-    let gate = &open;
-    let shared = &shards;
-    let handle = &rt;
-    let (one, two) = join(
-        &rt,
-        move || -> (ShardPass, Result<Claimed, Full>)
-            requires { IsPassOf shared.now first × (0 < length shared.now.sets) }
-            ensures { IsSamePass first result.0 }
-        { claim(handle, shared, first, 0, &Waits { open: gate }) },
-        move || -> (ShardPass, Result<Claimed, Full>)
-            requires { IsPassOf shared.now second × (1 < length shared.now.sets) }
-            ensures { IsSamePass second result.0 }
-        {
-            let made = claim(handle, shared, second, 1, &NoHold);
-            gate.store(true, Ordering::SeqCst);
-            made
-        },
-    );
-    assert_eq!(rt; ticket_of(one.1), Some(1), "one lock for all quadrants");
-    assert_eq!(rt; ticket_of(two.1), Some(0));
-    passes.push_reserved(one.0);
-    passes.push_reserved(two.0);
+    let (first, second) = side_by_side(&rt, &shards, first, second, &open);
+    assert_eq!(rt; first.ticket, Some(1), "one lock for all quadrants");
+    assert_eq!(rt; second.ticket, Some(0));
+    passes.push_reserved(first.pass);
+    passes.push_reserved(second.pass);
     let all = history(alloc, shards, passes)?;
     assert_eq!(rt; all.len(), 2);
     Ok(())
