@@ -1,5 +1,7 @@
 //! What a caller carries.
 
+ghost use Rattle.std.specs.Prelude.{◌≡◌};
+
 use crate::claims::ClaimEntry;
 use crate::rule::Chair;
 use std::marker::Model;
@@ -27,4 +29,13 @@ impl Model for ShardPass {
     ghost view = { λ p. record { table = p.seat.table_id; number = p.number; calls = p.calls; quarters = p.seat.me.0.terms.sets; mine = p.seat.me.0.mine } };
 
     ghost invariant = { λ p. Keeps p.number p.calls p.made p.standing.items (vec_capacity p.standing) p.seat.me };
+}
+
+impl ShardPass {
+    /// The caller's number.
+    pub fn number(&self) -> u32
+        ensures { result ≡ self.now.number }
+    {
+        self.number
+    }
 }

@@ -1,0 +1,7 @@
+//! The callers of a script of claims, side by side, and what they print.
+#![tactic(auto)]
+
+mod callers;
+
+
+pub use callers::Caller;
