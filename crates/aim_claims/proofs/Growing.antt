@@ -39,7 +39,7 @@ script_more lines l s none = record { each = λ k m e. at k m (get_more lines l 
     at k m (inl p) = ap (λ before. kind_of_fault before m) (take-append-le k lines (l ∷ []) (omega (arith, p.0))) ∙ s.each k m p.1
     at k m (inr p) = (λ i. kind_of_fault (take (p.0 i) (lines ++ l ∷ [])) (p.1 i)) ∙ (ap (λ before. kind_of_fault before l) (take-append_seam lines (l ∷ [])) ∙ none)
 
-unless_none : (why : Kind) (b : Bool) → unless_fits why b ≡ None → b ≡ true
+pub unless_none : (why : Kind) (b : Bool) → unless_fits why b ≡ None → b ≡ true
 unless_none why true e = refl
 unless_none why false e = absurd cc
 

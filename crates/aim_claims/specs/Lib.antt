@@ -7,3 +7,4 @@ pub mod Keeps
 pub mod Refusals
 pub mod Verdicts
 pub mod Comes
+pub mod Fits

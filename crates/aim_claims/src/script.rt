@@ -1,15 +1,16 @@
 //! A script, line after line.
 
-ghost use Rattle.std.specs.Prelude.{◌≡◌, ◌+◌, ◌<◌, ◌≤◌, ◌++◌, ◌∷◌, [], None, Some, length, slice_index, slice_set, MatchResult, OnErr};
-ghost use Rattle.std.specs.Option.{option_copied};
+ghost use Rattle.std.specs.Prelude.{◌≡◌, ◌+◌, ◌<◌, ◌≤◌, ◌++◌, ◌∷◌, [], None, Some, length, slice_index, slice_set, MatchResult, IfOk, OnOk, OnErr};
+ghost use Rattle.std.specs.Option.{option_copied, option_to_list};
+ghost use Rattle.aim_claims.specs.Fits.{AreFitting, FitTerms};
 ghost use Rattle.aim_claims.specs.Kinds.{IsScript, are_terms, belongs, kind_of_fault, last_of, lies_on, number_fault, part_after, rows_in, unless_fits};
 ghost use Rattle.aim_claims.specs.Refusals.{Refuses};
-ghost use Rattle.aim_claims.specs.Said.{asked_of, sets_of, rectangle_of, terms_in, terms_of};
+ghost use Rattle.aim_claims.specs.Said.{asked_of, set_in, sets_of, rectangle_of, terms_in, terms_of};
 
 use crate::decisions::Kind;
 use crate::lines::ShardLine;
 use aim_shards::Rectangle;
-use std::alloc::Global;
+use std::alloc::{AllocError, Global};
 use std::marker::Model;
 
 /// How many sets a script may have.
@@ -70,6 +71,24 @@ fn part_after(line: Option<&ShardLine>) -> Part
     }
 }
 
+// What the first line says, if it is there.
+fn terms_in(line: Option<&ShardLine>) -> Terms
+    ensures { result ≡ terms_in (option_copied line.entry) }
+{
+    match line {
+        Some(ShardLine::Shards(n, horizon, callers)) => Terms {
+            n: *n,
+            horizon: *horizon,
+            callers: *callers,
+        },
+        _ => Terms {
+            n: 0,
+            horizon: 0,
+            callers: 0,
+        },
+    }
+}
+
 // Whether a line of that form may stand in the part.
 fn belongs(part: Part, line: &ShardLine) -> bool
     ensures { result ≡ belongs part line.now }
@@ -120,6 +139,29 @@ fn rows_in(r: &Rectangle) -> u64
     ensures { result ≡ rows_in r.now }
 {
     u64::from(r.to - r.from + 1) * u64::from(r.row1 - r.row0 + 1)
+}
+
+// Adds the line's set, if it has one.
+fn add_set(rectangles: &mut Vec<Rectangle>, line: &ShardLine) -> Result<(), AllocError>
+    ensures { OnOk result (rectangles.new.items ≡ rectangles.old.items ++ option_to_list (set_in line.now)) }
+{
+    if let ShardLine::Set(numbers) = line {
+        rectangles.push(rectangle_of(numbers))?;
+    }
+    Ok(())
+}
+
+// The sets of the lines.
+fn sets_of(alloc: Global, lines: &[ShardLine]) -> Result<Vec<Rectangle>, AllocError>
+    requires { IsScript lines.now }
+    ensures sets { IfOk result (λ v. v.items ≡ sets_of lines.now) }
+    ensures fit { IfOk result (λ v. AreFitting (terms_of lines.now) v.items) }
+{
+    let mut rectangles = Vec::new(alloc);
+    for line in lines {
+        add_set(&mut rectangles, line)?;
+    }
+    Ok(rectangles)
 }
 
 // The kind, unless the numbers fit.
@@ -176,20 +218,10 @@ impl Script {
 
     /// What the first line says.
     pub fn terms(&self) -> Terms
-        ensures { result ≡ terms_of self.now }
+        ensures terms { result ≡ terms_of self.now }
+        ensures fit { 0 < length self.now → FitTerms result }
     {
-        match self.lines.first() {
-            Some(ShardLine::Shards(n, horizon, callers)) => Terms {
-                n: *n,
-                horizon: *horizon,
-                callers: *callers,
-            },
-            _ => Terms {
-                n: 0,
-                horizon: 0,
-                callers: 0,
-            },
-        }
+        terms_in(self.lines.first())
     }
 
     /// How many sets there are.
@@ -197,6 +229,14 @@ impl Script {
         ensures { result ≡ length (sets_of self.now) }
     {
         self.sets
+    }
+
+    /// The sets, which lie on the grid, within its steps.
+    pub fn rectangles(&self, alloc: Global) -> Result<Vec<Rectangle>, AllocError>
+        ensures sets { IfOk result (λ v. v.items ≡ sets_of self.now) }
+        ensures fit { IfOk result (λ v. AreFitting (terms_of self.now) v.items) }
+    {
+        sets_of(alloc, &self.lines)
     }
 
     // How many calls the caller makes.
