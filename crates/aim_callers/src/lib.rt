@@ -2,6 +2,6 @@
 #![tactic(auto)]
 
 mod callers;
+mod running;
 
 
-pub use callers::Caller;
