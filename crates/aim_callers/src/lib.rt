@@ -4,4 +4,5 @@
 mod callers;
 mod running;
 
+pub use running::run_script;
 

@@ -47,16 +47,16 @@ fn side_by_side<R: Threads + Wait + Sync, H: Hold>(
     rt: &R,
     shards: &Shards,
     lines: &[ShardLine],
-    callers: &mut [Caller],
+    callers: &mut Vec<Caller>,
     workers: u32,
     hold: &H,
 )
     requires workers { 0 < workers }
     requires script { IsScript lines.now }
     requires sets { length shards.now.sets ≡ length (sets_of lines.now) }
-    requires ready { All (IsReady shards.now) callers.old }
-    ensures count { length callers.new ≡ length callers.old }
-    ensures called { All (HasCalled shards.now lines.now) callers.new }
+    requires ready { All (IsReady shards.now) callers.old.items }
+    ensures count { length callers.new.items ≡ length callers.old.items }
+    ensures called { All (HasCalled shards.now lines.now) callers.new.items }
 {
     thread::for_each_mut(
         rt,
@@ -67,4 +67,39 @@ fn side_by_side<R: Threads + Wait + Sync, H: Hold>(
             ensures { HasCalled shards.entry.now lines.entry.now caller.new }
         { make_all(rt, shards, lines, caller, hold) },
     );
+}
+
+/// Lets the callers of a script make their calls, and gives the one history.
+///
+/// The callers are cut into runs of neighbours, as many as there are workers at most. The runs go side by side, in threads
+/// where the machine gives them, and a run makes the calls of its callers, caller by caller, in the script's order.
+pub fn run_script<R: Threads + Wait + Sync, H: Hold>(
+    rt: &R,
+    alloc: Global,
+    script: &Script,
+    workers: u32,
+    hold: &H,
+) -> Result<Vec<ClaimEntry>, AllocError>
+    requires some { 0 < length script.now }
+    requires workers { 0 < workers }
+    ensures { IfOk result (λ v. IsRun script.now v.items) }
+{
+    let terms = script.terms();
+    let rectangles = script.rectangles(alloc)?;
+    let sets = sheets(alloc, terms.n, terms.horizon, &rectangles)?;
+    let Ok(opened) = Shards::open(
+        alloc,
+        terms.n,
+        terms.horizon,
+        sets,
+        terms.callers,
+        MOST_CALLS,
+    ) else {
+        return Err(AllocError);
+    };
+    let OpenedShards { shards, passes } = opened;
+    let mut callers = seated(alloc, passes)?;
+    side_by_side(rt, &shards, script.lines(), &mut callers, workers, hold);
+    let passes = passes_of(alloc, callers)?;
+    history(alloc, shards, passes)
 }
