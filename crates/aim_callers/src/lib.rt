@@ -2,7 +2,9 @@
 #![tactic(auto)]
 
 mod callers;
+mod commands;
 mod running;
+mod texts;
 
+pub use commands::shards;
 pub use running::run_script;
-
