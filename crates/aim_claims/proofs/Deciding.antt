@@ -1,5 +1,5 @@
 -- What a script comes to, line after line.
-use Rattle.std.proofs.Common.{◌≡◌, ◌≢◌, ℕ, ◌+◌, List, [], ◌∷◌, ◌++◌, length, Option, Some, None, Ok, Err, IfSome, refl, sym, ap, ◌∙◌, length-append, true, false}
+use Rattle.std.proofs.Common.{◌≡◌, ◌≢◌, ℕ, ◌+◌, ◌<◌, List, [], ◌∷◌, ◌++◌, length, Option, Some, None, Ok, Err, IfSome, refl, sym, ap, ◌∙◌, length-append, true, false, arith}
 use Rattle.aim_io.specs.declared.lines.LineFault.{LineFault}
 use Rattle.aim_io.specs.declared.lines.LineFault.TheVariants.{Read, Long, Bytes, Lines}
 use Rattle.aim_io.specs.Known.{WhereKnown}
@@ -65,3 +65,8 @@ pub long_line : (before : List ShardLine) (number : ℕ) (old new : Reader) (all
 long_line before number old new all then now decides answers =
     comes before _ (decided before (Some (fault_refused (Long number)))) all refl
     (decided_fault (verdict_from before) verdict (λ fault. decided before (Some (fault_refused fault))) old new all then now (Long number) (λ e. cc) (fault_told before) decides answers)
+
+-- a whole script has a line
+pub whole_some : (lines : List ShardLine) → at_end lines ≡ None → 0 < length lines
+whole_some [] e = absurd cc
+whole_some (l ∷ lines) e = omega arith

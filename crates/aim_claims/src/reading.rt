@@ -1,6 +1,6 @@
 //! Reads a whole script.
 
-ghost use Rattle.std.specs.Prelude.{◌≡◌, ◌≤◌, Err, None, length, IfOk};
+ghost use Rattle.std.specs.Prelude.{◌≡◌, ◌<◌, ◌≤◌, Err, None, length, IfOk};
 ghost use Rattle.std.specs.Io.KnownBytes.{IsAtEnd};
 ghost use Rattle.aim_io.specs.Causes.{Rose};
 ghost use Rattle.aim_claims.specs.Comes.{Comes, Judged};
@@ -39,9 +39,11 @@ fn take_line(script: &mut Script, bytes: &[u8]) -> Result<(), Refusal>
 }
 
 // Why the script isn't whole where its input ends here, if it isn't.
+#[tactic(auto, using(crate::proofs::Deciding::whole_some))]
 fn at_end(script: &Script) -> Option<Refused>
     requires { length script.now ≤ 262144 }
-    ensures { result ≡ at_end script.now }
+    ensures why { result ≡ at_end script.now }
+    ensures some { result ≡ None → 0 < length script.now }
 {
     let lines = script.lines();
     match lines.last() {
@@ -53,6 +55,7 @@ fn at_end(script: &Script) -> Option<Refused>
 /// Reads a script to the line that decides, or to the end of the input. Nothing is read behind a line that decides.
 pub fn read_script<S: Source>(alloc: Global, source: &mut S) -> Result<ScriptRead, Stop>
     ensures verdict { IfOk result (λ r. Comes r.script r.refused (S.left source.old)) }
+    ensures some { IfOk result (λ r. r.refused ≡ None → 0 < length r.script) }
     ensures ended { IfOk result (λ r. r.refused ≡ None → IsAtEnd (S.left source.new)) }
     ensures read { result ≡ Err Stop.Read → Rose (S.faults source.old) (S.faults source.new) }
     ensures source { S.faults source.old ≤ S.faults source.new }

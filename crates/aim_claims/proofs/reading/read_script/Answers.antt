@@ -37,4 +37,4 @@ pub returns-in-Ok-false-clause-verdict : goal.returns-in-Ok-false-clause-verdict
 returns-in-Ok-false-clause-verdict g c =
     let i = c.lines.invariant in
     let answers = rw c.in-Ok-false.field-0-test at (c.in-Ok-false.ensures.step i.knows i.no_fault) in
-    end_line c.lines.script c.at_end-refused.result c.lines.reader c.advance.new.self _ _ _ c.at_end-refused.ensures i.decides answers
+    end_line c.lines.script c.at_end-refused.result c.lines.reader c.advance.new.self _ _ _ c.at_end-refused.ensures.why i.decides answers
