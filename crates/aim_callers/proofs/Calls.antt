@@ -1,5 +1,5 @@
 -- The calls of one caller, one after another.
-use Rattle.std.proofs.Common.{◌≡◌, ℕ, zero, suc, ◌+◌, ◌<◌, ◌≤◌, ◌==◌, Bool, true, false, ◌&&◌, nat_le, nat_lt, List, [], ◌∷◌, ◌++◌, length, take, drop, filter_map, Option, Some, None, refl, sym, ap, ◌∙◌, subst, arith, length-append, slice_get, add-one}
+use Rattle.std.proofs.Common.{◌≡◌, ℕ, suc, ◌+◌, ◌<◌, ◌≤◌, ◌==◌, Bool, true, false, ◌&&◌, nat_lt, List, [], ◌∷◌, ◌++◌, length, take, drop, Option, Some, None, refl, sym, ap, ◌∙◌, subst, arith, length-append, slice_get, add-one}
 use Rattle.std.specs.Prelude.{get_or}
 use Rattle.std.specs.Option.{unwrap_or, option_to_list}
 use Rattle.std.proofs.Math.Seq.{take-suc}
@@ -7,7 +7,6 @@ use Rattle.std.proofs.lemmas.Bool.{and_parts, ltb-true, eqb-true}
 use Rattle.std.proofs.lemmas.List.{append_assoc, append-nil, take-append-drop}
 use Rattle.std.proofs.lemmas.List.Elements.{filter_map-append}
 use Rattle.aim_shards.specs.declared.claims.ClaimEntry.{ClaimEntry}
-use Rattle.aim_shards.specs.declared.claims.ClaimAct.{ClaimAct}
 use Rattle.aim_claims.specs.declared.decisions.Kind.{Kind}
 use Rattle.aim_claims.specs.declared.decisions.Kind.TheVariants as kind
 use Rattle.aim_claims.specs.declared.lines.ShardLine.{ShardLine}
@@ -15,10 +14,10 @@ use Rattle.aim_claims.specs.declared.lines.ShardLine.TheVariants as line
 use Rattle.aim_claims.specs.declared.script.Ask.{Ask}
 use Rattle.aim_claims.specs.declared.script.Ask.TheVariants as ask
 use Rattle.aim_claims.specs.Said.{ask_in, asked_of, set_in, sets_of, terms_of}
-use Rattle.aim_claims.specs.Kinds.{IsScript, kind_of_fault, number_fault, unless_fits}
+use Rattle.aim_claims.specs.Kinds.{IsScript, kind_of_fault, unless_fits}
 use Rattle.aim_claims.proofs.Growing.{order_of}
 use Rattle.aim_callers.specs.Following.{act_of, Follows, FollowsFrom}
-use Rattle.aim_callers.specs.Calling.{Can, Made, Steps}
+use Rattle.aim_callers.specs.Calling.{Can, Steps}
 
 pub follows_more : (earlier : List ClaimEntry) (asks : List Ask) (es : List ClaimEntry) (a : Ask) (e : ClaimEntry) → FollowsFrom earlier asks es → e.act ≡ act_of (earlier ++ es) a → FollowsFrom earlier (asks ++ a ∷ []) (es ++ e ∷ [])
 follows_more earlier [] [] a e f does = (does ∙ ap (λ es. act_of es a) (append-nil earlier), tt)

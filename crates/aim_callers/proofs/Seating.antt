@@ -1,11 +1,10 @@
 -- Callers and their passes.
-use Rattle.std.proofs.Common.{◌≡◌, ℕ, ◌≤◌, List, [], ◌∷◌, ◌++◌, length, subst, sym, ◌∙◌, ap, arith, ◌<◌}
-use Rattle.std.specs.Prelude.{All, get_or, vec_capacity, Vec}
+use Rattle.std.proofs.Common.{◌≡◌, ℕ, ◌≤◌, List, [], ◌∷◌, ◌++◌, length, subst, sym, ◌∙◌, ap, ◌<◌}
+use Rattle.std.specs.Prelude.{All, get_or, vec_capacity}
 use Rattle.std.proofs.lemmas.List.Elements.{All-push}
 use Rattle.aim_shards.specs.Models.{PassModel, ShardsModel}
 use Rattle.aim_claims.specs.declared.lines.ShardLine.{ShardLine}
 use Rattle.aim_callers.specs.declared.callers.Caller.{Caller}
-use Rattle.aim_callers.specs.Calling.{Works}
 use Rattle.aim_callers.specs.Following.{tickets_of}
 use Rattle.aim_callers.specs.Running.{HasCalled, HasDone, IsNew, IsReady}
 

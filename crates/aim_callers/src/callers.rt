@@ -75,13 +75,7 @@ fn ask_in(number: u32, line: &ShardLine) -> Option<Ask>
 }
 
 // Makes the call that the line asks of the caller, if it asks for one.
-fn make<R: Wait, H: Hold>(
-    rt: &R,
-    shards: &Shards,
-    caller: &mut Caller,
-    line: &ShardLine,
-    hold: &H,
-)
+fn make<R: Wait, H: Hold>(rt: &R, shards: &Shards, caller: &mut Caller, line: &ShardLine, hold: &H)
     requires works { Works shards.now caller.old }
     requires can { (a : Ask) → ask_in caller.old.pass.number line.now ≡ Some a → Can (length shards.now.sets) caller.old.pass.mine a }
     ensures works { Works shards.now caller.new }

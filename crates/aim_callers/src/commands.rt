@@ -101,13 +101,17 @@ pub fn shards<R: Threads + Wait + Sync, S: Source, K: Sink, H: Hold>(
     match read_script(alloc, source) {
         Err(Stop::Read) => 4,
         Err(Stop::NoMemory) => 7,
-        Ok(ScriptRead {
-            script: _,
-            refused: Some(refused),
-        }) => put_refused(sink, refused),
-        Ok(ScriptRead {
-            script,
-            refused: None,
-        }) => put_run(rt, alloc, &script, workers, sink, hold),
+        Ok(
+            ScriptRead {
+                script: _,
+                refused: Some(refused),
+            },
+        ) => put_refused(sink, refused),
+        Ok(
+            ScriptRead {
+                script,
+                refused: None,
+            },
+        ) => put_run(rt, alloc, &script, workers, sink, hold),
     }
 }

@@ -1,6 +1,6 @@
 -- The terms and the sets of a script.
-use Rattle.std.proofs.Common.{◌≡◌, ℕ, zero, suc, ◌+◌, ◌<◌, ◌≤◌, Bool, true, false, ◌&&◌, nat_le, nat_lt, List, [], ◌∷◌, ◌++◌, length, take, filter_map, Option, Some, None, refl, sym, ap, ◌∙◌, subst, arith, slice_get}
-use Rattle.std.specs.Prelude.{All, get_or}
+use Rattle.std.proofs.Common.{◌≡◌, ℕ, zero, suc, ◌+◌, ◌<◌, true, ◌&&◌, nat_le, nat_lt, List, [], ◌∷◌, ◌++◌, length, take, Option, Some, None, refl, sym, ap, ◌∙◌, subst, arith}
+use Rattle.std.specs.Prelude.{get_or}
 use Rattle.std.specs.Option.{option_to_list}
 use Rattle.std.proofs.lemmas.Bool.{and_parts, leb-true, ltb-true}
 use Rattle.std.proofs.lemmas.List.{append-nil, take_more}
@@ -96,4 +96,4 @@ one_set l (Some r) e = rw e refl
 pub sets_next : (lines : List ShardLine) (i : ℕ) (d : ShardLine) (old new : List Rectangle) → i < length lines → old ≡ sets_of (take i lines) → new ≡ old ++ option_to_list (set_in (get_or lines i d)) → new ≡ sets_of (take (i + 1) lines)
 sets_next lines i d old new lt was e =
     e ∙ (ap (λ s. s ++ option_to_list (set_in (get_or lines i d))) was
-        ∙ sym (ap sets_of (take_more lines i d lt) ∙ (filter_map-append set_in (take i lines) (get_or lines i d ∷ []) ∙ ap (λ more. sets_of (take i lines) ++ more) (one_set (get_or lines i d) (set_in (get_or lines i d)) refl))))
+    ∙ sym (ap sets_of (take_more lines i d lt) ∙ (filter_map-append set_in (take i lines) (get_or lines i d ∷ []) ∙ ap (λ more. sets_of (take i lines) ++ more) (one_set (get_or lines i d) (set_in (get_or lines i d)) refl))))

@@ -1,8 +1,8 @@
 -- A script with one line more.
-use Rattle.std.proofs.Common.{◌≡◌, ◌⊎◌, ℕ, zero, suc, ◌+◌, ◌<◌, ◌≤◌, ◌==◌, Bool, true, false, ◌&&◌, nat_le, nat_lt, List, [], ◌∷◌, ◌++◌, length, take, filter_map, Option, Some, None, replicate, slice_index, slice_set, refl, sym, ap, ◌∙◌, subst, inl, inr, arith, length-append, slice_get, ◌≢◌}
-use Rattle.std.specs.Prelude.{get_or, if◌then◌else◌}
+use Rattle.std.proofs.Common.{◌≡◌, ◌⊎◌, ℕ, zero, suc, ◌+◌, ◌<◌, ◌≤◌, ◌==◌, Bool, true, false, ◌&&◌, nat_le, nat_lt, List, [], ◌∷◌, ◌++◌, length, take, Option, Some, None, replicate, slice_index, slice_set, refl, sym, ap, ◌∙◌, subst, inl, inr, arith, length-append, slice_get}
+use Rattle.std.specs.Prelude.{if◌then◌else◌}
 use Rattle.std.specs.Option.{unwrap_or}
-use Rattle.std.proofs.lemmas.Bool.{and_parts, leb-true, ltb-true, cases_Bool, eqb-true, ne_eqb, eq-eqb, eqb-false}
+use Rattle.std.proofs.lemmas.Bool.{and_parts, leb-true, ltb-true, eqb-true, eq-eqb}
 use Rattle.std.proofs.lemmas.List.{take-append-le, get_or-set_same, get_or-set_other, length-set, get_or-replicate}
 use Rattle.std.proofs.Math.Seq.{take-append_seam}
 use Rattle.std.proofs.lemmas.List.Elements.{filter_map-append}
@@ -10,7 +10,6 @@ use Rattle.aim_claims.specs.declared.decisions.Kind.{Kind}
 use Rattle.aim_claims.specs.declared.decisions.Kind.TheVariants as kind
 use Rattle.aim_claims.specs.declared.lines.ShardLine.{ShardLine}
 use Rattle.aim_claims.specs.declared.lines.ShardLine.TheVariants as line
-use Rattle.aim_claims.specs.declared.script.Terms.{Terms}
 use Rattle.aim_claims.specs.Said.{ask_in, asked_of, set_in, sets_of, terms_of}
 use Rattle.aim_claims.specs.Kinds.{IsScript, are_terms, belongs, kind_of_fault, last_of, number_fault, part_after, unless_fits}
 use Rattle.aim_claims.specs.Keeps.{Keeps}
@@ -131,7 +130,7 @@ pub keeps_claim : (lines : List ShardLine) (l : ShardLine) (caller set sets : �
 keeps_claim lines l caller set sets counts is k none =
     subst (λ (m : ShardLine). kind_of_fault lines m ≡ None → Keeps (lines ++ m ∷ []) sets (slice_set counts caller (slice_index counts caller + 1))) (sym is)
     (λ n. keeps_with lines (line.Claim caller set) sets sets counts _ k n (length-set counts caller _ ∙ k.wide) (omega arith)
-        (λ c small. counted counts caller c (omega (arith, claim_low lines caller set n k.callers, k.wide)) _ (caller == c) refl (λ e. claims_one caller set c true e) (λ e. claims_one caller set c false e)))
+    (λ c small. counted counts caller c (omega (arith, claim_low lines caller set n k.callers, k.wide)) _ (caller == c) refl (λ e. claims_one caller set c true e) (λ e. claims_one caller set c false e)))
     none
 
 pub keeps_free : (lines : List ShardLine) (l : ShardLine) (caller call sets : ℕ) (counts : List ℕ) → l ≡ line.Free caller call → Keeps lines sets counts → kind_of_fault lines l ≡ None
@@ -139,7 +138,7 @@ pub keeps_free : (lines : List ShardLine) (l : ShardLine) (caller call sets : �
 keeps_free lines l caller call sets counts is k none =
     subst (λ (m : ShardLine). kind_of_fault lines m ≡ None → Keeps (lines ++ m ∷ []) sets (slice_set counts caller (slice_index counts caller + 1))) (sym is)
     (λ n. keeps_with lines (line.Free caller call) sets sets counts _ k n (length-set counts caller _ ∙ k.wide) (omega arith)
-        (λ c small. counted counts caller c (omega (arith, free_low lines caller call n k.callers, k.wide)) _ (caller == c) refl (λ e. frees_one caller call c true e) (λ e. frees_one caller call c false e)))
+    (λ c small. counted counts caller c (omega (arith, free_low lines caller call n k.callers, k.wide)) _ (caller == c) refl (λ e. frees_one caller call c true e) (λ e. frees_one caller call c false e)))
     none
 
 -- a line was pushed that was not at fault

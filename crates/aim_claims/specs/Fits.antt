@@ -1,5 +1,5 @@
 -- What holds of the terms and the sets of a script.
-use Rattle.std.specs.Prelude.{ℕ, ◌≤◌, List, All}
+use Rattle.std.specs.Prelude.{◌≤◌, List, All}
 use Rattle.aim_shards.specs.declared.rectangles.Rectangle.{Rectangle}
 use Rattle.aim_shards.specs.Rectangles.{FitsGrid}
 use Rattle.aim_claims.specs.declared.script.Terms.{Terms}

@@ -1,7 +1,6 @@
 -- What a script keeps of its lines. No public clause cites this file.
-use Rattle.std.specs.Prelude.{◌≡◌, ℕ, ◌<◌, ◌≤◌, List, length, slice_index, Option, Some, None}
+use Rattle.std.specs.Prelude.{◌≡◌, ℕ, ◌<◌, ◌≤◌, List, length, slice_index}
 use Rattle.aim_claims.specs.declared.lines.ShardLine.{ShardLine}
-use Rattle.aim_claims.specs.declared.script.Terms.{Terms}
 use Rattle.aim_claims.specs.Said.{asked_of, sets_of, terms_of}
 use Rattle.aim_claims.specs.Kinds.{IsScript}
 

@@ -1,4 +1,4 @@
-use Rattle.std.proofs.Common.{◌≡◌, take, length}
+use Rattle.std.proofs.Common.{◌≡◌, take}
 use Rattle.aim_claims.specs.Said.{asked_of}
 use Rattle.aim_callers.specs.Calling.{Works}
 use Rattle.aim_callers.specs.Following.{Follows}

@@ -1,12 +1,9 @@
-use Rattle.std.proofs.Common.{sym, subst, arith, ap, ◌∙◌, ◌≡◌, length}
+use Rattle.std.proofs.Common.{subst, arith}
 use Rattle.std.specs.Prelude.{All}
-use Rattle.aim_claims.specs.declared.script.Terms.{Terms}
-use Rattle.aim_claims.specs.Said.{sets_of, terms_of}
 use Rattle.aim_shards.specs.Closing.{AreMade}
 use Rattle.aim_shards.specs.Fitting.{AreSheets}
 use Rattle.aim_shards.specs.History.{IsHistory}
-use Rattle.aim_shards.specs.Models.{count_up}
-use Rattle.aim_callers.specs.Running.{HasCalled, HasDone, IsReady, IsRun}
+use Rattle.aim_callers.specs.Running.{HasDone, IsRun}
 use Rattle.aim_callers.proofs.Runs.{all_new, if_ok, made_run}
 use Rattle.aim_callers.proofs.running.run_script.Goals as goal
 

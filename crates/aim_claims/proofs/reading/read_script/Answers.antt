@@ -1,4 +1,4 @@
-use Rattle.std.proofs.Common.{arith, ◌≡◌, ◌+◌, true, refl, sym, ap, ◌∙◌}
+use Rattle.std.proofs.Common.{arith, ◌≡◌, ◌+◌, true, ap, ◌∙◌}
 use Rattle.aim_io.specs.Reader.{Reader, after_call}
 use Rattle.aim_claims.proofs.Deciding.{bad_line, end_line, goes_length, goes_on_line, long_line}
 use Rattle.aim_claims.proofs.reading.read_script.Goals as goal
