@@ -2,3 +2,4 @@ pub mod Digits
 pub mod Growing
 pub mod Deciding
 pub mod Fitting
+pub mod Behind

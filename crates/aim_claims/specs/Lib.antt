@@ -8,3 +8,4 @@ pub mod Refusals
 pub mod Verdicts
 pub mod Comes
 pub mod Fits
+pub mod Short

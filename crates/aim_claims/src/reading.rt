@@ -4,6 +4,7 @@ ghost use Rattle.std.specs.Prelude.{◌≡◌, ◌<◌, ◌≤◌, Err, None, le
 ghost use Rattle.std.specs.Io.KnownBytes.{IsAtEnd};
 ghost use Rattle.aim_io.specs.Causes.{Rose};
 ghost use Rattle.aim_claims.specs.Comes.{Comes, Judged};
+ghost use Rattle.aim_claims.specs.Short.{StopsShort};
 ghost use Rattle.aim_claims.specs.Verdicts.{at_end};
 
 use crate::decisions::{Kind, Limit, Refused};
@@ -57,6 +58,7 @@ pub fn read_script<S: Source>(alloc: Global, source: &mut S) -> Result<ScriptRea
     ensures verdict { IfOk result (λ r. Comes r.script r.refused (S.left source.old)) }
     ensures some { IfOk result (λ r. r.refused ≡ None → 0 < length r.script) }
     ensures ended { IfOk result (λ r. r.refused ≡ None → IsAtEnd (S.left source.new)) }
+    ensures short { result ≡ Err Stop.Read → StopsShort (S.left source.old) (S.left source.new) }
     ensures read { result ≡ Err Stop.Read → Rose (S.faults source.old) (S.faults source.new) }
     ensures source { S.faults source.old ≤ S.faults source.new }
 {

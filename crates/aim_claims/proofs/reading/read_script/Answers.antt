@@ -1,5 +1,7 @@
-use Rattle.std.proofs.Common.{arith, ◌≡◌, ◌+◌, true, ap, ◌∙◌}
+use Rattle.std.proofs.Common.{Err, [], ◌∷◌, ◌++◌, arith, ◌≡◌, ◌+◌, true, sym, ap, ◌∙◌}
+use Rattle.aim_io.proofs.LoopLemmas.{took_kept, took_line, took_part}
 use Rattle.aim_io.specs.Reader.{Reader, after_call}
+use Rattle.aim_claims.proofs.Behind.{script_push}
 use Rattle.aim_claims.proofs.Deciding.{bad_line, end_line, goes_length, goes_on_line, long_line}
 use Rattle.aim_claims.proofs.reading.read_script.Goals as goal
 
@@ -23,6 +25,15 @@ lines-preserved g c =
       sound = c.advance.ensures.sound;
       knows = c.advance.ensures.knows i.knows;
       decides = goes_on_line c.lines.script c.take_line.new.script _ c.lines.reader new _ _ _ judged i.decides answers;
+      took = λ still.
+          let before = i.took (rw c.in-Ok-true.field-0-test at c.in-Ok-true.ensures.going) in
+          let line = rw c.in-Ok-true.field-0-test at c.in-Ok-true.ensures.line in
+          let taken = rw c.in-Ok-true.field-0-test at c.in-Ok-true.ensures.taken in
+          let whole = rw still at taken in record {
+            lines = before.lines ++ new.line ∷ [];
+            took = took_line _ _ _ before.lines new.line before.took line.no_end whole;
+            is = script_push before.lines new.line c.lines.script c.take_line.new.script _ before.is judged;
+          };
       later = omega (arith, i.later, c.advance.ensures.later);
     }
 
@@ -38,3 +49,17 @@ returns-in-Ok-false-clause-verdict g c =
     let i = c.lines.invariant in
     let answers = rw c.in-Ok-false.field-0-test at (c.in-Ok-false.ensures.step i.knows i.no_fault) in
     end_line c.lines.script c.at_end-refused.result c.lines.reader c.advance.new.self _ _ _ c.at_end-refused.ensures.why i.decides answers
+
+pub returns-in-Err-Read-clause-short : goal.returns-in-Err-Read-clause-short
+returns-in-Err-Read-clause-short g c _ =
+    let i = c.lines.invariant in
+    let e = c.in-Err-Read.ensures in
+    let new = c.advance.new.self in
+    let read = e.read (ap Err c.in-Err-Read.field-0-is) i.no_fault in
+    let after = e.fault i.no_fault in
+    let before = i.took (sym (ap (λ (r : Reader). r.ended) after) ∙ read.1) in record {
+      lines = before.lines;
+      took = took_part _ _ new.held before.lines (took_kept _ _ _ _ before.took e.keeps) read.0.is_open.no_end;
+      before = c.lines.script;
+      script = before.is;
+    }

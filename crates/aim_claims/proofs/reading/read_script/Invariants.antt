@@ -1,6 +1,7 @@
-use Rattle.std.proofs.Common.{◌≡◌, ◌-◌, ◌≤◌, None, length}
+use Rattle.std.proofs.Common.{◌≡◌, ◌-◌, ◌≤◌, None, false, length}
 use Rattle.aim_io.specs.Known.{WhereKnown}
 use Rattle.aim_io.specs.Reader.{input, coming, IsSound, KnowsEnd}
+use Rattle.aim_claims.specs.Short.{TookScript}
 use Rattle.aim_claims.specs.Verdicts.{verdict, verdict_from}
 use Rattle.aim_claims.proofs.reading.read_script.Given as goal
 
@@ -12,6 +13,7 @@ invariant-lines g l = record {
   sound : IsSound l.reader;
   knows : KnowsEnd l.reader (g.S.Source.left l.source);
   decides : WhereKnown (g.S.Source.left l.fn.source) (input l.reader (g.S.Source.left l.source)) (λ bytes rest. verdict_from l.script (coming l.reader rest) ≡ verdict bytes);
+  took : l.reader.ended ≡ false → TookScript (g.S.Source.left l.fn.source) (input l.reader (g.S.Source.left l.source)) l.script;
   later : g.S.Source.faults l.fn.source ≤ g.S.Source.faults l.source;
 }
 
