@@ -3,6 +3,7 @@
 ghost use Rattle.std.specs.Prelude.{◌≡◌, ◌⊎◌, ◌<◌, ◌≤◌, [], None, Some, length, IfSome};
 ghost use Rattle.std.specs.Io.KnownBytes.{Appends, IsAtEnd};
 ghost use Rattle.aim_io.specs.Causes.{Rose};
+ghost use Rattle.aim_claims.specs.Short.{StopsShort};
 ghost use Rattle.aim_claims.specs.Texts.{status_of};
 ghost use Rattle.aim_callers.specs.Commands.{Completes, Shows, ShowsFront, Writes, WritesFront};
 
@@ -86,8 +87,10 @@ pub fn shards<R: Threads + Wait + Sync, S: Source, K: Sink, H: Hold>(
     ensures whole { (result ≡ 0) ⊎ ((result ≡ 3) ⊎ (result ≡ 6)) → IfSome (S.left source.old) (λ bytes. Shows bytes (K.held sink.old) (K.held sink.new) result) }
     ensures ended { result ≡ 0 → IsAtEnd (S.left source.new) }
 
-    // With status 5 a front of that text is, with status 4 or 7 nothing.
+    // With status 5 a front of that text is, with status 4 or 7 nothing. With status 4 no whole line of the bytes that were
+    // read decides.
     ensures front { result ≡ 5 → IfSome (S.left source.old) (λ bytes. ShowsFront bytes (K.held sink.old) (K.held sink.new)) }
+    ensures short { result ≡ 4 → StopsShort (S.left source.old) (S.left source.new) }
     ensures nothing { (result ≡ 4) ⊎ (result ≡ 7) → Appends (K.held sink.old) (K.held sink.new) [] }
 
     // Each status has its cause.
