@@ -9,6 +9,7 @@ ghost use Rattle.aim_replay.specs.Replays.{LastNeeded, Replays, StopsShort, Take
 ghost use Rattle.aim_replay.specs.Texts.{replay_text};
 ghost use Rattle.aim_replay.specs.Today.{today};
 ghost use Rattle.aim.specs.Commands.{command_of as command_in};
+ghost use Rattle.aim_claims.specs.Short.{StopsShort as StopsShortClaims};
 ghost use Rattle.aim_callers.specs.Commands.{Completes as CompletesShards, Shows, ShowsFront};
 ghost use Rattle.aim.specs.Runs.{Completes, TellsUsage};
 
@@ -79,6 +80,8 @@ pub fn run<R: Threads + Wait + Sync, S: Source, K: Sink>(
     ensures shards_front { (workers : ℕ) → command_in (map string_bytes words.now) ≡ Some (Command.Shards workers) → result ≡ 5
         → IfSome (S.left source.old) (λ bytes. ShowsFront bytes (K.held sink.old) (K.held sink.new)) }
     ensures shards_nothing { (workers : ℕ) → command_in (map string_bytes words.now) ≡ Some (Command.Shards workers) → result ≡ 4 → Appends (K.held sink.old) (K.held sink.new) [] }
+    ensures shards_short { (workers : ℕ) → command_in (map string_bytes words.now) ≡ Some (Command.Shards workers) → result ≡ 4
+        → StopsShortClaims (S.left source.old) (S.left source.new) }
     ensures shards_complete { (workers : ℕ) → command_in (map string_bytes words.now) ≡ Some (Command.Shards workers) → IfSome (S.left source.old)
         (λ bytes. CompletesShards bytes (S.faults source.old) (S.faults source.new) (K.faults sink.old) (K.faults sink.new) result) }
 
