@@ -14,3 +14,6 @@ mod ServedLemmas
 mod SameLemmas
 mod SheetLemmas
 mod NewLemmas
+mod ChartLemmas
+mod OwnLemmas
+mod CostLemmas

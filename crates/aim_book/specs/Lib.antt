@@ -1,9 +1,11 @@
 pub mod State
 pub mod Sheets
 pub mod SpanSteps
+pub mod Costs
 pub mod Reserved
 pub mod Desk
 pub mod Blocking
 pub mod Asking
 pub mod Keeping
 pub mod Books
+pub mod Charted
