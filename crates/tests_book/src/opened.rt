@@ -56,6 +56,33 @@ const LINES: Lines = &[
 
 const KEPT: [u32; 9] = [1, 1, 1, 1, 2, 2, 1, 1, 0];
 
+// Serves the lines, and asserts how many sheets are kept after each.
+fn keep<L: Ledger>(
+    rt: &impl Abort,
+    book: &mut Book<L>,
+    pool: &mut Pool,
+    steps: &mut Steps<L>,
+) -> Result<(), Fail> {
+    for (line, sheets) in LINES.iter().zip(KEPT) {
+        let (_, entry) = entry(line)?;
+        let _ = give(rt, book, &entry, pool, steps)?;
+        assert_eq!(rt; kept(book), sheets);
+    }
+    Ok(())
+}
+
+// Whether the journal has no room for the call of the line.
+fn is_full<L: Ledger>(
+    rt: &impl Abort,
+    book: &mut Book<L>,
+    pool: &mut Pool,
+    steps: &mut Steps<L>,
+    line: &str,
+) -> Result<bool, Fail> {
+    let (_, entry) = entry(line)?;
+    Ok(give(rt, book, &entry, pool, steps)? == Err(Full))
+}
+
 // Serves the lines, and one call of each kind more, for which the journal has no room.
 fn fill<L: Ledger>(rt: &impl Abort, alloc: Global, blank: Blank) -> Result<(), Fail>
     requires name { blank.name ≡ L.name }
@@ -66,14 +93,9 @@ fn fill<L: Ledger>(rt: &impl Abort, alloc: Global, blank: Blank) -> Result<(), F
     let mut pool = Pool::new(alloc, VEHICLES + 2, 4096)?;
     let mut steps = Steps::<L>::new(blank);
     let mut book = Book::<L>::open(alloc, layout, VEHICLES, 9)?;
-    for (line, sheets) in LINES.iter().zip(KEPT) {
-        let (_, entry) = entry(line)?;
-        let _ = give(rt, &mut book, &entry, &mut pool, &mut steps)?;
-        assert_eq!(rt; kept(&book), sheets);
-    }
+    keep(rt, &mut book, &mut pool, &mut steps)?;
     for line in [LINES[0], LINES[7]] {
-        let (_, entry) = entry(line)?;
-        assert!(rt; give(rt, &mut book, &entry, &mut pool, &mut steps)? == Err(Full));
+        assert!(rt; is_full(rt, &mut book, &mut pool, &mut steps, line)?);
     }
     assert_eq!(rt; pool.count(), VEHICLES + 2);
     assert!(rt; is_told(alloc, book.journal(), LINES)?);
