@@ -5,7 +5,7 @@ use Rattle.aim_msg.specs.declared.script.LineKind.{LineKind}
 use Rattle.aim_msg.specs.declared.script.LineKind.TheVariants as kind
 use Rattle.aim_msg.specs.Texts.{Words}
 use Rattle.aim_msg.specs.Faults.{first, number_fault, rest, value_of, words_of}
-use Rattle.aim_msg.specs.Reading.{unless}
+use Rattle.aim_read.specs.Reading.{unless}
 use Rattle.aim_msg.specs.Tables.{look_up}
 use Rattle.aim_claims.specs.declared.lines.ShardForm.{ShardForm}
 use Rattle.aim_claims.specs.declared.lines.ShardForm.TheVariants as form
