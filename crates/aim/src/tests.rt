@@ -132,7 +132,16 @@ const FLEETS: [(&[u8], u8, &[u8]); 4] = [
 ];
 
 // Words that are outside the table.
-const OUTSIDE: [&[&str]; 3] = [&["replay", "now"], &[], &["Replay"]];
+const OUTSIDE: [&[&str]; 8] = [
+    &["replay", "now"],
+    &[],
+    &["Replay"],
+    &["shards"],
+    &["shards", "0"],
+    &["shards", "65"],
+    &["shards", "01"],
+    &["shards", "1", "1"],
+];
 
 // A sink that has got what the program writes, and its status.
 fn answer(
