@@ -1,7 +1,9 @@
 use crate::program::run;
 use aim_io::{MemSink, MemSource};
 use std::alloc::{AllocError, Global};
+use std::sync::Wait;
 use std::test::Fail;
+use std::thread::Threads;
 
 // A crossing of two straight lanes under FCFS, for eight vehicles.
 const HEADER: &[u8] =
@@ -56,7 +58,7 @@ const CHART_FAULTS: [(&[u64], u8, &[u8]); 7] = [
 ];
 
 // Words that are outside the table.
-const OUTSIDE: [&[&str]; 7] = [
+const OUTSIDE: [&[&str]; 12] = [
     &["replay", "now"],
     &[],
     &["Replay"],
@@ -64,10 +66,16 @@ const OUTSIDE: [&[&str]; 7] = [
     &["chart", "015"],
     &["chart", "1073741825"],
     &["chart", "15", "16"],
+    &["shards"],
+    &["shards", "0"],
+    &["shards", "65"],
+    &["shards", "01"],
+    &["shards", "1", "1"],
 ];
 
 // A sink that has got what the program writes, and its status.
 fn answer(
+    rt: &(impl Threads + Wait + Sync),
     alloc: Global,
     words: &[&str],
     script: Vec<u8>,
@@ -80,7 +88,7 @@ fn answer(
     }
     let mut source = MemSource::new(script, reads.to_vec(alloc)?);
     let mut sink = MemSink::new(alloc, 4096, writes.to_vec(alloc)?)?;
-    let status = run(alloc, &texts, &mut source, &mut sink);
+    let status = run(rt, alloc, &texts, &mut source, &mut sink);
     Ok((status, sink))
 }
 
@@ -95,7 +103,7 @@ fn behind(alloc: Global, first: &[u8], others: &[u8]) -> Result<Vec<u8>, AllocEr
 fn words_outside_the_table(rt: HostRuntime) -> Result<(), Fail> {
     let alloc = rt.alloc();
     for words in OUTSIDE {
-        let (status, sink) = answer(alloc, words, Vec::new(alloc), &[], &[])?;
+        let (status, sink) = answer(&rt, alloc, words, Vec::new(alloc), &[], &[])?;
         assert_eq!(rt; status, 2);
         assert_eq!(rt; sink.bytes(), b"usage\n".as_slice());
     }
@@ -108,7 +116,7 @@ fn faults_of_the_source_and_the_sink(rt: HostRuntime) -> Result<(), Fail> {
     for (reads, writes, status, text) in FAULTS {
         let mut script = behind(alloc, HEADER, FIRST)?;
         script.extend_from_slice(b"end\n")?;
-        let (answered, sink) = answer(alloc, &["replay"], script, reads, writes)?;
+        let (answered, sink) = answer(&rt, alloc, &["replay"], script, reads, writes)?;
         assert_eq!(rt; answered, status);
         assert_eq!(rt; sink.bytes(), text);
     }
@@ -121,7 +129,7 @@ fn faults_of_the_sink_in_a_chart(rt: HostRuntime) -> Result<(), Fail> {
     for (writes, status, text) in CHART_FAULTS {
         let mut script = behind(alloc, HEADER, FIRST)?;
         script.extend_from_slice(b"end\n")?;
-        let (answered, sink) = answer(alloc, &["chart", "15"], script, &[], writes)?;
+        let (answered, sink) = answer(&rt, alloc, &["chart", "15"], script, &[], writes)?;
         assert_eq!(rt; answered, status);
         assert_eq!(rt; sink.bytes(), text);
     }

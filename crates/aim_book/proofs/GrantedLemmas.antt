@@ -13,8 +13,7 @@ use Rattle.aim_msg.specs.declared.replies.Reply.TheVariants as reply
 use Rattle.aim_paths.specs.Intersection.{Intersection}
 use Rattle.aim_paths.specs.Valid.{IsValid}
 use Rattle.aim_tiles.specs.Sheets.{AreAhead, AreTiles}
-use Rattle.aim_buffers.specs.Cells.{HaveCells}
-use Rattle.aim_buffers.specs.Requests.{IsPreparedFor, Request, prepared_params}
+use Rattle.aim_buffers.specs.Requests.{IsPreparedFor, IsTrialOf, Request, prepared_params}
 use Rattle.aim_rules.specs.Answer.{answer}
 use Rattle.aim_rules.specs.Bad.{bad, is_fast_made}
 use Rattle.aim_rules.specs.Cells.{in_cells}
@@ -65,9 +64,9 @@ fast_made i k (body.Change id q) p a e =
 
 module _ (i : Intersection) (h : List Entry) (v moment : ℕ) (k : Known) (r : Request) (valid : IsValid i) (prepared : IsPreparedFor i r) (is_new : is_fresh_seq h v r.message.seq ≡ true)
     (same : answer i h v moment (act.Message r.message) ≡ answer_fresh_by i k r.message.body) (confirmed : is_confirm (answer_fresh_by i k r.message.body) ≡ true) where
-  -- the granted sheet has the cells of the granted trial
-  pub granted_cells : (p : Params) → params_of r.message.body ≡ Some p → HaveCells i p (is_fast (answer_fresh_by i k r.message.body)) (granted_sheet r (answer_fresh_by i k r.message.body)).spans
-  granted_cells p asks = go (is_fast (answer_fresh_by i k r.message.body)) refl
+  -- the granted sheet is the granted trial's
+  pub granted_trial : (p : Params) → params_of r.message.body ≡ Some p → IsTrialOf i p (is_fast (answer_fresh_by i k r.message.body)) (granted_sheet r (answer_fresh_by i k r.message.body)).spans
+  granted_trial p asks = go (is_fast (answer_fresh_by i k r.message.body)) refl
     where
       said : answer i h v moment (act.Message r.message) ≡ answer_fresh (record { layout = i; history = h; served = fresh h; vehicle = v; now = now_of h moment }) r.message.body
       said = rw is_new refl
@@ -78,16 +77,16 @@ module _ (i : Intersection) (h : List Entry) (v moment : ℕ) (k : Known) (r : R
       shown : prepared_params r ≡ Some p
       shown = good_params i p r (record { prepared = prepared; params = asks }) good
 
-      go : (b : Bool) → is_fast (answer_fresh_by i k r.message.body) ≡ b → HaveCells i p b (if b then r.first else r.second).spans
-      go true e = (prepared.fast p shown (fast_made i k r.message.body p asks e)).cells
-      go false e = (prepared.steady p shown).cells
+      go : (b : Bool) → is_fast (answer_fresh_by i k r.message.body) ≡ b → IsTrialOf i p b (if b then r.first else r.second).spans
+      go true e = prepared.fast p shown (fast_made i k r.message.body p asks e)
+      go false e = prepared.steady p shown
 
   pub granted_tiles : AreTiles i.grid.n (granted_sheet r (answer_fresh_by i k r.message.body)).spans
-  granted_tiles = let a = confirmed_asks i k r.message.body confirmed in tiles_of i a.0 (is_fast (answer_fresh_by i k r.message.body)) (granted_sheet r (answer_fresh_by i k r.message.body)).spans (granted_cells a.0 a.1)
+  granted_tiles = let a = confirmed_asks i k r.message.body confirmed in tiles_of i a.0 (is_fast (answer_fresh_by i k r.message.body)) (granted_sheet r (answer_fresh_by i k r.message.body)).spans (granted_trial a.0 a.1).cells
 
   pub granted_later : AreAhead (now_of h moment) i.times.horizon (granted_sheet r (answer_fresh_by i k r.message.body)).spans
   granted_later c t =
       let a = confirmed_asks i k r.message.body confirmed in
-      let needed : in_cells i a.0 (is_fast (answer i h v moment (act.Message r.message))) c ≡ true = rw same (sym (granted_cells a.0 a.1 c) ∙ t) in
+      let needed : in_cells i a.0 (is_fast (answer i h v moment (act.Message r.message))) c ≡ true = rw same (sym ((granted_trial a.0 a.1).cells c) ∙ t) in
       let w = granted_ahead i h v moment r.message a.0 c valid.sound.grid.some_spacing valid.sound.times.early valid.sound.times.late is_new a.1 (ap is_confirm same ∙ confirmed) needed in
       and_from (nat_le (now_of h moment) c.step) (nat_lt c.step (now_of h moment + i.times.horizon)) (le-leb (now_of h moment) c.step (let l : now_of h moment < c.step = w.0 in omega arith)) (lt-ltb c.step (now_of h moment + i.times.horizon) w.1)

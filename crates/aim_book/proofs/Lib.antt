@@ -16,3 +16,4 @@ mod SheetLemmas
 mod NewLemmas
 mod ChartLemmas
 mod OwnLemmas
+mod CostLemmas

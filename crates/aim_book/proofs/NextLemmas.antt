@@ -1,5 +1,5 @@
 -- The desk after one more fresh message.
-use Rattle.std.proofs.Common.{◌≡◌, ℕ, ◌<◌, ◌≤◌, Bool, true, false, ◌&&◌, ◌||◌, not, nat_le, List, [], ◌∷◌, ◌++◌, Option, Some, None, refl, sym, ◌∙◌, ap, arith, le-leb, subst, inl, inr}
+use Rattle.std.proofs.Common.{◌≡◌, ℕ, ◌<◌, ◌≤◌, Bool, true, false, ◌&&◌, ◌||◌, not, nat_le, List, [], ◌∷◌, length, ◌++◌, Option, Some, None, refl, sym, ◌∙◌, ap, arith, le-leb, subst, inl, inr}
 use Rattle.std.specs.Prelude.{◌==◌, if◌then◌else◌, slice_set, slice_index_or}
 use Rattle.std.proofs.lemmas.Bool.{eq-eqb, eqb-true, lt-leb, cases_lt, false_from_ne_true, both_ways}
 use Rattle.std.proofs.lemmas.List.{get_or-set_same, get_or-set_other, length-set}
@@ -14,6 +14,7 @@ use Rattle.aim_rules.specs.Holds.{is_granted, is_number}
 use Rattle.aim_rules.specs.Kept.{AreApart, has_cell, is_owned, kept, kept_next, owns, without}
 use Rattle.aim_rules.proofs.TakenLaws.{is_owned-same, is_owned-snoc}
 use Rattle.aim_rules.proofs.VehicleLaws.{kept-snoc}
+use Rattle.aim_book.specs.Costs.{granted_spans}
 use Rattle.aim_book.specs.Keeping.{granted_sheet, is_changed, is_named, is_taken_then, row_next}
 use Rattle.aim_book.specs.Reserved.{AreReserved, IsRowOf, row_of, spans_in}
 use Rattle.aim_book.specs.declared.reservations.Reservation.{Reservation}
@@ -40,6 +41,7 @@ same_kept i id (Some x) (Some r) of e = let f : is_number id x.place ≡ false =
 module _ {L : Type 0} (i : Intersection) (n : ℕ) (xs : List Fresh) (x : Fresh) (v place at : ℕ) (r : Request) (m : Message) (old new : Reservations L)
     (are : AreReserved i n xs at old) (apart : AreApart i xs at) (l : v < n) (caller : x.entry.caller ≡ v) (said : given_up_at x ≡ given_up r.message.body) (at_place : x.place ≡ place)
     (granted : is_confirm x.entry.reply ≡ true → (c : Cell) → in_spans (granted_sheet r x.entry.reply).spans c ≡ is_granted i x c)
+    (count : is_confirm x.entry.reply ≡ true → length (granted_sheet r x.entry.reply).spans ≡ granted_spans i x)
     (later : is_confirm x.entry.reply ≡ true → (c : Cell) → in_spans (granted_sheet r x.entry.reply).spans c ≡ true → at ≤ c.step)
     (room : (granted_sheet r x.entry.reply).room ≡ i.grid.spans) where
   abbrev row : Option Reservation
@@ -56,7 +58,7 @@ module _ {L : Type 0} (i : Intersection) (n : ℕ) (xs : List Fresh) (x : Fresh)
     where
       go : (b : Bool) → is_confirm x.entry.reply ≡ b →
           IsRowOf i (if b then Some x else without (given_up_at x) (kept xs v)) (if b then Some (record { id = place; sheet = granted_sheet r x.entry.reply }) else if is_named (given_up r.message.body) row then None else row)
-      go true e = record { id = sym at_place; cells = granted e; room = room }
+      go true e = record { id = sym at_place; cells = granted e; count = count e; room = room }
       go false e = rw said (given_rows i (given_up r.message.body) (kept xs v) row own_row)
 
   rows_next : (rs : List (Option Reservation)) → rs ≡ slice_set old.rows.items v next → (w : ℕ) → w < n → IsRowOf i (kept (xs ++ x ∷ []) w) (row_of rs w)

@@ -35,12 +35,13 @@ use Rattle.aim_session.specs.Kept.{no_session, session_after}
 use Rattle.aim_session.specs.Looks.{look_of}
 use Rattle.aim_session.proofs.SessionLaws.{sessions_more}
 use Rattle.aim_book.specs.Asking.{AreCalling}
+use Rattle.aim_book.specs.Costs.{granted_spans, trial_spans}
 use Rattle.aim_book.specs.Keeping.{IsManaged, granted_sheet, is_changed, is_taken_then, row_next}
 use Rattle.aim_book.specs.Reserved.{AreReserved, HasRoom, IsRowOf, row_of, spans_in}
 use Rattle.aim_book.specs.declared.desks.Desk.{Desk}
 use Rattle.aim_book.specs.declared.reservations.Reservation.{Reservation}
 use Rattle.aim_book.specs.declared.reservations.Reservations.{Reservations}
-use Rattle.aim_book.proofs.GrantedLemmas.{confirmed_asks, granted_cells, granted_later, granted_tiles}
+use Rattle.aim_book.proofs.GrantedLemmas.{confirmed_asks, granted_later, granted_tiles, granted_trial}
 use Rattle.aim_book.proofs.ManagedLemmas.{answer_new, apart, calling, fresh_now, known_of}
 use Rattle.aim_book.proofs.NextLemmas.{reserved_next}
 
@@ -121,8 +122,14 @@ module _ {L : Type 0} (i : Intersection) (n : ℕ) (h : List Entry) (v moment pl
     granted_is : is_confirm reply ≡ true → (c : Cell) → in_spans (granted_sheet r reply).spans c ≡ is_granted i x c
     granted_is confirmed c =
         let a = confirmed_asks i (known_of i n h v moment) r.message.body (rw (← is) confirmed) in
-        let cells = granted_cells i h v moment (known_of i n h v moment) r m.valid prepared new_seq answered (rw (← is) confirmed) a.0 a.1 c in
-        subst (λ q. in_spans (granted_sheet r q).spans c ≡ is_granted_with i q c (params_of r.message.body)) (sym is) (cells ∙ ap (is_granted_with i said c) (sym a.1))
+        let trial = granted_trial i h v moment (known_of i n h v moment) r m.valid prepared new_seq answered (rw (← is) confirmed) a.0 a.1 in
+        subst (λ q. in_spans (granted_sheet r q).spans c ≡ is_granted_with i q c (params_of r.message.body)) (sym is) (trial.cells c ∙ ap (is_granted_with i said c) (sym a.1))
+
+    count_is : is_confirm reply ≡ true → length (granted_sheet r reply).spans ≡ granted_spans i x
+    count_is confirmed =
+        let a = confirmed_asks i (known_of i n h v moment) r.message.body (rw (← is) confirmed) in
+        let trial = granted_trial i h v moment (known_of i n h v moment) r m.valid prepared new_seq answered (rw (← is) confirmed) a.0 a.1 in
+        subst (λ q. length (granted_sheet r q).spans ≡ trial_spans i (is_fast q) (params_of r.message.body)) (sym is) (trial.count ∙ ap (trial_spans i (is_fast said)) (sym a.1))
 
     later_is : is_confirm reply ≡ true → (c : Cell) → in_spans (granted_sheet r reply).spans c ≡ true → now_of h moment ≤ c.step
     later_is confirmed c t =
@@ -146,7 +153,7 @@ module _ {L : Type 0} (i : Intersection) (n : ℕ) (h : List Entry) (v moment pl
         callers = rw (sessions_is, length-set) m.desk.callers;
         reserved = subst (λ xs. AreReserved i n xs (now_of h moment) next.reservations) (sym (fresh-one h e fresh_entry))
             (reserved_next i n (fresh h) x v place (now_of h moment) r r.message d.reservations next.reservations m.desk.reserved (apart i n h v moment d calls m l) l refl refl (sym at_place)
-            granted_is later_is (room_granted (is_fast reply)) rows_is table_is cells_is);
+            granted_is count_is later_is (room_granted (is_fast reply)) rows_is table_is cells_is);
         changes = rw (timeline_is, changes-snoc h e, append-nil) m.desk.changes;
         distances = (let q = distances_entry d.distances h e m.desk.sixteen fresh_entry m.desk.distances in rw (distances_is, m.desk.reserved.current) q);
         sixteen = rw (distances_is, many_distances d.distances d.reservations.table.current reply (params_of r.message.body)) m.desk.sixteen;

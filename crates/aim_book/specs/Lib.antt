@@ -1,6 +1,7 @@
 pub mod State
 pub mod Sheets
 pub mod SpanSteps
+pub mod Costs
 pub mod Reserved
 pub mod Desk
 pub mod Blocking

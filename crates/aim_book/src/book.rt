@@ -56,7 +56,7 @@ impl<L: Ledger> Model for Book<L> {
 }
 
 impl<L: Ledger> Book<L> {
-    ghost use Rattle.std.specs.Prelude.{◌≡◌, ℕ, ◌+◌, ◌<◌, ◌≤◌, ◌⊎◌, ◌&&◌, not, nat_lt, ◌++◌, ◌∷◌, [], ◌↔◌, length, IfOk, OnErr, IsErr, Err};
+    ghost use Rattle.std.specs.Prelude.{◌≡◌, ℕ, ◌+◌, ◌*◌, ◌-◌, min, ◌<◌, ◌≤◌, ◌⊎◌, ◌&&◌, not, nat_lt, ◌++◌, ◌∷◌, [], ◌↔◌, length, IfOk, OnErr, IsErr, Err};
     ghost use Rattle.aim_geometry.specs.Cells.{cell_at};
     ghost use Rattle.aim_geometry.specs.Rects.{has_bit};
     ghost use Rattle.aim_msg.specs.declared.entries.TheConstants.{LATEST_MOMENT, MOST_ENTRIES, MOST_VEHICLES, OPERATOR};
@@ -65,6 +65,7 @@ impl<L: Ledger> Book<L> {
     ghost use Rattle.aim_rules.specs.History.{now_of};
     ghost use Rattle.aim_rules.specs.Legal.{IsLegal, IsOfLayout};
     ghost use Rattle.aim_book.specs.Charted.{is_claimed_by_some, is_held};
+    ghost use Rattle.aim_book.specs.Costs.{spans_exchanged};
     ghost use Rattle.aim_book.specs.Sheets.{sheets_kept};
 
     /// A book with an empty journal, for that many vehicles and that many entries. It takes all its memory here.
@@ -114,6 +115,9 @@ impl<L: Ledger> Book<L> {
         ensures legal { IsLegal self.new.layout self.new.vehicles self.new.journal }
         ensures sheets { back.new.count + sheets_kept vehicle self.new.journal ≡ back.old.count + sheets_kept vehicle self.old.journal + 2 }
         ensures pool { back.new.room ≡ back.old.room }
+        ensures cost { steps.new ≤ steps.old + length prepared.first.spans + length prepared.second.spans
+            + spans_exchanged self.old.layout vehicle self.old.journal self.new.journal
+            + self.old.layout.grid.n * min (now_of self.new.journal 0 - now_of self.old.journal 0) self.old.layout.times.horizon }
     {
         let place = self.journal.len();
         if place == self.room as usize {
@@ -155,6 +159,8 @@ impl<L: Ledger> Book<L> {
         ensures full { IsErr result ↔ (length self.old.journal ≡ self.old.room) }
         ensures err { OnErr result (self.new ≡ self.old) }
         ensures legal { IsLegal self.new.layout self.new.vehicles self.new.journal }
+        ensures cost { steps.new ≤ steps.old
+            + self.old.layout.grid.n * min (now_of self.new.journal 0 - now_of self.old.journal 0) self.old.layout.times.horizon }
     {
         if self.journal.len() == self.room as usize {
             return Err(Full);

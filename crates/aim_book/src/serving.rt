@@ -14,8 +14,8 @@ ghost use Rattle.aim_rules.specs.Legal.{IsOfLayout};
 ghost use Rattle.aim_session.specs.declared.sessions.Look.{Look};
 ghost use Rattle.aim_session.specs.Kept.{no_session};
 ghost use Rattle.aim_session.specs.Looks.{is_fresh_look, look_of};
-ghost use Rattle.aim_book.specs.Keeping.{IsManaged, is_changed, row_count, row_next, spans_moved};
-ghost use Rattle.aim_book.specs.Reserved.{row_of};
+ghost use Rattle.aim_book.specs.Keeping.{IsManaged, row_count};
+ghost use Rattle.aim_book.specs.Reserved.{row_of, rows_exchanged};
 
 use crate::desks::Desk;
 use crate::keeping::params_in;
@@ -85,7 +85,7 @@ impl<L: Ledger> Desk<L> {
         ensures timeline { self.new.timeline ≡ self.old.timeline }
         ensures pool { back.new.room ≡ back.old.room }
         ensures cost { steps.new ≤ steps.old + length prepared.first.spans + length prepared.second.spans
-            + spans_moved (row_of self.old.reservations.rows.items vehicle) (row_next (row_of self.old.reservations.rows.items vehicle) place prepared result) (is_changed (row_of self.old.reservations.rows.items vehicle) prepared result) }
+            + rows_exchanged (row_of self.old.reservations.rows.items vehicle) (row_of self.new.reservations.rows.items vehicle) }
     {
         // This call only tells the ranges of the grid.
         let _ground = layout.ground();
@@ -137,6 +137,9 @@ impl<L: Ledger> Desk<L> {
         ensures timeline { self.new.timeline ≡ self.old.timeline }
         ensures sheets { back.new.count + row_count (row_of self.new.reservations.rows.items vehicle) ≡ back.old.count + row_count (row_of self.old.reservations.rows.items vehicle) + 2 }
         ensures pool { back.new.room ≡ back.old.room }
+        ensures cost { steps.new ≤ steps.old + length prepared.first.spans + length prepared.second.spans
+            + rows_exchanged (row_of self.old.reservations.rows.items vehicle) (row_of self.new.reservations.rows.items vehicle)
+            + self.old.reservations.table.size * min (max self.old.reservations.table.current moment - self.old.reservations.table.current) self.old.reservations.table.horizon }
     {
         self.go_on(moment, steps);
         // This call only tells the ranges of the times.
@@ -169,6 +172,7 @@ impl<L: Ledger> Desk<L> {
             IsManaged layout.now n (h ++ (record { caller = OPERATOR; moment = moment; act = Act.Order order; reply = result }) ∷ [])
             (now_of (h ++ (record { caller = OPERATOR; moment = moment; act = Act.Order order; reply = result }) ∷ []) 0) self.new calls }
         ensures room { self.new.timeline.room ≡ self.old.timeline.room }
+        ensures cost { steps.new ≡ steps.old + self.old.reservations.table.size * min (max self.old.reservations.table.current moment - self.old.reservations.table.current) self.old.reservations.table.horizon }
     {
         self.go_on(moment, steps);
         match order {

@@ -156,7 +156,7 @@ step_count i p fast step first last n inner outer st =
           rw f (sym (never (needs_row i p fast step row) (λ h. let g = some_below_found i.grid.n (λ col. in_cells i p fast (record { row = row; col = col; step = step })) h in let w = st.within row g.0 g.2 in let w0 = w.0 in omega arith))))
     ]
 
--- the same in the words of a loop over t, with the times as they were read
+-- what a loop over t has shown is a step of the crossing, with the times as they were read
 pub is_step_at : (i : Intersection) (p : Params) (fast : Bool) (rects : List TileRect) (reaches : List Reach) (outer inner : Window) (rows : List ℕ) (near : Bool) (t first last n : ℕ) (times : Times) → IsTrial i p fast rects reaches →
     times ≡ i.times → n ≡ i.grid.n → last < 64 → times.edge ≤ p.arrive + t → t < length reaches + 2 * times.edge →
     IsMoved rects reaches outer (t - (times.edge + times.edge)) (min (t + times.edge - times.edge) (length reaches - 1)) →

@@ -198,7 +198,7 @@ pub fn prepare(layout: &Layout, message: &Message, first: Sheet, second: Sheet) 
 // The steps of no trial.
 const NO_STEPS: TrialSteps = TrialSteps { fast: 0, steady: 0 };
 
-// Prepares a message that has params: finds the field that is wrong, or writes the cells of the trials.
+// Prepares a message that has params: finds the field that is wrong, if one is, and writes the cells of the trials.
 fn prepare_request(
     layout: &Layout,
     message: &Message,

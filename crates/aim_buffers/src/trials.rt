@@ -202,6 +202,7 @@ pub fn write_trial(
     ensures full { OnErr result (sheet.old.room < span_count layout.now params.now fast) }
     ensures room { sheet.new.room ≡ sheet.old.room }
 {
+    // This call only tells that the layout is valid.
     let _ground = layout.ground();
     let mut reaches = [Reach { low: 0, high: 0 }; 2048];
     let count = fill_reaches(layout, params, fast, path.parts(), &mut reaches);
@@ -214,6 +215,7 @@ pub fn write_trial(
         is_steady,
         &reaches[..count],
     )?;
+    // This call only tells that the spans fit the sheet's room.
     let _spans = sheet.spans();
     Ok(count as u32)
 }

@@ -56,7 +56,7 @@ fn once(at: u64, came: u32) -> Option<u64>
     if came == 0 { Some(at) } else { None }
 }
 
-// The same where it comes once more a step later.
+// When that which comes twice, at the step `at` and one step later, comes next.
 fn twice(at: u64, came: u32) -> Option<u64>
     requires { at ≤ 2 ^ 33 }
     ensures { result ≡ slice_get (at ∷ (at + 1) ∷ []) came }

@@ -12,6 +12,7 @@ pub fn claimed_rows(layout: &Layout, lanes: u16, except: Option<u8>) -> [u64; 64
     requires { (lane : ℕ) → has_lane_of lanes lane ≡ true → lane < length layout.now.lanes }
     ensures { (row col : ℕ) → row < 64 → col < 64 → tile_at result row col ≡ is_tile_of layout.now lanes except row col }
 {
+    // This call only tells that the layout is valid.
     let _ground = layout.ground();
     let mut rows = [0; 64];
     for lane in 0..layout.lanes() as u8 {

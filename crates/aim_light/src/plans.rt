@@ -38,6 +38,7 @@ impl Plan {
     pub fn of(layout: &Layout, policy: u8) -> Option<Plan>
         ensures { result ≡ lights_of (slice_get layout.now.policies policy) }
     {
+        // This call only tells that the layout is valid.
         let _ground = layout.ground();
         if policy >= layout.policies() {
             return None;

@@ -2,12 +2,4 @@ pub mod Texts
 pub mod Actors
 pub mod Lines
 pub mod Same
-pub mod Faults
-pub mod Tables
-pub mod Forms
-pub mod Reading
-pub mod Entries
 pub mod Writing
-pub mod Steps
-pub mod EntrySteps
-pub mod Ranges

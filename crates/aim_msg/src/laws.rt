@@ -1,79 +1,16 @@
-//! Laws of the texts: what is spelled is read again, what is read is spelled so, and no two values have one spelling.
-//! And two more: which messages are the same, and who may act. Each is the contract of a function that does nothing.
-ghost use Rattle.std.specs.Prelude.{◌≡◌, ◌↔◌, ℕ, true, List, Ok, Err};
+//! Laws of messages and callers: which messages are the same, and who may act. Each is the contract of a function that
+//! does nothing.
+ghost use Rattle.std.specs.Prelude.{◌≡◌, ◌↔◌, ℕ, true};
 ghost use Rattle.aim_msg.specs.declared.messages.Message.{Message};
 ghost use Rattle.aim_msg.specs.Same.{same_message};
-ghost use Rattle.aim_msg.specs.declared.script.Line.{Line};
-ghost use Rattle.aim_msg.specs.Lines.{line_text, KeepsRanges};
-ghost use Rattle.aim_msg.specs.declared.replies.Reply.{Reply};
 ghost use Rattle.aim_msg.specs.declared.entries.Act.{Act};
-ghost use Rattle.aim_msg.specs.declared.entries.Entry.{Entry};
-ghost use Rattle.aim_msg.specs.Texts.{message_text, reply_text, entry_text, IsOneLine};
 ghost use Rattle.aim_msg.specs.Actors.{IsCallerOf, IsOrder};
-ghost use Rattle.aim_msg.specs.Entries.{entry_at};
-ghost use Rattle.aim_msg.specs.Ranges.{Is32, IsMessage, IsLine, IsReply, IsEntry};
-ghost use Rattle.aim_msg.specs.Reading.{line_at};
 
 use crate::entries::OPERATOR;
-use crate::script::LineKind;
-
-/// Reading the text of a line that keeps its ranges gives the line back.
-pub fn line_is_read_again()
-    ensures { (version : ℕ) (line : Line) → IsLine line → KeepsRanges version line → line_at version (line_text version line) ≡ Ok line }
-{}
-
-/// Bytes that are read as a line are its text, and the line keeps its ranges.
-pub fn line_is_spelled_so()
-    ensures { (version : ℕ) (bytes : List ℕ) (line : Line) → line_at version bytes ≡ Ok line → IsLine line × KeepsRanges version line × (bytes ≡ line_text version line) }
-{}
-
-/// No two lines have one text.
-pub fn line_has_one_text()
-    ensures { (version : ℕ) (a b : Line) → IsLine a → KeepsRanges version a → IsLine b → KeepsRanges version b → line_text version a ≡ line_text version b → a ≡ b }
-{}
-
-/// No two replies have one text.
-pub fn reply_has_one_text()
-    ensures { (a b : Reply) → IsReply a → IsReply b → reply_text a ≡ reply_text b → a ≡ b }
-{}
-
-/// Reading the text of an entry gives its position and the entry back.
-pub fn entry_is_read_again()
-    ensures { (position : ℕ) (entry : Entry) → Is32 position → IsEntry entry → IsCallerOf entry.caller entry.act → entry_at (entry_text position entry) ≡ Ok (position, entry) }
-{}
-
-/// Bytes that are read as an entry are its text. Its caller is `OPERATOR` where its act is an order, and a vehicle
-/// below 65,536 where its act is a message.
-pub fn entry_is_spelled_so()
-    ensures { (bytes : List ℕ) (position : ℕ) (entry : Entry) → entry_at bytes ≡ Ok (position, entry) → Is32 position × IsEntry entry × IsCallerOf entry.caller entry.act × (bytes ≡ entry_text position entry) }
-{}
-
-/// No two entries have one text.
-pub fn entry_has_one_text()
-    ensures { (i j : ℕ) (a b : Entry) → Is32 i → Is32 j → IsEntry a → IsEntry b → IsCallerOf a.caller a.act → IsCallerOf b.caller b.act → entry_text i a ≡ entry_text j b → (i ≡ j) × (a ≡ b) }
-{}
 
 /// Two messages are the same exactly where the test of the definitions says so.
 pub fn same_messages_are_equal()
     ensures { (m n : Message) → (same_message m n ≡ true ↔ m ≡ n) }
-{}
-
-/// No two messages have one text.
-pub fn message_has_one_text()
-    ensures { (m n : Message) → IsMessage m → IsMessage n → message_text m ≡ message_text n → m ≡ n }
-{}
-
-/// No text has a byte 10 in it.
-pub fn text_is_one_line()
-    ensures message { (m : Message) → IsMessage m → IsOneLine (message_text m) }
-    ensures reply { (reply : Reply) → IsReply reply → IsOneLine (reply_text reply) }
-    ensures entry { (position : ℕ) (entry : Entry) → Is32 position → IsEntry entry → IsOneLine (entry_text position entry) }
-    ensures line { (version : ℕ) (line : Line) → IsLine line → KeepsRanges version line → IsOneLine (line_text version line) }
-{}
-
-/// Bytes that spell no entry are never of the kind `Unknown`.
-pub fn entry_is_never_unknown()
-    ensures { (bytes : List ℕ) → entry_at bytes ≡ Err LineKind.Unknown → ⊥ }
 {}
 
 /// A caller that may act is `OPERATOR` exactly where the act is an order.

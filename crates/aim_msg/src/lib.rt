@@ -5,14 +5,12 @@
 pub mod entries;
 pub mod laws;
 pub mod messages;
-pub mod reading;
 pub mod replies;
 pub mod script;
 pub mod writing;
 
 pub use entries::{Act, Entry, LATEST_MOMENT, MOST_ENTRIES, MOST_VEHICLES, OPERATOR, Order};
 pub use messages::{Body, Message, Params, Turn};
-pub use reading::{read_entry, read_line};
 pub use replies::{Field, Reason, Reply};
 pub use script::{FateList, Grid6, Line, LineKind, MoveShape, Name, Times5, Times6};
 pub use writing::{

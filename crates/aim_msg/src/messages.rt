@@ -1,7 +1,7 @@
 //! What a vehicle says to the manager.
 
 /// The way that a vehicle takes from its lane.
-#[derive(Clone, Copy, Debug, PartialEq, Eq)]
+#[derive(Clone, Copy, PartialEq, Eq)]
 pub enum Turn {
     Left,
     Straight,

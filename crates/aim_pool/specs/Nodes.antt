@@ -25,11 +25,12 @@ abbrev mutual
   IsEmptyChain room None' = Unit {0}
   IsEmptyChain room (Some' p node) = IsEmptyNode room node
 
--- the same from what may be a first sheet
+-- the number of sheets of a chain that may have none
 abbrev pub head_count : Option (Box Node Global) → ℕ
 head_count None = 0
 head_count (Some first) = node_count first.value
 
+-- a chain that may have none: each of its sheets has this room and no span
 abbrev pub IsEmptyHead : ℕ → Option (Box Node Global) → Type 0
 IsEmptyHead room None = Unit {0}
 IsEmptyHead room (Some first) = IsEmptyNode room first.value

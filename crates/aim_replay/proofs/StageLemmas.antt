@@ -6,8 +6,8 @@ use Rattle.std.specs.Option.{option_to_list}
 use Rattle.std.proofs.lemmas.Bool.Decides.{nat_tests}
 use Rattle.aim_io.specs.Lines.{Line as LineOf}
 use Rattle.aim_msg.specs.Lines.{KeepsRanges, name_word}
-use Rattle.aim_msg.proofs.LineSpelled.{line_was_spelled}
-use Rattle.aim_msg.specs.Reading.{line_at}
+use Rattle.aim_read.proofs.LineSpelled.{line_was_spelled}
+use Rattle.aim_read.specs.Reading.{line_at}
 use Rattle.aim_msg.specs.declared.script.LineKind.{LineKind}
 use Rattle.aim_msg.specs.declared.messages.Message.{Message}
 use Rattle.aim_msg.specs.declared.script.Name.{Name}

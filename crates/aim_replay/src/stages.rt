@@ -13,8 +13,9 @@ ghost use Rattle.aim_replay.specs.Stages.{IsOfLines, IsOpen, IsOrdered, Judged, 
 
 use crate::servers::Server;
 use aim_msg::{
-    Act, Entry, LATEST_MOMENT, Line, MOST_VEHICLES, Message, Name, OPERATOR, Order, read_line,
+    Act, Entry, LATEST_MOMENT, Line, MOST_VEHICLES, Message, Name, OPERATOR, Order,
 };
+use aim_read::read_line;
 use aim_script::{Decision, Header, Headed, Kind, Limit, Names, ScriptVersion, Setting};
 use aim_tiles::Steps;
 use std::alloc::Global;

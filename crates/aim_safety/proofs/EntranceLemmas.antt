@@ -11,7 +11,7 @@ use Rattle.aim_rules.proofs.Lists.{from_front}
 use Rattle.aim_rules.proofs.TestLemmas.{and_left, and_right}
 use Rattle.aim_safety.specs.Occupied.{entrance}
 
--- the same beginning, or none
+-- an entrance and a crossing that begin in one step under one id, or neither
 abbrev Same : Option Entrance → Option Crossing → Type 0
 Same None None = Unit {0}
 Same None (Some c) = ⊥

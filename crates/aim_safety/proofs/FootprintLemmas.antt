@@ -116,7 +116,7 @@ shown_cells i p fast steps first a few =
     ∙ same_parts (of_row first count i.grid.n) (is_traced steps first) q i.grid.n (λ row r. same_parts (of_tile first count row) (is_traced steps first) q i.grid.n (λ col l.
     same_tile (is_traced steps first) q first row col count (λ k m. shown_is_on i p fast steps first (record { row = row; col = col; step = first + k }) a (omega arith) (omega arith) (omega arith) (omega arith))))
 
--- the same of lists that are filled from them
+-- the cells that a loop appends to an empty list, where it reads the masks, are those on which the crossing is
 pub passage_shown : (i : Intersection) (p : Params) (fast : Bool) (first n : ℕ) (cells none : List Cell) (seen steps : List (List ℕ)) → none ≡ [] → seen ≡ steps → n ≡ i.grid.n → i.grid.n ≤ 64 → AreFootprints i p fast (crossing_steps i p fast) steps →
     map cell_of cells ≡ map cell_of none ++ filter (is_traced seen first) (of_rows first (length seen) n n) →
     map cell_of cells ≡ filter (is_on i (record { step = first; grant = record { params = p; fast = fast } })) (of_rows first (crossing_steps i p fast) i.grid.n i.grid.n)

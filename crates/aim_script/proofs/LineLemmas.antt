@@ -4,7 +4,7 @@ use Rattle.std.specs.Prelude.{find, option_map}
 use Rattle.aim_io.specs.Lines.{Outcome, Line, Stop}
 use Rattle.aim_msg.specs.declared.script.Line.{Line as ScriptLine}
 use Rattle.aim_msg.specs.declared.script.LineKind.{LineKind}
-use Rattle.aim_msg.specs.Reading.{line_at}
+use Rattle.aim_read.specs.Reading.{line_at}
 use Rattle.aim_script.specs.declared.decisions.Kind.{Kind}
 use Rattle.aim_script.specs.declared.decisions.Limit.{Limit}
 use Rattle.aim_script.specs.Order.{may_follow}

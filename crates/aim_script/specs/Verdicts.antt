@@ -3,7 +3,7 @@ use Rattle.std.specs.Prelude.{ℕ, ◌+◌, List, [], ◌∷◌, ◌++◌, lengt
 use Rattle.aim_io.specs.Lines.{InputFault, LongLine, TooManyBytes, TooManyLines, Outcome, Line, Stop, outcomes_of}
 use Rattle.aim_msg.specs.declared.script.Line.{Line as ScriptLine}
 use Rattle.aim_msg.specs.declared.script.LineKind.{LineKind}
-use Rattle.aim_msg.specs.Reading.{line_at}
+use Rattle.aim_read.specs.Reading.{line_at}
 use Rattle.aim_script.specs.declared.decisions.Decision.{Decision}
 use Rattle.aim_script.specs.declared.decisions.Decision.TheVariants as decision
 use Rattle.aim_script.specs.declared.decisions.Kind.{Kind}

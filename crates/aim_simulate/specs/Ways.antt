@@ -12,7 +12,7 @@ pub record RowsFall (rects : List TileRect) (n : ℕ) : Type 0 where
   pub first : (j : ℕ) → j + 1 < n → (rect_at rects (j + 1)).row0 ≤ (rect_at rects j).row0
   pub last : (j : ℕ) → j + 1 < n → (rect_at rects (j + 1)).row1 ≤ (rect_at rects j).row1
 
--- the same of the columns
+-- from each of the first n rectangles to the next the columns rise, or stay
 pub record ColumnsRise (rects : List TileRect) (n : ℕ) : Type 0 where
   pub first : (j : ℕ) → j + 1 < n → (rect_at rects j).col0 ≤ (rect_at rects (j + 1)).col0
   pub last : (j : ℕ) → j + 1 < n → (rect_at rects j).col1 ≤ (rect_at rects (j + 1)).col1

@@ -12,6 +12,7 @@ pub fn fill_rects(ground: &Ground, half: u32, stations: &[Station], rects: &mut 
     requires room { length rects.old ≡ length stations.now }
     ensures { AreRectsOf ground.now.grid half stations.now rects.new }
 {
+    // This call only tells the ranges of the grid.
     let _grid = ground.grid();
     for j in 0..stations.len() {
         let Station { x, y } = stations[j];
@@ -26,7 +27,7 @@ fn rows_rise(so_far: bool, a: TileRect, b: TileRect) -> bool
     so_far && a.row0 <= b.row0 && a.row1 <= b.row1
 }
 
-// The same of columns.
+// Whether columns rose so far, and rise, or stay, from the one rectangle to the other.
 fn columns_rise(so_far: bool, a: TileRect, b: TileRect) -> bool
     ensures { result ≡ true → (so_far ≡ true) × (a.col0 ≤ b.col0) × (a.col1 ≤ b.col1) }
 {

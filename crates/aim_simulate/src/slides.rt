@@ -56,7 +56,8 @@ fn clear(rows: &mut [u64; 64], gone: TileRect, kept: TileRect)
     }
 }
 
-// The same, with no work where there is no such tile.
+// Clears the bits of the tiles that are in the one rectangle and not in the other, and does no work where the one is
+// within the other.
 #[inline]
 pub fn leave(rows: &mut [u64; 64], gone: TileRect, kept: TileRect)
     requires gone { IsRect 64 gone }

@@ -106,7 +106,8 @@ impl Window {
         }
     }
 
-    // The same for rectangles of which some tiles come back: the rest is joined anew.
+    // Lets go of the rectangles before that one, also where the rectangles aren't steady: the tiles of those that stay
+    // are joined anew.
     fn rejoin_from(&mut self, rects: &[TileRect], low: usize)
         requires rects { AreRects rects.now }
         requires window { IsWindow rects.now self.old }

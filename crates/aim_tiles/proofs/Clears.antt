@@ -62,7 +62,7 @@ module _ (size horizon now gone : ℕ) (old words new : List ℕ) (ahead : 0 < h
           | inr n ↦ stays cell is box n
         ]
 
--- the same where the page's place, size and horizon are given by equations
+-- what is marked once one page more is cleared, where the page's place, size and horizon are given by equations
 pub cleared_more : (size horizon now gone size' horizon' page : ℕ) (old words new : List ℕ) → 0 < horizon → gone < horizon → size' ≡ size → horizon' ≡ horizon → page ≡ (now + gone) % horizon' * size'
     → ((k : ℕ) → page ≤ k → k < page + size' → get_or new k 0 ≡ 0) → ((k : ℕ) → k < page → get_or new k 0 ≡ get_or words k 0) → ((k : ℕ) → page + size' ≤ k → get_or new k 0 ≡ get_or words k 0)
     → ((cell : Cell) → in_box size horizon now cell ≡ true → has_mark words size horizon cell ≡ (has_mark old size horizon cell && nat_le (now + gone) cell.step))

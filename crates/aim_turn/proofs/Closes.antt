@@ -123,7 +123,7 @@ module _ {K S E : Type 0} (M : Meaning K S E) where
 pub arrived : {K S E : Type 0} (s : S) (ns : List ℕ) (m : Me (Option K) (View S E)) → m.1 ≡ [] → m.0 ≡ seated (Some s) ns None [] [] → Gathers s ns [] m
 arrived {K} {S} {E} s ns m a b = subst (Gathers s ns []) {x = (seated (Some s) ns None [] [], [])} (λ i. (sym b i, sym a i)) record { is = refl; shown = λ log all. tt }
 
--- the same list, with nothing behind it
+-- what is gathered of a list with nothing behind it is gathered of the list
 pub with_none : {K S E : Type 0} (s : S) (ns : List ℕ) (ps : List (PassModel S E)) (m : Me (Option K) (View S E)) → Gathers s ns (ps ++ []) m → Gathers s ns ps m
 with_none s ns ps m had = subst (λ l. Gathers s ns l m) (append-nil ps) had
 

@@ -45,7 +45,7 @@ pub off_on : {b : Bool} → b ≡ false → b ≡ true → ⊥
 off_on p q = cc
 
 module _ {S E : Type 0} where
-  -- the same view stands at one place
+  -- at one place of a list stands one view
   pub same_view : (views : List (View S E)) (i : ℕ) (v w : View S E) → get_elem? views i ≡ some v → get_elem? views i ≡ some w → v ≡ w
   same_view views i v w a b = some-injective v w (sym a ∙ b)
 

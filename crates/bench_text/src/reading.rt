@@ -1,6 +1,7 @@
 //! Request lines that are read.
 
-use aim_msg::{Line, read_line};
+use aim_msg::Line;
+use aim_read::read_line;
 
 const LINES: [&[u8]; 4] = [
     b"0 0 request 1 0 straight 10 500 500 0 1000 700 car",

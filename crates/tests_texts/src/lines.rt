@@ -1,8 +1,9 @@
 //! Lines of scripts that come back, and the first fault of those that are none.
 ghost use Rattle.std.specs.Prelude.{◌<◌, ◌≤◌};
 
-use aim_msg::laws::line_is_spelled_so;
-use aim_msg::{LineKind, read_line, write_line};
+use aim_msg::{LineKind, write_line};
+use aim_read::laws::line_is_spelled_so;
+use aim_read::read_line;
 use std::alloc::Global;
 use std::test::Fail;
 

@@ -1,8 +1,9 @@
 //! Entries that come back, and texts that are appended to what stands there.
 use aim_msg::{
     Act, Body, Entry, Line, LineKind, Message, Name, OPERATOR, Order, Params, Reason, Reply, Turn,
-    entry_text, put_number, read_entry, write_entry, write_line, write_message, write_reply,
+    entry_text, put_number, write_entry, write_line, write_message, write_reply,
 };
+use aim_read::read_entry;
 use std::test::Fail;
 
 const ENTRIES: [&[u8]; 4] = [

@@ -52,7 +52,7 @@ pub replies_end : follows second_plan [] [] 40 []
     ≡ (sent 1 1 (body.Request (car 1 13)) ∷ [], call 1 1 (body.Request (car 1 13)) ∷ [])
 replies_end = refl
 
--- the same from a later step on at which it has not begun
+-- a run that is followed from step 1 on, before which nothing is sent, is the run from step 0 on
 pub from_its_first_step : follows_from second_plan [] [] 1 40 [] ≡ follows second_plan [] [] 40 []
 from_its_first_step = refl
 

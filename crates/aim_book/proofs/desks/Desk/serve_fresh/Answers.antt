@@ -1,4 +1,5 @@
-use Rattle.std.proofs.Common.{◌≡◌, length, sym, ◌∙◌, ap, subst, true}
+use Rattle.std.proofs.Common.{◌≡◌, ◌<◌, ◌≤◌, ◌+◌, length, sym, ◌∙◌, ap, arith, subst, true, None}
+use Rattle.std.proofs.lemmas.List.{get_or-set_same}
 use Rattle.std.specs.Prelude.{slice_set, slice_index_or}
 use Rattle.aim_msg.specs.declared.messages.Message.{Message}
 use Rattle.aim_fcfs.specs.Distances.{distances_with}
@@ -7,6 +8,9 @@ use Rattle.aim_emerg.specs.Calls.{call_of}
 use Rattle.aim_rules.specs.History.{fresh, is_confirm, now_of, params_of}
 use Rattle.aim_rules.specs.Known.{answer_fresh_by}
 use Rattle.aim_book.specs.Desk.{Tells}
+use Rattle.aim_book.specs.Keeping.{is_changed, row_next, spans_moved}
+use Rattle.aim_book.specs.Reserved.{row_of, rows_exchanged}
+use Rattle.aim_book.proofs.CostLemmas.{moved_fits}
 use Rattle.aim_book.proofs.ManagedLemmas.{answer_new, known_of, tells}
 use Rattle.aim_book.proofs.ServedLemmas.{calling_noted, later_granted, managed_next, row_tiles, tiles_granted}
 use Rattle.aim_book.proofs.desks.Desk.serve_fresh.Goals as goal
@@ -90,3 +94,17 @@ returns-clause-managed g c = λ h moment m place late.
     (rw c.keep_distance.ensures.rest at c.keep-2.ensures.rows)
     (rw c.keep_distance.ensures.rest at c.keep-2.ensures.table)
     (rw c.keep_distance.ensures.rest at c.keep-2.ensures.cells)
+
+pub returns-clause-cost : goal.returns-clause-cost
+returns-clause-cost g c =
+    let managed = c.requires.managed in
+    let rows = c.args.self.now.reservations.rows.items in
+    let v = c.args.vehicle in
+    let next = row_next (row_of rows v) c.args.place c.args.prepared c.answer_fresh-reply.result in
+    let moved : spans_moved (row_of rows v) next (is_changed (row_of rows v) c.args.prepared c.answer_fresh-reply.result) ≤ rows_exchanged (row_of rows v) next
+    = moved_fits c.args.layout.now managed.0 v c.args.place (row_of rows v) c.args.prepared c.answer_fresh-reply.result (managed.2.desk.reserved.rows v c.requires.vehicle) managed.3 in
+    let rows_are : c.keep-2.new.self.rows.items ≡ slice_set rows v next = rw c.keep_distance.ensures.rest at c.keep-2.ensures.rows in
+    let there : v < length rows = (let q = managed.2.desk.reserved.many in let l = c.requires.vehicle in omega arith) in
+    let row_is : row_of c.keep-2.new.self.rows.items v ≡ next = ap (λ ss. row_of ss v) rows_are ∙ get_or-set_same rows v next None there in
+    let kept : c.keep-2.new.steps ≤ c.answer_fresh-reply.new.steps + spans_moved (row_of rows v) next (is_changed (row_of rows v) c.args.prepared c.answer_fresh-reply.result) = rw c.keep_distance.ensures.rest at c.keep-2.ensures.cost in
+    rw row_is (omega (arith, kept, moved, c.answer_fresh-reply.ensures.cost))

@@ -1,0 +1,28 @@
+-- How many spans a message lets go of and takes.
+use Rattle.std.specs.Prelude.{ℕ, ◌+◌, ◌==◌, Bool, List, Option, Some, None, if◌then◌else◌}
+use Rattle.aim_msg.specs.declared.entries.Entry.{Entry}
+use Rattle.aim_msg.specs.declared.messages.Params.{Params}
+use Rattle.aim_paths.specs.Intersection.{Intersection}
+use Rattle.aim_rules.specs.Bad.{span_count}
+use Rattle.aim_rules.specs.History.{Fresh, fresh, params_at}
+use Rattle.aim_rules.specs.Holds.{is_fast}
+use Rattle.aim_rules.specs.Kept.{kept}
+
+abbrev pub trial_spans : Intersection → Bool → Option Params → ℕ
+trial_spans i fast None = 0
+trial_spans i fast (Some p) = span_count i p fast
+
+-- the spans of the granted trial: one for each pair of a step and a row in which it needs a cell
+abbrev pub granted_spans : Intersection → Fresh → ℕ
+granted_spans i x = trial_spans i (is_fast x.entry.reply) (params_at x)
+
+-- what is let go of and taken where one reservation, if any, is kept in the place of another one: nothing where it is the same
+abbrev pub exchanged : Intersection → Option Fresh → Option Fresh → ℕ
+exchanged i None None = 0
+exchanged i None (Some y) = granted_spans i y
+exchanged i (Some x) None = granted_spans i x
+exchanged i (Some x) (Some y) = if x.place == y.place then 0 else granted_spans i x + granted_spans i y
+
+-- the spans that a vehicle lets go of and takes between two histories
+abbrev pub spans_exchanged : Intersection → ℕ → List Entry → List Entry → ℕ
+spans_exchanged i v before after = exchanged i (kept (fresh before) v) (kept (fresh after) v)

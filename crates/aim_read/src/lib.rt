@@ -1,0 +1,100 @@
+//! Reads the lines of scripts and the entries of journals, whose types and texts `aim_msg` has.
+#![tactic(auto)]
+
+ghost use Rattle.std.specs.Prelude.{◌≡◌, ◌<◌, ◌≤◌, length};
+ghost use Rattle.aim_read.specs.Forms.{has_count};
+ghost use Rattle.aim_read.specs.Reading.{line_at};
+ghost use Rattle.aim_read.specs.Entries.{entry_at};
+ghost use Rattle.aim_read.specs.Steps.{behind_keyword, steps_in};
+
+mod entries;
+mod fields;
+mod forms;
+pub mod laws;
+mod lines;
+mod lists;
+mod numbers;
+mod replies;
+mod tables;
+mod words;
+
+use aim_msg::{Entry, Line, LineKind};
+use fields::number32;
+use forms::{LineForm, OrderForm, count, has_count, line_form};
+use words::Words;
+
+// Passes the keyword with which each line but an event begins.
+fn skip_keyword(words: &mut Words<'_>, form: LineForm)
+    ensures { words.new ≡ behind_keyword form words.old }
+{
+    if !matches!(form, LineForm::Event(_)) {
+        words.take();
+    }
+}
+
+// The line of that form, of the words behind its keyword.
+#[tactic(auto, unfolding(crate::specs::Steps::steps_in))]
+fn line_in(words: &mut Words<'_>, form: LineForm, version: u8) -> Result<Line, LineKind>
+    requires { length words.old ≤ 65 }
+    ensures { result ≡ steps_in version form words.old }
+{
+    match form {
+        LineForm::Version => Ok(Line::Version(number32(words)?)),
+        LineForm::Grid => lines::grid(words),
+        LineForm::Times => lines::times(words),
+        LineForm::Times6 => lines::times6(words),
+        LineForm::Lanes => Ok(Line::Lanes(number32(words)?)),
+        LineForm::Move(shape) => lines::move_line(words, shape),
+        LineForm::Policy => lines::policy(words, version),
+        LineForm::Phase => lists::phase(words),
+        LineForm::Vehicles => Ok(Line::Vehicles(number32(words)?)),
+        LineForm::Begin => Ok(Line::Begin),
+        LineForm::Event(message) => lines::event(words, message),
+        LineForm::Order(OrderForm::Switch) => lines::switch(words),
+        LineForm::Order(OrderForm::Stop) => lines::stop(words),
+        LineForm::Until => Ok(Line::Until(number32(words)?)),
+        LineForm::Plan => lines::plan(words, false),
+        LineForm::PlanInWindow => lines::plan(words, true),
+        LineForm::ChangePlan => lines::change_plan(words),
+        LineForm::CancelPlan => lines::cancel_plan(words),
+        LineForm::Up => lists::up(words),
+        LineForm::Down => lists::down(words),
+        LineForm::End => Ok(Line::End),
+    }
+}
+
+/// Reads a line of a script of that version, which is 1 to 3: the line for its one spelling, else the kind of the
+/// first of these rules that the bytes break.
+///
+/// 1. `Unknown`: the first word begins a form. Words are what stands between the spaces.
+/// 2. `Words`: the third word of an event or an order and the fourth of a `move` choose a form, and the line has as
+///    many words as its form.
+/// 3. From the left, each word may stand in its place: else `Words` in the place of a keyword, a name or a fate,
+///    `Number` where it isn't spelled as a number, and `Range` where the number is too small or too great.
+#[tactic(auto, using(crate::proofs::StepLaws::steps_are))]
+pub fn read_line(line: &[u8], version: u8) -> Result<Line, LineKind>
+    requires { (0 < version) × (version ≤ 3) }
+    ensures { result ≡ line_at version line.now }
+{
+    let form = line_form(line, version)?;
+    if !has_count(form, count(line)) {
+        return Err(LineKind::Words);
+    }
+    let mut words = Words::new(line);
+    skip_keyword(&mut words, form);
+    line_in(&mut words, form, version)
+}
+
+/// Reads an entry and its position: both for the text of an entry whose caller is `OPERATOR` where its act is an
+/// order, and a vehicle below 65,536 where its act is a message. Else the first wrong word from the left decides.
+///
+/// - `Words`: a word is missing, or stands where none or another may stand. Such are a word in the caller's place
+///   and one behind `held` that are neither the one word allowed there nor begin with a digit.
+/// - `Number`: a word in a number's place isn't spelled as a number.
+/// - `Range`: the number is too great for its field, or the caller isn't below 65,536.
+#[tactic(auto, using(crate::proofs::EntryStepLaws::entry_is))]
+pub fn read_entry(line: &[u8]) -> Result<(u32, Entry), LineKind>
+    ensures { result ≡ entry_at line.now }
+{
+    entries::entry(line)
+}

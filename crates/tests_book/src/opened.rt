@@ -1,0 +1,108 @@
+//! What a book of another size answers, and how many sheets it keeps.
+
+ghost use Rattle.std.specs.Prelude.{◌≡◌, ◌<◌};
+
+use crate::crossing::{Site, crossing};
+use crate::serving::{Lines, VEHICLES, entry, give, is_told, kept};
+use aim_book::{Book, Full, OpenFault};
+use aim_pool::Pool;
+use aim_tiles::Steps;
+use std::alloc::Global;
+use std::marker::Brand;
+use std::process::Abort;
+use std::sync::ledger::{Blank, Ledger};
+use std::test::Fail;
+
+// Whether a book of so many vehicles and entries is not opened for that fault.
+fn is_refused<L: Ledger>(
+    alloc: Global,
+    vehicles: u32,
+    room: u32,
+    fault: OpenFault,
+) -> Result<bool, Fail> {
+    let layout = crossing(alloc, Site::Plain)?;
+    Ok(match Book::<L>::open(alloc, layout, vehicles, room) {
+        Ok(_) => false,
+        Err(found) => found == fault,
+    })
+}
+
+#[test]
+fn not_opened(rt: HostRuntime) -> Result<(), Fail> {
+    for (vehicles, room, fault) in [
+        (0, 1, OpenFault::Vehicles),
+        (0, 0, OpenFault::Vehicles),
+        (65_537, 1, OpenFault::Vehicles),
+        (1, 0, OpenFault::Room),
+        (65_536, 262_145, OpenFault::Room),
+    ] {
+        assert!(rt; is_refused::<Brand>(rt.alloc(), vehicles, room, fault)?);
+    }
+    Ok(())
+}
+
+// A journal, and how many sheets the book keeps after each of its entries.
+const LINES: Lines = &[
+    "0 0 0 request 1 0 straight 10 500 500 0 1000 700 car -> confirm 0 10 0 0 steady 20",
+    "1 0 1 request 4 0 straight 40 500 500 0 1000 700 car -> reject holds 0 next 0 held 0",
+    "2 0 1 change 5 0 0 straight 40 500 500 0 1000 700 car -> confirm 2 40 0 0 steady 50",
+    "3 0 2 cancel 6 0 -> ack 0",
+    "4 1 60 request 1 1 straight 70 500 500 0 1000 700 car -> confirm 4 70 0 0 steady 80",
+    "5 0 60 request 7 0 straight 78 500 500 0 1000 700 car -> confirm 5 78 0 0 steady 88",
+    "6 0 61 cancel 8 5 -> ack 5",
+    "7 operator 61 stop -> stopped",
+    "8 1 90 done 2 4 -> ack 4",
+];
+
+const KEPT: [u32; 9] = [1, 1, 1, 1, 2, 2, 1, 1, 0];
+
+// Serves the lines, and asserts how many sheets are kept after each.
+fn keep<L: Ledger>(
+    rt: &impl Abort,
+    book: &mut Book<L>,
+    pool: &mut Pool,
+    steps: &mut Steps<L>,
+) -> Result<(), Fail> {
+    for (line, sheets) in LINES.iter().zip(KEPT) {
+        let (_, entry) = entry(line)?;
+        let _ = give(rt, book, &entry, pool, steps)?;
+        assert_eq!(rt; kept(book), sheets);
+    }
+    Ok(())
+}
+
+// Whether the journal has no room for the call of the line.
+fn is_full<L: Ledger>(
+    rt: &impl Abort,
+    book: &mut Book<L>,
+    pool: &mut Pool,
+    steps: &mut Steps<L>,
+    line: &str,
+) -> Result<bool, Fail> {
+    let (_, entry) = entry(line)?;
+    Ok(give(rt, book, &entry, pool, steps)? == Err(Full))
+}
+
+// Serves the lines, and one call of each kind more, for which the journal has no room.
+fn fill<L: Ledger>(rt: &impl Abort, alloc: Global, blank: Blank) -> Result<(), Fail>
+    requires name { blank.name ≡ L.name }
+    requires parts { blank.parts ≡ L.parts }
+    requires some { 0 < blank.parts }
+{
+    let layout = crossing(alloc, Site::Plain)?;
+    let mut pool = Pool::new(alloc, VEHICLES + 2, 4096)?;
+    let mut steps = Steps::<L>::new(blank);
+    let mut book = Book::<L>::open(alloc, layout, VEHICLES, 9)?;
+    keep(rt, &mut book, &mut pool, &mut steps)?;
+    for line in [LINES[0], LINES[7]] {
+        assert!(rt; is_full(rt, &mut book, &mut pool, &mut steps, line)?);
+    }
+    assert_eq!(rt; pool.count(), VEHICLES + 2);
+    assert!(rt; is_told(alloc, book.journal(), LINES)?);
+    Ok(())
+}
+
+#[test]
+fn sheets_are_kept_and_the_journal_is_full(rt: HostRuntime) -> Result<(), Fail> {
+    fill::<Brand>(&rt, rt.alloc(), Blank::new(1))
+}

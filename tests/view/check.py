@@ -1,0 +1,450 @@
+#!/usr/bin/env python3
+"""Tests of the page tools/view/view.html in a Chromium without a window. Ends with 1 where anything differs.
+
+Usage: check.py [--outputs]     (--outputs: only the program's outputs beside the stored ones, without a browser)
+"""
+
+import json
+import pathlib
+import subprocess
+import sys
+import tempfile
+import time
+
+import browser
+import colours
+import many
+import runs
+
+TOOLS = runs.ROOT / "tools" / "view"
+PROBES = pathlib.Path(__file__).with_name("probes.js").read_text(encoding="utf-8")
+DONE = "state.run !== null || document.querySelector('#told').childElementCount > 0"
+passed, failed = 0, 0
+
+
+def judge(what, wanted, got):
+    global passed, failed
+    if wanted == got:
+        passed += 1
+        return
+    failed += 1
+    print(f"view: {what}\n  wanted: {str(wanted)[:600]}\n  got:    {str(got)[:600]}", file=sys.stderr)
+
+
+class Page:
+    """The page in a browser, opened with texts inside or with files chosen."""
+
+    def __init__(self, chromium, folder):
+        self.browser, self.folder, self.run = chromium, pathlib.Path(folder), chromium.run
+
+    def open(self, *paths, after=""):
+        """Opens a copy of the page that has these files inside."""
+        copy = self.folder / "copy.html"
+        copy.write_bytes(subprocess.run([TOOLS / "fill.py", *paths], capture_output=True, check=True).stdout)
+        self.browser.open(copy, after)
+        self.run(PROBES)
+
+    def empty(self):
+        """Opens the page itself."""
+        self.browser.open(TOOLS / "view.html")
+        self.run(PROBES)
+
+    def choose(self, *paths):
+        """Chooses files by the picker of an empty page, and waits until they are shown."""
+        self.empty()
+        self.browser.choose_files([str(path) for path in paths])
+        self.wait(DONE, 60)
+        self.browser.settle()
+
+    def ask(self, name, *words):
+        """What a function of the page answers."""
+        return self.run(f"{name}({', '.join(map(json.dumps, words))})")
+
+    def wait(self, test, seconds=5):
+        until = time.monotonic() + seconds
+        while time.monotonic() < until:
+            if self.run(test):
+                return True
+            time.sleep(0.05)
+        return False
+
+    def text(self, selector):
+        return self.run(f"document.querySelector({json.dumps(selector)})?.textContent ?? null")
+
+    def told(self):
+        return self.text("#told")
+
+    def title(self):
+        """The name of what is chosen."""
+        return self.text("#details h2")
+
+
+# ---- Tiles: what the page draws beside what the program prints.
+
+def tile_lines(text):
+    """The lines of tiles of each crossing of an output, five numbers each."""
+    sections = [[]]
+    for line in text.split("\n"):
+        if line.startswith("crossing ") and line != "crossing 0":
+            sections.append([])
+        if line.startswith("tiles "):
+            sections[-1].append([int(word) for word in line.split(" ")[1:]])
+    return sections
+
+
+def check_tiles(page, each):
+    """The lines of tiles as the page computes them, and the tiles that it shades under vehicles, step by step."""
+    own = page.run("state.run.crossings.map(crossing => crossing.tileLines())")
+    for at, lines in enumerate(tile_lines(each.text)):
+        judge(f"{each.name}: lines of tiles, crossing {at}", [n for line in lines for n in line], own[at])
+        if not lines:
+            continue
+        n, drawn = page.ask("drawnUnder", at, min(line[3] for line in lines) - 3, max(line[4] for line in lines) + 3)
+        wanted = {}
+        for v, row, col, first, last in lines:
+            wanted.setdefault(f"{v} {row * n + col}", []).extend(range(first, last + 1))
+        judge(f"{each.name}: tiles shaded under vehicles, crossing {at}", wanted, drawn)
+
+
+def check_chart(page, each):
+    """The chart as the page computes it, the tiles that it draws for that step, and what stands on the canvas."""
+    step = each.chart_step()
+    rows = [line for line in each.text.split("\n") if line and set(line) <= set("#g.")]
+    wanted = "\n".join(rows)
+    judge(f"{each.name}: the chart", wanted, page.run(f"crossingNow().chart({step}).join('\\n')"))
+    judge(f"{each.name}: the tiles drawn", wanted, page.ask("drawnChart", step))
+    if set(wanted) - set(".\n"):
+        found = page.run(f"(aboutRun(), crossingNow().chartSteps.includes({step}))")
+        judge(f"{each.name}: its step is found", True, found)
+    if len(rows) == 4 and "g" not in wanted:
+        page.browser.settle()
+        judge(f"{each.name}: the canvas", wanted, page.ask("paintedChart"))
+
+
+def check_letters(page, each):
+    """Each message arrives as an entry, each answer as a Got item, in the step in which the page says it is due."""
+    until = page.run("state.run.script.until")
+    sections = each.text.split("crossing ")[1:] if each.words[0] == "grid" else [each.text]
+    for at, (section, letters) in enumerate(zip(sections, page.ask("lettersDue"))):
+        entries, got, due = [], [], {"up": [], "down": []}
+        for line in section.split("\n"):
+            words = line.split(" ")
+            if " -> " in line and words[1] != "operator":
+                entries.append((int(words[1]), int(words[2]), line.split(" -> ")[0].split(" ", 3)[3]))
+            if line.startswith("log ") and words[2] == "got":
+                got.append((int(words[1]), int(words[3]), " ".join(words[5:])))
+        for v, way, text, steps in letters:
+            due[way] += [(v, step, text) for step in steps if step < until]
+        judge(f"{each.name}: letters that reach the manager, crossing {at}", sorted(entries), sorted(due["up"]))
+        judge(f"{each.name}: letters that reach vehicles, crossing {at}", sorted(got), sorted(due["down"]))
+
+
+def check_outputs(page):
+    for each in runs.stored():
+        page.open(each.script, each.output)
+        judge(f"{each.name}: nothing is told", "", page.told())
+        judge(f"{each.name}: it is shown", True, page.run("state.run !== null"))
+        if each.chart_step() is not None:
+            check_chart(page, each)
+        elif each.words[0] != "replay":
+            check_tiles(page, each)
+            check_letters(page, each)
+        page.ask("lookThrough")
+
+
+# ---- What presses and keys do.
+
+def check_presses(page):
+    page.open(runs.EXAMPLES / "refusal.aim", runs.EXAMPLES / "refusal.out", after="#step=13")
+    rows = page.run("[...document.querySelectorAll('#rows button')].map(b => b.innerText.replace(/\\s+/g, ' '))")
+    wanted = ["asks 6", "confirmed 2", "refused: late 1", "refused: far 1", "refused: distance 1", "refused: taken 1"]
+    judge("rows of the timeline", wanted, rows)
+    known = page.run("[0, 7, 8, 19, 20].map(step => crossingNow().knownAt(step))")
+    judge("how many entries are known in a step", [3, 3, 4, 4, 6], known)
+    page.browser.press(*page.ask("placeOf", 1, 0.8))
+    judge("a press on a vehicle", "Vehicle 0", page.title())
+    judge("its messages and answers", 2, page.run("document.querySelectorAll('#letters [role=button]').length"))
+    page.browser.press(*page.ask("placeOf", 3, 3))
+    judge("a press on a tile", "Tile row 3, column 3", page.title())
+    page.browser.press(*page.ask("placeOf", 1, 3))
+    rows = page.run("[...document.querySelectorAll('#details tbody tr')].map(r => [...r.children].map("
+                    "cell => cell.textContent))")
+    judge("who holds it when", [["0", "15–20", "0", ""]], rows)
+    page.browser.press_in("#item1")
+    judge("a press on a refusal in the list", "Entry 1", page.title())
+    reason = "Refused: tile row 1, column 2 is reserved by vehicle 0 in step 13"
+    judge("its reason", True, reason in page.text("#details"))
+    judge("the tile and step that it names", {"row": 1, "col": 2, "step": 13, "by": 0}, page.run("state.pinned.named"))
+    judge("who holds that tile then", 0, page.run("view.holders[1 * 4 + 2]"))
+    judge("as it was known", "Step 13 as known in step 0, before entry 1", page.text("#under"))
+    page.browser.press(*page.ask("placeInTime", "far", 20))
+    judge("a press on a refusal of the timeline", "Entry 5", page.title())
+    page.browser.press_in("#rows button:nth-child(2)")
+    judge("a row of the timeline lists its entries", "Entries: confirmed (2)", page.text("#listname"))
+
+
+def check_links_and_routes(page):
+    page.open(runs.EXAMPLES / "lossy.aim", runs.OUTPUTS / "lossy.out", after="#vehicle=0")
+    labels = page.run("[...document.querySelectorAll('#letters [role=button]')].map(e => e.getAttribute('aria-label'))")
+    judge("a lost letter", 1, sum(label.endswith(" lost") for label in labels))
+    judge("a repeated letter", 1, sum(label.endswith(" twice") for label in labels))
+    page.ask("choose", {"kind": "vehicle", "v": 1})
+    judge("a late letter", True, "4 late" in page.text("#letters"))
+    rows = page.run("rowsOf(crossingNow()).filter(row => row.letters).map(row => [row.word, row.count])")
+    judge("faults of links on the timeline", [["lost", 1], ["late", 1], ["repeated", 1]], rows)
+    page.open(runs.EXAMPLES / "route.aim", runs.OUTPUTS / "route.out", after="#vehicle=1")
+    page.browser.press_in("#crossings button:nth-child(2)")
+    judge("the other crossing", 1, page.run("state.at"))
+    page.ask("choose", {"kind": "vehicle", "v": 0})
+    judge("a route", True, "1 → 0" in page.text("#details"))
+
+
+def check_tab_key(page):
+    page.open(runs.EXAMPLES / "siren.aim", runs.OUTPUTS / "siren.out")
+    reached = set()
+    for _ in range(60):
+        page.browser.key("Tab")
+        reached.add(page.run("document.activeElement.id || document.activeElement.tagName"))
+    wanted = {"open", "theme", "help", "plan", "first", "backplay", "back", "play", "on", "final", "step", "pace",
+              "before", "after", "slide", "wider", "closer", "list", "layer-lanes"}
+    judge("all is reached by the tab key", set(), wanted - reached)
+    page.run("document.activeElement.blur()")
+
+
+def check_time_keys(page):
+    key = page.browser.key
+    key("ArrowRight")
+    key("ArrowRight", shift=True)
+    judge("steps by keys", 11, page.run("state.time"))
+    key("ArrowLeft")
+    judge("a step back", 10, page.run("state.time"))
+    key(" ")
+    judge("play", True, page.wait("state.time > 12 && state.playing === 1"))
+    key("b")
+    judge("play backwards", True, page.wait("state.playing === -1 && state.time < 11"))
+    key("b")
+    judge("stop", 0, page.run("state.playing"))
+    key("End")
+    judge("the end", True, page.run("state.time === state.run.last"))
+    key("+")
+    judge("fewer steps on the timeline", 2, page.run("state.zoom"))
+
+
+def check_choosing_keys(page):
+    key = page.browser.key
+    key("Home")
+    for name, what, wanted in (("n", "the next entry", "Entry 0"), ("r", "the next refusal", "Entry 2"),
+                               ("p", "the entry before", "Entry 1")):
+        key(name)
+        judge(what, wanted, page.title())
+    key("Escape")
+    judge("nothing chosen", None, page.run("state.chosen"))
+    page.ask("setTime", 170)
+    for name, what, wanted in (("v", "the first vehicle there", "Vehicle 0"), ("v", "the next vehicle", "Vehicle 1"),
+                               ("l", "a lane", "Lane 0")):
+        key(name)
+        judge(what, wanted, page.title())
+    page.run("plan.focus()")
+    for name in ("ArrowUp", "ArrowUp", "ArrowRight", "Enter"):
+        key(name)
+    judge("a tile by keys", "Tile row 13, column 13", page.title())
+    page.run("document.querySelector('#details button.plain').focus()")
+    key("Enter")
+    judge("the focus stays where things change", ["Vehicle 6", "H2"],
+          [page.title(), page.run("document.activeElement.tagName")])
+    page.run("document.querySelector('#rows button').focus()")
+    key("Enter")
+    judge("and in the rows", "asks", page.run("document.activeElement.querySelector('.word')?.textContent"))
+    key("Enter")
+    page.run("list.focus()")
+    key("ArrowDown")
+    key("ArrowDown")
+    judge("the list by keys", "Entry 1", page.title())
+    key("?")
+    judge("the page of keys", True, page.run("document.querySelector('#keys').open"))
+    key("Escape")
+    judge("and away", False, page.run("document.querySelector('#keys').open"))
+
+
+# ---- Wrong and cut files.
+
+def check_cuts(page):
+    page.empty()
+    for name in ("lossy", "lights"):
+        script, output = (runs.EXAMPLES / f"{name}.aim").read_text(), (runs.OUTPUTS / f"{name}.out").read_text()
+        judge(f"{name}: the output, cut", [], page.run(f"untoldCuts({json.dumps(output)}, readOutput)"))
+        # A script's last line may lack its newline.
+        wanted = [[len(script) - 1, None]]
+        judge(f"{name}: the script, cut", wanted, page.run(f"untoldCuts({json.dumps(script)}, readScript)"))
+        judge(f"{name}: changed bytes", [], page.ask("thrownByChanges", script, output, 400))
+
+
+# A text of the example `refusal`, what is put in the place of what, and the beginning of what the page tells.
+WRONG = (
+    ("refusal.aim", "grid 4000 4", "grid 4000 3", ", line 2: N divides SIDE, and 3 doesn't divide 4000."),
+    ("refusal.aim", "lanes 2", "lanes 02", ", line 4: N is a number without sign and leading zero, up to"),
+    ("refusal.aim", "lanes 2\n", "", ", line 4: lanes is wanted here, not \"move\"."),
+    ("refusal.aim", "0 straight", "0 ahead", ", line 5: TURN is one of left, straight, right, not \"ahead\"."),
+    ("refusal.aim", "aim 1\n", "aim 1\r\n", ", line 1: it ends with a carriage return"),
+    ("refusal.aim", "3 8 request", "9 8 request", ", line 13: VEHICLE is 0 to 7, not 9."),
+    ("refusal.out", "3 3 8", "4 3 8", ", line 4: the entry's position is 3, not \"4\"; a line is missing"),
+    ("refusal.out", "1 2 13 0", "1 2 13", ", line 2: the reason is: taken ROW COL STEP BY, and \"next\" can't"),
+    ("refusal.out", "steady 20", "steady 21", ", line 1: by the layout of the script this crossing ends at step 20"),
+    ("refusal.out", "end 6", "end 5", ", line 7: end 6 is wanted: so many entries stand before."),
+    ("refusal.out", "end 6\n", "", ", line 7: the text is at its end: the last line is `end N`"),
+    ("refusal.out", "end 6\n", "end 6", ", line 7: the text is cut here"),
+    ("refusal.out", "2 2 0 request 1 1", "2 2 0 request 1 0", ", line 3: line 12 of the script says"),
+    ("refusal.out", "-> confirm 0", "-> confirmed 0", ", line 1: no reply begins with \"confirmed\""),
+)
+
+
+def check_wrong(page):
+    texts = {name: (runs.EXAMPLES / name).read_bytes().decode() for name in ("refusal.aim", "refusal.out")}
+    folder = page.folder / "wrong"
+    folder.mkdir()
+
+    def told_with(name, old, new):
+        for each, text in texts.items():
+            (folder / each).write_bytes((text.replace(old, new, 1) if each == name else text).encode())
+        page.choose(*(folder / each for each in texts))
+        return page.told()
+
+    for name, old, new, wanted in WRONG:
+        told = told_with(name, old, new)
+        judge(f"{name} with {new!r} for {old!r}", name + wanted, told[: len(name + wanted)])
+    wanted = "The program stopped at line 12 of the script (words)"
+    told = told_with("refusal.out", "end 6", "bad line 12 words")
+    judge("a bad line that the program told", wanted, told[: len(wanted)])
+
+
+def check_pairs(page):
+    """Files that don't belong together, or come one by one."""
+    for script, output, wanted in (
+        (runs.EXAMPLES / "refusal.aim", runs.OUTPUTS / "lights.out", "lights.out, line 1: the script has no policy 1"),
+        (runs.EXAMPLES / "phases.aim", runs.OUTPUTS / "siren.out", "siren.out, line 1: the script's plan of vehicle 0"),
+    ):
+        page.choose(script, output)
+        judge("another script's output", wanted, page.told()[: len(wanted)])
+    page.choose(runs.ROOT / "README.md")
+    judge("no script at all", "README.md, line 1: this is neither a script", page.told()[:43])
+    page.choose(runs.EXAMPLES / "refusal.out")
+    judge("an output alone", "The output is read. Open its script", page.told()[:35])
+    page.browser.choose_files([str(runs.EXAMPLES / "refusal.aim")])
+    judge("and then its script", [True, ""], [page.wait("crossingNow()?.journal.count === 6"), page.told()])
+    paths = runs.EXAMPLES / "lossy.aim", runs.OUTPUTS / "lossy.out"
+    page.ask("drop", [[path.name, path.read_text()] for path in paths])
+    judge("files that are dropped", True, page.wait("crossingNow()?.journal.count === 12"))
+    page.choose(runs.EXAMPLES / "refusal.aim")
+    judge("a script alone", ["The layout alone", 2], [page.told()[:16], page.run("crossingNow().layout.lanes.length")])
+    strange = page.folder / "strange.aim"
+    strange.write_text("aim 1\n</script><script>document.title = 'taken'</script>\n")
+    page.open(strange)
+    judge("a script with marks of a page", "strange.aim, line 2", page.told()[:19])
+    judge("and they are no marks", "aim: strange.aim", page.text("title"))
+
+
+# ---- Eyes and widths.
+
+def check_eyes(page):
+    style = "[...getComputedStyle(document.documentElement)].filter(n => n.startsWith('--'))" \
+        ".map(n => [n.slice(2), getComputedStyle(document.documentElement).getPropertyValue(n).trim()])"
+    for dark in (False, True):
+        page.browser.scheme(dark)
+        page.open(runs.EXAMPLES / "phases.aim", runs.OUTPUTS / "phases.out")
+        theme = "dark" if dark else "light"
+        judge(f"{theme}: as the system says", theme, page.run("document.documentElement.dataset.theme"))
+        own = dict(page.run(style))
+        for over, under, least in colours.TEXTS:
+            judge(f"{theme}: {over} on {under} reads well", True, colours.contrast(own[over], own[under]) >= least)
+    page.browser.scheme(False)
+    judge("vehicles' colours for all eyes", [], colours.alike(page.run("HUES")))
+
+
+def check_widths(page):
+    for wide in (320, 390):
+        page.browser.size(wide, 740, 2, True)
+        for name in ("siren", "route", "lossy", "twelve-lanes"):
+            page.open(runs.EXAMPLES / f"{name}.aim", runs.OUTPUTS / f"{name}.out", after="#vehicle=0")
+            judge(f"{name} at a width of {wide}", wide, page.run("document.documentElement.scrollWidth"))
+    page.browser.size(1100, 640)
+    page.open(runs.EXAMPLES / "refusal.aim", runs.EXAMPLES / "refusal.out")
+    judge("the plan in a low window", [300, 300, 300], page.run("[plan.clientWidth, plan.width, plan.height]"))
+    page.browser.size(1280, 900)
+
+
+# ---- Great inputs.
+
+def check_load(page, script, output, what, entries):
+    page.empty()
+    page.ask("watchFrames")
+    began = time.monotonic()
+    page.browser.choose_files([str(script), str(output)])
+    judge(f"{what}: it is shown", True, page.wait(DONE, 60))
+    page.browser.settle()
+    seconds, reading = time.monotonic() - began, page.ask("longestFrame")
+    judge(f"{what}: nothing is told", "", page.told())
+    judge(f"{what}: entries", entries, page.run("crossingNow()?.journal.count"))
+    page.run("setTime((state.run.first + state.run.last) / 2); state.pace = 100")
+    page.browser.settle()
+    page.ask("watchFrames")
+    page.browser.key(" ")
+    time.sleep(2)
+    for name in ("v", "r", "+"):
+        page.browser.key(name)
+    playing = page.ask("longestFrame")
+    judge(f"{what}: no frame waits for a second", [True, True], [reading < 1000, playing < 1000])
+    print(f"view: {what}: read in {seconds:.1f} s; the longest frame {reading} ms, and {playing} ms while it plays")
+
+
+def check_long(page):
+    script, output = many.journal(page.folder)
+    check_load(page, script, output, "262,144 lines", many.MOST_LINES - many.header().count("\n") - 3)
+
+
+def check_many(page):
+    path, text = runs.program(), many.drive()
+    printed = runs.printed(path, ["drive", "1"], text) if path else None
+    if printed is None:
+        print("view: not tested: a drive of 256 vehicles, since the program doesn't run drives here yet")
+        return
+    script, output = page.folder / "many.aim", page.folder / "many.out"
+    script.write_text(text)
+    output.write_text(printed)
+    check_load(page, script, output, "a drive of 256 vehicles", printed.count(" -> "))
+    judge("256 vehicles: lines of tiles", True, page.run("crossingNow().checked"))
+
+
+PARTS = (check_outputs, check_presses, check_links_and_routes, check_tab_key, check_time_keys, check_choosing_keys,
+         check_cuts, check_wrong, check_pairs, check_eyes, check_widths, check_long, check_many)
+
+
+def check_page():
+    with tempfile.TemporaryDirectory() as folder:
+        try:
+            chromium = browser.Browser()
+        except (browser.Failed, OSError) as error:
+            print(f"view: not tested: the page, since the Chromium here doesn't start: {error}")
+            return
+        try:
+            page = Page(chromium, folder)
+            for part in PARTS:
+                part(page)
+            judge("nothing is thrown", [], chromium.faults)
+            asked = [url[:80] for url in chromium.asked if not url.startswith("file:")]
+            judge("nothing is asked of a network", [], asked)
+        finally:
+            chromium.close()
+
+
+def main():
+    own, waiting = runs.compare(judge)
+    print(f"view: {own} stored outputs are those of the program; {len(waiting)} it doesn't print yet"
+          + (": " + ", ".join(name.split("/")[-1] for name in waiting) if waiting else ""))
+    if "--outputs" not in sys.argv:
+        check_page()
+    print(f"view: {passed} passed, {failed} failed")
+    return 1 if failed else 0
+
+
+if __name__ == "__main__":
+    sys.exit(main())
