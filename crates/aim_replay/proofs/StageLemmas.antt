@@ -1,8 +1,7 @@
 -- What a line comes to at the stage where it belongs.
-use Rattle.std.proofs.Common.{◌≡◌, ℕ, ◌+◌, ◌<◌, ◌≤◌, ◌==◌, Bool, true, false, not, nat_lt, nat_le, List, [], ◌∷◌, ◌++◌, length, fold, Option, Some, None, Result, Ok, Err, refl, sym, ap, ◌∙◌, subst, arith, if◌then◌else◌, length-append, suc, cond, ◌||◌}
+use Rattle.std.proofs.Common.{◌≡◌, ℕ, ◌+◌, ◌<◌, ◌≤◌, Bool, true, false, not, nat_lt, List, [], ◌∷◌, ◌++◌, length, fold, Some, None, Result, Ok, Err, refl, sym, ap, ◌∙◌, arith, length-append, suc, cond, ◌||◌}
 use Rattle.std.specs.Prelude.{bytes_eq, position}
 use Rattle.std.specs.List.{list_any, position_or_len}
-use Rattle.std.specs.Option.{option_to_list}
 use Rattle.std.proofs.lemmas.Bool.Decides.{nat_tests}
 use Rattle.aim_io.specs.Lines.{Line as LineOf}
 use Rattle.aim_msg.specs.Lines.{KeepsRanges, name_word}
@@ -17,7 +16,7 @@ use Rattle.aim_msg.specs.declared.entries.Entry.{Entry}
 use Rattle.aim_msg.specs.declared.entries.Order.{Order}
 use Rattle.aim_msg.specs.declared.entries.Order.TheVariants as order
 use Rattle.aim_msg.specs.declared.entries.Act.TheVariants as act
-use Rattle.aim_msg.specs.declared.entries.TheConstants.{LATEST_MOMENT, MOST_ENTRIES, OPERATOR}
+use Rattle.aim_msg.specs.declared.entries.TheConstants.{LATEST_MOMENT, MOST_ENTRIES}
 use Rattle.aim_paths.specs.Intersection.{Intersection}
 use Rattle.aim_rules.specs.Journals.{Call, journal, entry_of}
 use Rattle.aim_book.specs.State.{State}
@@ -27,7 +26,7 @@ use Rattle.aim_script.specs.declared.decisions.Kind.TheVariants as why
 use Rattle.aim_script.specs.declared.decisions.Limit.{Limit}
 use Rattle.aim_script.specs.declared.settings.Setting.{Setting}
 use Rattle.aim_script.specs.Order.{part_after, is_end, in_body}
-use Rattle.aim_script.specs.Said.{version_in, version_after, name_in, names_of, is_named, number_of, layout_of, vehicles_in, vehicles_of, call_in, calls_of, last_of}
+use Rattle.aim_script.specs.Said.{version_in, version_after, name_in, names_of, number_of, layout_of, vehicles_in, call_in, calls_of}
 use Rattle.aim_script.specs.Kinds.{kind_of_fault, limit_of, vehicles_limit}
 use Rattle.aim_script.specs.Verdicts.{judge, of_read, goes_on, decides, number_after, at_end}
 use Rattle.aim_script.specs.Headers.{HasName, IsSet, Heeds}
