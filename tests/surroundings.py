@@ -98,10 +98,12 @@ def reader_goes_away():
     read, write = os.pipe()
     program = subprocess.Popen([PROGRAM, "replay"], stdin=subprocess.PIPE, stdout=write)
     os.close(write)
+    program.stdin.write(HEADER + b"1 0 cancel 1 0\n")
+    program.stdin.flush()
     os.read(read, 10)
     os.close(read)
     try:
-        program.stdin.write(HEADER + calls + b"end\n")
+        program.stdin.write(calls + b"end\n")
         program.stdin.close()
     except BrokenPipeError:
         pass

@@ -21,7 +21,7 @@ use Rattle.aim_script.specs.declared.decisions.Kind.{Kind}
 use Rattle.aim_replay.specs.declared.stages.Made.{Made}
 use Rattle.aim_replay.specs.declared.stages.Stage.{Stage}
 use Rattle.aim_replay.specs.declared.stages.Stage.TheVariants as stage
-use Rattle.aim_script.specs.Said.{Described, layout_of, calls_of, names_of}
+use Rattle.aim_script.specs.Said.{layout_of, calls_of, names_of}
 use Rattle.aim_script.specs.Verdicts.{Judgement, Verdict, journal_of, number_after, judge, decides, goes_on, of_fault, at_end, verdict_from, verdict}
 use Rattle.aim_replay.specs.Texts.{chart_lines, entry_lines, ending, replay_text}
 use Rattle.aim_script.specs.Decided.{printed, decision_words, status_of}

@@ -1,8 +1,7 @@
 -- What a line comes to at the stage where it belongs.
-use Rattle.std.proofs.Common.{◌≡◌, ℕ, ◌+◌, ◌<◌, ◌≤◌, ◌==◌, Bool, true, false, not, nat_lt, nat_le, List, [], ◌∷◌, ◌++◌, length, fold, Option, Some, None, Result, Ok, Err, refl, sym, ap, ◌∙◌, subst, arith, if◌then◌else◌, length-append, suc, cond, ◌||◌}
+use Rattle.std.proofs.Common.{◌≡◌, ℕ, ◌+◌, ◌<◌, ◌≤◌, Bool, true, false, not, nat_lt, List, [], ◌∷◌, ◌++◌, length, fold, Some, None, Result, Ok, Err, refl, sym, ap, ◌∙◌, arith, length-append, suc, cond, ◌||◌}
 use Rattle.std.specs.Prelude.{bytes_eq, position}
 use Rattle.std.specs.List.{list_any, position_or_len}
-use Rattle.std.specs.Option.{option_to_list}
 use Rattle.std.proofs.lemmas.Bool.Decides.{nat_tests}
 use Rattle.aim_io.specs.Lines.{Line as LineOf}
 use Rattle.aim_msg.specs.Lines.{KeepsRanges, name_word}
@@ -17,7 +16,7 @@ use Rattle.aim_msg.specs.declared.entries.Entry.{Entry}
 use Rattle.aim_msg.specs.declared.entries.Order.{Order}
 use Rattle.aim_msg.specs.declared.entries.Order.TheVariants as order
 use Rattle.aim_msg.specs.declared.entries.Act.TheVariants as act
-use Rattle.aim_msg.specs.declared.entries.TheConstants.{LATEST_MOMENT, MOST_ENTRIES, OPERATOR}
+use Rattle.aim_msg.specs.declared.entries.TheConstants.{LATEST_MOMENT, MOST_ENTRIES}
 use Rattle.aim_paths.specs.Intersection.{Intersection}
 use Rattle.aim_rules.specs.Journals.{Call, journal, entry_of}
 use Rattle.aim_book.specs.State.{State}
@@ -27,7 +26,7 @@ use Rattle.aim_script.specs.declared.decisions.Kind.TheVariants as why
 use Rattle.aim_script.specs.declared.decisions.Limit.{Limit}
 use Rattle.aim_script.specs.declared.settings.Setting.{Setting}
 use Rattle.aim_script.specs.Order.{part_after, is_end, in_body}
-use Rattle.aim_script.specs.Said.{version_in, version_after, name_in, names_of, is_named, number_of, layout_of, vehicles_in, vehicles_of, call_in, calls_of, last_of}
+use Rattle.aim_script.specs.Said.{version_in, version_after, name_in, names_of, number_of, layout_of, vehicles_in, call_in, calls_of}
 use Rattle.aim_script.specs.Kinds.{kind_of_fault, limit_of, vehicles_limit}
 use Rattle.aim_script.specs.Verdicts.{judge, of_read, goes_on, decides, number_after, at_end}
 use Rattle.aim_script.specs.Headers.{HasName, IsSet, Heeds}
@@ -82,7 +81,7 @@ played_more before p q l c played quiet call version names server =
     let calls : calls_of (before ++ l ∷ []) ≡ calls_of before ++ c ∷ [] = calls_more before l quiet.name ∙ rw call refl in
     let entries : q.server.journal ≡ p.server.journal ++ e ∷ [] = ap (λ (s : State). s.journal) server in
     let one : journal i (calls_of (before ++ l ∷ [])) ≡ q.server.journal =
-        ap (journal i) calls ∙ journal_more i (calls_of before) c ∙ ap (λ (h : List Entry). h ++ entry_of i h c ∷ []) played.journal ∙ sym entries in
+    ap (journal i) calls ∙ journal_more i (calls_of before) c ∙ ap (λ (h : List Entry). h ++ entry_of i h c ∷ []) played.journal ∙ sym entries in
     let few = played.few in
     record {
       version = version_same before l quiet.version ∙ played.version ∙ rw version refl;
@@ -103,9 +102,10 @@ pub event_taken : {L : Type 0} (before : List Line) (p q : Play L) (v at : ℕ) 
     → Stands before (stage.Body p) → Takes before (line.Event v at m) (Ok (stage.Body q))
 event_taken before p q v at m good version names server (part, over, played) =
     let l = line.Event v at m in
-    let quiet : IsQuiet l = record { version = refl; vehicles = refl; name = refl; silent = record { grid = refl; times = refl; lanes = refl; added = refl } } in
-    (goes before l (event_kind_of before v at m part ∙ rw played.declared good) refl,
-    body_stands before l q refl refl (played_more before p q l (record { caller = v; moment = at; act = act.Message m }) played quiet refl version names server))
+    let quiet : IsQuiet l = record { version = refl; vehicles = refl; name = refl; silent = record { grid = refl; times = refl; lanes = refl; added = refl } } in (
+      goes before l (event_kind_of before v at m part ∙ rw played.declared good) refl,
+      body_stands before l q refl refl (played_more before p q l (record { caller = v; moment = at; act = act.Message m }) played quiet refl version names server),
+    )
 
 -- a stage of the body that an order led to
 ordered_stands : {L : Type 0} (before : List Line) (p : Play L) (l : Line) (at : ℕ) (o : Order) (s : Stage L) → IsOrdered p at o s → IsPlayed before p → IsQuiet l → part_after (Some l) ≡ in_body → is_end (Some l) ≡ false → call_in (names_of before) l ≡ Some (order_call at o)
@@ -160,9 +160,10 @@ pub switch_taken : {L : Type 0} (before : List Line) (p : Play L) (s : Stage L) 
 switch_taken before p s at policy name early is ordered (part, over, played) =
     let l = line.SwitchTo at name in
     let f = found (name_word name) p.names policy is in
-    let quiet : IsQuiet l = record { version = refl; vehicles = refl; name = refl; silent = record { grid = refl; times = refl; lanes = refl; added = refl } } in
-    (goes before l (switch_kind before at name part ∙ rw (played.named, f.0, in_time at early) refl) refl,
-    ordered_stands before p l at (order.Switch policy) s ordered played quiet refl refl (rw (played.named, f.1) refl))
+    let quiet : IsQuiet l = record { version = refl; vehicles = refl; name = refl; silent = record { grid = refl; times = refl; lanes = refl; added = refl } } in (
+      goes before l (switch_kind before at name part ∙ rw (played.named, f.0, in_time at early) refl) refl,
+      ordered_stands before p l at (order.Switch policy) s ordered played quiet refl refl (rw (played.named, f.1) refl),
+    )
 
 pub switch_unknown : {L : Type 0} (before : List Line) (p : Play L) (at : ℕ) (name : Name) → None ≡ position (bytes_eq (name_word name)) p.names → Stands before (stage.Body p)
     → of_read before (Ok (line.SwitchTo at name)) ≡ decides (decision.Bad (number_after before) why.Policy)

@@ -73,7 +73,13 @@ impl<L: Ledger> Server<L> {
     }
 
     /// Answers a message of a vehicle.
-    pub fn serve(&mut self, vehicle: u32, moment: u32, message: &Message, steps: &mut Steps<L>) -> Reply
+    pub fn serve(
+        &mut self,
+        vehicle: u32,
+        moment: u32,
+        message: &Message,
+        steps: &mut Steps<L>,
+    ) -> Reply
         requires vehicle { vehicle < self.old.vehicles }
         requires moment { moment ≤ LATEST_MOMENT }
         requires room { length self.old.journal < MOST_ENTRIES }
@@ -87,7 +93,10 @@ impl<L: Ledger> Server<L> {
             unreachable!()
         };
         let prepared = prepare(self.book.layout(), message, first, second);
-        match self.book.serve(vehicle, moment, prepared, &mut self.pool, steps) {
+        match self
+            .book
+            .serve(vehicle, moment, prepared, &mut self.pool, steps)
+        {
             Ok(reply) => reply,
             Err(Full) => unreachable!(),
         }

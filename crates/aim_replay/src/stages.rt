@@ -16,7 +16,7 @@ use aim_msg::{
     Act, Entry, LATEST_MOMENT, Line, MOST_VEHICLES, Message, Name, OPERATOR, Order,
 };
 use aim_read::read_line;
-use aim_script::{Decision, Header, Headed, Kind, Limit, Names, ScriptVersion, Setting};
+use aim_script::{Decision, Headed, Header, Kind, Limit, Names, ScriptVersion, Setting};
 use aim_tiles::Steps;
 use std::alloc::Global;
 use std::sync::ledger::Ledger;
@@ -313,7 +313,12 @@ impl<L: Ledger> Stage<L> {
     }
 
     /// Takes the next line of a script, without its byte 10, and answers its event or order, if it is one.
-    pub fn take(self, alloc: Global, bytes: &[u8], steps: &mut Steps<L>) -> Result<Taken<L>, Refusal>
+    pub fn take(
+        self,
+        alloc: Global,
+        bytes: &[u8],
+        steps: &mut Steps<L>,
+    ) -> Result<Taken<L>, Refusal>
         requires { MayTake self }
         ensures judged { (before : List Line) → Stands before self → Judged before bytes.now (stage_of result) }
         ensures makes { IfOk result (λ t. Makes (journal_at self) (journal_at t.stage) t.made) }

@@ -1,9 +1,8 @@
 -- What a line of a header comes to at the place where it belongs.
-use Rattle.std.proofs.Common.{◌≡◌, ◌⊎◌, inl, inr, ℕ, ◌<◌, ◌==◌, Bool, true, false, ◌||◌, is_some, List, [], ◌∷◌, ◌++◌, length, Option, Some, None, option_map, Result, Ok, Err, refl, sym, ap, ◌∙◌, subst, arith, if◌then◌else◌}
+use Rattle.std.proofs.Common.{◌≡◌, ◌⊎◌, inl, inr, ℕ, ◌<◌, ◌==◌, Bool, true, false, is_some, List, [], ◌∷◌, ◌++◌, length, Option, Some, None, option_map, Result, Ok, Err, refl, sym, ap, ◌∙◌, subst, arith, if◌then◌else◌}
 use Rattle.std.specs.Prelude.{bytes_eq, ◌↔◌}
 use Rattle.std.specs.List.{list_any}
 use Rattle.std.specs.Bool.{IsTrue}
-use Rattle.std.specs.Option.{option_to_list}
 use Rattle.std.proofs.lemmas.Bool.{cases_Bool, eqb-false}
 use Rattle.std.proofs.lemmas.List.{append-nil}
 use Rattle.aim_msg.specs.Lines.{name_word}
@@ -27,24 +26,22 @@ use Rattle.aim_paths.specs.declared.builders.LayoutFault.TheVariants as layout_f
 use Rattle.aim_paths.specs.Shapes.{stations_of, wide_step}
 use Rattle.aim_paths.specs.Added.{AddMove, AddPolicy, AddPhase}
 use Rattle.aim_paths.specs.Building.{bare, is_bad_move, move_fault, with_move, policy_fault, with_policy, phase_fault, with_phase, with_phase_of, last_policy, finish_fault}
-use Rattle.aim_script.specs.declared.decisions.Kind.{Kind}
 use Rattle.aim_script.specs.declared.decisions.Kind.TheVariants as why
 use Rattle.aim_script.specs.declared.headers.Place.{Place}
 use Rattle.aim_script.specs.declared.headers.Place.TheVariants as place
-use Rattle.aim_script.specs.declared.headers.Header.{Header}
 use Rattle.aim_script.specs.declared.headers.Headed.{Headed}
 use Rattle.aim_script.specs.declared.headers.Headed.TheVariants as headed
 use Rattle.aim_script.specs.declared.headers.Refusal.{Refusal}
 use Rattle.aim_script.specs.declared.headers.Refusal.TheVariants as refusal
 use Rattle.aim_script.specs.declared.settings.Setting.{Setting}
 use Rattle.aim_script.specs.declared.versions.ScriptVersion.{ScriptVersion}
-use Rattle.aim_script.specs.Order.{part_after, belongs, is_end, in_moves, in_policies}
-use Rattle.aim_script.specs.Said.{Described, version_after, grid_of, times_of, times6_of, kind_of, shape_of, names_of, layout_of, last_of}
+use Rattle.aim_script.specs.Order.{part_after, is_end, in_moves, in_policies}
+use Rattle.aim_script.specs.Said.{Described, version_after, grid_of, times_of, times6_of, kind_of, shape_of, last_of}
 use Rattle.aim_script.specs.Kinds.{kind_of_fault}
 use Rattle.aim_script.specs.Versions.{version_number}
-use Rattle.aim_script.specs.Headers.{HasName, IsHeader, IsBuilt, part_of, unsaid, Says, StandsAt, Stands, IsSet, Goes, Heeds, SaysNoMore, AddsPolicy, Closes, move_kind_of}
-use Rattle.aim_script.proofs.AppendLemmas.{Describes, last_of_more, version_same, header_more, built_more, layout_built, names_are_policies, layout_same, names_same, vehicles_first, calls_none}
-use Rattle.aim_script.proofs.KindLemmas.{out_of_order, version_kind, grid_kind, times_kind, times6_kind, lanes_kind, move_kind, policy_kind, phase_kind, vehicles_kind}
+use Rattle.aim_script.specs.Headers.{IsBuilt, part_of, unsaid, Says, StandsAt, IsSet, Goes, Heeds, SaysNoMore, AddsPolicy, Closes, move_kind_of}
+use Rattle.aim_script.proofs.AppendLemmas.{last_of_more, version_same, header_more, built_more, layout_built, names_are_policies, layout_same, names_same, vehicles_first, calls_none}
+use Rattle.aim_script.proofs.KindLemmas.{grid_kind, times_kind, times6_kind, lanes_kind, move_kind, policy_kind, phase_kind, vehicles_kind}
 
 stands_after : (before : List Line) (l : Line) (p : Place) → part_after (Some l) ≡ part_of p → is_end (Some l) ≡ false → Says (before ++ l ∷ []) p → StandsAt (before ++ l ∷ []) p
 stands_after before l p part over says = record {

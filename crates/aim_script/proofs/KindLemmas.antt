@@ -1,5 +1,5 @@
 -- The kinds that each form of line can have.
-use Rattle.std.proofs.Common.{◌≡◌, ◌⊎◌, inl, inr, ℕ, ◌==◌, Bool, true, false, not, nat_lt, nat_le, is_some, List, [], ◌∷◌, find, Option, Some, None, option_map, refl, ◌∙◌, if◌then◌else◌}
+use Rattle.std.proofs.Common.{◌≡◌, ◌⊎◌, inl, inr, ℕ, ◌==◌, false, not, nat_lt, nat_le, is_some, List, [], ◌∷◌, find, Option, Some, None, option_map, refl, ◌∙◌, if◌then◌else◌}
 use Rattle.std.proofs.lemmas.Bool.{cases_Bool}
 use Rattle.aim_msg.specs.Lines.{name_word}
 use Rattle.aim_msg.specs.declared.messages.Message.{Message}

@@ -9,7 +9,7 @@ mod settings;
 mod versions;
 
 pub use decisions::{Decision, Kind, Limit, last_line};
-pub use headers::{Header, Headed, Refusal};
+pub use headers::{Headed, Header, Refusal};
 pub use names::Names;
 pub use settings::Setting;
 pub use versions::ScriptVersion;

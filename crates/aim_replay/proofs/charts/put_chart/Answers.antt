@@ -1,6 +1,4 @@
 use Rattle.std.proofs.Common.{◌≤◌, arith, ap, ◌∙◌}
-use Rattle.std.specs.Io.KnownBytes.{Appends}
-use Rattle.std.proofs.lemmas.List.{take_all}
 use Rattle.aim_geometry.specs.declared.ground.Grid.{Grid}
 use Rattle.aim_paths.specs.Intersection.{Intersection}
 use Rattle.aim_replay.specs.Charted.{row_text}

@@ -1,4 +1,4 @@
-use Rattle.std.proofs.Common.{◌≡◌, ap, ◌∙◌}
+use Rattle.std.proofs.Common.{ap, ◌∙◌}
 use Rattle.aim_geometry.specs.declared.ground.Grid.{Grid}
 use Rattle.aim_paths.specs.Intersection.{Intersection}
 use Rattle.aim_replay.proofs.ChartLemmas.{marks_are}

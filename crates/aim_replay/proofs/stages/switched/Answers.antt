@@ -1,4 +1,4 @@
-use Rattle.std.proofs.Common.{arith, sym, ◌∙◌}
+use Rattle.std.proofs.Common.{arith}
 use Rattle.aim_replay.proofs.StageLemmas.{switch_taken, switch_unknown, switch_late}
 use Rattle.aim_replay.proofs.stages.switched.Goals as goal
 

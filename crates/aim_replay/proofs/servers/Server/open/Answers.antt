@@ -1,4 +1,4 @@
-use Rattle.std.proofs.Common.{◌∙◌, ap, ◌≡◌}
+use Rattle.std.proofs.Common.{◌∙◌, ap}
 use Rattle.aim_geometry.specs.declared.ground.Grid.{Grid}
 use Rattle.aim_replay.proofs.SheetLemmas.{served_first}
 use Rattle.aim_replay.proofs.servers.Server.open.Goals as goal

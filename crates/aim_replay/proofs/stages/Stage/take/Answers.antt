@@ -1,4 +1,4 @@
-use Rattle.std.proofs.Common.{◌∙◌, sym}
+use Rattle.std.proofs.Common.{◌∙◌}
 use Rattle.aim_replay.proofs.StageLemmas.{judged, read_name}
 use Rattle.aim_replay.proofs.stages.Stage.take.Goals as goal
 
