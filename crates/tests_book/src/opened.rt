@@ -1,4 +1,4 @@
-//! What a book of another size answers, and how many sheets it keeps.
+//! What a book of another size answers, how many sheets it keeps, and the rows of its charts.
 
 ghost use Rattle.std.specs.Prelude.{◌≡◌, ◌<◌};
 
@@ -105,4 +105,50 @@ fn fill<L: Ledger>(rt: &impl Abort, alloc: Global, blank: Blank) -> Result<(), F
 #[test]
 fn sheets_are_kept_and_the_journal_is_full(rt: HostRuntime) -> Result<(), Fail> {
     fill::<Brand>(&rt, rt.alloc(), Blank::new(1))
+}
+
+// A switch to lights, and a crossing before they are in force.
+const CHARTED: Lines = &[
+    "0 operator 5 switch 1 -> switched 1505",
+    "1 0 5 request 1 0 straight 10 500 500 0 1000 700 car -> confirm 1 10 0 0 steady 20",
+];
+
+// Asserts which columns of a row are held and claimed in a step: none of a step that is past, those of the crossing, and
+// those of lane 0 from its first green on.
+fn is_charted<L: Ledger>(rt: &impl Abort, book: &Book<L>) {
+    for (row, step, marks) in [
+        (1, 4, (0, 0)),
+        (0, 15, (0, 0)),
+        (1, 15, (0b1110, 0)),
+        (2, 15, (0, 0)),
+        (1, 21, (0, 0)),
+        (1, 1524, (0, 0)),
+        (1, 1525, (0, 0b1111)),
+        (2, 1525, (0, 0)),
+    ] {
+        assert!(rt; (row as u32) < book.layout().ground().grid().n);
+        assert_eq!(rt; book.chart_row(row, step), marks);
+    }
+}
+
+fn draw<L: Ledger>(rt: &impl Abort, alloc: Global, blank: Blank) -> Result<(), Fail>
+    requires name { blank.name ≡ L.name }
+    requires parts { blank.parts ≡ L.parts }
+    requires some { 0 < blank.parts }
+{
+    let layout = crossing(alloc, Site::Plain)?;
+    let mut pool = Pool::new(alloc, VEHICLES + 2, 4096)?;
+    let mut steps = Steps::<L>::new(blank);
+    let mut book = Book::<L>::open(alloc, layout, VEHICLES, 2)?;
+    for line in CHARTED {
+        let (_, entry) = entry(line)?;
+        let _ = give(rt, &mut book, &entry, &mut pool, &mut steps)?;
+    }
+    is_charted(rt, &book);
+    Ok(())
+}
+
+#[test]
+fn charts_have_what_is_held_and_claimed(rt: HostRuntime) -> Result<(), Fail> {
+    draw::<Brand>(&rt, rt.alloc(), Blank::new(1))
 }
