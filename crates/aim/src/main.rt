@@ -17,12 +17,12 @@ fn main(rt: HostRuntime) -> ExitCode {
     let status = match env::args(&rt) {
         // The first word is the program's name.
         Ok(words) => match words.skip(1).collect::<Vec<String>>(alloc) {
-            Ok(words) => program::run(alloc, &words, &mut source, &mut sink),
+            Ok(words) => program::run(&rt, alloc, &words, &mut source, &mut sink),
             Err(_) => 7,
         },
         Err(error) if error.kind() == io::ErrorKind::OutOfMemory => 7,
         // A word that is no text is in no table.
-        Err(_) => program::run(alloc, &[], &mut source, &mut sink),
+        Err(_) => program::run(&rt, alloc, &[], &mut source, &mut sink),
     };
     ExitCode::from(status)
 }

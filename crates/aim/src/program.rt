@@ -1,6 +1,6 @@
 //! The program, over any source and sink.
 
-ghost use Rattle.std.specs.Prelude.{◌≡◌, ◌⊎◌, ◌≤◌, ◌↔◌, [], None, Some, map, length, IfSome, codes};
+ghost use Rattle.std.specs.Prelude.{◌≡◌, ◌⊎◌, ◌≤◌, ◌↔◌, ℕ, [], None, Some, map, length, IfSome, codes};
 ghost use Rattle.std.specs.String.{string_bytes};
 ghost use Rattle.std.specs.Io.KnownBytes.{Appends, IsAtEnd};
 ghost use Rattle.aim_io.specs.Causes.{Rose};
@@ -9,12 +9,25 @@ ghost use Rattle.aim_replay.specs.Replays.{LastNeeded, Replays, StopsShort, Take
 ghost use Rattle.aim_replay.specs.Texts.{replay_text};
 ghost use Rattle.aim_replay.specs.Today.{today};
 ghost use Rattle.aim.specs.Commands.{command_of as command_in};
+ghost use Rattle.aim_claims.specs.Short.{StopsShort as StopsShortClaims};
+ghost use Rattle.aim_callers.specs.Commands.{Completes as CompletesShards, Shows, ShowsFront};
 ghost use Rattle.aim.specs.Runs.{Completes, TellsUsage};
 
 use crate::words::{Command, command_of};
+use aim_callers::shards;
 use aim_io::{Sink, Source, put_all};
 use aim_replay::replay;
+use aim_shards::Hold;
 use std::alloc::Global;
+use std::sync::Wait;
+use std::thread::Threads;
+
+// A hold that does nothing.
+struct NoHold;
+
+impl Hold for NoHold {
+    fn holding(&self, _caller: u32, _call: u32) {}
+}
 
 // Says which words the program takes.
 fn tell_usage<K: Sink>(sink: &mut K) -> u8
@@ -31,26 +44,46 @@ fn tell_usage<K: Sink>(sink: &mut K) -> u8
 /// Does what the words after the program's name ask for, and answers the status to end with. It is
 /// 0 where a script was whole, 2 for words outside the table, 3 for a line at fault, 4 where the
 /// source fails, 5 where the sink fails, 6 for a limit, and 7 where memory runs out.
-pub fn run<S: Source, K: Sink>(alloc: Global, words: &[String], source: &mut S, sink: &mut K) -> u8
+///
+/// With the word `shards` it waits for turns, and returns where these come.
+pub fn run<R: Threads + Wait + Sync, S: Source, K: Sink>(
+    rt: &R,
+    alloc: Global,
+    words: &[String],
+    source: &mut S,
+    sink: &mut K,
+) -> u8
     // Words outside the table: nothing is read, and the usage is all that is written.
     ensures outside { command_in (map string_bytes words.now) ≡ None → (source.new ≡ source.old) × TellsUsage (K.held sink.old) (K.held sink.new) result }
     ensures inside { result ≡ 2 → command_in (map string_bytes words.now) ≡ None }
 
-    // With status 0, 3 or 6 the whole text of the source's bytes is written, and the status is theirs.
-    ensures whole { (result ≡ 0) ⊎ ((result ≡ 3) ⊎ (result ≡ 6)) → IfSome (S.left source.old)
+    // A replay. With status 0, 3 or 6 the whole text of the source's bytes is written, and the status is theirs.
+    ensures whole { command_in (map string_bytes words.now) ≡ Some Command.Replay → (result ≡ 0) ⊎ ((result ≡ 3) ⊎ (result ≡ 6)) → IfSome (S.left source.old)
         (λ bytes. Replays today None bytes (K.held sink.old) (K.held sink.new) result) }
     ensures ended { result ≡ 0 → IsAtEnd (S.left source.new) }
 
     // Whatever the status, no more than one byte past the greatest input is taken, and nothing is read behind bytes that
     // decide.
-    ensures most { TakesAtMost 67108865 (S.left source.old) (S.left source.new) }
-    ensures needed { (source.new ≡ source.old) ⊎ LastNeeded today (S.left source.old) (S.left source.new) (S.last_read source.new) }
+    ensures most { command_in (map string_bytes words.now) ≡ Some Command.Replay → TakesAtMost 67108865 (S.left source.old) (S.left source.new) }
+    ensures needed { command_in (map string_bytes words.now) ≡ Some Command.Replay → (source.new ≡ source.old) ⊎ LastNeeded today (S.left source.old) (S.left source.new) (S.last_read source.new) }
 
     // With status 4, 5 or 7 what is written is a front of that text.
     ensures front { command_in (map string_bytes words.now) ≡ Some Command.Replay → (result ≡ 4) ⊎ ((result ≡ 5) ⊎ (result ≡ 7))
         → WritesFront (S.left source.old) (K.held sink.old) (K.held sink.new) (replay_text today None) }
-    ensures short { result ≡ 4 → StopsShort today (S.left source.old) (S.left source.new) (K.held sink.old) (K.held sink.new) }
+    ensures short { command_in (map string_bytes words.now) ≡ Some Command.Replay → result ≡ 4 → StopsShort today (S.left source.old) (S.left source.new) (K.held sink.old) (K.held sink.new) }
     ensures memory { result ≡ 7 → Appends (K.held sink.old) (K.held sink.new) [] }
+
+    // A run of a script of claims. With status 0, 3 or 6 a whole text of the source's bytes is written, and the status is
+    // theirs; with status 5 a front of one is, with status 4 nothing.
+    ensures shards { (workers : ℕ) → command_in (map string_bytes words.now) ≡ Some (Command.Shards workers) → (result ≡ 0) ⊎ ((result ≡ 3) ⊎ (result ≡ 6))
+        → IfSome (S.left source.old) (λ bytes. Shows bytes (K.held sink.old) (K.held sink.new) result) }
+    ensures shards_front { (workers : ℕ) → command_in (map string_bytes words.now) ≡ Some (Command.Shards workers) → result ≡ 5
+        → IfSome (S.left source.old) (λ bytes. ShowsFront bytes (K.held sink.old) (K.held sink.new)) }
+    ensures shards_nothing { (workers : ℕ) → command_in (map string_bytes words.now) ≡ Some (Command.Shards workers) → result ≡ 4 → Appends (K.held sink.old) (K.held sink.new) [] }
+    ensures shards_short { (workers : ℕ) → command_in (map string_bytes words.now) ≡ Some (Command.Shards workers) → result ≡ 4
+        → StopsShortClaims (S.left source.old) (S.left source.new) }
+    ensures shards_complete { (workers : ℕ) → command_in (map string_bytes words.now) ≡ Some (Command.Shards workers) → IfSome (S.left source.old)
+        (λ bytes. CompletesShards bytes (S.faults source.old) (S.faults source.new) (K.faults sink.old) (K.faults sink.new) result) }
 
     // Each status has its cause.
     ensures read { result ≡ 4 → Rose (S.faults source.old) (S.faults source.new) }
@@ -64,5 +97,6 @@ pub fn run<S: Source, K: Sink>(alloc: Global, words: &[String], source: &mut S, 
     match command_of(words) {
         None => tell_usage(sink),
         Some(Command::Replay) => replay(alloc, source, sink),
+        Some(Command::Shards(workers)) => shards(rt, alloc, workers, source, sink, &NoHold),
     }
 }

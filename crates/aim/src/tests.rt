@@ -1,7 +1,9 @@
 use crate::program::run;
 use aim_io::{MemSink, MemSource};
 use std::alloc::{AllocError, Global};
+use std::sync::Wait;
 use std::test::Fail;
+use std::thread::Threads;
 
 // A crossing of two straight lanes under FCFS, for eight vehicles.
 const HEADER: &[u8] =
@@ -134,6 +136,7 @@ const OUTSIDE: [&[&str]; 3] = [&["replay", "now"], &[], &["Replay"]];
 
 // A sink that has got what the program writes, and its status.
 fn answer(
+    rt: &(impl Threads + Wait + Sync),
     alloc: Global,
     words: &[&str],
     script: Vec<u8>,
@@ -146,7 +149,7 @@ fn answer(
     }
     let mut source = MemSource::new(script, reads.to_vec(alloc)?);
     let mut sink = MemSink::new(alloc, 4096, writes.to_vec(alloc)?)?;
-    let status = run(alloc, &texts, &mut source, &mut sink);
+    let status = run(rt, alloc, &texts, &mut source, &mut sink);
     Ok((status, sink))
 }
 
@@ -161,7 +164,7 @@ fn behind(alloc: Global, first: &[u8], others: &[u8]) -> Result<Vec<u8>, AllocEr
 fn words_outside_the_table(rt: HostRuntime) -> Result<(), Fail> {
     let alloc = rt.alloc();
     for words in OUTSIDE {
-        let (status, sink) = answer(alloc, words, Vec::new(alloc), &[], &[])?;
+        let (status, sink) = answer(&rt, alloc, words, Vec::new(alloc), &[], &[])?;
         assert_eq!(rt; status, 2);
         assert_eq!(rt; sink.bytes(), b"usage\n".as_slice());
     }
@@ -174,7 +177,7 @@ fn faults_of_the_source_and_the_sink(rt: HostRuntime) -> Result<(), Fail> {
     for (reads, writes, status, text) in FAULTS {
         let mut script = behind(alloc, HEADER, FIRST)?;
         script.extend_from_slice(b"end\n")?;
-        let (answered, sink) = answer(alloc, &["replay"], script, reads, writes)?;
+        let (answered, sink) = answer(&rt, alloc, &["replay"], script, reads, writes)?;
         assert_eq!(rt; answered, status);
         assert_eq!(rt; sink.bytes(), text);
     }
@@ -185,7 +188,14 @@ fn faults_of_the_source_and_the_sink(rt: HostRuntime) -> Result<(), Fail> {
 fn requests_and_cut_scripts(rt: HostRuntime) -> Result<(), Fail> {
     let alloc = rt.alloc();
     for (body, status, text) in BODIES {
-        let (answered, sink) = answer(alloc, &["replay"], behind(alloc, HEADER, body)?, &[], &[])?;
+        let (answered, sink) = answer(
+            &rt,
+            alloc,
+            &["replay"],
+            behind(alloc, HEADER, body)?,
+            &[],
+            &[],
+        )?;
         assert_eq!(rt; answered, status);
         assert_eq!(rt; sink.bytes(), text);
     }
@@ -196,7 +206,14 @@ fn requests_and_cut_scripts(rt: HostRuntime) -> Result<(), Fail> {
 fn limits_on_vehicles(rt: HostRuntime) -> Result<(), Fail> {
     let alloc = rt.alloc();
     for (lines, status, text) in FLEETS {
-        let (answered, sink) = answer(alloc, &["replay"], behind(alloc, LAYOUT, lines)?, &[], &[])?;
+        let (answered, sink) = answer(
+            &rt,
+            alloc,
+            &["replay"],
+            behind(alloc, LAYOUT, lines)?,
+            &[],
+            &[],
+        )?;
         assert_eq!(rt; answered, status);
         assert_eq!(rt; sink.bytes(), text);
     }
@@ -207,7 +224,7 @@ fn limits_on_vehicles(rt: HostRuntime) -> Result<(), Fail> {
 fn bad_headers(rt: HostRuntime) -> Result<(), Fail> {
     let alloc = rt.alloc();
     for (script, text) in BAD {
-        let (status, sink) = answer(alloc, &["replay"], script.to_vec(alloc)?, &[], &[])?;
+        let (status, sink) = answer(&rt, alloc, &["replay"], script.to_vec(alloc)?, &[], &[])?;
         assert_eq!(rt; status, 3);
         assert_eq!(rt; sink.bytes(), text);
     }
@@ -218,7 +235,14 @@ fn bad_headers(rt: HostRuntime) -> Result<(), Fail> {
 fn lines_not_replayed_yet(rt: HostRuntime) -> Result<(), Fail> {
     let alloc = rt.alloc();
     for body in UNSUPPORTED {
-        let (status, sink) = answer(alloc, &["replay"], behind(alloc, HEADER, body)?, &[], &[])?;
+        let (status, sink) = answer(
+            &rt,
+            alloc,
+            &["replay"],
+            behind(alloc, HEADER, body)?,
+            &[],
+            &[],
+        )?;
         assert_eq!(rt; status, 3);
         assert_eq!(rt; sink.bytes(), b"bad line 10 unsupported\n".as_slice());
     }
@@ -230,7 +254,7 @@ fn a_line_of_401_bytes(rt: HostRuntime) -> Result<(), Fail> {
     let alloc = rt.alloc();
     let mut script = behind(alloc, HEADER, FIRST)?;
     script.extend_from_slice(&[b'a'; 401])?;
-    let (status, sink) = answer(alloc, &["replay"], script, &[], &[])?;
+    let (status, sink) = answer(&rt, alloc, &["replay"], script, &[], &[])?;
     assert_eq!(rt; status, 3);
     assert_eq!(rt; sink.bytes().len(), CONFIRMED.len() + 17);
     assert!(rt; sink.bytes().ends_with(b"\nbad line 11 long\n"));

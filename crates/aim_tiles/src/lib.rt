@@ -7,6 +7,7 @@
 
 mod checks;
 mod counters;
+mod idle;
 mod lanes;
 mod marks;
 mod pages;
@@ -14,6 +15,7 @@ mod searches;
 mod tables;
 
 pub use counters::Steps;
+pub use idle::IdleTable;
 pub use lanes::first_meeting;
 pub use std::alloc::AllocError as NoMemory;
 pub use tables::Table;

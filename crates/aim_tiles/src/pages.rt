@@ -6,7 +6,7 @@ ghost use Rattle.std.specs.Int.{bit_not, w64};
 use crate::NoMemory;
 use crate::counters::Steps;
 use std::alloc::Global;
-use std::marker::PhantomData;
+use std::marker::{Brand, PhantomData};
 use std::sync::ledger::Ledger;
 
 /// As many pages as the horizon has steps, each of one word for each row. They belong to the ledger `L`.
@@ -132,5 +132,50 @@ impl<L: Ledger> Pages<L> {
     {
         steps.add(self.size);
         self.words[page..page + self.size].fill(0);
+    }
+}
+
+impl<L: Ledger> Pages<L> {
+    /// The pages without their ledger, whose count they take.
+    pub(crate) fn leave(self, steps: Steps<L>) -> Pages<Brand>
+        ensures words { result.words.items ≡ self.words.items }
+        ensures size { result.size ≡ self.size }
+        ensures horizon { result.horizon ≡ self.horizon }
+    {
+        drop(steps);
+        let Pages {
+            words,
+            size,
+            horizon,
+            ledger: _,
+        } = self;
+        Pages {
+            words,
+            size,
+            horizon,
+            ledger: PhantomData,
+        }
+    }
+}
+
+impl Pages<Brand> {
+    /// The pages in a ledger.
+    pub(crate) fn join<L: Ledger>(self) -> Pages<L>
+        ensures words { result.words.items ≡ self.words.items }
+        ensures size { result.size ≡ self.size }
+        ensures horizon { result.horizon ≡ self.horizon }
+    {
+        let Pages {
+            words,
+            size,
+            horizon,
+            ledger: _,
+        } = self;
+        Pages {
+            words,
+            size,
+            horizon,
+            ledger: PhantomData,
+        }
     }
 }

@@ -17,7 +17,7 @@ use crate::pages::Pages;
 use crate::searches::first_in_spans;
 use aim_pool::Sheet;
 use std::alloc::Global;
-use std::marker::Model;
+use std::marker::{Brand, Model};
 use std::sync::ledger::Ledger;
 
 /// The cells that are taken in the steps from now on up to the horizon. Its words are counted in the ledger `L`, and
@@ -147,5 +147,31 @@ impl<L: Ledger> Table<L> {
         ensures counted { steps.old ≤ steps.new }
     {
         unmark_spans(&mut self.pages, self.current, sheet.spans(), steps);
+    }
+}
+
+impl<L: Ledger> Table<L> {
+    // The table without its ledger, whose count it takes.
+    pub(crate) fn leave_ledger(self, steps: Steps<L>) -> Table<Brand>
+        ensures { result ≡ self }
+    {
+        let Table { pages, current } = self;
+        Table {
+            pages: pages.leave(steps),
+            current,
+        }
+    }
+}
+
+impl Table<Brand> {
+    // The table in a ledger.
+    pub(crate) fn join_ledger<L: Ledger>(self) -> Table<L>
+        ensures { result ≡ self }
+    {
+        let Table { pages, current } = self;
+        Table {
+            pages: pages.join(),
+            current,
+        }
     }
 }

@@ -4,7 +4,7 @@ ghost use Rattle.std.specs.Prelude.{◌≡◌, ◌<◌, ◌≤◌};
 
 use crate::plain::Plain;
 use aim_pool::{Pool, Sheet, Span};
-use aim_tiles::{Steps, Table, first_meeting};
+use aim_tiles::{IdleTable, Steps, Table, first_meeting};
 use std::alloc::Global;
 use std::marker::Brand;
 use std::process::Abort;
@@ -91,6 +91,37 @@ fn come_and_go<L: Ledger>(rt: &impl Abort, alloc: Global, blank: Blank) -> Resul
 #[test]
 fn cells_come_and_go(rt: HostRuntime) -> Result<(), Fail> {
     come_and_go::<Brand>(&rt, rt.alloc(), Blank::new(1))
+}
+
+// Claims the sheet in a ledger of the table's own, and says what the sheet meets afterwards.
+fn claimed_apart<L: Ledger>(
+    rt: &impl Abort,
+    table: IdleTable,
+    sheet: &Sheet,
+    blank: Blank,
+) -> (IdleTable, Option<(u32, u8, u8)>)
+    requires name { blank.name ≡ L.name }
+    requires parts { blank.parts ≡ L.parts }
+    requires some { 0 < blank.parts }
+{
+    let mut steps = Steps::<L>::new(blank);
+    let mut table = table.join::<L>();
+    let before = first(rt, &table, sheet, None, &mut steps);
+    claim(rt, &mut table, sheet, &mut steps);
+    (table.leave(steps), before)
+}
+
+#[test]
+fn a_table_joins_ledger_after_ledger(rt: HostRuntime) -> Result<(), Fail> {
+    let alloc: Global = rt.alloc();
+    let mut sheet = Pool::new(alloc, 1, 1)?.take()?;
+    fill(&rt, &mut sheet, &[span(1, 2, 0b0110)]);
+    let table = IdleTable::new(alloc, 4, 3)?;
+    let (table, none) = claimed_apart::<Brand>(&rt, table, &sheet, Blank::new(1));
+    let (_, some) = claimed_apart::<Brand>(&rt, table, &sheet, Blank::new(1));
+    assert_eq!(rt; none, None);
+    assert_eq!(rt; some, Some((1, 2, 1)));
+    Ok(())
 }
 
 // A table of this size and horizon whose now goes on to the greatest step.

@@ -1,0 +1,5 @@
+pub mod Following
+pub mod Calling
+pub mod Running
+pub mod Texts
+pub mod Commands

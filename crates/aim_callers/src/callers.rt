@@ -1,0 +1,112 @@
+//! A caller, which makes the calls that a script asks of it.
+
+ghost use Rattle.std.specs.Prelude.{◌≡◌, ◌≤◌, ◌<◌, ℕ, [], None, Some, length, map, slice_get, IfOk, vec_capacity};
+ghost use Rattle.aim_claims.specs.declared.script.Ask.{Ask};
+ghost use Rattle.aim_claims.specs.declared.script.Ask.TheVariants.{Claim, Free};
+ghost use Rattle.aim_claims.specs.Kinds.{IsScript};
+ghost use Rattle.aim_claims.specs.Said.{ask_in, asked_of, sets_of};
+ghost use Rattle.aim_shards.specs.Models.{IsPassOf};
+ghost use Rattle.aim_callers.specs.Calling.{Can, Made, Steps, Works};
+ghost use Rattle.aim_callers.specs.Following.{Follows};
+
+use aim_claims::{Ask, MOST_CALLS, ShardLine};
+use aim_shards::{Hold, ShardPass, Shards};
+use std::alloc::{AllocError, Global};
+use std::sync::Wait;
+
+/// A caller at work: its pass, and the tickets of its calls so far.
+#[derive(Drop)]
+pub struct Caller {
+    pub pass: ShardPass,
+    pub tickets: Vec<u32>,
+}
+
+impl Caller {
+    /// A caller that has made no call, with room for all its tickets.
+    pub fn new(alloc: Global, pass: ShardPass) -> Result<Caller, AllocError>
+        requires none { pass.mine ≡ [] }
+        requires calls { pass.calls ≤ 1024 }
+        ensures pass { IfOk result (λ c. c.pass ≡ pass) }
+        ensures tickets { IfOk result (λ c. (c.tickets.items ≡ []) × (1024 ≤ vec_capacity c.tickets)) }
+    {
+        let tickets = Vec::with_capacity(alloc, MOST_CALLS as usize)?;
+        Ok(Caller { pass, tickets })
+    }
+}
+
+// Claims the set.
+fn claim<R: Wait, H: Hold>(rt: &R, shards: &Shards, caller: &mut Caller, set: u32, hold: &H)
+    requires works { Works shards.now caller.old }
+    requires can { Can (length shards.now.sets) caller.old.pass.mine (Claim set) }
+    ensures works { Works shards.now caller.new }
+    ensures number { caller.new.pass.number ≡ caller.old.pass.number }
+    ensures made { Made (Claim set) caller.old.pass.mine caller.new.pass.mine }
+{
+    let Ok(claimed) = shards.claim(rt, &mut caller.pass, set, hold) else {
+        unreachable!()
+    };
+    caller.tickets.push_reserved(claimed.ticket);
+}
+
+// Frees the ticket of the caller's call of this number.
+fn free<R: Wait, H: Hold>(rt: &R, shards: &Shards, caller: &mut Caller, call: u32, hold: &H)
+    requires works { Works shards.now caller.old }
+    requires can { Can (length shards.now.sets) caller.old.pass.mine (Free call) }
+    ensures works { Works shards.now caller.new }
+    ensures number { caller.new.pass.number ≡ caller.old.pass.number }
+    ensures made { Made (Free call) caller.old.pass.mine caller.new.pass.mine }
+{
+    let ticket = caller.tickets[call as usize];
+    let Ok(claimed) = shards.free(rt, &mut caller.pass, ticket, hold) else {
+        unreachable!()
+    };
+    caller.tickets.push_reserved(claimed.ticket);
+}
+
+// What the caller asks for in the line, if it asks for something.
+fn ask_in(number: u32, line: &ShardLine) -> Option<Ask>
+    ensures { result ≡ ask_in number line.now }
+{
+    match line {
+        ShardLine::Claim(caller, set) if *caller == number => Some(Ask::Claim(*set)),
+        ShardLine::Free(caller, call) if *caller == number => Some(Ask::Free(*call)),
+        _ => None,
+    }
+}
+
+// Makes the call that the line asks of the caller, if it asks for one.
+fn make<R: Wait, H: Hold>(rt: &R, shards: &Shards, caller: &mut Caller, line: &ShardLine, hold: &H)
+    requires works { Works shards.now caller.old }
+    requires can { (a : Ask) → ask_in caller.old.pass.number line.now ≡ Some a → Can (length shards.now.sets) caller.old.pass.mine a }
+    ensures works { Works shards.now caller.new }
+    ensures number { caller.new.pass.number ≡ caller.old.pass.number }
+    ensures steps { Steps (ask_in caller.old.pass.number line.now) caller.old.pass.mine caller.new.pass.mine }
+{
+    match ask_in(caller.pass.number(), line) {
+        Some(Ask::Claim(set)) => claim(rt, shards, caller, set, hold),
+        Some(Ask::Free(call)) => free(rt, shards, caller, call, hold),
+        None => {}
+    }
+}
+
+/// Makes the calls that the lines ask of the caller, in their order.
+pub fn make_all<R: Wait, H: Hold>(
+    rt: &R,
+    shards: &Shards,
+    lines: &[ShardLine],
+    caller: &mut Caller,
+    hold: &H,
+)
+    requires script { IsScript lines.now }
+    requires sets { length shards.now.sets ≡ length (sets_of lines.now) }
+    requires calls { shards.now.calls ≡ 1024 }
+    requires works { Works shards.now caller.old }
+    requires none { caller.old.pass.mine ≡ [] }
+    ensures works { Works shards.now caller.new }
+    ensures number { caller.new.pass.number ≡ caller.old.pass.number }
+    ensures follows { Follows (asked_of caller.new.pass.number lines.now) caller.new.pass.mine }
+{
+    for line in lines {
+        make(rt, shards, caller, line, hold);
+    }
+}

@@ -1,0 +1,105 @@
+//! Runs the callers of a script side by side.
+
+ghost use Rattle.std.specs.Prelude.{◌≡◌, ◌<◌, ◌≤◌, List, [], length, All, IfOk};
+ghost use Rattle.std.specs.Thread.{IsSync};
+ghost use Rattle.aim_claims.specs.declared.lines.ShardLine.{ShardLine};
+ghost use Rattle.aim_claims.specs.Kinds.{IsScript};
+ghost use Rattle.aim_claims.specs.Said.{sets_of};
+ghost use Rattle.aim_shards.specs.Models.{ShardsModel};
+ghost use Rattle.aim_callers.specs.Running.{HasCalled, HasDone, IsNew, IsReady, IsRun};
+
+use crate::callers::{Caller, make_all};
+use aim_claims::{MOST_CALLS, Script, ShardLine};
+use aim_shards::{ClaimEntry, Hold, OpenedShards, ShardPass, Shards, history, sheets};
+use std::alloc::{AllocError, Global};
+use std::sync::Wait;
+use std::thread::{self, Threads};
+
+// A caller for each pass, in their order.
+fn seated(alloc: Global, passes: Vec<ShardPass>) -> Result<Vec<Caller>, AllocError>
+    requires { All (λ p. (p.mine ≡ []) × (p.calls ≤ 1024)) passes.items }
+    ensures count { IfOk result (λ v. length v.items ≡ length passes.items) }
+    ensures ready { (s : ShardsModel) → All (IsNew s) passes.items → IfOk result (λ v. All (IsReady s) v.items) }
+{
+    let mut callers = Vec::with_capacity(alloc, passes.len())?;
+    for pass in passes {
+        callers.push_reserved(Caller::new(alloc, pass)?);
+    }
+    Ok(callers)
+}
+
+// The passes of the callers, in their order.
+fn passes_of(alloc: Global, callers: Vec<Caller>) -> Result<Vec<ShardPass>, AllocError>
+    ensures count { IfOk result (λ v. length v.items ≡ length callers.items) }
+    ensures done { (s : ShardsModel) (lines : List ShardLine) → All (HasCalled s lines) callers.items → IfOk result (λ v. All (HasDone s lines) v.items) }
+{
+    let mut passes = Vec::with_capacity(alloc, callers.len())?;
+    for caller in callers {
+        let Caller { pass, tickets: _ } = caller;
+        passes.push_reserved(pass);
+    }
+    Ok(passes)
+}
+
+// Lets the callers make their calls: as many runs of neighbours as there are workers at most, side by side, and the
+// callers of a run one after another.
+fn side_by_side<R: Threads + Wait + Sync, H: Hold>(
+    rt: &R,
+    shards: &Shards,
+    lines: &[ShardLine],
+    callers: &mut Vec<Caller>,
+    workers: u32,
+    hold: &H,
+)
+    requires workers { 0 < workers }
+    requires script { IsScript lines.now }
+    requires sets { length shards.now.sets ≡ length (sets_of lines.now) }
+    requires ready { All (IsReady shards.now) callers.old.items }
+    ensures count { length callers.new.items ≡ length callers.old.items }
+    ensures called { All (HasCalled shards.now lines.now) callers.new.items }
+{
+    thread::for_each_mut(
+        rt,
+        callers,
+        workers as usize,
+        &|_place: usize, caller: &mut Caller|
+            requires { IsSync R.row × IsScript lines.now × (length shards.now.sets ≡ length (sets_of lines.now)) × IsReady shards.now caller.old }
+            ensures { HasCalled shards.entry.now lines.entry.now caller.new }
+        { make_all(rt, shards, lines, caller, hold) },
+    );
+}
+
+/// Lets the callers of a script make their calls, and gives the one history.
+///
+/// The callers are cut into runs of neighbours, as many as there are workers at most. The runs go side by side, in threads
+/// where the machine gives them, and a run makes the calls of its callers, caller by caller, in the script's order.
+pub fn run_script<R: Threads + Wait + Sync, H: Hold>(
+    rt: &R,
+    alloc: Global,
+    script: &Script,
+    workers: u32,
+    hold: &H,
+) -> Result<Vec<ClaimEntry>, AllocError>
+    requires some { 0 < length script.now }
+    requires workers { 0 < workers }
+    ensures { IfOk result (λ v. IsRun script.now v.items) }
+{
+    let terms = script.terms();
+    let rectangles = script.rectangles(alloc)?;
+    let sets = sheets(alloc, terms.n, terms.horizon, &rectangles)?;
+    let Ok(opened) = Shards::open(
+        alloc,
+        terms.n,
+        terms.horizon,
+        sets,
+        terms.callers,
+        MOST_CALLS,
+    ) else {
+        return Err(AllocError);
+    };
+    let OpenedShards { shards, passes } = opened;
+    let mut callers = seated(alloc, passes)?;
+    side_by_side(rt, &shards, script.lines(), &mut callers, workers, hold);
+    let passes = passes_of(alloc, callers)?;
+    history(alloc, shards, passes)
+}

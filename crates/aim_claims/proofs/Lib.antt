@@ -1,0 +1,5 @@
+pub mod Digits
+pub mod Growing
+pub mod Deciding
+pub mod Fitting
+pub mod Behind

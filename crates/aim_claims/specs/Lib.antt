@@ -1,0 +1,11 @@
+pub mod Left
+pub mod Lines
+pub mod Texts
+pub mod Said
+pub mod Kinds
+pub mod Keeps
+pub mod Refusals
+pub mod Verdicts
+pub mod Comes
+pub mod Fits
+pub mod Short

@@ -1,0 +1,24 @@
+use Rattle.std.proofs.Common.{◌++◌, drop, ◌∙◌, ap, inl, inr, arith}
+use Rattle.aim_shards.proofs.Merged.{goes_left, goes_right, goes_both, merge_ends, drop_past, rest_all}
+use Rattle.aim_shards.proofs.merging.merge_two.Goals.{then-loop-i-test+else-j-right, else-loop-i-test}
+use Rattle.aim_shards.proofs.merging.merge_two.Goals as goal
+
+pub loop-i-preserved-then-left-i : goal.loop-i-preserved-then-left-i
+loop-i-preserved-then-left-i c =
+    let i = c.loop-i.invariant in
+    record { within = omega (arith, c.loop-i-test.true); within_too = i.within_too; left = goes_left (c.args.left.now ++ c.args.right.now) c.args.left.now c.args.right.now c.loop-i.merged.items c.push.new.self.items c.loop-i.i c.loop-i.j _ c.loop-i-test.true c.if-j-right.true i.left c.if-left-i.true c.in_ok-push.ensures.items }
+
+pub loop-i-preserved-then-right-j : goal.loop-i-preserved-then-right-j
+loop-i-preserved-then-right-j c =
+    let i = c.loop-i.invariant in
+    record { within = i.within; within_too = omega (arith, c.if-j-right.true); left = goes_right (c.args.left.now ++ c.args.right.now) c.args.left.now c.args.right.now c.loop-i.merged.items c.push-then-right-j.new.self.items c.loop-i.i c.loop-i.j _ c.loop-i-test.true c.if-j-right.true i.left c.if-right-j.true c.in_ok-push-2.ensures.items }
+
+pub loop-i-preserved : goal.loop-i-preserved
+loop-i-preserved c =
+    let i = c.loop-i.invariant in
+    record { within = omega (arith, c.loop-i-test.true); within_too = omega (arith, c.if-j-right.true); left = goes_both (c.args.left.now ++ c.args.right.now) c.args.left.now c.args.right.now c.loop-i.merged.items c.push-else-right-j.new.self.items c.loop-i.i c.loop-i.j _ c.loop-i-test.true c.if-j-right.true i.left c.requires.one (omega (arith, c.if-left-i.false, c.if-right-j.false)) c.in_ok-push-3.ensures.items }
+
+pub returns : goal.returns
+returns c = merge_ends (c.args.left.now ++ c.args.right.now) c.loop-i.merged.items c.extend_from_slice-2.new.self.items (drop c.loop-i.i c.args.left.now) (drop c.loop-i.j c.args.right.now) c.loop-i.invariant.left
+    (elim c.loop-i-test.branch [ then-loop-i-test+else-j-right w ↦ inr (drop_past c.args.right.now c.loop-i.j (omega (arith, w.if-j-right.false))) | else-loop-i-test w ↦ inl (drop_past c.args.left.now c.loop-i.i (omega (arith, w.loop-i-test.false))) ])
+    (c.in_ok-extend_from_slice-2.ensures.items ∙ (λ k. (c.in_ok-extend_from_slice.ensures.items ∙ ap (λ l. c.loop-i.merged.items ++ l) (rest_all c.args.left.now c.loop-i.i)) k ++ rest_all c.args.right.now c.loop-i.j k))

@@ -1,0 +1,126 @@
+//! Cutting sets along the borders of the quadrants.
+
+ghost use Rattle.std.specs.Prelude.{◌≡◌, ◌<◌, ◌≤◌, ◌+◌, ◌*◌, ◌==◌, ◌&&◌, ◌||◌, true, not, nat_le, if◌then◌else◌, ℕ, filter, length, IfOk};
+ghost use Rattle.aim_geometry.specs.Cells.{Cell};
+ghost use Rattle.aim_geometry.specs.Rects.{has_bit};
+ghost use Rattle.aim_pool.specs.Spans.{in_span, in_spans};
+ghost use Rattle.aim_shards.specs.Cuts.{AreCut, half_of, is_beside, lies_at, one, quadrant_at};
+ghost use Rattle.aim_shards.specs.Sets.{part};
+
+use crate::sets::Quartered;
+use aim_pool::{Pool, Sheet, Span};
+use std::alloc::{AllocError, Global};
+
+// A quadrant: whether its rows are those of the second half, and whether its columns are.
+#[derive(Clone, Copy)]
+struct Corner {
+    half: u32,
+    down: bool,
+    right: bool,
+}
+
+impl Corner {
+    fn new(half: u32, down: bool, right: bool) -> Corner
+        ensures { result ≡ record { half = half; down = down; right = right } }
+    {
+        Corner { half, down, right }
+    }
+
+    // Whether the span's row is one of the quadrant's.
+    fn has_row(self, span: &Span) -> bool
+        ensures { result ≡ is_beside self.half self.down span.now }
+    {
+        (span.row as u32 >= self.half) == self.down
+    }
+
+    // The columns of a row that lie in the quadrant.
+    fn columns(self, row: u8, mask: u64) -> u64
+        requires half { self.half ≤ 32 }
+        requires row { (if self.down then nat_le self.half row else not (nat_le self.half row)) ≡ true }
+        ensures { (column : ℕ) → has_bit result column ≡ (has_bit mask column && (quadrant_at self.half row column == 2 * one self.down + one self.right)) }
+    {
+        if self.right {
+            mask & (u64::MAX << self.half)
+        } else {
+            mask & ((1 << self.half) - 1)
+        }
+    }
+
+    // Room for the spans that have a row of the quadrant.
+    fn room(self, sheet: &Sheet) -> u32
+        ensures { length (filter (is_beside self.half self.down) sheet.now.spans) ≤ result }
+    {
+        let mut count = 0;
+        for span in sheet.spans() {
+            if self.has_row(span) {
+                count += 1;
+            }
+        }
+        count.min(sheet.room() as usize) as u32
+    }
+
+    // Adds the span's cells in the quadrant.
+    fn add(self, part: &mut Sheet, span: Span)
+        requires half { self.half ≤ 32 }
+        requires room { is_beside self.half self.down span ≡ true → length part.old.spans < part.old.room }
+        ensures cells { (cell : Cell) → in_spans part.new.spans cell ≡ (in_spans part.old.spans cell || (in_span span cell && lies_at self.half (2 * one self.down + one self.right) cell)) }
+        ensures count { length part.new.spans ≤ length part.old.spans + one (is_beside self.half self.down span) }
+        ensures room { part.new.room ≡ part.old.room }
+    {
+        if !self.has_row(&span) {
+            return;
+        }
+        let mask = self.columns(span.row, span.mask);
+        if mask == 0 {
+            return;
+        }
+        let Ok(()) = part.push(Span { mask, ..span }) else {
+            unreachable!()
+        };
+    }
+
+    // The set's cells in the quadrant.
+    fn part(self, alloc: Global, sheet: &Sheet) -> Result<Sheet, AllocError>
+        requires { self.half ≤ 32 }
+        ensures { IfOk result (λ s. (cell : Cell) → in_spans s.spans cell ≡ (in_spans sheet.now.spans cell && lies_at self.half (2 * one self.down + one self.right) cell)) }
+    {
+        let mut pool = Pool::new(alloc, 1, self.room(sheet))?;
+        let Ok(mut part) = pool.take() else {
+            unreachable!()
+        };
+        for span in sheet.spans() {
+            self.add(&mut part, *span);
+        }
+        Ok(part)
+    }
+}
+
+// The set's parts in the four quadrants.
+fn quarter(alloc: Global, half: u32, sheet: &Sheet) -> Result<Quartered, AllocError>
+    requires { half ≤ 32 }
+    ensures { IfOk result (λ s. (q : ℕ) (cell : Cell) → q < 4 → in_spans (part s q) cell ≡ (in_spans sheet.now.spans cell && lies_at half q cell)) }
+{
+    Ok(Quartered {
+        first: Corner::new(half, false, false).part(alloc, sheet)?,
+        second: Corner::new(half, false, true).part(alloc, sheet)?,
+        third: Corner::new(half, true, false).part(alloc, sheet)?,
+        fourth: Corner::new(half, true, true).part(alloc, sheet)?,
+    })
+}
+
+/// All sets' parts in the four quadrants of a grid of n rows and columns.
+pub(crate) fn quarter_all(
+    alloc: Global,
+    n: u32,
+    sets: &[Sheet],
+) -> Result<Vec<Quartered>, AllocError>
+    requires { n ≤ 64 }
+    ensures { IfOk result (λ v. AreCut (half_of n) sets.now v.items) }
+{
+    let half = n.div_ceil(2);
+    let mut quarters = Vec::with_capacity(alloc, sets.len())?;
+    for sheet in sets {
+        quarters.push_reserved(quarter(alloc, half, sheet)?);
+    }
+    Ok(quarters)
+}

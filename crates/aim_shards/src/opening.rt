@@ -1,0 +1,205 @@
+//! Opening.
+
+ghost use Rattle.std.specs.Prelude.{◌≡◌, ◌≢◌, ◌⊎◌, ◌<◌, ◌≤◌, ◌*◌, ℕ, List, [], Some, None, length, map, All, AllPairs, IfOk, MatchResult};
+ghost use Rattle.aim_shards.specs.declared.opening.ShardFault.TheVariants.{NoMemory};
+ghost use Rattle.aim_shards.specs.Cuts.{AreCut, AreWithin, half_of};
+ghost use Rattle.aim_shards.specs.Models.{count_up, new_pass};
+ghost use Rattle.aim_shards.specs.Grid.{AreOnGrid};
+ghost use Rattle.aim_shards.specs.Opening.{fault_of};
+ghost use Rattle.aim_shards.specs.Ruled.{Suits, opening_view};
+ghost use Rattle.aim_shards.specs.Sets.{Quarters};
+
+use crate::calls::Shards;
+use crate::claims::ClaimAct;
+use crate::cuts::quarter_all;
+use crate::pass::ShardPass;
+use crate::quarter::{Plan, Quarter};
+use crate::rule::{Chair, Deal, Desk, Opening};
+use crate::sets::{Quartered, no_cells};
+use aim_pool::Sheet;
+use aim_tiles::IdleTable;
+use atomic_table::Table;
+use std::alloc::{AllocError, Global};
+use std::snapshot::Snapshot;
+
+/// Why shards were not opened.
+#[derive(Clone, Copy, Debug, PartialEq, Eq)]
+pub enum ShardFault {
+    /// There is no memory for it.
+    NoMemory,
+    /// The number of callers isn't 1 to 64.
+    Callers,
+    /// The number of calls of a caller isn't 1 to 1,024.
+    Calls,
+    /// There are more than 1,024 sets.
+    Sets,
+}
+
+/// Shards with a pass for each caller.
+#[derive(Drop)]
+pub struct OpenedShards {
+    pub shards: Shards,
+    pub passes: Vec<ShardPass>,
+}
+
+// The first of the causes, other than want of memory.
+fn fault_of(callers: u32, calls: u32, sets: usize) -> Option<ShardFault>
+    ensures { result ≡ fault_of callers calls sets }
+{
+    if !(1..=64).contains(&callers) {
+        return Some(ShardFault::Callers);
+    }
+    if !(1..=1024).contains(&calls) {
+        return Some(ShardFault::Calls);
+    }
+    if sets > 1024 {
+        return Some(ShardFault::Sets);
+    }
+    None
+}
+
+// The callers' numbers.
+fn count_up(alloc: Global, callers: u32) -> Result<Vec<u32>, AllocError>
+    ensures { IfOk result (λ v. v.items ≡ count_up callers) }
+{
+    let mut numbers = Vec::with_capacity(alloc, callers as usize)?;
+    for number in 0..callers {
+        numbers.push_reserved(number);
+    }
+    Ok(numbers)
+}
+
+// An empty quadrant with room for so many entries.
+fn new_quarter(alloc: Global, room: usize, n: u32, horizon: u32) -> Result<Quarter, AllocError>
+    requires n { (1 ≤ n) × (n ≤ 64) }
+    requires horizon { (1 ≤ horizon) × (horizon ≤ 8192) }
+    ensures { IfOk result (λ k. (q : ℕ) (sets : List Quarters) → q < 4 → AreWithin n horizon sets → Suits (record { room = room; sets = sets }) q [] k) }
+{
+    Ok(Quarter {
+        entries: Vec::with_capacity(alloc, room)?,
+        table: IdleTable::new(alloc, n, horizon)?,
+        plan: Plan {
+            act: ClaimAct::Free(0),
+            yes: false,
+        },
+    })
+}
+
+// The table, with the seat that has all numbers to give.
+fn laid(
+    alloc: Global,
+    n: u32,
+    horizon: u32,
+    sheets: &Vec<Sheet>,
+    sets: &Vec<Quartered>,
+    numbers: &Vec<u32>,
+    calls: u32,
+) -> Result<(Desk, Chair), AllocError>
+    requires n { (1 ≤ n) × (n ≤ 64) }
+    requires horizon { (1 ≤ horizon) × (horizon ≤ 8192) }
+    requires within { AreWithin n horizon sets.now.items }
+    requires distinct { AllPairs (λ m n. m ≢ n) numbers.now.items }
+    requires few { (length numbers.now.items ≤ 64) × (calls ≤ 1024) }
+    ensures counts { IfOk result (λ r. (r.0.shared.table_id.words ≡ 9) × (r.0.shared.table_id.slots ≡ 4)) }
+    ensures grid { IfOk result (λ r. (r.0.shared.key.size ≡ n) × (r.0.shared.key.sheets.value.items ≡ sheets.now.items)) }
+    ensures key { IfOk result (λ r. (r.0.shared.key.sets.value.items ≡ sets.now.items) × (r.0.shared.key.numbers.value.items ≡ numbers.now.items) × (r.0.shared.key.calls ≡ calls)) }
+    ensures seat { IfOk result (λ r. (r.1.table_id ≡ r.0.shared.table_id) × (r.1.me ≡ (opening_view sets.now.items numbers.now.items calls, []))) }
+{
+    let room = numbers.len() * calls as usize;
+    let first = new_quarter(alloc, room, n, horizon)?;
+    let second = new_quarter(alloc, room, n, horizon)?;
+    let third = new_quarter(alloc, room, n, horizon)?;
+    let fourth = new_quarter(alloc, room, n, horizon)?;
+    let mut slots = Vec::with_capacity(alloc, 4)?;
+    slots.push_reserved(Some(first));
+    slots.push_reserved(Some(second));
+    slots.push_reserved(Some(third));
+    slots.push_reserved(Some(fourth));
+    let about = Opening {
+        size: n,
+        sheets: Snapshot::of(sheets),
+        sets: Snapshot::of(sets),
+        numbers: Snapshot::of(numbers),
+        calls,
+    };
+    match Table::new(alloc, &[0, 0, 0, 0, 0, 0, 0, 0, 0], slots, &about) {
+        Ok((desk, seat)) => Ok((desk, seat)),
+        Err(_) => Err(AllocError),
+    }
+}
+
+impl Shards {
+    // Opens shards for callers with these numbers.
+    fn opened(
+        alloc: Global,
+        n: u32,
+        horizon: u32,
+        sets: Vec<Sheet>,
+        numbers: Vec<u32>,
+        calls: u32,
+    ) -> Result<OpenedShards, AllocError>
+        requires n { (1 ≤ n) × (n ≤ 64) }
+        requires horizon { (1 ≤ horizon) × (horizon ≤ 8192) }
+        requires grid { AreOnGrid n horizon sets.items }
+        requires distinct { AllPairs (λ m n. m ≢ n) numbers.items }
+        requires few { (length numbers.items ≤ 64) × (calls ≤ 1024) }
+        ensures shards { IfOk result (λ r. (r.shards.size ≡ n) × (r.shards.sets ≡ sets.items) × (r.shards.numbers ≡ numbers.items) × (r.shards.calls ≡ calls)) }
+        ensures cut { IfOk result (λ r. AreCut (half_of n) sets.items r.shards.quarters) }
+        ensures passes { IfOk result (λ r. r.passes.items ≡ map (new_pass r.shards) numbers.items) }
+    {
+        let quarters = quarter_all(alloc, n, &sets)?;
+        let nothing = no_cells(alloc)?;
+        let mut passes = Vec::with_capacity(alloc, numbers.len())?;
+        let (desk, mut root) = laid(alloc, n, horizon, &sets, &quarters, &numbers, calls)?;
+        for number in &numbers {
+            let standing = Vec::with_capacity(alloc, calls as usize)?;
+            let seat = desk.shared.split_seat::<Deal>(&mut root);
+            passes.push_reserved(ShardPass {
+                number: *number,
+                calls,
+                made: 0,
+                standing,
+                seat,
+            });
+        }
+        let shards = Shards {
+            desk,
+            quarters,
+            nothing,
+        };
+        Ok(OpenedShards { shards, passes })
+    }
+
+    /// Opens shards over a grid of `n` rows and columns and steps below the horizon, with a pass for each caller, in the
+    /// order of their numbers from 0.
+    ///
+    /// All memory that calls and the closing need is taken here. Of several causes of a refusal the first is named, and want
+    /// of memory comes last.
+    pub fn open(
+        alloc: Global,
+        n: u32,
+        horizon: u32,
+        sets: Vec<Sheet>,
+        callers: u32,
+        calls: u32,
+    ) -> Result<OpenedShards, ShardFault>
+        requires n { (1 ≤ n) × (n ≤ 64) }
+        requires horizon { (1 ≤ horizon) × (horizon ≤ 8192) }
+        requires grid { AreOnGrid n horizon sets.items }
+        ensures faults { MatchResult result (λ _. fault_of callers calls (length sets.items) ≡ None) (λ f. (fault_of callers calls (length sets.items) ≡ Some f) ⊎ ((f ≡ NoMemory) × (fault_of callers calls (length sets.items) ≡ None))) }
+        ensures shards { IfOk result (λ r. (r.shards.size ≡ n) × (r.shards.sets ≡ sets.items) × (r.shards.numbers ≡ count_up callers) × (r.shards.calls ≡ calls)) }
+        ensures cut { IfOk result (λ r. AreCut (half_of n) sets.items r.shards.quarters) }
+        ensures passes { IfOk result (λ r. r.passes.items ≡ map (new_pass r.shards) (count_up callers)) }
+    {
+        if let Some(fault) = fault_of(callers, calls, sets.len()) {
+            return Err(fault);
+        }
+        let Ok(numbers) = count_up(alloc, callers) else {
+            return Err(ShardFault::NoMemory);
+        };
+        match Shards::opened(alloc, n, horizon, sets, numbers, calls) {
+            Ok(opened) => Ok(opened),
+            Err(_) => Err(ShardFault::NoMemory),
+        }
+    }
+}
