@@ -69,18 +69,19 @@ const SERVED: [(&str, u32); 9] = [
     ("8 1 90 done 2 4 -> ack 4", 0),
 ];
 
-// Serves the lines, and asserts how many sheets are kept after each.
-fn keep<L: Ledger>(
+// Asserts that the call of the line gets its reply, and that so many sheets are kept then.
+fn is_served<L: Ledger>(
     rt: &impl Abort,
     book: &mut Book<L>,
     pool: &mut Pool,
     steps: &mut Steps<L>,
+    line: &str,
+    sheets: u32,
 ) -> Result<(), Fail> {
-    for (line, sheets) in SERVED {
-        let (_, entry) = entry(line)?;
-        assert!(rt; give(rt, book, &entry, pool, steps)? == Ok(entry.reply));
-        assert_eq!(rt; kept(book), sheets);
-    }
+    let (_, entry) = entry(line)?;
+    let reply = give(rt, book, &entry, pool, steps)?;
+    assert!(rt; reply == Ok(entry.reply), "{line}");
+    assert_eq!(rt; kept(book), sheets);
     Ok(())
 }
 
@@ -106,7 +107,9 @@ fn fill<L: Ledger>(rt: &impl Abort, alloc: Global, blank: Blank) -> Result<(), F
     let mut pool = Pool::new(alloc, VEHICLES + 2, 4096)?;
     let mut steps = Steps::<L>::new(blank);
     let mut book = Book::<L>::open(alloc, layout, VEHICLES, 9)?;
-    keep(rt, &mut book, &mut pool, &mut steps)?;
+    for (line, sheets) in SERVED {
+        is_served(rt, &mut book, &mut pool, &mut steps, line, sheets)?;
+    }
     for (line, _) in [SERVED[0], SERVED[7]] {
         assert!(rt; is_full(rt, &mut book, &mut pool, &mut steps, line)?);
     }
@@ -139,16 +142,16 @@ const MARKS: [(u8, u32, u64, u64); 8] = [
     (2, 1525, 0, 0),
 ];
 
-// Whether the charts of the book have these marks.
-fn is_charted<L: Ledger>(rt: &impl Abort, book: &Book<L>) -> bool {
-    let n = book.layout().ground().grid().n;
-    for (row, step, held, claimed) in MARKS {
-        assert!(rt; (row as u32) < n);
-        if book.chart_row(row, step) != (held, claimed) {
-            return false;
-        }
-    }
-    true
+// Whether the row of a chart has these columns.
+fn is_marked<L: Ledger>(
+    rt: &impl Abort,
+    book: &Book<L>,
+    row: u8,
+    step: u32,
+    columns: (u64, u64),
+) -> bool {
+    assert!(rt; (row as u32) < book.layout().ground().grid().n);
+    book.chart_row(row, step) == columns
 }
 
 fn draw<L: Ledger>(rt: &impl Abort, alloc: Global, blank: Blank) -> Result<(), Fail>
@@ -164,7 +167,9 @@ fn draw<L: Ledger>(rt: &impl Abort, alloc: Global, blank: Blank) -> Result<(), F
         let (_, entry) = entry(line)?;
         let _ = give(rt, &mut book, &entry, &mut pool, &mut steps)?;
     }
-    assert!(rt; is_charted(rt, &book));
+    for (row, step, held, claimed) in MARKS {
+        assert!(rt; is_marked(rt, &book, row, step, (held, claimed)));
+    }
     Ok(())
 }
 
