@@ -35,7 +35,7 @@ fn params(turn: u32, part: u32) -> Params {
         accel: 2,
         length: 4500,
         width: 1900,
-        emergency: turn % 50 == 7,
+        emergency: turn % 400 == 7,
     }
 }
 

@@ -1,9 +1,9 @@
-//! What a book of another size answers, and how many sheets it keeps.
+//! What a book of another size answers, how many sheets it keeps, and the rows of its charts.
 
 ghost use Rattle.std.specs.Prelude.{◌≡◌, ◌<◌};
 
 use crate::crossing::{Site, crossing};
-use crate::serving::{Lines, VEHICLES, entry, give, is_told, kept};
+use crate::serving::{Lines, VEHICLES, entry, give, kept};
 use aim_book::{Book, Full, OpenFault};
 use aim_pool::Pool;
 use aim_tiles::Steps;
@@ -41,33 +41,47 @@ fn not_opened(rt: HostRuntime) -> Result<(), Fail> {
     Ok(())
 }
 
-// A journal, and how many sheets the book keeps after each of its entries.
-const LINES: Lines = &[
-    "0 0 0 request 1 0 straight 10 500 500 0 1000 700 car -> confirm 0 10 0 0 steady 20",
-    "1 0 1 request 4 0 straight 40 500 500 0 1000 700 car -> reject holds 0 next 0 held 0",
-    "2 0 1 change 5 0 0 straight 40 500 500 0 1000 700 car -> confirm 2 40 0 0 steady 50",
-    "3 0 2 cancel 6 0 -> ack 0",
-    "4 1 60 request 1 1 straight 70 500 500 0 1000 700 car -> confirm 4 70 0 0 steady 80",
-    "5 0 60 request 7 0 straight 78 500 500 0 1000 700 car -> confirm 5 78 0 0 steady 88",
-    "6 0 61 cancel 8 5 -> ack 5",
-    "7 operator 61 stop -> stopped",
-    "8 1 90 done 2 4 -> ack 4",
+// The entries of a journal, and how many sheets the book keeps after each.
+const SERVED: [(&str, u32); 9] = [
+    (
+        "0 0 0 request 1 0 straight 10 500 500 0 1000 700 car -> confirm 0 10 0 0 steady 20",
+        1,
+    ),
+    (
+        "1 0 1 request 4 0 straight 40 500 500 0 1000 700 car -> reject holds 0 next 0 held 0",
+        1,
+    ),
+    (
+        "2 0 1 change 5 0 0 straight 40 500 500 0 1000 700 car -> confirm 2 40 0 0 steady 50",
+        1,
+    ),
+    ("3 0 2 cancel 6 0 -> ack 0", 1),
+    (
+        "4 1 60 request 1 1 straight 70 500 500 0 1000 700 car -> confirm 4 70 0 0 steady 80",
+        2,
+    ),
+    (
+        "5 0 60 request 7 0 straight 78 500 500 0 1000 700 car -> confirm 5 78 0 0 steady 88",
+        2,
+    ),
+    ("6 0 61 cancel 8 5 -> ack 5", 1),
+    ("7 operator 61 stop -> stopped", 1),
+    ("8 1 90 done 2 4 -> ack 4", 0),
 ];
 
-const KEPT: [u32; 9] = [1, 1, 1, 1, 2, 2, 1, 1, 0];
-
-// Serves the lines, and asserts how many sheets are kept after each.
-fn keep<L: Ledger>(
+// Asserts that the call of the line gets its reply, and that so many sheets are kept then.
+fn is_served<L: Ledger>(
     rt: &impl Abort,
     book: &mut Book<L>,
     pool: &mut Pool,
     steps: &mut Steps<L>,
+    line: &str,
+    sheets: u32,
 ) -> Result<(), Fail> {
-    for (line, sheets) in LINES.iter().zip(KEPT) {
-        let (_, entry) = entry(line)?;
-        let _ = give(rt, book, &entry, pool, steps)?;
-        assert_eq!(rt; kept(book), sheets);
-    }
+    let (_, entry) = entry(line)?;
+    let reply = give(rt, book, &entry, pool, steps)?;
+    assert!(rt; reply == Ok(entry.reply), "{line}");
+    assert_eq!(rt; kept(book), sheets);
     Ok(())
 }
 
@@ -93,16 +107,73 @@ fn fill<L: Ledger>(rt: &impl Abort, alloc: Global, blank: Blank) -> Result<(), F
     let mut pool = Pool::new(alloc, VEHICLES + 2, 4096)?;
     let mut steps = Steps::<L>::new(blank);
     let mut book = Book::<L>::open(alloc, layout, VEHICLES, 9)?;
-    keep(rt, &mut book, &mut pool, &mut steps)?;
-    for line in [LINES[0], LINES[7]] {
+    for (line, sheets) in SERVED {
+        is_served(rt, &mut book, &mut pool, &mut steps, line, sheets)?;
+    }
+    for (line, _) in [SERVED[0], SERVED[7]] {
         assert!(rt; is_full(rt, &mut book, &mut pool, &mut steps, line)?);
     }
     assert_eq!(rt; pool.count(), VEHICLES + 2);
-    assert!(rt; is_told(alloc, book.journal(), LINES)?);
+    assert_eq!(rt; book.journal().len(), 9);
     Ok(())
 }
 
 #[test]
 fn sheets_are_kept_and_the_journal_is_full(rt: HostRuntime) -> Result<(), Fail> {
     fill::<Brand>(&rt, rt.alloc(), Blank::new(1))
+}
+
+// A switch to lights, and a crossing before they are in force.
+const CHARTED: Lines = &[
+    "0 operator 5 switch 1 -> switched 1505",
+    "1 0 5 request 1 0 straight 10 500 500 0 1000 700 car -> confirm 1 10 0 0 steady 20",
+];
+
+// A row, a step, and the columns that are held and claimed: none of a step that is past, those of the crossing, and those
+// of lane 0 from its first green on.
+const MARKS: [(u8, u32, u64, u64); 8] = [
+    (1, 4, 0, 0),
+    (0, 15, 0, 0),
+    (1, 15, 0b1110, 0),
+    (2, 15, 0, 0),
+    (1, 21, 0, 0),
+    (1, 1524, 0, 0),
+    (1, 1525, 0, 0b1111),
+    (2, 1525, 0, 0),
+];
+
+// Whether the row of a chart has these columns.
+fn is_marked<L: Ledger>(
+    rt: &impl Abort,
+    book: &Book<L>,
+    row: u8,
+    step: u32,
+    columns: (u64, u64),
+) -> bool {
+    assert!(rt; (row as u32) < book.layout().ground().grid().n);
+    book.chart_row(row, step) == columns
+}
+
+fn draw<L: Ledger>(rt: &impl Abort, alloc: Global, blank: Blank) -> Result<(), Fail>
+    requires name { blank.name ≡ L.name }
+    requires parts { blank.parts ≡ L.parts }
+    requires some { 0 < blank.parts }
+{
+    let layout = crossing(alloc, Site::Plain)?;
+    let mut pool = Pool::new(alloc, VEHICLES + 2, 4096)?;
+    let mut steps = Steps::<L>::new(blank);
+    let mut book = Book::<L>::open(alloc, layout, VEHICLES, 2)?;
+    for line in CHARTED {
+        let (_, entry) = entry(line)?;
+        let _ = give(rt, &mut book, &entry, &mut pool, &mut steps)?;
+    }
+    for (row, step, held, claimed) in MARKS {
+        assert!(rt; is_marked(rt, &book, row, step, (held, claimed)));
+    }
+    Ok(())
+}
+
+#[test]
+fn charts_have_what_is_held_and_claimed(rt: HostRuntime) -> Result<(), Fail> {
+    draw::<Brand>(&rt, rt.alloc(), Blank::new(1))
 }

@@ -66,8 +66,8 @@ pub fn kept<L: Ledger>(book: &Book<L>) -> u32 {
     sheets
 }
 
-/// Whether the journal has these lines.
-pub fn is_told(alloc: Global, journal: &[Entry], lines: Lines) -> Result<bool, Fail> {
+// Whether the journal has these lines.
+fn is_told(alloc: Global, journal: &[Entry], lines: Lines) -> Result<bool, Fail> {
     let mut told = Vec::new(alloc);
     for (told_entry, line) in journal.iter().zip(lines) {
         let (place, _) = entry(line)?;
