@@ -40,6 +40,7 @@ dark_policy (p ∷ ps) n o lane dark = go (has_lights p.kind) refl dark n (λ m 
   where
     lamp : (b : Bool) → b ≡ false → has_lane (if b then lit p.phases (o % round p.phases) else 0) lane ≡ false
     lamp b e = rw e (has_lane-none lane)
+
     go : (b : Bool) → has_lights p.kind ≡ b → (b || list_any (λ p. has_lights p.kind) ps) ≡ false → (n : ℕ) →
         ((m : ℕ) → list_any (λ p. has_lights p.kind) ps ≡ false → has_lane (green_lanes (slice_get ps m) o) lane ≡ false) → has_lane (green_lanes (slice_get (p ∷ ps) n) o) lane ≡ false
     go true e f n later = absurd (cc)

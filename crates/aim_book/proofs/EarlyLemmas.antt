@@ -40,9 +40,9 @@ far_is i p spans reach true before after have both =
     sym (IsIn-test (λ c. nat_le reach c.step) (cells i p false) r.0 (cells_has i p false r.0 before after (sym (have r.0) ∙ r.1)) (le-leb reach r.0.step r.2))
 far_is i p spans reach false before after have both =
     sym (false_from_ne_true (list_any (λ c. nat_le reach c.step) (cells i p false)) (λ t. (
-      let s = some_passes (λ c. nat_le reach c.step) (cells i p false) t in
-      let l : reach ≤ s.0.step = leb-true reach s.0.step s.2 in
-      let e : false ≡ true = both.1 (s.0, have s.0 ∙ cells_needed i p false s.0 s.1, l) in cc)))
+    let s = some_passes (λ c. nat_le reach c.step) (cells i p false) t in
+    let l : reach ≤ s.0.step = leb-true reach s.0.step s.2 in
+    let e : false ≡ true = both.1 (s.0, have s.0 ∙ cells_needed i p false s.0 s.1, l) in cc)))
 
 distant_from : (d : ℕ) (o : Option ℕ) → where_so (exceeds d o) (reason.Distance (unwrap_or o 0)) ≡ option_map (λ least. reason.Distance least) (exceeded d o)
 distant_from d None = refl
@@ -137,5 +137,6 @@ early_is i v place k p d now next o tells now_is next_is may good is =
   where
     rest : Option Reason
     rest = option_or (too_late_by i k p) (option_or (too_far_by i k p) (option_or (too_distant_by i k p) (option_or (in_the_way_by i k p) None)))
+
     soon : nat_lt k.now k.next ≡ false
     soon = (λ j. nat_lt ((tells.now ∙ sym now_is) j) ((tells.next ∙ sym next_is) j)) ∙ may

@@ -71,10 +71,13 @@ module _ (i : Intersection) (h : List Entry) (v moment : ℕ) (k : Known) (r : R
     where
       said : answer i h v moment (act.Message r.message) ≡ answer_fresh (record { layout = i; history = h; served = fresh h; vehicle = v; now = now_of h moment }) r.message.body
       said = rw is_new refl
+
       good : bad i p ≡ None
       good = (fresh_grants (record { layout = i; history = h; served = fresh h; vehicle = v; now = now_of h moment }) r.message.body p asks (ap is_confirm (sym said ∙ same) ∙ confirmed)).good
+
       shown : prepared_params r ≡ Some p
       shown = good_params i p r (record { prepared = prepared; params = asks }) good
+
       go : (b : Bool) → is_fast (answer_fresh_by i k r.message.body) ≡ b → HaveCells i p b (if b then r.first else r.second).spans
       go true e = (prepared.fast p shown (fast_made i k r.message.body p asks e)).cells
       go false e = (prepared.steady p shown).cells

@@ -64,17 +64,17 @@ hit_span i fs lane spans k col d g greens at l r clear bit = record {
   place = k;
   within = l;
   hit = λ e. (let m = and_parts (has_bit (get_or spans k d).mask col) (is_green i fs lane (cell_at (get_or spans k d).step (get_or spans k d).row col)) (sym (met_green i fs lane col (get_or spans k d) g greens at r bit.0) ∙ bit.1) in
-    let here : (in_span (get_or spans k d) (cell_at (get_or spans k d).step (get_or spans k d).row col) && is_green i fs lane (cell_at (get_or spans k d).step (get_or spans k d).row col)) ≡ true
-    = and_from _ _ (and_from _ _ (and_from _ _ (eq-eqb (get_or spans k d).step (get_or spans k d).step refl) (eq-eqb (get_or spans k d).row (get_or spans k d).row refl)) m.0) m.1 in
-    subst (λ (s : Span). (in_span s (cell_at (get_or spans k d).step (get_or spans k d).row col) && is_green i fs lane (cell_at (get_or spans k d).step (get_or spans k d).row col)) ≡ true) (get_or_default spans k d e l) here);
+      let here : (in_span (get_or spans k d) (cell_at (get_or spans k d).step (get_or spans k d).row col) && is_green i fs lane (cell_at (get_or spans k d).step (get_or spans k d).row col)) ≡ true
+      = and_from _ _ (and_from _ _ (and_from _ _ (eq-eqb (get_or spans k d).step (get_or spans k d).step refl) (eq-eqb (get_or spans k d).row (get_or spans k d).row refl)) m.0) m.1 in
+      subst (λ (s : Span). (in_span s (cell_at (get_or spans k d).step (get_or spans k d).row col) && is_green i fs lane (cell_at (get_or spans k d).step (get_or spans k d).row col)) ≡ true) (get_or_default spans k d e l) here);
   before = λ j e b. clear j e b;
   lowest = λ e column below. false_from_ne_true _ (λ hit. (
-    let h : (in_span (get_or spans k d) (cell_at (get_or spans k d).step (get_or spans k d).row column) && is_green i fs lane (cell_at (get_or spans k d).step (get_or spans k d).row column)) ≡ true
-    = subst (λ (s : Span). (in_span s (cell_at (get_or spans k d).step (get_or spans k d).row column) && is_green i fs lane (cell_at (get_or spans k d).step (get_or spans k d).row column)) ≡ true) (get_or_default spans k e d l) hit in
-    let p = and_parts (in_span (get_or spans k d) (cell_at (get_or spans k d).step (get_or spans k d).row column)) (is_green i fs lane (cell_at (get_or spans k d).step (get_or spans k d).row column)) h in
-    let q = and_parts (is_at (get_or spans k d) (get_or spans k d).step (get_or spans k d).row) (has_bit (get_or spans k d).mask column) p.0 in
-    both_ways (has_bit (bit_and (get_or spans k d).mask (slice_index g.rows (get_or spans k d).row)) column) (bit.2 column below)
-    (met_green i fs lane column (get_or spans k d) g greens at r (let b : col < 64 = bit.0 in let u : column < col = below in omega arith) ∙ and_from _ _ q.1 p.1)));
+      let h : (in_span (get_or spans k d) (cell_at (get_or spans k d).step (get_or spans k d).row column) && is_green i fs lane (cell_at (get_or spans k d).step (get_or spans k d).row column)) ≡ true
+      = subst (λ (s : Span). (in_span s (cell_at (get_or spans k d).step (get_or spans k d).row column) && is_green i fs lane (cell_at (get_or spans k d).step (get_or spans k d).row column)) ≡ true) (get_or_default spans k e d l) hit in
+      let p = and_parts (in_span (get_or spans k d) (cell_at (get_or spans k d).step (get_or spans k d).row column)) (is_green i fs lane (cell_at (get_or spans k d).step (get_or spans k d).row column)) h in
+      let q = and_parts (is_at (get_or spans k d) (get_or spans k d).step (get_or spans k d).row) (has_bit (get_or spans k d).mask column) p.0 in
+      both_ways (has_bit (bit_and (get_or spans k d).mask (slice_index g.rows (get_or spans k d).row)) column) (bit.2 column below)
+      (met_green i fs lane column (get_or spans k d) g greens at r (let b : col < 64 = bit.0 in let u : column < col = below in omega arith) ∙ and_from _ _ q.1 p.1)));
 }
 
 -- one span more is clear

@@ -79,11 +79,11 @@ pub lasts_reaches : (i : Intersection) (now : ℕ) (x : Fresh) (r : Reservation)
 lasts_reaches i now x r before after of reach =
     IsIn-test (λ c. nat_le now c.step) (granted i x) reach.0 (granted_has i x reach.0 before after (sym (of.cells reach.0) ∙ reach.1)) (le-leb now reach.0.step reach.2)
 
-pub some_passes : (q : Cell → Bool) (xs : List Cell) → list_any q xs ≡ true → (c : Cell) × IsIn c xs × (q c ≡ true)
-some_passes q [] t = absurd (cc)
-some_passes q (x ∷ xs) t = go (q x) refl t (some_passes q xs)
+pub some_passes : {X : Type 0} (q : X → Bool) (xs : List X) → list_any q xs ≡ true → (c : X) × IsIn c xs × (q c ≡ true)
+some_passes {X = X} q [] t = absurd (cc)
+some_passes {X = X} q (x ∷ xs) t = go (q x) refl t (some_passes q xs)
   where
-    go : (b : Bool) → q x ≡ b → (b || list_any q xs) ≡ true → (list_any q xs ≡ true → (c : Cell) × IsIn c xs × (q c ≡ true)) → (c : Cell) × IsIn c (x ∷ xs) × (q c ≡ true)
+    go : (b : Bool) → q x ≡ b → (b || list_any q xs) ≡ true → (list_any q xs ≡ true → (c : X) × IsIn c xs × (q c ≡ true)) → (c : X) × IsIn c (x ∷ xs) × (q c ≡ true)
     go true e f later = (x, inl refl, e)
     go false e f later = let s = later f in (s.0, inr s.1, s.2)
 

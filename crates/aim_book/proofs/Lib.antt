@@ -14,3 +14,5 @@ mod ServedLemmas
 mod SameLemmas
 mod SheetLemmas
 mod NewLemmas
+mod ChartLemmas
+mod OwnLemmas

@@ -109,9 +109,11 @@ policies_there i n h s valid = from_front (λ h. IsLegal i n h → (policy_at h 
       where
         before : (policy_at h s).policy < length i.policies
         before = earlier (IsLegal-before i n h (e ∷ []) legal)
+
         switched : (b : Bool) (p from : ℕ) → p < length i.policies → (unwrap_or (if b then Some (record { policy = p; from = from }) else None) (policy_at h s)).policy < length i.policies
         switched true p from l = l
         switched false p from l = before
+
         go : (a : Act) (r : Reply) → IsOfLayout i n e.caller a → (unwrap_or (in_force (change_with a r) s) (policy_at h s)).policy < length i.policies
         go (act.Message m) r of = before
         go (act.Order order.Stop) r of = before

@@ -48,6 +48,7 @@ no_rows i n v = go (row_of (replicate n None) v) (blank n v)
     blank zero v = refl
     blank (suc n) zero = refl
     blank (suc n) (suc v) = blank n v
+
     go : (o : Option Reservation) → o ≡ None → IsRowOf i None o
     go None e = tt
     go (Some r) e = absurd (cc)

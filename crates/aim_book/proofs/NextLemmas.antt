@@ -80,15 +80,19 @@ module _ {L : Type 0} (i : Intersection) (n : ℕ) (xs : List Fresh) (x : Fresh)
           is_owned-snoc i n xs x at c apart (rw caller l) k
           ∙ ap (λ u. has_cell i c (kept_next (kept xs u) x) || (is_owned i n xs c && not (owns i xs c u))) caller
           ∙ (λ j. row_has i (kept_next (kept xs v) x) next c next_row j || (is_owned i n xs c && not (row_has i (kept xs v) row c own_row j)))
+
       swap : (a b : Bool) → (a || b) ≡ (b || a)
       swap true true = refl
       swap true false = refl
       swap false true = refl
       swap false false = refl
+
       owned : at ≤ c.step → has_taken old.table c ≡ is_owned i n xs c
       owned k = are.cells c ∙ ap (λ b. b && is_owned i n xs c) (le-leb at c.step k)
+
       past : c.step < at → nat_le at c.step ≡ false
       past k = lt-leb at c.step k
+
       none_before : c.step < at → is_changed row r x.entry.reply ≡ true → in_spans (spans_in next) c ≡ false
       none_before k e = before (is_confirm x.entry.reply) (is_named (given_up r.message.body) row) refl e
         where
@@ -96,10 +100,12 @@ module _ {L : Type 0} (i : Intersection) (n : ℕ) (xs : List Fresh) (x : Fresh)
           before true d f g = false_from_ne_true (in_spans (granted_sheet r x.entry.reply).spans c) (λ t. (let q : at ≤ c.step = later f c t in absurd (omega arith)))
           before false true f g = refl
           before false false f g = absurd (cc)
+
       unchanged : (b d : Bool) → is_confirm x.entry.reply ≡ b → is_named (given_up r.message.body) row ≡ d → (b || d) ≡ false → kept_next (kept xs x.entry.caller) x ≡ kept xs x.entry.caller
       unchanged true d f g h = absurd (cc)
       unchanged false true f g h = absurd (cc)
       unchanged false false f g h = rw (f, said, caller) (same_kept i (given_up r.message.body) (kept xs v) row own_row g)
+
       go : (b : Bool) → is_changed row r x.entry.reply ≡ b → (if b then (has_taken old.table c && not (in_spans (spans_in row) c)) || in_spans (spans_in next) c else has_taken old.table c) ≡ (nat_le at c.step && is_owned i n (xs ++ x ∷ []) c)
       go true e = elim (cases_lt c.step at) [
         | inl k ↦ rw (are.cells c, past k, none_before k e) refl

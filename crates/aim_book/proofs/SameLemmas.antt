@@ -58,6 +58,7 @@ reserved_later i n h at later old new l are rows table cells = record {
         none : (b : Bool) → (b && false) ≡ false
         none true = refl
         none false = refl
+
         all : (b : Bool) → (b && true) ≡ b
         all true = refl
         all false = refl

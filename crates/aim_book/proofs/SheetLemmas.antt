@@ -55,6 +55,7 @@ ids_are_places i n = from_front (λ h. IsLegal i n h → (x : Fresh) → IsIn x 
       where
         before : IsIn x (fresh h) → id_in x.entry.reply ≡ Some x.place
         before k = earlier (IsLegal-before i n h (e ∷ []) legal) x k confirmed
+
         go : (b : Bool) → is_fresh h e ≡ b → id_in x.entry.reply ≡ Some x.place
         go false f = before (subst (λ xs. IsIn x xs) (fresh-none h e f) m)
         go true f = elim (IsIn-snoc (fresh h) (record { place = length h; now = now_of h e.moment; entry = e }) x (subst (λ xs. IsIn x xs) (fresh-one h e f) m)) [
@@ -71,9 +72,11 @@ count_is i n h v row legal of = go (last_confirm (fresh h) v) refl of
     rows true x (Some r) of = absurd of
     rows false x None of = absurd of
     rows false x (Some r) of = refl
+
     none : (row : Option Reservation) → IsRowOf i None row → row_count row ≡ 0
     none None of = refl
     none (Some r) of = absurd of
+
     go : (o : Option Fresh) → last_confirm (fresh h) v ≡ o → IsRowOf i (option_and_then (λ x. if is_given_up (fresh h) v x.place then None else Some x) o) row →
         row_count row ≡ sheets_with (fresh h) v (option_and_then (λ x. id_in x.entry.reply) o)
     go None e of = none row of
@@ -89,5 +92,6 @@ changes_fit = from_front (λ h. length (changes h) ≤ length h) (omega arith) m
     at_most_one : (o : Option InForce) → length (filter_map (λ x. x) (o ∷ [])) ≤ 1
     at_most_one None = omega arith
     at_most_one (Some f) = omega arith
+
     more : (h : List Entry) (e : Entry) → length (changes h) ≤ length h → length (changes (h ++ e ∷ [])) ≤ length (h ++ e ∷ [])
     more h e l = rw (changes-snoc h e) (let one = at_most_one (change_with e.act e.reply) in let a = length-append (changes h) (filter_map (λ x. x) (change_with e.act e.reply ∷ [])) in let b = length-append h (e ∷ []) in omega arith)

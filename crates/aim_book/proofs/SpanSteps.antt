@@ -46,14 +46,14 @@ pub reaches_last : (spans : List Span) (step : ℕ) (x : Span) → AreRising spa
 reaches_last [] step x rising marked at = absurd (cc)
 reaches_last (s ∷ ss) step x rising marked at = (
   λ t. (let c = cell_of (s ∷ ss) (length (s ∷ ss) - 1) nowhere marked (omega arith) in
-    let l : step ≤ x.step = leb-true step x.step t in
-    (c.0, c.1, (let e : c.0.step ≡ x.step = rw here at c.2 in omega arith))),
+      let l : step ≤ x.step = leb-true step x.step t in
+      (c.0, c.1, (let e : c.0.step ≡ x.step = rw here at c.2 in omega arith))),
   λ r. (let k = span_of (s ∷ ss) r.0 nowhere r.1 in
-    let e = k.2 in
-    let u = steps_rise (s ∷ ss) k.0 (length (s ∷ ss) - 1) nowhere rising (let l = k.1 in omega arith) (omega arith) in
-    let u' : (get_or (s ∷ ss) k.0 nowhere).step ≤ x.step = rw here at u in
-    let l : step ≤ r.0.step = r.2 in
-    le-leb step x.step (omega arith)),
+      let e = k.2 in
+      let u = steps_rise (s ∷ ss) k.0 (length (s ∷ ss) - 1) nowhere rising (let l = k.1 in omega arith) (omega arith) in
+      let u' : (get_or (s ∷ ss) k.0 nowhere).step ≤ x.step = rw here at u in
+      let l : step ≤ r.0.step = r.2 in
+      le-leb step x.step (omega arith)),
 )
   where
     here : get_or (s ∷ ss) (length (s ∷ ss) - 1) nowhere ≡ x
@@ -67,9 +67,9 @@ pub first_is : (spans : List Span) (x : Span) → AreRising spans → AreMarked 
 first_is [] x rising marked at = absurd (cc)
 first_is (s ∷ ss) x rising marked at = record {
   least = λ c t. (let k = span_of (s ∷ ss) c nowhere t in
-    let u = steps_rise (s ∷ ss) 0 k.0 nowhere rising (omega arith) k.1 in
-    let e : x ≡ s = cc in
-    rw (k.2, e) u);
+      let u = steps_rise (s ∷ ss) 0 k.0 nowhere rising (omega arith) k.1 in
+      let e : x ≡ s = cc in
+      rw (k.2, e) u);
   reached = λ c t. (let d = cell_of (s ∷ ss) 0 nowhere marked (omega arith) in let e : x ≡ s = cc in (d.0, d.1, rw e d.2));
   none = λ f. absurd (let d = cell_of (s ∷ ss) 0 nowhere marked (omega arith) in let n = f d.0 in let y = d.1 in cc);
 }

@@ -7,3 +7,4 @@ pub mod Blocking
 pub mod Asking
 pub mod Keeping
 pub mod Books
+pub mod Charted

@@ -20,13 +20,7 @@ use aim_tiles::Steps;
 use std::sync::ledger::Ledger;
 
 // A Confirm of the fast trial or of the steady one, which has so many crossing steps.
-fn confirm(
-    layout: &Layout,
-    place: u32,
-    params: &Params,
-    accelerate: bool,
-    steps: u32,
-) -> Reply
+fn confirm(layout: &Layout, place: u32, params: &Params, accelerate: bool, steps: u32) -> Reply
     requires good { bad layout.now params.now ≡ None }
     requires steps { steps ≡ crossing_steps layout.now params.now accelerate }
     ensures { (k : Known) → k.place ≡ place → result ≡ confirmation_by layout.now k params.now accelerate }
@@ -164,13 +158,7 @@ impl<L: Ledger> Desk<L> {
             Body::Cancel(id) | Body::Done(id) => Reply::Ack { id },
             Body::Request(_) | Body::Change(_, _) if self.stopped => Reply::EmergencyStop,
             Body::Request(params) | Body::Change(_, params) => self.answer_asking(
-                layout,
-                approaches,
-                vehicle,
-                place,
-                prepared,
-                &params,
-                steps,
+                layout, approaches, vehicle, place, prepared, &params, steps,
             ),
         }
     }

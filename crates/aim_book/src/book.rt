@@ -56,11 +56,15 @@ impl<L: Ledger> Model for Book<L> {
 }
 
 impl<L: Ledger> Book<L> {
-    ghost use Rattle.std.specs.Prelude.{◌≡◌, ◌+◌, ◌<◌, ◌≤◌, ◌⊎◌, ◌++◌, ◌∷◌, [], ◌↔◌, length, IfOk, OnErr, IsErr, Err};
+    ghost use Rattle.std.specs.Prelude.{◌≡◌, ℕ, ◌+◌, ◌<◌, ◌≤◌, ◌⊎◌, ◌&&◌, not, nat_lt, ◌++◌, ◌∷◌, [], ◌↔◌, length, IfOk, OnErr, IsErr, Err};
+    ghost use Rattle.aim_geometry.specs.Cells.{cell_at};
+    ghost use Rattle.aim_geometry.specs.Rects.{has_bit};
     ghost use Rattle.aim_msg.specs.declared.entries.TheConstants.{LATEST_MOMENT, MOST_ENTRIES, MOST_VEHICLES, OPERATOR};
     ghost use Rattle.aim_buffers.specs.Requests.{IsPreparedFor};
     ghost use Rattle.aim_rules.specs.Answer.{answer};
+    ghost use Rattle.aim_rules.specs.History.{now_of};
     ghost use Rattle.aim_rules.specs.Legal.{IsLegal, IsOfLayout};
+    ghost use Rattle.aim_book.specs.Charted.{is_claimed_by_some, is_held};
     ghost use Rattle.aim_book.specs.Sheets.{sheets_kept};
 
     /// A book with an empty journal, for that many vehicles and that many entries. It takes all its memory here.
@@ -163,6 +167,25 @@ impl<L: Ledger> Book<L> {
             reply,
         });
         Ok(reply)
+    }
+
+    /// The columns of a step's row that vehicles hold, and those that lanes claim by their greens, one bit each; none where
+    /// the step is past.
+    pub fn chart_row(&self, row: u8, step: u32) -> (u64, u64)
+        requires { row < self.now.layout.grid.n }
+        ensures held { (col : ℕ) → has_bit result.0 col
+            ≡ (not (nat_lt step (now_of self.now.journal 0)) && is_held self.now.layout self.now.journal (cell_at step row col)) }
+        ensures claimed { (col : ℕ) → col < 64 → has_bit result.1 col
+            ≡ (not (nat_lt step (now_of self.now.journal 0)) && is_claimed_by_some self.now.layout self.now.journal (cell_at step row col)) }
+    {
+        let desk = &self.desk;
+        if step < desk.reservations.now() {
+            return (0, 0);
+        }
+        // This call only tells the range of the grid.
+        let _ground = self.layout.ground();
+        let claims = desk.timeline.claims(&self.layout, step, None);
+        (desk.reservations.mask(step, row), claims[row as usize])
     }
 
     /// How many sheets are kept for the vehicle: 1 where it has a fresh Confirm, past or not, that no later fresh CANCEL or

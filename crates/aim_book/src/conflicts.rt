@@ -31,13 +31,7 @@ fn least(a: Option<(u32, u8, u8)>, b: Option<(u32, u8, u8)>) -> Option<(u32, u8,
     ensures { (p q : Cell → Bool) → IsLeastOf p a → IsLeastOf q b → IsLeastOf (λ c. p c || q c) result }
 {
     match (a, b) {
-        (Some(first), Some(second)) => {
-            if is_before(second, first) {
-                b
-            } else {
-                a
-            }
-        }
+        (Some(first), Some(second)) => { if is_before(second, first) { b } else { a } }
         (None, _) => b,
         (_, None) => a,
     }

@@ -32,7 +32,7 @@ impl Greens {
         ensures { (fs : List InForce) → AreGreens layout.now fs lane result }
     {
         // This call only tells the ranges of the grid and of the lanes.
-    let _ground = layout.ground();
+        let _ground = layout.ground();
         Greens {
             step: None,
             lanes: 0,

@@ -119,13 +119,7 @@ impl<L: Ledger> Reservations<L> {
     }
 
     // Takes the vehicle's reservation from it, if it has the id, and gives its sheet to the pool.
-    fn give_up(
-        &mut self,
-        vehicle: u32,
-        id: Option<u32>,
-        back: &mut Pool,
-        steps: &mut Steps<L>,
-    )
+    fn give_up(&mut self, vehicle: u32, id: Option<u32>, back: &mut Pool, steps: &mut Steps<L>)
         requires there { vehicle < length self.old.rows.items }
         requires own { AreTiles self.old.table.size (spans_in (row_of self.old.rows.items vehicle)) }
         requires count { back.old.count ≤ 1000002 }

@@ -7,6 +7,7 @@ mod conflicts;
 mod desks;
 mod greens;
 mod keeping;
+pub mod laws;
 mod refusals;
 mod reservations;
 mod serving;

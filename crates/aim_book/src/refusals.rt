@@ -57,13 +57,7 @@ impl<L: Ledger> Desk<L> {
     }
 
     /// A refusal of the vehicle.
-    pub(crate) fn refuse(
-        &self,
-        layout: &Layout,
-        vehicle: u32,
-        arrive: u32,
-        reason: Reason,
-    ) -> Reply
+    pub(crate) fn refuse(&self, layout: &Layout, vehicle: u32, arrive: u32, reason: Reason) -> Reply
         requires there { vehicle < length self.now.sessions }
         requires row { vehicle < length self.now.reservations.rows.items }
         ensures { (k : Known) (place : ℕ) → Tells layout.now vehicle place k self.now → result ≡ refusal_by layout.now k arrive reason }
@@ -97,7 +91,12 @@ impl<L: Ledger> Desk<L> {
     }
 
     // The lane to which the vehicle has to give way at its arrival, if there is one.
-    fn in_the_way(&self, layout: &Layout, approaches: &Approaches, params: &Params) -> Option<Reason>
+    fn in_the_way(
+        &self,
+        layout: &Layout,
+        approaches: &Approaches,
+        params: &Params,
+    ) -> Option<Reason>
         requires there { (s : ℕ) → (policy_in self.now.timeline.pushed s).policy < length layout.now.policies }
         requires lane { params.now.lane < 16 }
         ensures { (k : Known) (vehicle place : ℕ) → Tells layout.now vehicle place k self.now → AreCalling layout.now k params.now approaches.now → result ≡ in_the_way_by layout.now k params.now }

@@ -2,8 +2,9 @@
 
 ghost use Rattle.std.specs.Prelude.{◌≡◌, ℕ, ◌+◌, ◌*◌, ◌-◌, ◌<◌, ◌≤◌, ◌&&◌, ◌||◌, not, ◌==◌, false, nat_le, min, length, None, Some, replicate, slice_index_or, slice_set, IfOk, IfNone, IfSome, option_map};
 ghost use Rattle.std.specs.FinSet as set;
-ghost use Rattle.aim_geometry.specs.Bounded.{least_below};
+ghost use Rattle.aim_geometry.specs.Bounded.{least_below, some_below};
 ghost use Rattle.aim_geometry.specs.Cells.{Cell, cell_at};
+ghost use Rattle.aim_geometry.specs.Rects.{has_bit};
 ghost use Rattle.aim_pool.specs.Spans.{in_spans};
 ghost use Rattle.aim_tiles.specs.Cells.{has_cell};
 ghost use Rattle.aim_tiles.specs.Searches.{is_taken, IsFirst};
@@ -131,16 +132,36 @@ impl<L: Ledger> Reservations<L> {
         None
     }
 
+    /// The columns of a step's row that some vehicle has reserved, one bit each.
+    pub(crate) fn mask(&self, step: u32, row: u8) -> u64
+        requires few { length self.now.rows.items ≤ MOST_VEHICLES }
+        ensures { (col : ℕ) → has_bit result col ≡ some_below (length self.now.rows.items) (λ w. is_reserved self.now.rows.items w (cell_at step row col)) }
+    {
+        let mut mask = 0;
+        for vehicle in 0..self.rows.len() as u32 {
+            mask |= self.mask_of(vehicle, step, row);
+        }
+        mask
+    }
+
+    // The columns of a step's row that the vehicle has reserved, one bit each.
+    fn mask_of(&self, vehicle: u32, step: u32, row: u8) -> u64
+        requires { vehicle < length self.now.rows.items }
+        ensures { (col : ℕ) → has_bit result col ≡ is_reserved self.now.rows.items vehicle (cell_at step row col) }
+    {
+        match self.row(vehicle) {
+            Some(own) => own.sheet.mask(step, row),
+            None => 0,
+        }
+    }
+
     // Whether the vehicle has reserved the cell.
     fn has_cell(&self, vehicle: u32, step: u32, row: u8, col: u8) -> bool
         requires there { vehicle < length self.now.rows.items }
         requires column { col < 64 }
         ensures { result ≡ is_reserved self.now.rows.items vehicle (cell_at step row col) }
     {
-        match self.row(vehicle) {
-            Some(own) => (own.sheet.mask(step, row) >> col) & 1 == 1,
-            None => false,
-        }
+        (self.mask_of(vehicle, step, row) >> col) & 1 == 1
     }
 
     /// Gives the vehicle this reservation in the place of the one that it has, whose sheet comes back.

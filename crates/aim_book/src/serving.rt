@@ -94,7 +94,8 @@ impl<L: Ledger> Desk<L> {
         let reply = self.answer_fresh(layout, approaches, vehicle, place, &prepared, steps);
         self.sessions.keep(vehicle, message, reply);
         self.keep_distance(&message.body, &reply);
-        self.reservations.keep(vehicle, place, prepared, &reply, back, steps);
+        self.reservations
+            .keep(vehicle, place, prepared, &reply, back, steps);
         reply
     }
 
@@ -141,7 +142,9 @@ impl<L: Ledger> Desk<L> {
         // This call only tells the ranges of the times.
         let _ground = layout.ground();
         match self.sessions.look(vehicle, prepared.message()) {
-            Look::Fresh => self.serve_fresh(layout, approaches, vehicle, place, prepared, back, steps),
+            Look::Fresh => self.serve_fresh(
+                layout, approaches, vehicle, place, prepared, back, steps,
+            ),
             look => {
                 let reply = self.answer_known(layout, vehicle, prepared.message(), look);
                 prepared.give_back(back);

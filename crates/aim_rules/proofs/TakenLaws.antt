@@ -128,7 +128,7 @@ owns-held : (i : Intersection) (xs : List Fresh) (now : ℕ) (c : Cell) (w : ℕ
 owns-held i xs now c w None before after l k g = absurd (cc)
 owns-held i xs now c w (Some x) before after l k g = (x, refl, reservations-have i xs w now x k (granted-lasts i now x c before after l g), (kept-is xs w x k).own, g)
 
-below-in : (n : ℕ) (xs : List Fresh) (x : Fresh) → are_below n xs ≡ true → IsIn x xs → x.entry.caller < n
+pub below-in : (n : ℕ) (xs : List Fresh) (x : Fresh) → are_below n xs ≡ true → IsIn x xs → x.entry.caller < n
 below-in n [] x b m = absurd m
 below-in n (y ∷ xs) x b (inl e) = let p = and_parts (nat_lt y.entry.caller n) (are_below n xs) b in rw e (ltb-true y.entry.caller n p.0)
 below-in n (y ∷ xs) x b (inr m) = let p = and_parts (nat_lt y.entry.caller n) (are_below n xs) b in below-in n xs x p.1 m
