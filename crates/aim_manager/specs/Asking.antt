@@ -47,8 +47,8 @@ is_made (told.Operated result) = is_ok result
 pub record Acts (s : Setting) (caller at : ℕ) (what : Act) (before after : List Entry) (result : Result Reply Full) : Type 0 where
   pub full : IsErr result ↔ (length before ≡ s.room)
   pub done : MatchResult result
-    (λ reply. (reply ≡ answer s.layout before caller at what) × (after ≡ before ++ (record { caller = caller; moment = at; act = what; reply = reply }) ∷ []))
-    (λ _. after ≡ before)
+      (λ reply. (reply ≡ answer s.layout before caller at what) × (after ≡ before ++ (record { caller = caller; moment = at; act = what; reply = reply }) ∷ []))
+      (λ _. after ≡ before)
 
 -- the sheets that aren't kept for the vehicle come into the pool, the two of the request and the one that was kept before
 pub record ComeBack (vehicle : ℕ) (before after : List Entry) (lent back : Stock) : Type 0 where

@@ -20,7 +20,10 @@ pub enum Ask {
         sheets: Pool,
     },
     /// Take an order of the operator.
-    Operate { moment: u32, order: Order },
+    Operate {
+        moment: u32,
+        order: Order,
+    },
 }
 
 /// What the book answers.
@@ -97,9 +100,9 @@ impl<L: Ledger> Kept for Keeper<L> {
                 prepared,
                 mut sheets,
             } => {
-                let result =
-                    self.book
-                        .serve(caller, moment, prepared, &mut sheets, &mut self.steps);
+                let result = self
+                    .book
+                    .serve(caller, moment, prepared, &mut sheets, &mut self.steps);
                 Told::Served { result, sheets }
             }
             Ask::Operate { moment, order } => {

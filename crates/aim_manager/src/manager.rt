@@ -12,6 +12,7 @@ ghost use Rattle.aim_turn.specs.Models.{IsPassOf, IsSamePass, HasPass, new_pass}
 ghost use Rattle.aim_manager.specs.Seen.{caller_of, callers, IsServed, Meets};
 
 use crate::keeper::{Ask, Keeper, Told};
+use aim_book::laws::sheets_are_those_of_own_entries;
 use aim_book::{Book, Full, OpenFault};
 use aim_buffers::Prepared;
 use aim_msg::{Entry, OPERATOR, Order, Reply};
@@ -157,6 +158,7 @@ impl<L: Ledger> Manager<L> {
             unreachable!()
         };
         *back = sheets;
+        sheets_are_those_of_own_entries();
         result
     }
 
