@@ -6,7 +6,7 @@ ghost use Rattle.aim_turn.specs.Models.{IsPassOf, IsSamePass};
 use crate::crossing::{crossing, request};
 use aim_buffers::prepare;
 use aim_manager::{Full, Manager, ManagerPass, OpenFault, Opened};
-use aim_msg::{Message, Order, Reason, Reply};
+use aim_msg::{Message, OPERATOR, Order, Reason, Reply};
 use aim_pool::Pool;
 use std::alloc::Global;
 use std::marker::Brand;
@@ -23,7 +23,7 @@ pub fn served<L: Ledger, R: Wait + Abort>(
     pool: &mut Pool,
     moment: u32,
     message: &Message,
-) -> Result<Result<Reply, Full>, Fail>
+) -> Result<Reply, Full>
     requires own { IsPassOf manager.now pass.old }
     requires vehicle { pass.old.number < manager.now.setting.vehicles }
     requires moment { moment ≤ 1073741824 }
@@ -31,10 +31,11 @@ pub fn served<L: Ledger, R: Wait + Abort>(
 {
     assert!(rt; pool.room() == manager.layout().ground().grid().spans);
     assert!(rt; pool.count() <= 1000);
-    let first = pool.take()?;
-    let second = pool.take()?;
+    let (Ok(first), Ok(second)) = (pool.take(), pool.take()) else {
+        panic!(rt; "too few sheets")
+    };
     let prepared = prepare(manager.layout(), message, first, second);
-    Ok(manager.serve(rt, pass, moment, prepared, pool))
+    manager.serve(rt, pass, moment, prepared, pool)
 }
 
 fn confirmed(id: u32, start: u32) -> Reply
@@ -64,8 +65,8 @@ fn taken_by_0() -> Reply {
     }
 }
 
-// Two vehicles, of which the second may meet the first between their calls. Its answer is the same either way, as it
-// comes second. Then there is no room.
+// Two vehicles, of which the second may meet the first between their calls. Its answer doesn't depend on that, as
+// its turn comes second. Then there is no room.
 fn two_calls<L: Ledger, R: Wait + Abort>(
     rt: &R,
     alloc: Global,
@@ -88,15 +89,15 @@ fn two_calls<L: Ledger, R: Wait + Abort>(
         unreachable!()
     };
     let mut pool = Pool::new(alloc, 6, 4096)?;
-    let reply = served(rt, &manager, &mut first, &mut pool, 0, &request(1, 0, 10))?;
+    let reply = served(rt, &manager, &mut first, &mut pool, 0, &request(1, 0, 10));
     assert!(rt; reply == Ok(confirmed(0, 10)));
     if meets {
         let front = manager.front(&mut first);
         manager.meet(&mut second, front);
     }
-    let reply = served(rt, &manager, &mut second, &mut pool, 0, &request(1, 1, 10))?;
+    let reply = served(rt, &manager, &mut second, &mut pool, 0, &request(1, 1, 10));
     assert!(rt; reply == Ok(taken_by_0()));
-    let reply = served(rt, &manager, &mut first, &mut pool, 0, &request(2, 0, 40))?;
+    let reply = served(rt, &manager, &mut first, &mut pool, 0, &request(2, 0, 40));
     assert!(rt; reply == Err(Full));
     assert_eq!(rt; pool.count(), 5, "one sheet is kept");
     passes.push_reserved(second);
@@ -117,4 +118,71 @@ fn callers_that_meet(rt: HostRuntime) -> Result<(), Fail> {
 #[test]
 fn callers_that_do_not_meet(rt: HostRuntime) -> Result<(), Fail> {
     two_calls::<Brand, HostRuntime>(&rt, rt.alloc(), Blank::new(1), false)
+}
+
+// Why the manager isn't opened, if it isn't.
+fn fault<L: Ledger>(
+    alloc: Global,
+    blank: Blank,
+    vehicles: u32,
+    room: u32,
+) -> Result<Option<OpenFault>, Fail>
+    requires name { blank.name ≡ L.name }
+    requires parts { blank.parts ≡ L.parts }
+    requires some { 0 < blank.parts }
+{
+    match Manager::<L>::open(alloc, crossing(alloc)?, vehicles, room, blank) {
+        Ok(_) => Ok(None),
+        Err(fault) => Ok(Some(fault)),
+    }
+}
+
+#[test]
+fn not_opened(rt: HostRuntime) -> Result<(), Fail> {
+    let rows = [
+        (0, 1, OpenFault::Vehicles),
+        (65_537, 1, OpenFault::Vehicles),
+        (1, 0, OpenFault::Room),
+        (2, 262_145, OpenFault::Room),
+    ];
+    for (vehicles, room, want) in rows {
+        let found = fault::<Brand>(rt.alloc(), Blank::new(1), vehicles, room)?;
+        assert!(rt; found == Some(want));
+    }
+    Ok(())
+}
+
+// The operator's order stands among the calls of vehicles, and what comes after it is answered by it.
+fn stop<L: Ledger, R: Wait + Abort>(rt: &R, alloc: Global, blank: Blank) -> Result<(), Fail>
+    requires name { blank.name ≡ L.name }
+    requires parts { blank.parts ≡ L.parts }
+    requires some { 0 < blank.parts }
+{
+    let Opened {
+        manager,
+        mut passes,
+        mut operator,
+    } = Manager::<L>::open(alloc, crossing(alloc)?, 1, 3, blank)?;
+    let Some(mut pass) = passes.pop() else {
+        unreachable!()
+    };
+    let mut pool = Pool::new(alloc, 3, 4096)?;
+    let reply = served(rt, &manager, &mut pass, &mut pool, 0, &request(1, 0, 10));
+    assert!(rt; reply == Ok(confirmed(0, 10)));
+    assert!(rt; manager.operate(rt, &mut operator, 3, Order::Stop) == Ok(Reply::Stopped));
+    let reply = served(rt, &manager, &mut pass, &mut pool, 3, &request(2, 0, 40));
+    assert!(rt; reply == Ok(Reply::EmergencyStop));
+    assert!(rt; manager.operate(rt, &mut operator, 4, Order::Stop) == Err(Full));
+    passes.push_reserved(pass);
+    let journal = manager.close(passes, operator).journal;
+    assert_eq!(rt; journal.len(), 3);
+    for (entry, caller) in journal.iter().zip([0, OPERATOR, 0]) {
+        assert_eq!(rt; entry.caller, caller);
+    }
+    Ok(())
+}
+
+#[test]
+fn an_order_among_the_calls(rt: HostRuntime) -> Result<(), Fail> {
+    stop::<Brand, HostRuntime>(&rt, rt.alloc(), Blank::new(1))
 }

@@ -1,9 +1,7 @@
-//! Tests of the calls of the shared manager, by one thread and by several.
+//! Tests of the calls of the shared manager.
 #![tactic(auto)]
 
 #[cfg(test)]
 mod calls;
 #[cfg(test)]
 mod crossing;
-#[cfg(test)]
-mod threads;
