@@ -1,0 +1,12 @@
+//! The manager that threads share: the book under a turn.
+//!
+//! Callers on any threads serve through `&self`, each with a pass of its own. All calls make one legal history, of which
+//! each pass has seen a beginning.
+#![tactic(auto)]
+
+mod keeper;
+mod manager;
+
+pub use aim_book::{Full, OpenFault};
+pub use keeper::{Ask, Keeper, Setting, Told};
+pub use manager::{Closed, Manager, ManagerFront, ManagerPass, Opened};

@@ -1,0 +1,234 @@
+//! The shared manager.
+
+ghost use Rattle.std.specs.Prelude.{◌≡◌, ◌↔◌, ◌⊎◌, ℕ, ◌+◌, ◌<◌, ◌≤◌, [], ◌∷◌, ◌++◌, length, map, sum_by, Contains, IsPermutation, All, IfOk, Err};
+ghost use Rattle.std.specs.List.{range_with_len};
+ghost use Rattle.aim_msg.specs.declared.entries.Act.{Act};
+ghost use Rattle.aim_msg.specs.declared.entries.TheConstants.{LATEST_MOMENT, MOST_ENTRIES, MOST_VEHICLES, OPERATOR};
+ghost use Rattle.aim_buffers.specs.Requests.{IsPreparedFor};
+ghost use Rattle.aim_book.specs.Sheets.{sheets_kept};
+ghost use Rattle.aim_rules.specs.Legal.{IsLegal, IsOfLayout};
+ghost use Rattle.aim_turn.specs.History.{entries_of};
+ghost use Rattle.aim_turn.specs.Models.{IsPassOf, IsSamePass, HasPass, new_pass};
+ghost use Rattle.aim_manager.specs.Seen.{caller_of, callers, IsServed, Meets};
+
+use crate::keeper::{Ask, Keeper, Told};
+use aim_book::laws::sheets_are_those_of_own_entries;
+use aim_book::{Book, Full, OpenFault};
+use aim_buffers::Prepared;
+use aim_msg::{Entry, OPERATOR, Order, Reply};
+use aim_paths::Layout;
+use aim_pool::Pool;
+use aim_tiles::Steps;
+use aim_turn::{Front, NoMemory, Pass, Turnstile};
+use std::alloc::Global;
+use std::marker::Model;
+use std::mem;
+use std::sync::Wait;
+use std::sync::ledger::{Blank, Ledger};
+
+/// The right to the calls of one vehicle, or to those of the operator.
+pub type ManagerPass<L> = Pass<Keeper<L>>;
+
+/// A note of what a pass had seen.
+pub type ManagerFront<L> = Front<Keeper<L>>;
+
+/// A manager that threads share. Each caller has a pass. The words of its table are counted in the ledger `L`.
+///
+/// Contracts see its name, its layout, the numbers of its vehicles, and the room of its journal.
+#[derive(Drop)]
+pub struct Manager<L: Ledger> {
+    turnstile: Turnstile<Keeper<L>>,
+    layout: Layout,
+}
+
+impl<L: Ledger> Model for Manager<L> {
+    ghost use Rattle.std.specs.Prelude.{◌≡◌};
+    ghost use Rattle.aim_turn.specs.Models.{TurnstileModel};
+    ghost use Rattle.aim_manager.specs.Seen.{callers};
+    ghost use Rattle.aim_manager.specs.declared.keeper.Setting.{Setting};
+
+    ghost Value = { TurnstileModel Setting };
+
+    ghost view = { λ m. m.turnstile };
+
+    ghost invariant = { λ m. (m.layout ≡ m.turnstile.setting.layout) × (m.turnstile.numbers ≡ callers m.turnstile.setting.vehicles) };
+}
+
+/// A new manager with the passes of its callers.
+#[derive(Drop)]
+pub struct Opened<L: Ledger> {
+    pub manager: Manager<L>,
+    /// The passes of the vehicles, in the order of their numbers.
+    pub passes: Vec<ManagerPass<L>>,
+    pub operator: ManagerPass<L>,
+}
+
+/// What is left of a manager.
+#[derive(Drop)]
+pub struct Closed {
+    /// All that was asked and answered, the oldest first.
+    pub journal: Vec<Entry>,
+}
+
+// The numbers of all callers.
+fn caller_numbers(alloc: Global, vehicles: u32) -> Result<Vec<u32>, NoMemory>
+    ensures { IfOk result (λ numbers. numbers.items ≡ callers vehicles) }
+{
+    let mut numbers: Vec<u32> = (0..vehicles).collect(alloc)?;
+    numbers.push(OPERATOR)?;
+    Ok(numbers)
+}
+
+// Puts the keeper under a turn, beside a copy of its layout.
+fn shared<L: Ledger>(alloc: Global, keeper: Keeper<L>) -> Result<Opened<L>, NoMemory>
+    requires empty { keeper.journal ≡ [] }
+    requires most { keeper.vehicles ≤ MOST_VEHICLES }
+    ensures manager { IfOk result (λ o. o.manager.setting ≡ record { layout = keeper.layout; vehicles = keeper.vehicles; room = keeper.room }) }
+    ensures passes { IfOk result (λ o. o.passes.items ≡ map (new_pass o.manager) (range_with_len 0 keeper.vehicles)) }
+    ensures operator { IfOk result (λ o. o.operator ≡ new_pass o.manager OPERATOR) }
+{
+    let layout = keeper.book.layout().copy()?;
+    let numbers = caller_numbers(alloc, keeper.book.vehicles())?;
+    let (turnstile, mut passes) = Turnstile::open(alloc, keeper, &numbers)?;
+    let Some(operator) = passes.pop() else {
+        unreachable!()
+    };
+    let manager = Manager { turnstile, layout };
+    Ok(Opened {
+        manager,
+        passes,
+        operator,
+    })
+}
+
+impl<L: Ledger> Manager<L> {
+    /// A manager with an empty journal, for that many vehicles and that many entries. It takes all its memory here.
+    pub fn open(
+        alloc: Global,
+        layout: Layout,
+        vehicles: u32,
+        room: u32,
+        blank: Blank,
+    ) -> Result<Opened<L>, OpenFault>
+        requires name { blank.name ≡ L.name }
+        requires parts { blank.parts ≡ L.parts }
+        requires some { 0 < blank.parts }
+        ensures manager { IfOk result (λ o. o.manager.setting ≡ record { layout = layout; vehicles = vehicles; room = room }) }
+        ensures passes { IfOk result (λ o. o.passes.items ≡ map (new_pass o.manager) (range_with_len 0 vehicles)) }
+        ensures operator { IfOk result (λ o. o.operator ≡ new_pass o.manager OPERATOR) }
+        ensures vehicles { (result ≡ Err OpenFault.Vehicles) ↔ ((vehicles ≡ 0) ⊎ (MOST_VEHICLES < vehicles)) }
+        ensures room { (result ≡ Err OpenFault.Room) ↔ ((0 < vehicles) × (vehicles ≤ MOST_VEHICLES) × ((room ≡ 0) ⊎ (MOST_ENTRIES < room))) }
+    {
+        let book = Book::open(alloc, layout, vehicles, room)?;
+        let steps = Steps::new(blank);
+        match shared(alloc, Keeper { book, steps }) {
+            Ok(opened) => Ok(opened),
+            Err(_) => Err(OpenFault::NoMemory),
+        }
+    }
+
+    /// Serves a message of the pass's vehicle at a moment, when its turn comes. The cells were prepared before: the sheet
+    /// of the trial that a fresh Confirm grants is kept, and each sheet that isn't kept comes into `back`.
+    pub fn serve<R: Wait>(
+        &self,
+        rt: &R,
+        pass: &mut ManagerPass<L>,
+        moment: u32,
+        prepared: Prepared,
+        back: &mut Pool,
+    ) -> Result<Reply, Full>
+        requires own { IsPassOf self.now pass.old }
+        requires vehicle { pass.old.number < self.now.setting.vehicles }
+        requires moment { moment ≤ LATEST_MOMENT }
+        requires prepared { IsPreparedFor self.now.setting.layout prepared }
+        requires count { back.old.count ≤ 1000000 }
+        requires room { back.old.room ≡ self.now.setting.layout.grid.spans }
+        ensures same { IsSamePass pass.old pass.new }
+        ensures served { IsServed self.now.setting moment (Act.Message prepared.message) result pass.old pass.new }
+        ensures sheets { back.new.count + sheets_kept pass.new.number pass.new.mine ≡ back.old.count + sheets_kept pass.old.number pass.old.mine + 2 }
+        ensures pool { back.new.room ≡ back.old.room }
+    {
+        let empty = Pool::empty(back.room());
+        let ask = Ask::Serve {
+            moment,
+            prepared,
+            sheets: mem::replace(back, empty),
+        };
+        let Told::Served { result, sheets } = self.turnstile.with_turn(rt, pass, ask) else {
+            unreachable!()
+        };
+        *back = sheets;
+        sheets_are_those_of_own_entries();
+        result
+    }
+
+    /// Takes an order of the operator at a moment, when its turn comes.
+    pub fn operate<R: Wait>(
+        &self,
+        rt: &R,
+        operator: &mut ManagerPass<L>,
+        moment: u32,
+        order: Order,
+    ) -> Result<Reply, Full>
+        requires own { IsPassOf self.now operator.old }
+        requires number { operator.old.number ≡ OPERATOR }
+        requires moment { moment ≤ LATEST_MOMENT }
+        requires order { IsOfLayout self.now.setting.layout self.now.setting.vehicles OPERATOR (Act.Order order) }
+        ensures same { IsSamePass operator.old operator.new }
+        ensures served { IsServed self.now.setting moment (Act.Order order) result operator.old operator.new }
+    {
+        let ask = Ask::Operate { moment, order };
+        let Told::Operated { result } = self.turnstile.with_turn(rt, operator, ask) else {
+            unreachable!()
+        };
+        result
+    }
+
+    /// A note of what the pass has seen.
+    pub fn front(&self, pass: &mut ManagerPass<L>) -> ManagerFront<L>
+        requires own { pass.old.table ≡ self.now.table }
+        ensures pass { pass.new ≡ pass.old }
+        ensures front { result ≡ record { table = pass.old.table; setting = pass.old.setting; seen = pass.old.seen } }
+    {
+        self.turnstile.front(pass)
+    }
+
+    /// Lets the pass see what the front shows, so that its next call stands behind all of it.
+    pub fn meet(&self, pass: &mut ManagerPass<L>, front: ManagerFront<L>)
+        requires own { IsPassOf self.now pass.old }
+        requires front { front.table ≡ self.now.table }
+        ensures same { IsSamePass pass.old pass.new }
+        ensures meets { Meets self.now.setting pass.old front pass.new }
+    {
+        self.turnstile.meet(pass, front);
+    }
+
+    /// The layout.
+    pub fn layout(&self) -> &Layout
+        ensures { result.now ≡ self.now.setting.layout }
+    {
+        &self.layout
+    }
+
+    /// Ends the turns, where the passes of all callers are there, those of the vehicles in any order. The journal begins
+    /// with all that the passes have seen, and of each caller it has exactly its pass's entries. It takes no memory.
+    pub fn close(self, passes: Vec<ManagerPass<L>>, operator: ManagerPass<L>) -> Closed
+        requires own { All (λ p. p.table ≡ self.table) passes.items × (operator.table ≡ self.table) }
+        requires all { length passes.items ≡ self.setting.vehicles }
+        ensures legal { IsLegal self.setting.layout self.setting.vehicles result.journal.items }
+        ensures fits { length result.journal.items ≤ self.setting.room }
+        ensures passes { All (HasPass caller_of result.journal.items) (passes.items ++ operator ∷ []) }
+        ensures numbers { IsPermutation (map (λ p. p.number) (passes.items ++ operator ∷ [])) (callers self.setting.vehicles) }
+        ensures others { (n : ℕ) → ¬ Contains (callers self.setting.vehicles) n → entries_of caller_of n result.journal.items ≡ [] }
+        ensures count { length result.journal.items ≡ sum_by (λ p. length p.mine) (passes.items ++ operator ∷ []) }
+    {
+        let Manager {
+            turnstile,
+            layout: _,
+        } = self;
+        let Keeper { book, steps: _ } = turnstile.close_with(passes, operator);
+        Closed {
+            journal: book.into_journal(),
+        }
+    }
+}
