@@ -1,0 +1,126 @@
+"""What a vehicle asks for: the earliest arrival that it can reach, behind all others on its lanes."""
+
+import math
+from dataclasses import dataclass
+
+from .car import State
+from .planner import STANDING, Approach, accel_of, make_plan
+
+TRIES = 60
+MOST_CROSSING_STEPS = 2040
+
+
+@dataclass(frozen=True)
+class Proposal:
+    """A plan, and the motion by which it reaches the line."""
+
+    plan: object
+    motion: object
+
+    @property
+    def steps(self):
+        return self.plan.start - self.plan.begun
+
+    @property
+    def reach(self):
+        """How far before the line it is asked from, as the reservation distance counts it: counted millimetres."""
+        return self.steps * self.plan.speed
+
+
+class Proposer:
+    """Makes proposals for vehicles; `hold` is where one without a reservation stands before the line, in metres."""
+
+    def __init__(self, layout, vehicle, gaps, hold, step):
+        self._layout = layout
+        self._vehicle = vehicle
+        self._gaps = gaps
+        self._hold = hold
+        self._step = step
+        self.accel = accel_of(vehicle.accel, step)
+
+    def floor(self, car):
+        """The reach of a vehicle that starts from the hold point: what a rolling one must not ask from below.
+
+        A lane's reservation distance falls to the least reach that was refused, and only a confirm lifts it. A refused
+        vehicle that has come to stand must be able to ask again, so it may not have asked from a shorter reach before.
+        """
+        return 2.04 * self._hold * 1000 / car.way.entry_ratio
+
+    def is_standing(self, car):
+        return car.speed < STANDING and -car.place < self._hold + 0.6
+
+    def best(self, car, others, now):
+        """The earliest proposal that keeps room to the others, or None."""
+        if -car.place <= 0.05:
+            return None
+        speed = self._entry_speed(car)
+        if speed < self._least_speed(car):
+            return None
+        return self._earliest(car, speed, others, now)
+
+    def slower(self, car, others, now, reach):
+        """The fastest proposal that is asked from no farther than a reach: it enters slower; or None."""
+        full = self._entry_speed(car)
+        for share in (0.9, 0.8, 0.7, 0.6, 0.5, 0.4):
+            speed = int(full * share)
+            if speed < self._least_speed(car):
+                return None
+            found = self._earliest(car, speed, others, now)
+            if found is not None and found.reach <= reach:
+                return found
+        return None
+
+    def at(self, car, start, speed, accel, others, now):
+        """The plan that is at the line at a given step with a given speed and then crosses so, or None."""
+        steps = start - now
+        approach = self._approach(car, speed)
+        if steps < 1 or not approach.is_possible:
+            return None
+        motion = approach.motion(steps * self._step)
+        if motion is None:
+            return None
+        plan = self._plan(car, motion, steps, speed, accel, now)
+        return plan if self._gaps.keeps_room(car, plan, others, now) else None
+
+    def _true_speed(self, car, speed):
+        """The metres a second at the line of a counted speed."""
+        return speed / 1000 / self._step * car.way.entry_ratio
+
+    def _entry_speed(self, car):
+        """The greatest counted speed with which it can be at the line."""
+        reached = math.sqrt(car.speed**2 - 2 * self._vehicle.accel * car.place) * 0.98
+        return min(car.crossing.greatest, math.floor(reached / car.way.entry_ratio * 1000 * self._step))
+
+    def _least_speed(self, car):
+        """A counted speed at which the crossing at constant speed has no more steps than the manager takes."""
+        return int((car.way.counted * 1000 + car.way.declared) / MOST_CROSSING_STEPS) + 1
+
+    def _approach(self, car, speed):
+        entry = self._true_speed(car, speed)
+        top = max(car.wish, car.speed, min(entry, self._vehicle.road_speed))
+        return Approach(-car.place, car.speed, entry, top, self._vehicle.accel, self._vehicle.brake)
+
+    def _plan(self, car, motion, steps, speed, accel, now):
+        after = car.crossing.places(speed, accel)
+        return make_plan(
+            now, car.place, motion, steps, after, speed, accel, self._step, self._vehicle.road_speed)
+
+    def _earliest(self, car, speed, others, now):
+        """The earliest proposal with an entry speed."""
+        approach = self._approach(car, speed)
+        if not approach.is_possible:
+            return None
+        steps = max(math.ceil(approach.soonest / self._step - 1e-6), self._layout.edge + 1)
+        leader = car.leader
+        if leader is not None and leader.state is State.BOUND:
+            steps = max(steps, leader.plan.start - now + 5)
+        accel = self.accel if speed < car.crossing.greatest else 0
+        stride = max(1, round(0.1 / self._step))
+        for attempt in range(TRIES):
+            motion = approach.motion((steps + attempt * stride) * self._step)
+            if motion is None:
+                return None
+            plan = self._plan(car, motion, steps + attempt * stride, speed, accel, now)
+            if self._gaps.keeps_room(car, plan, others, now):
+                return Proposal(plan, motion)
+        return None
