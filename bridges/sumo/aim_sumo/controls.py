@@ -27,7 +27,7 @@ def run(site, control, arrivals, vehicle, files, seed, end, extra=None, step=Non
     words = simulator.options(
         site.net(control), files["routes"], files["trips"], files["log"], step or site.settings["step"], seed)
     more = ["-a", str(extra)] if extra else []
-    command = ["sumo", *words, *more, "--end", str(end), "--no-warnings", "false"]
+    command = ["sumo", *words, *more, "--end", str(end)]
     done = subprocess.run(command, capture_output=True, text=True, check=False)
     if done.returncode != 0:
         raise NoSumo(f"sumo ended with {done.returncode}: {done.stderr[-500:]}")

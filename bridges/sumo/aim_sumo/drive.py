@@ -88,7 +88,7 @@ class Bridge:
         files = self._files
         words = simulator.options(
             self.site.net("aim"), files["routes"], files["trips"], files["log"], self._step, self.settings.seed)
-        self._sumo = simulator.start([*words, "--time-to-teleport", "-1"], self.settings.with_window)
+        self._sumo = simulator.start([*words, "--time-to-teleport", "-1", "--no-warnings", "true"], self.settings.with_window)
         self.judge = Judge(self._sumo, self._vehicle)
         left = len(self._arrivals)
         try:
@@ -235,6 +235,8 @@ class Bridge:
             self._ask(car)
         if car.state is State.FREE:
             self._sumo.vehicle.setSpeed(car.id, self._cap(car))
+        else:
+            self._drive_bound(car)
 
     def _cap(self, car):
         """The greatest speed at which a vehicle without a reservation can stop at the hold point, and its wish."""
@@ -332,8 +334,7 @@ class Bridge:
         else:
             self.counts["cancels before the line"] += 1
             car.driver.cancel(self.now)
-        if car.state is State.FREE:
-            self._sumo.vehicle.setSpeed(car.id, self._cap(car))
+        self._sumo.vehicle.setSpeed(car.id, self._cap(car) if car.state is State.FREE else self._wanted(car))
 
     def _enter(self, car, want):
         """Notes that the front passes the line in this step."""
@@ -412,6 +413,8 @@ class Bridge:
             car.wish = max(self.settings.slowest_wish, min(car.wish, car.speed) * self.settings.slow_down)
         elif reason == "distance":
             car.refused_at = int(reply.reason[1])
+        elif reason == "bad":
+            car.crossing.refused_speed = max(car.crossing.refused_speed, car.proposal.plan.speed)
         elif reason != "emergency":
             car.next = max(car.next, self.now + self._steps(0.2))
         if reply.held is not None:

@@ -22,7 +22,7 @@ class Gaps:
         if leader is None:
             return True
         shared = leader.move.name == car.move.name
-        for step in range(plan.begun, plan.begun + len(plan.places), self._stride):
+        for step in range(plan.begun, plan.end, self._stride):
             ahead = leader.foreseen(step, now)
             if not shared and ahead > self._vehicle.length:
                 return True
@@ -36,8 +36,7 @@ class Gaps:
         if other is car or other.move.name == car.move.name:
             return True
         mine, theirs = plan.passes(car.way.arc), other.exit_step(now)
-        last = plan.begun + len(plan.places)
-        for step in range(max(mine, theirs), last, self._stride):
+        for step in range(max(mine, theirs), plan.end, self._stride):
             my_place = plan.at(step) - car.way.arc
             their_place = other.foreseen(step, now) - other.way.arc
             if theirs <= mine:

@@ -4,6 +4,7 @@ Places are metres along the vehicle's own path, negative before the line and 0 a
 steps are the manager's.
 """
 
+import bisect
 import math
 from dataclasses import dataclass
 
@@ -13,30 +14,30 @@ LONGEST_WAIT = 30.0
 SLOWEST_CRUISE = 0.4
 
 
-@dataclass(frozen=True)
 class Motion:
-    """Waits, changes its speed to `cruise`, keeps it, and changes to the entry speed; the accelerations have a sign."""
+    """Waits, changes its speed to `cruise`, keeps it, and changes to another; the accelerations have a sign."""
 
-    speed: float
-    cruise: float
-    first_accel: float
-    first_time: float
-    cruise_time: float
-    last_accel: float
-    last_time: float
-    wait: float = 0.0
+    def __init__(self, speed, cruise, first_accel, last_accel, cruise_way, entry_speed, wait):
+        self.wait = wait
+        self._speed, self._cruise = speed, cruise
+        self._first_accel, self._last_accel = first_accel, last_accel
+        self._first_time = (cruise - speed) / first_accel
+        self._cruise_end = self._first_time + cruise_way / cruise
+        self._last_time = (entry_speed - cruise) / last_accel
+        self._first_way = (cruise + speed) / 2 * self._first_time
+        self._cruise_way = cruise_way
 
     def way(self, seconds):
         """The metres gone after some seconds."""
-        time = max(0.0, seconds - self.wait)
-        first = min(time, self.first_time)
-        cruising = min(max(0.0, time - self.first_time), self.cruise_time)
-        last = min(max(0.0, time - self.first_time - self.cruise_time), self.last_time)
-        return (
-            self.speed * first + self.first_accel * first * first / 2
-            + self.cruise * cruising
-            + self.cruise * last + self.last_accel * last * last / 2
-        )
+        time = seconds - self.wait
+        if time <= 0:
+            return 0.0
+        if time <= self._first_time:
+            return self._speed * time + self._first_accel * time * time / 2
+        if time <= self._cruise_end:
+            return self._first_way + self._cruise * (time - self._first_time)
+        last = min(time - self._cruise_end, self._last_time)
+        return self._first_way + self._cruise_way + self._cruise * last + self._last_accel * last * last / 2
 
 
 class Approach:
@@ -107,10 +108,7 @@ class Approach:
         """The motion with that cruising speed, after a wait."""
         _, speed, entry_speed, _, _ = self._numbers
         first, last, rest = self._legs(cruise)
-        return Motion(
-            speed, cruise, first, (cruise - speed) / first, max(0.0, rest) / cruise,
-            last, (entry_speed - cruise) / last, wait,
-        )
+        return Motion(speed, cruise, first, last, max(0.0, rest), entry_speed, wait)
 
 
 class Crossing:
@@ -123,6 +121,7 @@ class Crossing:
     def __init__(self, way, greatest, vehicle, step):
         self.way = way
         self.greatest = greatest
+        self.refused_speed = 0
         self._vehicle = vehicle
         self._step = step
         self._known = {}
@@ -166,41 +165,41 @@ class Vehicle:
         return self.gap + self.headway * speed
 
 
-@dataclass(frozen=True)
 class Plan:
-    """Where a vehicle will be at each step from `begun` on; it is at the line at step `start`."""
+    """Where a vehicle will be at each step from `begun` on; it is at the line at step `start`.
 
-    begun: int
-    start: int
-    places: tuple
-    speed: int
-    accel: int
-    step: float
-    road_speed: float
+    Up to the line it is at `place` and then goes by a motion; `after` are its places from the line on. `speed` and
+    `accel` are those that it asks with, in counted millimetres a step.
+    """
+
+    def __init__(self, begun, start, place, motion, after, speed, accel, step, road_speed):
+        self.begun, self.start = begun, start
+        self.after = after
+        self.speed, self.accel = speed, accel
+        self._place, self._motion = place, motion
+        self._step, self._road_speed = step, road_speed
+
+    @property
+    def end(self):
+        """The first step behind the plan."""
+        return self.start + len(self.after)
 
     def at(self, step):
         """The place at a step; behind the plan the road's speed is kept."""
-        index = step - self.begun
-        if index < len(self.places):
-            return self.places[max(0, index)]
-        return self.places[-1] + (index - len(self.places) + 1) * self.step * self.road_speed
+        if step < self.start:
+            return self._place + self._motion.way((step - self.begun) * self._step)
+        index = step - self.start
+        if index < len(self.after):
+            return self.after[index]
+        return self.after[-1] + (index - len(self.after) + 1) * self._step * self._road_speed
 
     def speed_at(self, step):
         """The true speed in the step that begins at `step`."""
-        return (self.at(step + 1) - self.at(step)) / self.step
+        return (self.at(step + 1) - self.at(step)) / self._step
 
     def passes(self, place):
-        """The first step at which the front is at a place or past it."""
-        for index in range(self.start - self.begun, len(self.places)):
-            if self.places[index] >= place:
-                return self.begun + index
-        return self.begun + len(self.places)
-
-
-def make_plan(now, place, motion, steps, after, speed, accel, step, road_speed):
-    """The plan of a motion of so many steps up to the line and the places after it."""
-    approach = [place + motion.way(index * step) for index in range(steps)]
-    return Plan(now, now + steps, (*approach, *after), speed, accel, step, road_speed)
+        """The first step at which the front is at a place behind the line, or past it."""
+        return self.start + bisect.bisect_left(self.after, place)
 
 
 def accel_of(metres, step):

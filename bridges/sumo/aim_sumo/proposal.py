@@ -4,7 +4,7 @@ import math
 from dataclasses import dataclass
 
 from .car import State
-from .planner import STANDING, Approach, accel_of, make_plan
+from .planner import STANDING, Approach, Plan, accel_of
 
 TRIES = 60
 MOST_CROSSING_STEPS = 2040
@@ -12,10 +12,9 @@ MOST_CROSSING_STEPS = 2040
 
 @dataclass(frozen=True)
 class Proposal:
-    """A plan, and the motion by which it reaches the line."""
+    """A plan to ask for."""
 
     plan: object
-    motion: object
 
     @property
     def steps(self):
@@ -92,8 +91,12 @@ class Proposer:
         return min(car.crossing.greatest, math.floor(reached / car.way.entry_ratio * 1000 * self._step))
 
     def _least_speed(self, car):
-        """A counted speed at which the crossing at constant speed has no more steps than the manager takes."""
-        return int((car.way.counted * 1000 + car.way.declared) / MOST_CROSSING_STEPS) + 1
+        """A counted speed at which the crossing at constant speed has no more steps than the manager takes.
+
+        Where the manager found more rows of tiles in it than its layout has room for, the speed is greater.
+        """
+        steps = int((car.way.counted * 1000 + car.way.declared) / MOST_CROSSING_STEPS) + 1
+        return max(steps, car.crossing.refused_speed + 1)
 
     def _approach(self, car, speed):
         entry = self._true_speed(car, speed)
@@ -102,8 +105,8 @@ class Proposer:
 
     def _plan(self, car, motion, steps, speed, accel, now):
         after = car.crossing.places(speed, accel)
-        return make_plan(
-            now, car.place, motion, steps, after, speed, accel, self._step, self._vehicle.road_speed)
+        return Plan(
+            now, now + steps, car.place, motion, after, speed, accel, self._step, self._vehicle.road_speed)
 
     def _earliest(self, car, speed, others, now):
         """The earliest proposal with an entry speed."""
@@ -122,5 +125,5 @@ class Proposer:
                 return None
             plan = self._plan(car, motion, steps + attempt * stride, speed, accel, now)
             if self._gaps.keeps_room(car, plan, others, now):
-                return Proposal(plan, motion)
+                return Proposal(plan)
         return None

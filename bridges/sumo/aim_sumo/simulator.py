@@ -47,5 +47,5 @@ def options(net, routes, trips, log, step, seed):
         "-n", str(net), "-r", str(routes), "--step-length", str(step), "--seed", str(seed),
         "--tripinfo-output", str(trips), "--message-log", str(log), "--no-step-log", "true",
         "--collision.check-junctions", "true", "--collision.action", "warn", "--collision.mingap-factor", "0",
-        "--xml-validation", "never", "--no-warnings", "true", "--duration-log.disable", "true",
+        "--xml-validation", "never", "--duration-log.disable", "true",
     ]
