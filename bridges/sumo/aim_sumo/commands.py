@@ -47,6 +47,7 @@ def _parser():
     checked.set_defaults(command=_check)
     told = commands.add_parser("report", help="a table and a chart of the results of many runs")
     told.add_argument("results", nargs="+", help="files of results, one a line")
+    told.add_argument("--columns", default=report.USUAL, help=f"of {', '.join(report.COLUMNS)}")
     told.add_argument("--title", default="Delay over flow")
     told.add_argument("--chart", help="the chart's file, SVG")
     told.set_defaults(command=report.tell)
@@ -69,7 +70,7 @@ def _add_run(parser):
     add("--emergency", type=float, default=0.0, help="share of emergency vehicles")
     add("--headway", type=float, default=1.0, help="seconds that all vehicles keep, under each control (1.0)")
     add("--gap", type=float, default=2.5, help="metres between standing vehicles (2.5)")
-    add("--ask", type=float, default=100.0, help="metres before the line from which a vehicle asks")
+    add("--ask", type=float, default=60.0, help="metres before the line from which a vehicle asks")
     add("--hold", type=float, default=2.0, help="metres before the line where one without a reservation stands")
     add("--error", type=float, default=0.0, help="error of a vehicle's speed, standard deviation in m/s")
     add("--lost", type=float, default=0.0, help="share of messages and of answers that are lost")
@@ -80,6 +81,7 @@ def _add_run(parser):
     add("--gui", action="store_true", help="show the run in SUMO's window")
     add("--keep", help="the folder for runs (runs in the net's folder)")
     add("--results", help="add each result to this file, one a line")
+    add("--label", default="", help="a name for the results")
     parser.set_defaults(command=_run)
 
 
@@ -139,7 +141,8 @@ def _one_run(options, site, vehicle, free, control, flow, seed):
             site, control, arrivals, vehicle, files, seed, options.end, extra)
         result = {**metrics.summary(trips, arrivals, free, options.seconds), "by_sumo": collisions}
         result.update(teleports=teleports, lights=extra.name if extra else "default")
-    result = {"control": control, "flow": flow, "seed": seed, "headway": options.headway, **result}
+    named = {"label": options.label, "control": control, "flow": flow, "seed": seed, "headway": options.headway}
+    result = {**named, **result}
     result["wall"] = round(time.time() - begun, 1)
     (folder / "run.json").write_text(json.dumps(result, indent=1) + "\n")
     return result

@@ -9,6 +9,55 @@ from . import chart
 ORDER = ("aim", "actuated", "static", "priority")
 
 
+class Column:
+    """A column of the table: the mean over runs, or their sum; runs that don't tell it leave it empty."""
+
+    def __init__(self, title, form, is_sum=False, inner=None):
+        self.title = title
+        self._form = form
+        self._is_sum = is_sum
+        self._inner = inner
+
+    def cell(self, key, runs):
+        """The cell of some runs."""
+        places = [run.get(self._inner, {}) if self._inner and self._inner in run else run for run in runs]
+        values = [place[key] for place in places if key in place]
+        if self._inner and not values and any(self._inner in run for run in runs):
+            values = [0]
+        if not values:
+            return ""
+        return format(sum(values) if self._is_sum else statistics.fmean(values), self._form)
+
+
+COLUMNS = {
+    "demand": Column("demand", ".0f"),
+    "through": Column("through", ".0f"),
+    "left": Column("left", ".0f"),
+    "delay": Column("delay s", ".1f"),
+    "p95": Column("95 % s", ".1f"),
+    "stops": Column("stops", ".2f"),
+    "messages": Column("messages", ".1f"),
+    "misses": Column("misses", ".0f", is_sum=True),
+    "broken_rules": Column("rules broken", ".0f", is_sum=True),
+    "by_sumo": Column("coll. SUMO", ".0f", is_sum=True),
+    "by_rectangles": Column("coll. own", ".0f", is_sum=True),
+    "teleports": Column("teleports", ".0f", is_sum=True),
+    "delay_human": Column("delay of people s", ".1f"),
+    "delay_emergency": Column("delay of emergencies s", ".1f"),
+    "arrival_error": Column("arrival sd, steps", ".2f"),
+    "wall": Column("wall s", ".0f"),
+    **{key: Column(key, ".0f", True, "counts") for key in (
+        "changes", "cancels before the line", "grants given back", "steps astray in the box", "humans on red",
+        "humans beyond the clearance",
+    )},
+    **{key: Column(key, ".0f", False, "answers") for key in (
+        "confirm fast", "confirm steady", "reject taken", "reject green", "reject emergency", "reject distance",
+        "reject bad", "reject holds", "ack",
+    )},
+}
+USUAL = "demand,through,left,delay,p95,stops,messages,misses,by_sumo,by_rectangles,teleports"
+
+
 def read_results(paths):
     """The results in files of one a line."""
     found = []
@@ -19,49 +68,44 @@ def read_results(paths):
 
 
 def grouped(results):
-    """The results of each flow and control."""
+    """The results of each label, flow and control; labels keep their order."""
     groups = defaultdict(list)
+    labels = []
     for result in results:
-        groups[(result["flow"], result["control"])].append(result)
-    return dict(sorted(groups.items(), key=lambda item: (item[0][0], ORDER.index(item[0][1]))))
+        label = result.get("label") or ""
+        if label not in labels:
+            labels.append(label)
+        groups[(label, result["flow"], result["control"])].append(result)
+    order = sorted(groups, key=lambda key: (labels.index(key[0]), key[1], ORDER.index(key[2])))
+    return {key: groups[key] for key in order}
 
 
-def mean(results, key):
-    """The mean of a number over runs."""
-    return statistics.fmean(result.get(key) or 0 for result in results)
-
-
-def table(results):
-    """The table in Markdown: means over the seeds; collisions, misses and teleports are sums."""
-    lines = [
-        "| veh/h | control | runs | demand | through | left | delay s | 95 % s | stops | messages | misses | "
-        "coll. SUMO / own | teleports |",
-        "|---|---|---|---|---|---|---|---|---|---|---|---|---|",
-    ]
-    for (flow, control), runs in grouped(results).items():
-        total = {key: sum(run.get(key) or 0 for run in runs) for key in ("misses", "by_sumo", "by_rectangles", "teleports")}
-        is_aim = control == "aim"
-        lines.append(
-            f"| {flow} | {control} | {len(runs)} | {mean(runs, 'demand'):.0f} | {mean(runs, 'through'):.0f} "
-            f"| {mean(runs, 'left'):.0f} | {mean(runs, 'delay'):.1f} | {mean(runs, 'p95'):.1f} | {mean(runs, 'stops'):.2f} "
-            f"| {format(mean(runs, 'messages'), '.1f') if is_aim else ''} | {total['misses'] if is_aim else ''} "
-            f"| {total['by_sumo']} / {total['by_rectangles'] if is_aim else '-'} | {total['teleports']} |"
-        )
+def table(results, keys):
+    """The table in Markdown, a row for each label, flow and control."""
+    groups = grouped(results)
+    has_labels = any(label for label, _, _ in groups)
+    titles = [*(["run"] if has_labels else []), "veh/h", "control", "runs", *(COLUMNS[key].title for key in keys)]
+    lines = [f"| {' | '.join(titles)} |", "|" + "---|" * len(titles)]
+    for (label, flow, control), runs in groups.items():
+        cells = [*([label] if has_labels else []), str(flow), control, str(len(runs))]
+        cells += [COLUMNS[key].cell(key, runs) for key in keys]
+        lines.append(f"| {' | '.join(cells)} |")
     return "\n".join(lines)
 
 
 def series(results):
-    """The mean delay over the flow, for each control."""
+    """The mean delay over the flow, for each label and control."""
     lines = defaultdict(list)
-    for (flow, control), runs in grouped(results).items():
-        lines[control].append((flow, mean(runs, "delay")))
-    return {control: lines[control] for control in ORDER if control in lines}
+    for (label, flow, control), runs in grouped(results).items():
+        name = f"{control}, {label}" if label else control
+        lines[name].append((flow, statistics.fmean(run["delay"] for run in runs)))
+    return dict(lines)
 
 
 def tell(options):
     """Prints the table, and writes the chart where its file is named."""
     results = read_results(options.results)
-    print(table(results))
+    print(table(results, options.columns.split(",")))
     if options.chart:
         with open(options.chart, "w", encoding="ascii") as file:
             file.write(chart.draw(options.title, series(results), "demand, vehicles an hour", "mean delay, s"))
