@@ -70,7 +70,7 @@ def _add_run(parser):
     add("--emergency", type=float, default=0.0, help="share of emergency vehicles")
     add("--headway", type=float, default=1.0, help="seconds that all vehicles keep, under each control (1.0)")
     add("--gap", type=float, default=2.5, help="metres between standing vehicles (2.5)")
-    add("--ask", type=float, default=60.0, help="metres before the line from which a vehicle asks")
+    add("--ask", type=float, default=50.0, help="metres before the line from which a vehicle asks")
     add("--hold", type=float, default=2.0, help="metres before the line where one without a reservation stands")
     add("--error", type=float, default=0.0, help="error of a vehicle's speed, standard deviation in m/s")
     add("--lost", type=float, default=0.0, help="share of messages and of answers that are lost")

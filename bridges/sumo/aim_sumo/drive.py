@@ -26,7 +26,7 @@ class Settings:
     seed: int = 1
     end: float = 1500.0
     vehicle: Vehicle = field(default_factory=Vehicle)
-    ask: float = 60.0
+    ask: float = 50.0
     hold: float = 2.0
     slow_down: float = 0.8
     slowest_wish: float = 5.0

@@ -234,14 +234,14 @@ class Tellings(unittest.TestCase):
         self.assertEqual(lines[0], "| veh/h | control | runs | demand | delay s | misses |")
         self.assertEqual(lines[2:], [
             "| 600 | aim | 2 | 10 | 0.2 | 0 |", "| 600 | static | 1 | 10 | 15.0 |  |", "| 1800 | aim | 1 | 10 | 2.0 | 0 |"])
-        for result in results:
-            result["label"] = "rain"
-        self.assertTrue(report.table(results, ["delay"]).splitlines()[2].startswith("| rain | 600 | aim | 2 | 0.2 |"))
         series = report.series(results)
         self.assertEqual(series, {"aim": [(600, 0.2), (1800, 2.0)], "static": [(600, 15.0)]})
         root = ET.fromstring(chart.draw("A < B", series, "flow", "delay"))
         circles = [part for part in root.iter() if part.tag.endswith("circle")]
         self.assertEqual(len(circles), 3)
+        labelled = [{**result, "label": "rain"} for result in results]
+        self.assertEqual(report.table(labelled, ["delay"]).splitlines()[2], "| rain | 600 | aim | 2 | 0.2 |")
+        self.assertEqual(list(report.series(labelled)), ["aim, rain", "static, rain"])
 
     def test_scales(self):
         scale = chart.Scale(0.1, 100, 300, 0, True)
