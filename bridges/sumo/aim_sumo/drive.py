@@ -227,7 +227,7 @@ class Bridge:
         """Asks where it may, and else rolls towards the hold point."""
         driver = car.driver
         if car.place > 0:
-            self.counts["over the line without a reservation"] += 1
+            self._stray(car)
             return
         if -car.place > self.settings.ask:
             return
@@ -237,6 +237,14 @@ class Bridge:
             self._sumo.vehicle.setSpeed(car.id, self._cap(car))
         else:
             self._drive_bound(car)
+
+    def _stray(self, car):
+        """Notes an entry without a reservation, which is a miss, and leaves the vehicle to SUMO."""
+        car.driver.enter(self.now)
+        self.counts["misses"] += 1
+        car.entered = self.now
+        car.state = State.OUT
+        self._sumo.vehicle.setSpeed(car.id, -1)
 
     def _cap(self, car):
         """The greatest speed at which a vehicle without a reservation can stop at the hold point, and its wish."""
@@ -321,9 +329,14 @@ class Bridge:
         return off > self._layout.late * self._step * max(car.speed, 2.0)
 
     def _recover(self, car):
-        """Changes to a plan that can be kept, or gives the reservation back."""
+        """Leaves a plan that can't be kept, before the line."""
         car.release()
         self._sumo.vehicle.setSpeedMode(car.id, simulator.SAFE_BUT_NO_WAY)
+        self._exchange(car)
+        self._sumo.vehicle.setSpeed(car.id, self._cap(car) if car.state is State.FREE else self._wanted(car))
+
+    def _exchange(self, car):
+        """Changes a reservation to one that can be kept, or gives it back."""
         proposal = None
         if (car.leader is None or car.leader.is_across) and self.now >= car.next:
             proposal = self._proposer.best(car, self._others(car), self.now)
@@ -332,9 +345,8 @@ class Bridge:
             car.proposal = proposal
             car.driver.change(self.now, self._words(car, proposal.plan))
         else:
-            self.counts["cancels before the line"] += 1
+            self.counts["cancels"] += 1
             car.driver.cancel(self.now)
-        self._sumo.vehicle.setSpeed(car.id, self._cap(car) if car.state is State.FREE else self._wanted(car))
 
     def _enter(self, car, want):
         """Notes that the front passes the line in this step."""
@@ -383,22 +395,29 @@ class Bridge:
             car.next = max(car.next, self.now + self._steps(0.2))
 
     def _confirmed(self, car, grant):
-        """Takes a reservation where there is still a plan for it, else gives it back."""
+        """Takes a reservation where there is still a plan for it, else changes it or gives it back."""
         car.refused_at = math.inf
-        proposal = car.proposal
-        plan = proposal.plan
-        if plan.begun != self.now or grant.is_fast != (plan.accel > 0):
+        plan = car.proposal.plan
+        is_late = plan.begun != self.now
+        if is_late or grant.is_fast != (plan.accel > 0):
             accel = plan.accel if grant.is_fast else 0
             plan = self._proposer.at(car, grant.start, plan.speed, accel, self._others(car), self.now)
-        if plan is not None and not grant.is_fast and plan.speed < car.crossing.greatest:
-            if plan.speed / 1000 / self._step < self.settings.slowest_steady:
-                plan = None
-                self.counts["slow grants given back"] += 1
-        if plan is None or (car.leader is not None and not car.leader.is_across):
-            self.counts["grants given back"] += 1
-            car.driver.cancel(self.now)
-        else:
+        if plan is not None and self._is_too_slow(car, plan, grant):
+            self.counts["slow grants given back"] += 1
+            plan = None
+        if plan is not None and (car.leader is None or car.leader.is_across):
             self._go(car, plan)
+        elif is_late:
+            self._exchange(car)
+        else:
+            self.counts["cancels"] += 1
+            car.driver.cancel(self.now)
+
+    def _is_too_slow(self, car, plan, grant):
+        """True where the manager granted a slow crossing without the acceleration that was asked for."""
+        if grant.is_fast or plan.speed >= car.crossing.greatest:
+            return False
+        return plan.speed / 1000 / self._step < self.settings.slowest_steady
 
     def _go(self, car, plan):
         car.adopt(plan)

@@ -155,7 +155,7 @@ class Vehicle:
     width: float = 1.8
     accel: float = 2.5
     brake: float = 3.0
-    hardest_brake: float = 5.0
+    hardest_brake: float = 4.5
     headway: float = 1.0
     gap: float = 2.5
     road_speed: float = 13.89

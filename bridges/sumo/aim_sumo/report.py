@@ -47,7 +47,7 @@ COLUMNS = {
     "arrival_error": Column("arrival sd, steps", ".2f"),
     "wall": Column("wall s", ".0f"),
     **{key: Column(key, ".0f", True, "counts") for key in (
-        "changes", "cancels before the line", "grants given back", "steps astray in the box", "humans on red",
+        "changes", "cancels", "steps astray in the box", "humans on red",
         "humans beyond the clearance",
     )},
     **{key: Column(key, ".0f", False, "answers") for key in (

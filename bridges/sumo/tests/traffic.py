@@ -89,6 +89,16 @@ class Minutes(unittest.TestCase):
         self.assert_clean(faulty)
         self.assertGreater(faulty["messages"], plain["messages"])
 
+    def test_late_answers_are_changed_or_given_back(self):
+        result = self.traffic("twelve-lanes", "--late", "0.6")
+        self.assert_clean(result)
+        self.assertGreater(result["counts"]["changes"], 0)
+
+    def test_small_errors_of_arrival_stay_within_the_window(self):
+        result = self.traffic("twelve-lanes", "--error", "0.1")
+        self.assert_clean(result)
+        self.assertGreater(result["arrival_error"], 0)
+
     def test_after_a_stop_nobody_new_enters(self):
         result = self.traffic("twelve-lanes", "--stop", "30", "--end", "100")
         self.assertEqual({key: result[key] for key in CLEAN[:-1]}, dict.fromkeys(CLEAN[:-1], 0))
