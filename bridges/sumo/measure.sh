@@ -54,7 +54,7 @@ layouts() {
 
 policies() {
   begin policies
-  part() { run policies twelve-lanes --control aim --flow 1800,3600 --seed 1,2,3 "$@"; }
+  part() { run policies twelve-lanes --control aim --flow 1800,3600 --seed 1,2 "$@"; }
   part --label 'plain, 5 % emergencies' --emergency 0.05
   part --label 'siren, 5 % emergencies' --policy siren --emergency 0.05
   part --label 'lights' --policy lights
@@ -67,7 +67,7 @@ policies() {
 
 faults() {
   begin faults
-  part() { run faults twelve-lanes --control aim --flow 1800,3600 --seed 1,2,3 "$@"; }
+  part() { run faults twelve-lanes --control aim --flow 1800,3600 --seed 1,2 "$@"; }
   part --label 'none'
   part --label '10 % lost' --lost 0.1
   part --label '10 % late' --late 0.1

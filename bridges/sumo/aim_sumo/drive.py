@@ -2,6 +2,7 @@
 
 import math
 import random
+import time
 from collections import Counter
 from dataclasses import dataclass, field
 
@@ -68,7 +69,7 @@ class Bridge:
         self._cars = {}
         self._lanes = {lane: [] for lane in range(self._layout.lanes)}
         self._exits = {}
-        self._orders = sorted((self._steps(time), words) for time, words in settings.orders)
+        self._orders = sorted((self._steps(seconds), words) for seconds, words in settings.orders)
         self._shown = None
         self._sumo = None
         self.judge = None
@@ -84,16 +85,19 @@ class Bridge:
     # The run
 
     def run(self, progress):
-        """Runs until all vehicles have arrived or the end is there; tells its progress once a second of the traffic."""
+        """Runs until all have arrived or the end is there, in a window no faster than real time; tells its progress."""
         files = self._files
         words = simulator.options(
             self.site.net("aim"), files["routes"], files["trips"], files["log"], self._step, self.settings.seed)
         self._sumo = simulator.start([*words, "--time-to-teleport", "-1", "--no-warnings", "true"], self.settings.with_window)
         self.judge = Judge(self._sumo, self._vehicle)
         left = len(self._arrivals)
+        begun = time.monotonic()
         try:
             while left and self.now * self._step < self.settings.end:
                 left -= self._one_step()
+                if self.settings.with_window:
+                    time.sleep(max(0.0, begun + self.now * self._step - time.monotonic()))
                 if self.now % self._steps(1.0) == 0:
                     progress(self.now * self._step, len(self._arrivals) - left)
         finally:

@@ -34,7 +34,7 @@ def start(words, with_window=False):
     """A running SUMO; `words` are its options."""
     if with_window:
         sumo = module("traci")
-        sumo.start(["sumo-gui", "--start", "true", "--quit-on-end", "true", "--delay", "20", *words])
+        sumo.start(["sumo-gui", "--start", "true", "--quit-on-end", "true", *words])
     else:
         sumo = module("libsumo")
         sumo.start(["sumo", *words])
