@@ -61,7 +61,8 @@ class Bridge:
         self._moves = {move.name: move for move in self._layout.moves}
         self._crossings = {move.name: self._crossing(move) for move in self._layout.moves}
         gaps = Gaps(self._vehicle, self._step)
-        self._proposer = Proposer(self._layout, self._vehicle, gaps, settings.hold, self._step)
+        lateness = settings.faults.longest if settings.faults.late > 0 else 0
+        self._proposer = Proposer(self._layout, self._vehicle, gaps, self._step, lateness)
         self._gaps = gaps
         self._mail = Mail(manager, settings.faults, settings.seed)
         self._signals = Signals(self._layout, settings.policy)
@@ -126,7 +127,9 @@ class Bridge:
         """Makes the vehicle that SUMO has let in."""
         move = self._moves[arrival.move]
         lane = self._lanes[move.lane]
-        car = Car(arrival, move, self._crossings[move.name], lane[-1] if lane else None, self._vehicle, self._step)
+        leader = lane[-1] if lane else None
+        crossing = self._crossings[move.name]
+        car = Car(arrival, move, crossing, leader, self._vehicle, self._step, self.settings.hold)
         listener = Listener(self, car)
         car.driver = Driver(arrival.number, self._mail, listener, self._steps(self.settings.resend))
         self.drivers.append(car.driver)
@@ -252,7 +255,7 @@ class Bridge:
 
     def _cap(self, car):
         """The greatest speed at which a vehicle without a reservation can stop at the hold point, and its wish."""
-        left = -car.place - self.settings.hold
+        left = -car.place - car.hold
         if left <= 0:
             return 0.0
         half = self._vehicle.brake * self._step / 2
@@ -271,21 +274,29 @@ class Bridge:
         if proposal is None:
             self.counts["no plan"] += 1
             return
-        standing = self._proposer.is_standing(car)
-        if proposal.reach < self._proposer.floor(car) and not standing:
+        if not self._proposer.may_ask(car, proposal):
             car.next = self.now + 2
             return
         if proposal.reach > car.refused_at:
-            proposal = None if not standing else self._proposer.slower(
-                car, self._others(car), self.now, car.refused_at)
             self.counts["beyond the distance"] += 1
+            proposal = self._nearer(car)
+        if proposal is not None:
+            car.proposal = proposal
+            until = self._proposer.until(car, proposal.plan)
+            car.driver.request(self.now, self._words(car, proposal.plan), until)
+
+    def _nearer(self, car):
+        """A proposal from below the reach at which the vehicle was refused, or None; it then moves closer to the line."""
+        car.next = self.now + self._steps(0.2)
+        if not self._proposer.is_standing(car):
+            return None
+        proposal = self._proposer.slower(car, self._others(car), self.now, car.refused_at)
         if proposal is None:
-            car.next = self.now + self._steps(0.2)
-            if standing:
+            closer = self._proposer.closer(car)
+            if closer > car.hold - 0.02:
                 car.refused_at = math.inf
-            return
-        car.proposal = proposal
-        car.driver.request(self.now, self._words(car, proposal.plan))
+            car.hold = closer
+        return proposal
 
     def _words(self, car, plan):
         """The fields of a request for a plan, behind its number."""
@@ -344,10 +355,10 @@ class Bridge:
         proposal = None
         if (car.leader is None or car.leader.is_across) and self.now >= car.next:
             proposal = self._proposer.best(car, self._others(car), self.now)
-        if proposal is not None and proposal.reach >= self._proposer.floor(car):
+        if proposal is not None and self._proposer.may_ask(car, proposal):
             self.counts["changes"] += 1
             car.proposal = proposal
-            car.driver.change(self.now, self._words(car, proposal.plan))
+            car.driver.change(self.now, self._words(car, proposal.plan), self._proposer.until(car, proposal.plan))
         else:
             self.counts["cancels"] += 1
             car.driver.cancel(self.now)

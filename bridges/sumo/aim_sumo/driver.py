@@ -3,6 +3,7 @@
 It keeps the drivers' rules and a log by which that can be checked (`rules.py`).
 """
 
+import math
 from dataclasses import dataclass, field
 
 
@@ -18,6 +19,7 @@ class Driver:
     grant: object = None
     named: int = None
     is_waiting: bool = False
+    has_given_up: bool = False
     is_halted: bool = False
     has_entered: bool = False
     messages: int = 0
@@ -26,21 +28,23 @@ class Driver:
     _kind: str = ""
     _text: str = ""
     _sent: int = 0
+    _until: float = math.inf
 
     @property
     def may_ask(self):
         """True where a new request may be sent: nothing is held, nothing is waited for, nothing is over."""
-        return self.grant is None and self.named is None and not self.is_waiting and not self.is_halted
+        is_free = not self.is_waiting or self.has_given_up
+        return self.grant is None and self.named is None and is_free and not self.is_halted
 
-    def request(self, step, words):
-        """Asks for a crossing; `words` are those behind the sequence number."""
-        self._new(step, "request", words)
+    def request(self, step, words, until=math.inf):
+        """Asks for a crossing; `words` are those behind the number. It isn't sent again after the step `until`."""
+        self._new(step, "request", words, until)
 
-    def change(self, step, words):
+    def change(self, step, words, until=math.inf):
         """Asks for another crossing in place of the one held, which isn't used until the answer is there."""
         self.named = self.grant.reservation
         self.grant = None
-        self._new(step, "change", f"{self.named} {words}")
+        self._new(step, "change", f"{self.named} {words}", until)
 
     def cancel(self, step, reservation=None):
         """Gives back the reservation that is held, or the one that is named."""
@@ -65,12 +69,24 @@ class Driver:
         self._new(step, "done", str(reservation))
 
     def again(self, step):
-        """Sends the latest message again where its answer is overdue."""
-        if self.is_waiting and step - self._sent >= self.resend:
-            self._post(step)
+        """Where an answer is overdue, sends the message again; one that came too late now is given up.
 
-    def _new(self, step, kind, words):
+        After that another request may be sent, since nothing is held as far as this driver knows. A change that is given
+        up is followed by a cancel of the reservation that it named.
+        """
+        if not self.is_waiting or self.has_given_up or step - self._sent < self.resend:
+            return
+        if step <= self._until:
+            self._post(step)
+        elif self.named is not None:
+            self.cancel(step, self.named)
+        else:
+            self.has_given_up = True
+
+    def _new(self, step, kind, words, until=math.inf):
         self.seq += 1
+        self._until = until
+        self.has_given_up = False
         self._kind = kind
         self._text = f"{kind} {self.seq} {words}"
         self.is_waiting = True

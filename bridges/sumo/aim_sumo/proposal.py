@@ -7,6 +7,8 @@ from .car import State
 from .planner import STANDING, Approach, Plan, accel_of
 
 TRIES = 60
+CLOSEST_HOLD = 1.1
+"""Metres before the line from which a vehicle can still gather the speed that a crossing needs at least."""
 MOST_CROSSING_STEPS = 2040
 
 
@@ -27,14 +29,17 @@ class Proposal:
 
 
 class Proposer:
-    """Makes proposals for vehicles; `hold` is where one without a reservation stands before the line, in metres."""
+    """Makes proposals for vehicles.
 
-    def __init__(self, layout, vehicle, gaps, hold, step):
+    `lateness` is by how many steps a message may come too late to the manager.
+    """
+
+    def __init__(self, layout, vehicle, gaps, step, lateness=0):
         self._layout = layout
         self._vehicle = vehicle
         self._gaps = gaps
-        self._hold = hold
         self._step = step
+        self._lateness = lateness
         self.accel = accel_of(vehicle.accel, step)
 
     def floor(self, car):
@@ -43,10 +48,25 @@ class Proposer:
         A lane's reservation distance falls to the least reach that was refused, and only a confirm lifts it. A refused
         vehicle that has come to stand must be able to ask again, so it may not have asked from a shorter reach before.
         """
-        return 2.04 * self._hold * 1000 / car.way.entry_ratio
+        return 2.04 * car.hold * 1000 / car.way.entry_ratio
+
+    def may_ask(self, car, proposal):
+        """True where a refusal of the proposal, however late it is served, can't keep the vehicle from asking again."""
+        is_sure = proposal.reach - self._lateness * proposal.plan.speed >= self.floor(car)
+        return is_sure or (self.is_standing(car) and (self._lateness == 0 or car.refused_at < math.inf))
+
+    def until(self, car, plan):
+        """The last step at which a request for a plan may be sent, for that reason."""
+        return plan.start - math.ceil(self.floor(car) / plan.speed) - self._lateness
+
+    def closer(self, car):
+        """A hold point from which a standing start's reach is below the one at which the vehicle was refused."""
+        wanted = car.refused_at / 1000 * car.way.entry_ratio / 2.1
+        return min(car.hold, max(CLOSEST_HOLD, wanted))
 
     def is_standing(self, car):
-        return car.speed < STANDING and -car.place < self._hold + 0.6
+        """True where the vehicle stands at its hold point, or nearly."""
+        return car.speed < STANDING and -car.place < car.hold + 0.6
 
     def best(self, car, others, now):
         """The earliest proposal that keeps room to the others, or None."""
@@ -114,6 +134,9 @@ class Proposer:
         if not approach.is_possible:
             return None
         steps = max(math.ceil(approach.soonest / self._step - 1e-6), self._layout.edge + 1)
+        if self._lateness > 0:
+            sure = math.ceil(self.floor(car) / speed) + self._lateness
+            steps = max(steps, math.floor(min(sure, car.refused_at / speed)))
         leader = car.leader
         if leader is not None and leader.state is State.BOUND:
             steps = max(steps, leader.plan.start - now + 5)

@@ -140,6 +140,38 @@ class Drivers(unittest.TestCase):
         self.assertEqual(self.post.sent, [(5, 1, "request 1 0 left 50"), (15, 1, "request 1 0 left 50"),
                                           (25, 1, "request 1 0 left 50")])
 
+    def test_a_request_that_would_come_too_late_is_given_up(self):
+        driver = self.driver
+        driver.request(5, "0 left 50", until=20)
+        for step in range(6, 40):
+            driver.again(step)
+        self.assertEqual([sent[0] for sent in self.post.sent], [5, 15])
+        self.assertTrue(driver.may_ask)
+        driver.request(40, "0 left 90")
+        driver.got(41, 1, CONFIRM)
+        self.assertIsNone(driver.grant)
+        self.assertIsNone(broken_rule(driver.log))
+
+    def test_the_answer_to_a_request_that_was_given_up_counts_until_another_is_sent(self):
+        driver = self.driver
+        driver.request(5, "0 left 50", until=5)
+        driver.again(15)
+        driver.got(30, 1, CONFIRM)
+        self.assertEqual((driver.grant, driver.may_ask, active(driver.log)), (CONFIRM, False, 4))
+
+    def test_a_change_that_would_come_too_late_is_cancelled(self):
+        driver = self.driver
+        driver.request(5, "0 left 50")
+        driver.got(5, 1, CONFIRM)
+        driver.change(20, "0 left 70", until=25)
+        for step in range(21, 40):
+            driver.again(step)
+        self.assertEqual([sent[2] for sent in self.post.sent[1:]], ["change 2 4 0 left 70", "cancel 3 4"])
+        self.assertFalse(driver.may_ask)
+        driver.got(39, 3, Reply("ack", 4))
+        self.assertTrue(driver.may_ask)
+        self.assertIsNone(broken_rule(driver.log))
+
     def test_only_the_first_answer_to_the_latest_message_counts(self):
         driver = self.driver
         driver.request(5, "0 left 50")
