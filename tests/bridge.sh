@@ -27,7 +27,7 @@ install() { # by root, or by one who may be root without being asked
 
 has_sumo || { echo 'bridge: installing sumo and sumo-tools ..'; install > /dev/null 2>&1; }
 if ! has_sumo; then
-  echo 'bridge: NOT TESTED: traffic under each policy and the judges, since SUMO is not there and could not be installed'
+  echo 'bridge: NOT TESTED: traffic under each policy, and the judges: SUMO is not there and was not installed'
   exit 0
 fi
 "$python" -m unittest tests.traffic

@@ -31,7 +31,8 @@ def draw(title, lines, across, up):
     x_scale = Scale(0, max(x for x, _ in points) * 1.05, LEFT, WIDTH - RIGHT, False)
     y_scale = Scale(LEAST, most, HEIGHT - BOTTOM, TOP, True)
     parts = [
-        f'<svg xmlns="http://www.w3.org/2000/svg" viewBox="0 0 {WIDTH} {HEIGHT}" font-family="sans-serif" font-size="12">',
+        f'<svg xmlns="http://www.w3.org/2000/svg" viewBox="0 0 {WIDTH} {HEIGHT}" '
+        'font-family="sans-serif" font-size="12">',
         f'<rect width="{WIDTH}" height="{HEIGHT}" fill="white"/>',
         _text((LEFT + WIDTH - RIGHT) / 2, 24, title, 'text-anchor="middle" font-size="15"'),
         _text((LEFT + WIDTH - RIGHT) / 2, HEIGHT - 16, across, 'text-anchor="middle"'),

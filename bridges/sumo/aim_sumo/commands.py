@@ -1,4 +1,4 @@
-"""The commands: `net` makes the nets of a layout, `run` lets traffic cross, `check` replays runs, `report` tells a table."""
+"""`net` makes the nets of a layout, `run` lets traffic cross, `check` replays runs, `report` tells a table."""
 
 import argparse
 import csv

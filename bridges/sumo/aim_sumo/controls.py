@@ -1,8 +1,8 @@
 """SUMO's own controls on the same demand: lights with fixed times, lights with detectors, and the priority rule.
 
 The lights are tuned for the flow. `tlsCycleAdaptation.py` of SUMO's tools makes a cycle and greens after Webster for a
-demand of another seed; the lights with detectors may end a green early and hold it longer than that, and how much longer
-is tried out on that demand too, as is SUMO's default. The one with the least mean delay is taken.
+demand of another seed; the lights with detectors may end a green early and hold it longer than that, and how much
+longer is tried out on that demand too, as is SUMO's default. The one with the least mean delay is taken.
 """
 
 import json
@@ -83,7 +83,7 @@ def _programs(site, control, routes, vehicle, folder, name):
 
 
 def _with_detectors(path, share):
-    """Makes a program with detectors of one with fixed times; greens last from 5 seconds to a share of the fixed one."""
+    """Makes a program with detectors of one with fixed times: a green lasts 5 seconds to a share of the fixed one."""
     tree = ET.parse(path)
     for logic in tree.getroot().iter("tlLogic"):
         logic.set("type", "actuated")

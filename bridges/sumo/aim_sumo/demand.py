@@ -74,9 +74,9 @@ def write_routes(path, site, vehicles, vehicle):
 
 
 def _type(kind, vehicle):
-    """A type of vehicle; a truck's outline is a whole rectangle in SUMO's own check, a passenger car's has cut corners."""
+    """A type of vehicle; in SUMO's own check a truck is a whole rectangle, and a passenger car has cut corners."""
     return (
-        f' <vType id="{kind}" guiShape="truck" color="{COLOURS[kind]}" length="{vehicle.length}" width="{vehicle.width}" '
-        f'sigma="0" speedFactor="1" speedDev="0" tau="{vehicle.headway}" minGap="{vehicle.gap}" '
-        'lcStrategic="-1" lcSpeedGain="0" lcKeepRight="0" lcCooperative="0"/>'
+        f' <vType id="{kind}" guiShape="truck" color="{COLOURS[kind]}" length="{vehicle.length}" '
+        f'width="{vehicle.width}" tau="{vehicle.headway}" minGap="{vehicle.gap}" sigma="0" speedFactor="1" '
+        'speedDev="0" lcStrategic="-1" lcSpeedGain="0" lcKeepRight="0" lcCooperative="0"/>'
     )

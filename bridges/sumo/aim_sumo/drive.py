@@ -86,11 +86,12 @@ class Bridge:
     # The run
 
     def run(self, progress):
-        """Runs until all have arrived or the end is there, in a window no faster than real time; tells its progress."""
+        """Runs until all have arrived or the end is there; in a window no faster than real time."""
         files = self._files
         words = simulator.options(
             self.site.net("aim"), files["routes"], files["trips"], files["log"], self._step, self.settings.seed)
-        self._sumo = simulator.start([*words, "--time-to-teleport", "-1", "--no-warnings", "true"], self.settings.with_window)
+        words += ["--time-to-teleport", "-1", "--no-warnings", "true"]
+        self._sumo = simulator.start(words, self.settings.with_window)
         self.judge = Judge(self._sumo, self._vehicle)
         left = len(self._arrivals)
         begun = time.monotonic()
@@ -286,7 +287,7 @@ class Bridge:
             car.driver.request(self.now, self._words(car, proposal.plan), until)
 
     def _nearer(self, car):
-        """A proposal from below the reach at which the vehicle was refused, or None; it then moves closer to the line."""
+        """A proposal from below the reach at which it was refused, or None; it then moves closer to the line."""
         car.next = self.now + self._steps(0.2)
         if not self._proposer.is_standing(car):
             return None
@@ -358,7 +359,8 @@ class Bridge:
         if proposal is not None and self._proposer.may_ask(car, proposal):
             self.counts["changes"] += 1
             car.proposal = proposal
-            car.driver.change(self.now, self._words(car, proposal.plan), self._proposer.until(car, proposal.plan))
+            until = self._proposer.until(car, proposal.plan)
+            car.driver.change(self.now, self._words(car, proposal.plan), until)
         else:
             self.counts["cancels"] += 1
             car.driver.cancel(self.now)

@@ -71,8 +71,8 @@ class Driver:
     def again(self, step):
         """Where an answer is overdue, sends the message again; one that came too late now is given up.
 
-        After that another request may be sent, since nothing is held as far as this driver knows. A change that is given
-        up is followed by a cancel of the reservation that it named.
+        After that another request may be sent, since nothing is held as far as this driver knows. A change that is
+        given up is followed by a cancel of the reservation that it named.
         """
         if not self.is_waiting or self.has_given_up or step - self._sent < self.resend:
             return

@@ -1,4 +1,4 @@
-"""Gaps between a plan and the other vehicles on the same lanes: before the box, and behind it, where no manager looks."""
+"""Gaps between a plan and other vehicles on the same lanes: before the box, and behind it, where no manager looks."""
 
 EVERY = 0.1
 """A plan is looked at so often; seconds."""

@@ -73,10 +73,6 @@ class Layout:
     moves: list = field(default_factory=list)
     policies: list = field(default_factory=list)
 
-    def turns(self, lane):
-        """The moves that a lane offers."""
-        return [move for move in self.moves if move.lane == lane]
-
     def policy(self, name):
         """The policy of that name."""
         for policy in self.policies:

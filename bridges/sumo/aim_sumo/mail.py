@@ -1,7 +1,7 @@
 """What carries messages to the manager and answers back; on request some are lost, late, or come twice.
 
-A message's moment is the step at which it reaches the manager. Without faults a message is answered in the step in which
-it is sent.
+A message's moment is the step at which it reaches the manager. Without faults a message is answered in the step in
+which it is sent.
 """
 
 import heapq
@@ -50,7 +50,8 @@ class Mail:
         if not self._faults.are_there:
             return [step]
         draw = self._chance.random()
-        for name, share in (("lost", self._faults.lost), ("late", self._faults.late), ("repeated", self._faults.repeated)):
+        for name in self.counts:
+            share = getattr(self._faults, name)
             if draw < share:
                 self.counts[name] += 1
                 later = step + self._chance.randint(1, self._faults.longest)

@@ -19,7 +19,6 @@ class Trip:
     seconds: float
     arrival: float
     stops: int
-    depart: float
 
 
 def read_trips(path):
@@ -28,7 +27,7 @@ def read_trips(path):
     for trip in ET.parse(path).getroot().iter("tripinfo"):
         depart, waited, arrival = (float(trip.get(key)) for key in ("depart", "departDelay", "arrival"))
         if arrival >= 0:
-            found[trip.get("id")] = Trip(arrival - depart + waited, arrival, int(trip.get("waitingCount")), depart - waited)
+            found[trip.get("id")] = Trip(arrival - depart + waited, arrival, int(trip.get("waitingCount")))
     return found
 
 

@@ -232,8 +232,8 @@ class Tellings(unittest.TestCase):
     def test_sums_of_a_run(self):
         arrivals = [Arrival(number, 0.0, "a", kind) for number, kind in enumerate(("car", "car", "human", "car"))]
         trips = {
-            "0": metrics.Trip(40.0, 100.0, 0, 60.0), "1": metrics.Trip(50.0, 700.0, 2, 650.0),
-            "2": metrics.Trip(60.0, 200.0, 1, 140.0),
+            "0": metrics.Trip(40.0, 100.0, 0), "1": metrics.Trip(50.0, 700.0, 2),
+            "2": metrics.Trip(60.0, 200.0, 1),
         }
         found = metrics.summary(trips, arrivals, {"a": 40.0}, 600.0)
         self.assertEqual((found["demand"], found["through"], found["left"]), (4, 2, 1))
@@ -246,13 +246,16 @@ class Tellings(unittest.TestCase):
 
     def test_table_and_chart_of_results(self):
         results = [
-            {"flow": flow, "control": control, "delay": delay, "demand": 10, **({"misses": 0} if control == "aim" else {})}
-            for flow, control, delay in ((600, "static", 15.0), (600, "aim", 0.1), (600, "aim", 0.3), (1800, "aim", 2.0))
+            {"flow": flow, "control": control, "delay": delay, "demand": 10,
+             **({"misses": 0} if control == "aim" else {})}
+            for flow, control, delay in (
+                (600, "static", 15.0), (600, "aim", 0.1), (600, "aim", 0.3), (1800, "aim", 2.0))
         ]
         lines = report.table(results, ["demand", "delay", "misses"]).splitlines()
         self.assertEqual(lines[0], "| veh/h | control | runs | demand | delay s | misses |")
         self.assertEqual(lines[2:], [
-            "| 600 | aim | 2 | 10 | 0.2 | 0 |", "| 600 | static | 1 | 10 | 15.0 |  |", "| 1800 | aim | 1 | 10 | 2.0 | 0 |"])
+            "| 600 | aim | 2 | 10 | 0.2 | 0 |", "| 600 | static | 1 | 10 | 15.0 |  |",
+            "| 1800 | aim | 1 | 10 | 2.0 | 0 |"])
         series = report.series(results)
         self.assertEqual(series, {"aim": [(600, 0.2), (1800, 2.0)], "static": [(600, 15.0)]})
         root = ET.fromstring(chart.draw("A < B", series, "flow", "delay"))
