@@ -117,8 +117,8 @@ tables() {
   tell buffers --columns "demand,left,delay,arrival_error,changes,cancels,steps astray in the box,$clean"
   tell mapping --columns "demand,left,delay,$clean"
   tell blind --columns "demand,$clean"
-  cat "$folder/delay.jsonl" > "$folder/answers.jsonl"
-  tell answers --columns 'messages,confirm fast,confirm steady,reject taken,reject distance,ack'
+  grep '"control": "aim"' "$folder/delay.jsonl" > "$folder/answers.jsonl"
+  tell answers --columns 'asked,confirm fast,confirm steady,reject taken,reject distance,ack,cancels,manager,wall'
 }
 
 [ "$#" -gt 0 ] || set -- nets delay short layouts policies faults buffers mapping blind tables

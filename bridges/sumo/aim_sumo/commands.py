@@ -196,6 +196,7 @@ def _told(bridge, demanded):
         "messages": sum(driver.messages for driver in bridge.drivers) / max(1, demanded),
         "answers": metrics.answers(bridge.drivers), "counts": dict(bridge.counts),
         "arrival_error": statistics.pstdev(errors) if errors else 0.0,
+        "asked": bridge.manager.entries, "manager": bridge.manager.seconds,
     }
 
 

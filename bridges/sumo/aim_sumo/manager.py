@@ -6,6 +6,7 @@ Script and answers are kept, so that every run can be checked afterwards by repl
 import pathlib
 import shlex
 import subprocess
+import time
 from dataclasses import dataclass
 
 
@@ -61,6 +62,7 @@ class Manager:
             [*shlex.split(command), "replay"], stdin=subprocess.PIPE, stdout=subprocess.PIPE, text=True,
         )
         self.entries = 0
+        self.seconds = 0.0
         for line in [*head, f"vehicles {vehicles}", "begin"]:
             self._tell(line)
 
@@ -83,8 +85,10 @@ class Manager:
 
     def ask(self, event):
         """The reply to an event, `VEHICLE MOMENT MESSAGE` or an order."""
+        begun = time.perf_counter()
         self._tell(event)
         line = self._hear()
+        self.seconds += time.perf_counter() - begun
         known = _as_printed(event)
         head, arrow, reply = line.partition(" -> ")
         if not arrow or (known and head != f"{self.entries} {known}"):

@@ -45,6 +45,8 @@ COLUMNS = {
     "delay_human": Column("delay of people s", ".1f"),
     "delay_emergency": Column("delay of emergencies s", ".1f"),
     "arrival_error": Column("arrival sd, steps", ".2f"),
+    "asked": Column("events", ".0f"),
+    "manager": Column("manager s", ".2f"),
     "wall": Column("wall s", ".0f"),
     **{key: Column(key, ".0f", True, "counts") for key in (
         "changes", "cancels", "steps astray in the box", "humans on red",
