@@ -42,14 +42,14 @@ delay() {
 
 short() {
   begin short
-  run short twelve-lanes --flow 600,1800,3600,5400 --seed 1,2,3 --headway 0.3 --gap 1
+  run short twelve-lanes --flow 600,1800,3600,5400 --seed 1,2 --headway 0.3 --gap 1
 }
 
 layouts() {
   begin four-way
   begin tee
-  run four-way four-way --flow 600,1200,1800 --seed 1,2,3
-  run tee tee --flow 600,1200,1800 --seed 1,2,3
+  run four-way four-way --flow 600,1200,1800 --seed 1,2
+  run tee tee --flow 600,1200,1800 --seed 1,2
 }
 
 policies() {
@@ -58,7 +58,6 @@ policies() {
   part --label 'plain, 5 % emergencies' --emergency 0.05
   part --label 'siren, 5 % emergencies' --policy siren --emergency 0.05
   part --label 'lights' --policy lights
-  part --label 'lights, 10 % people' --policy lights --human 0.1
   part --label 'lights, 50 % people' --policy lights --human 0.5
   part --label 'lights, all people' --policy lights --human 1
   part --label 'lights-siren, 30 % people, 5 % emergencies' --policy lights-siren --human 0.3 --emergency 0.05
