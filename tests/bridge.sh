@@ -21,8 +21,8 @@ install() { # by root, or by one who may be root without being asked
   local root=()
   [ "$(id -u)" -eq 0 ] || root=(sudo -n)
   command -v apt-get > /dev/null || return 1
-  "${root[@]}" apt-get -qq update &&
-    "${root[@]}" env DEBIAN_FRONTEND=noninteractive apt-get -qq install -y --no-install-recommends sumo sumo-tools
+  timeout 60 "${root[@]}" apt-get -qq update &&
+    timeout 300 "${root[@]}" env DEBIAN_FRONTEND=noninteractive apt-get -qq install -y --no-install-recommends sumo sumo-tools
 }
 
 has_sumo || { echo 'bridge: installing sumo and sumo-tools ..'; install > /dev/null 2>&1; }

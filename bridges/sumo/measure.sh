@@ -112,7 +112,7 @@ tables() {
   tell tee --chart "$folder/tee.svg" --title 'A T of one lane each in SUMO, headway 1 s'
   local clean=misses,broken_rules,by_sumo,by_rectangles
   tell policies --columns "through,left,delay,p95,delay_human,delay_emergency,messages,humans on red,$clean"
-  tell faults --columns "through,left,delay,p95,messages,changes,cancels,$clean"
+  tell faults --columns "through,left,delay,p95,longest,messages,changes,cancels,$clean"
   tell buffers --columns "demand,left,delay,arrival_error,changes,cancels,steps astray in the box,$clean"
   tell mapping --columns "demand,left,delay,$clean"
   tell blind --columns "demand,$clean"

@@ -52,6 +52,7 @@ def summary(trips, arrivals, free, seconds):
         "left": len(arrivals) - len(trips),
         "delay": statistics.fmean(late.values()) if late else 0.0,
         "p95": percentile(late.values(), 0.95),
+        "longest": max(late.values(), default=0.0),
         "stops": statistics.fmean(trip.stops for trip in trips.values()) if trips else 0.0,
         "teleports": 0,
     }

@@ -35,6 +35,7 @@ COLUMNS = {
     "left": Column("left", ".0f"),
     "delay": Column("delay s", ".1f"),
     "p95": Column("95 % s", ".1f"),
+    "longest": Column("longest s", ".0f"),
     "stops": Column("stops", ".2f"),
     "messages": Column("messages", ".1f"),
     "misses": Column("misses", ".0f", is_sum=True),
