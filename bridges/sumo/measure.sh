@@ -42,7 +42,7 @@ delay() {
 
 short() {
   begin short
-  run short twelve-lanes --flow 600,1800,3600,5400 --seed 1,2 --headway 0.3 --gap 1
+  run short twelve-lanes --flow 1800,3600,5400 --seed 1,2 --headway 0.3 --gap 1
 }
 
 layouts() {
@@ -112,12 +112,12 @@ tables() {
   tell tee --chart "$folder/tee.svg" --title 'A T of one lane each in SUMO, headway 1 s'
   local clean=misses,broken_rules,by_sumo,by_rectangles
   tell policies --columns "through,left,delay,p95,delay_human,delay_emergency,messages,humans on red,$clean"
-  tell faults --columns "through,left,delay,p95,longest,messages,changes,cancels,$clean"
+  tell faults --columns "through,left,delay,p95,longest,messages,changes,cancels,unlocking requests,$clean"
   tell buffers --columns "demand,left,delay,arrival_error,changes,cancels,steps astray in the box,$clean"
   tell mapping --columns "demand,left,delay,$clean"
   tell blind --columns "demand,$clean"
   grep '"control": "aim"' "$folder/delay.jsonl" > "$folder/answers.jsonl"
-  tell answers --columns 'asked,confirm fast,confirm steady,reject taken,reject distance,ack,cancels,manager,wall'
+  tell answers --columns 'asked,confirm fast,confirm steady,reject taken,reject distance,unlocking requests,manager,wall'
 }
 
 [ "$#" -gt 0 ] || set -- nets delay short layouts policies faults buffers mapping blind tables

@@ -17,7 +17,7 @@ class State(Enum):
 class Car:
     """One vehicle; places are metres along its path, 0 at the line."""
 
-    def __init__(self, arrival, move, crossing, leader, vehicle, step, hold=2.0):
+    def __init__(self, arrival, move, crossing, leader, vehicle, step):
         self.id = arrival.id
         self.kind = arrival.kind
         self.move = move
@@ -33,7 +33,6 @@ class Car:
         self.wish = vehicle.road_speed
         self.next = 0
         self.entered = None
-        self.hold = hold
         self.refused_at = math.inf
         self.drift = 0.0
         self.correction = 0.0

@@ -62,7 +62,7 @@ class Bridge:
         self._crossings = {move.name: self._crossing(move) for move in self._layout.moves}
         gaps = Gaps(self._vehicle, self._step)
         lateness = settings.faults.longest if settings.faults.late > 0 else 0
-        self._proposer = Proposer(self._layout, self._vehicle, gaps, self._step, lateness)
+        self._proposer = Proposer(self._layout, self._vehicle, gaps, settings.hold, self._step, lateness)
         self._gaps = gaps
         self._mail = Mail(manager, settings.faults, settings.seed)
         self._signals = Signals(self._layout, settings.policy)
@@ -130,7 +130,7 @@ class Bridge:
         lane = self._lanes[move.lane]
         leader = lane[-1] if lane else None
         crossing = self._crossings[move.name]
-        car = Car(arrival, move, crossing, leader, self._vehicle, self._step, self.settings.hold)
+        car = Car(arrival, move, crossing, leader, self._vehicle, self._step)
         listener = Listener(self, car)
         car.driver = Driver(arrival.number, self._mail, listener, self._steps(self.settings.resend))
         self.drivers.append(car.driver)
@@ -256,7 +256,7 @@ class Bridge:
 
     def _cap(self, car):
         """The greatest speed at which a vehicle without a reservation can stop at the hold point, and its wish."""
-        left = -car.place - car.hold
+        left = -car.place - self.settings.hold
         if left <= 0:
             return 0.0
         half = self._vehicle.brake * self._step / 2
@@ -279,25 +279,13 @@ class Bridge:
             car.next = self.now + 2
             return
         if proposal.reach > car.refused_at:
-            self.counts["beyond the distance"] += 1
-            proposal = self._nearer(car)
+            car.next = self.now + self._steps(0.2)
+            proposal = None if self.settings.is_blind else self._proposer.unlocking(car, self.now)
+            self.counts["unlocking requests"] += proposal is not None
         if proposal is not None:
             car.proposal = proposal
             until = self._proposer.until(car, proposal.plan)
             car.driver.request(self.now, self._words(car, proposal.plan), until)
-
-    def _nearer(self, car):
-        """A proposal from below the reach at which it was refused, or None; it then moves closer to the line."""
-        car.next = self.now + self._steps(0.2)
-        if not self._proposer.is_standing(car):
-            return None
-        proposal = self._proposer.slower(car, self._others(car), self.now, car.refused_at)
-        if proposal is None:
-            closer = self._proposer.closer(car)
-            if closer > car.hold - 0.02:
-                car.refused_at = math.inf
-            car.hold = closer
-        return proposal
 
     def _words(self, car, plan):
         """The fields of a request for a plan, behind its number."""
@@ -414,9 +402,9 @@ class Bridge:
     def _confirmed(self, car, grant):
         """Takes a reservation where there is still a plan for it, else changes it or gives it back."""
         car.refused_at = math.inf
-        plan = car.proposal.plan
-        is_late = plan.begun != self.now
-        if is_late or grant.is_fast != (plan.accel > 0):
+        plan = car.proposal.plan if car.proposal.is_real else None
+        is_late = plan is None or plan.begun != self.now
+        if plan is not None and (is_late or grant.is_fast != (plan.accel > 0)):
             accel = plan.accel if grant.is_fast else 0
             plan = self._proposer.at(car, grant.start, plan.speed, accel, self._others(car), self.now)
         if plan is not None and self._is_too_slow(car, plan, grant):
@@ -444,6 +432,8 @@ class Bridge:
         """Notes when it may ask again, and slows down where the box is taken."""
         car.next = max(reply.next, self.now + 1)
         reason = reply.reason[0]
+        if not car.proposal.is_real:
+            car.next = max(car.next, self.now + self._steps(0.2))
         if reason in ("taken", "green"):
             car.refused_at = min(car.refused_at, car.proposal.reach)
             car.wish = max(self.settings.slowest_wish, min(car.wish, car.speed) * self.settings.slow_down)

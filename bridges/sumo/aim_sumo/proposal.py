@@ -7,16 +7,15 @@ from .car import State
 from .planner import STANDING, Approach, Plan, accel_of
 
 TRIES = 60
-CLOSEST_HOLD = 1.1
-"""Metres before the line from which a vehicle can still gather the speed that a crossing needs at least."""
 MOST_CROSSING_STEPS = 2040
 
 
 @dataclass(frozen=True)
 class Proposal:
-    """A plan to ask for."""
+    """A plan to ask for; one that isn't real can't be driven, and is given back as soon as it is granted."""
 
     plan: object
+    is_real: bool = True
 
     @property
     def steps(self):
@@ -31,13 +30,15 @@ class Proposal:
 class Proposer:
     """Makes proposals for vehicles.
 
-    `lateness` is by how many steps a message may come too late to the manager.
+    `hold` is where one without a reservation stands before the line, in metres. `lateness` is by how many steps a
+    message may come too late to the manager.
     """
 
-    def __init__(self, layout, vehicle, gaps, step, lateness=0):
+    def __init__(self, layout, vehicle, gaps, hold, step, lateness=0):
         self._layout = layout
         self._vehicle = vehicle
         self._gaps = gaps
+        self._hold = hold
         self._step = step
         self._lateness = lateness
         self.accel = accel_of(vehicle.accel, step)
@@ -48,7 +49,7 @@ class Proposer:
         A lane's reservation distance falls to the least reach that was refused, and only a confirm lifts it. A refused
         vehicle that has come to stand must be able to ask again, so it may not have asked from a shorter reach before.
         """
-        return 2.04 * car.hold * 1000 / car.way.entry_ratio
+        return 2.04 * self._hold * 1000 / car.way.entry_ratio
 
     def may_ask(self, car, proposal):
         """True where a refusal of the proposal, however late it is served, can't keep the vehicle from asking again."""
@@ -59,14 +60,9 @@ class Proposer:
         """The last step at which a request for a plan may be sent, for that reason."""
         return plan.start - math.ceil(self.floor(car) / plan.speed) - self._lateness
 
-    def closer(self, car):
-        """A hold point from which a standing start's reach is below the one at which the vehicle was refused."""
-        wanted = car.refused_at / 1000 * car.way.entry_ratio / 2.1
-        return min(car.hold, max(CLOSEST_HOLD, wanted))
-
     def is_standing(self, car):
         """True where the vehicle stands at its hold point, or nearly."""
-        return car.speed < STANDING and -car.place < car.hold + 0.6
+        return car.speed < STANDING and -car.place < self._hold + 0.6
 
     def best(self, car, others, now):
         """The earliest proposal that keeps room to the others, or None."""
@@ -77,17 +73,24 @@ class Proposer:
             return None
         return self._earliest(car, speed, others, now)
 
-    def slower(self, car, others, now, reach):
-        """The fastest proposal that is asked from no farther than a reach: it enters slower; or None."""
-        full = self._entry_speed(car)
-        for share in (0.9, 0.8, 0.7, 0.6, 0.5, 0.4):
-            speed = int(full * share)
-            if speed < self._least_speed(car):
-                return None
-            found = self._earliest(car, speed, others, now)
-            if found is not None and found.reach <= reach:
-                return found
-        return None
+    def unlocking(self, car, now):
+        """A proposal that isn't real, from below the reach at which the vehicle was refused; None where it needs none.
+
+        A vehicle that stands needs a longer reach for a real one, and would be refused for its distance for ever, as
+        would all behind it. A grant of any kind lifts the lane's distance, also of an arrival that can't be reached.
+        """
+        speed = min(self._entry_speed(car), math.floor(min(car.refused_at, 1e9) / (self._layout.edge + 1)))
+        if not self.is_standing(car) or speed < self._least_speed(car) or not self._is_locked(car):
+            return None
+        steps = math.floor(car.refused_at / speed)
+        accel = self.accel if speed < car.crossing.greatest else 0
+        return Proposal(self._plan(car, None, steps, speed, accel, now), is_real=False)
+
+    def _is_locked(self, car):
+        """True where even the soonest arrival has a reach above the one at which the vehicle was refused."""
+        speed = self._entry_speed(car)
+        approach = self._approach(car, speed)
+        return approach.is_possible and math.ceil(approach.soonest / self._step - 1e-6) * speed > car.refused_at
 
     def at(self, car, start, speed, accel, others, now):
         """The plan that is at the line at a given step with a given speed and then crosses so, or None."""

@@ -50,7 +50,7 @@ COLUMNS = {
     "manager": Column("manager s", ".2f"),
     "wall": Column("wall s", ".0f"),
     **{key: Column(key, ".0f", True, "counts") for key in (
-        "changes", "cancels", "steps astray in the box", "humans on red",
+        "changes", "cancels", "unlocking requests", "steps astray in the box", "humans on red",
         "humans beyond the clearance",
     )},
     **{key: Column(key, ".0f", False, "answers") for key in (

@@ -148,7 +148,7 @@ class Rooms(unittest.TestCase):
 class Proposals(unittest.TestCase):
     def setUp(self):
         self.layout = read_head(head("four-way"))
-        self.proposer = Proposer(self.layout, VEHICLE, Gaps(VEHICLE, 0.1), 0.1)
+        self.proposer = Proposer(self.layout, VEHICLE, Gaps(VEHICLE, 0.1), 2.0, 0.1)
 
     def car(self, place, speed, leader=None):
         car = a_car(LINE, leader)
@@ -179,7 +179,7 @@ class Proposals(unittest.TestCase):
             self.assertGreaterEqual(room, VEHICLE.room(plan.speed_at(step)) - 0.06)
 
     def test_a_rolling_one_does_not_ask_from_below_the_reach_of_a_standing_start(self):
-        proposer = Proposer(self.layout, VEHICLE, Gaps(VEHICLE, 0.02), 0.02)
+        proposer = Proposer(self.layout, VEHICLE, Gaps(VEHICLE, 0.02), 2.0, 0.02)
         crossing = Crossing(Way(LINE, 100, VEHICLE.length), 200, VEHICLE, 0.02)
         for place, speed, is_below in ((-2.0, 0.0, True), (-2.5, 2.5, True), (-6.0, 5.0, False), (-50.0, 10.0, False)):
             car = Car(Arrival(0, 0.0, LINE.name, "car"), LINE, crossing, None, VEHICLE, 0.02)
@@ -193,7 +193,7 @@ class Proposals(unittest.TestCase):
 
     def test_where_messages_may_be_late_it_asks_so_much_farther_ahead(self):
         for lateness in (0, 5, 30):
-            proposer = Proposer(self.layout, VEHICLE, Gaps(VEHICLE, 0.1), 0.1, lateness)
+            proposer = Proposer(self.layout, VEHICLE, Gaps(VEHICLE, 0.1), 2.0, 0.1, lateness)
             car = self.car(-2.0, 0.0)
             proposal = proposer.best(car, [], 0)
             with self.subTest(lateness):
@@ -202,20 +202,21 @@ class Proposals(unittest.TestCase):
                 if lateness:
                     self.assertGreaterEqual((proposal.steps - lateness) * proposal.plan.speed, proposer.floor(car))
 
-    def test_one_that_was_refused_for_its_distance_moves_closer(self):
-        for refused_at, hold in ((4500, 2.0), (3150, 1.5), (2100, 1.1), (400, 1.1), (float("inf"), 2.0)):
-            car = self.car(-2.0, 0.0)
+    def test_a_lane_that_is_locked_is_unlocked_from_below_its_distance(self):
+        for refused_at, place, speed, steps, entry in (
+            (3000, -2.0, 0.0, 9, 309), (2000, -2.0, 0.0, 6, 309), (1500, -2.0, 0.0, 6, 250),
+            (40, -2.0, 0.0, None, None), (9000, -2.0, 0.0, None, None), (float("inf"), -2.0, 0.0, None, None),
+            (3000, -4.0, 4.0, None, None),
+        ):
+            car = self.car(place, speed)
             car.refused_at = refused_at
-            with self.subTest(refused_at):
-                self.assertAlmostEqual(self.proposer.closer(car), hold)
-                self.assertLessEqual(2 * hold * 1000, max(refused_at, 2200))
-
-    def test_a_slower_entry_is_asked_from_nearer(self):
-        car = self.car(-2.2, 0.0)
-        best = self.proposer.best(car, [], 0)
-        slower = self.proposer.slower(car, [], 0, best.reach - 200)
-        self.assertLessEqual(slower.reach, best.reach - 200)
-        self.assertLess(slower.plan.speed, best.plan.speed)
+            proposal = self.proposer.unlocking(car, 7)
+            with self.subTest(refused_at=refused_at, place=place):
+                self.assertEqual(proposal is None, steps is None)
+                if proposal:
+                    self.assertEqual((proposal.is_real, proposal.steps, proposal.plan.speed), (False, steps, entry))
+                    self.assertLessEqual(proposal.reach, refused_at)
+                    self.assertGreater(proposal.steps, self.layout.edge)
 
     def test_a_plan_for_a_confirmed_arrival(self):
         car = self.car(-50.0, 10.0)
