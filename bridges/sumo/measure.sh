@@ -54,14 +54,14 @@ layouts() {
 
 policies() {
   begin policies
-  part() { run policies twelve-lanes --control aim --flow 1800,3600 --seed 1,2 "$@"; }
-  part --label 'plain, 5 % emergencies' --emergency 0.05
-  part --label 'siren, 5 % emergencies' --policy siren --emergency 0.05
-  part --label 'lights' --policy lights
-  part --label 'lights, 50 % people' --policy lights --human 0.5
-  part --label 'lights, all people' --policy lights --human 1
-  part --label 'lights-siren, 30 % people, 5 % emergencies' --policy lights-siren --human 0.3 --emergency 0.05
-  part --label 'plain, lights from 180 s to 420 s' --switch 120=lights --switch 360=plain
+  part() { run policies twelve-lanes --control aim --seed 1,2 --flow "$@"; }
+  part 3600,5400 --label 'plain, 2 % emergencies' --emergency 0.02
+  part 3600,5400 --label 'siren, 2 % emergencies' --policy siren --emergency 0.02
+  part 1800,3600 --label 'lights' --policy lights
+  part 1800,3600 --label 'lights, 50 % people' --policy lights --human 0.5
+  part 1800,3600 --label 'lights, all people' --policy lights --human 1
+  part 1800,3600 --label 'lights-siren, 30 % people, 2 % emergencies' --policy lights-siren --human 0.3 --emergency 0.02
+  part 1800,3600 --label 'plain, lights from 180 s to 420 s' --switch 120=lights --switch 360=plain
 }
 
 faults() {

@@ -7,6 +7,8 @@ from .car import State
 from .planner import STANDING, Approach, Plan, accel_of
 
 TRIES = 60
+STILL = 0.005
+"""Metres a second below which a vehicle has come to rest."""
 MOST_CROSSING_STEPS = 2040
 
 
@@ -39,30 +41,38 @@ class Proposer:
         self._vehicle = vehicle
         self._gaps = gaps
         self._hold = hold
+        self._floors = {}
         self._step = step
         self._lateness = lateness
         self.accel = accel_of(vehicle.accel, step)
 
     def floor(self, car):
-        """The reach of a vehicle that starts from the hold point: what a rolling one must not ask from below.
+        """The reach of a vehicle that starts from the hold point: nobody asks from less.
 
         A lane's reservation distance falls to the least reach that was refused, and only a confirm lifts it. A refused
         vehicle that has come to stand must be able to ask again, so it may not have asked from a shorter reach before.
         """
-        return 2.04 * self._hold * 1000 / car.way.entry_ratio
+        if car.move.name not in self._floors:
+            entry = math.sqrt(2 * self._vehicle.accel * self._hold) * 0.98
+            speed = min(car.crossing.greatest, math.floor(entry / car.way.entry_ratio * 1000 * self._step))
+            start = Approach(
+                self._hold, 0.0, self._true_speed(car, speed), self._vehicle.road_speed, self._vehicle.accel,
+                self._vehicle.brake)
+            self._floors[car.move.name] = math.ceil(start.soonest / self._step - 1e-6) * speed
+        return self._floors[car.move.name]
 
     def may_ask(self, car, proposal):
         """True where a refusal of the proposal, however late it is served, can't keep the vehicle from asking again."""
         is_sure = proposal.reach - self._lateness * proposal.plan.speed >= self.floor(car)
-        return is_sure or (self.is_standing(car) and (self._lateness == 0 or car.refused_at < math.inf))
+        return is_sure or (self.is_standing(car) and car.refused_at < math.inf)
 
     def until(self, car, plan):
         """The last step at which a request for a plan may be sent, for that reason."""
         return plan.start - math.ceil(self.floor(car) / plan.speed) - self._lateness
 
     def is_standing(self, car):
-        """True where the vehicle stands at its hold point, or nearly."""
-        return car.speed < STANDING and -car.place < self._hold + 0.6
+        """True where the vehicle has come to rest at the hold point."""
+        return car.speed < STILL and -car.place < self._hold + 0.05
 
     def best(self, car, others, now):
         """The earliest proposal that keeps room to the others, or None."""
@@ -80,14 +90,16 @@ class Proposer:
         would all behind it. A grant of any kind lifts the lane's distance, also of an arrival that can't be reached.
         """
         speed = min(self._entry_speed(car), math.floor(min(car.refused_at, 1e9) / (self._layout.edge + 1)))
-        if not self.is_standing(car) or speed < self._least_speed(car) or not self._is_locked(car):
+        if speed < self._least_speed(car) or not self._is_locked(car):
             return None
         steps = math.floor(car.refused_at / speed)
         accel = self.accel if speed < car.crossing.greatest else 0
         return Proposal(self._plan(car, None, steps, speed, accel, now), is_real=False)
 
     def _is_locked(self, car):
-        """True where even the soonest arrival has a reach above the one at which the vehicle was refused."""
+        """True where a vehicle at the hold point has even for the soonest arrival a reach above the one refused."""
+        if not self.is_standing(car):
+            return False
         speed = self._entry_speed(car)
         approach = self._approach(car, speed)
         return approach.is_possible and math.ceil(approach.soonest / self._step - 1e-6) * speed > car.refused_at
@@ -137,7 +149,7 @@ class Proposer:
         if not approach.is_possible:
             return None
         steps = max(math.ceil(approach.soonest / self._step - 1e-6), self._layout.edge + 1)
-        if self._lateness > 0:
+        if self._lateness > 0 or car.speed < STANDING:
             sure = math.ceil(self.floor(car) / speed) + self._lateness
             steps = max(steps, math.floor(min(sure, car.refused_at / speed)))
         leader = car.leader

@@ -181,15 +181,18 @@ class Proposals(unittest.TestCase):
     def test_a_rolling_one_does_not_ask_from_below_the_reach_of_a_standing_start(self):
         proposer = Proposer(self.layout, VEHICLE, Gaps(VEHICLE, 0.02), 2.0, 0.02)
         crossing = Crossing(Way(LINE, 100, VEHICLE.length), 200, VEHICLE, 0.02)
-        for place, speed, is_below in ((-2.0, 0.0, True), (-2.5, 2.5, True), (-6.0, 5.0, False), (-50.0, 10.0, False)):
+        for place, speed, is_below in (
+            (-2.0, 0.0, False), (-1.9, 0.0, False), (-2.1, 0.2, False), (-2.5, 2.5, True), (-6.0, 5.0, False),
+            (-50.0, 10.0, False),
+        ):
             car = Car(Arrival(0, 0.0, LINE.name, "car"), LINE, crossing, None, VEHICLE, 0.02)
             car.place, car.speed = place, speed
             with self.subTest(place=place, speed=speed):
                 reach = proposer.best(car, [], 0).reach
                 self.assertEqual(reach < proposer.floor(car), is_below)
                 self.assertEqual(proposer.is_standing(car), speed == 0.0)
-                if proposer.is_standing(car):
-                    self.assertAlmostEqual(reach, proposer.floor(car), delta=250)
+                if place == -2.0:
+                    self.assertEqual(reach, proposer.floor(car))
 
     def test_where_messages_may_be_late_it_asks_so_much_farther_ahead(self):
         for lateness in (0, 5, 30):
@@ -198,7 +201,7 @@ class Proposals(unittest.TestCase):
             proposal = proposer.best(car, [], 0)
             with self.subTest(lateness):
                 self.assertTrue(proposer.may_ask(car, proposal))
-                self.assertLessEqual(proposer.until(car, proposal.plan), 0 if lateness else -1)
+                self.assertEqual(proposer.until(car, proposal.plan), 0)
                 if lateness:
                     self.assertGreaterEqual((proposal.steps - lateness) * proposal.plan.speed, proposer.floor(car))
 
@@ -206,7 +209,7 @@ class Proposals(unittest.TestCase):
         for refused_at, place, speed, steps, entry in (
             (3000, -2.0, 0.0, 9, 309), (2000, -2.0, 0.0, 6, 309), (1500, -2.0, 0.0, 6, 250),
             (40, -2.0, 0.0, None, None), (9000, -2.0, 0.0, None, None), (float("inf"), -2.0, 0.0, None, None),
-            (3000, -4.0, 4.0, None, None),
+            (3000, -4.0, 4.0, None, None), (3000, -2.3, 0.2, None, None),
         ):
             car = self.car(place, speed)
             car.refused_at = refused_at
