@@ -105,6 +105,29 @@ class Minutes(unittest.TestCase):
         self.assertGreater(result["answers"]["emergency-stop"], 0)
         self.assertGreater(result["left"], 0)
 
+    def test_a_kept_run_is_checked_again(self):
+        self.traffic("tee", flow=1200)
+        run = self.folder / "tee" / "runs" / "aim-1200-1"
+        words = ("check", str(run), "--manager", MANAGER)
+        self.assertEqual(self.command(*words), 0)
+        answers = run / "run.answers"
+        answers.write_text(answers.read_text(encoding="ascii").replace("confirm", "confirms", 1), encoding="ascii")
+        self.assertEqual(self.command(*words), 1)
+
+    def test_sumo_s_own_controls_have_the_same_vehicles_and_tuned_lights(self):
+        results = self.folder / "results"
+        status = self.command(
+            "run", str(self.folder / "tee"), "--control", "actuated,static,priority", "--flow", "900",
+            "--seconds", "60", "--results", str(results))
+        self.assertEqual(status, 0)
+        found = {result["control"]: result for result in map(json.loads, results.read_text().splitlines())}
+        self.assertEqual(len({result["demand"] for result in found.values()}), 1)
+        for control in ("actuated", "static", "priority"):
+            self.assertEqual((found[control]["left"], found[control]["by_sumo"]), (0, 0))
+        tried = json.loads((self.folder / "tee" / "tuned" / "static-900-1.0.json").read_text())
+        self.assertEqual(min(tried["delays"], key=tried["delays"].get), tried["best"])
+        self.assertGreater(len(tried["delays"]), 1)
+
     def test_the_judges_see_collisions_where_the_answers_are_ignored(self):
         result = self.traffic("twelve-lanes", "--blind", flow=3600)
         self.assertGreater(result["by_sumo"], 0)
