@@ -284,8 +284,7 @@ class Bridge:
             self.counts["unlocking requests"] += proposal is not None
         if proposal is not None:
             car.proposal = proposal
-            until = self._proposer.until(car, proposal.plan)
-            car.driver.request(self.now, self._words(car, proposal.plan), until)
+            car.driver.request(self.now, self._words(car, proposal.plan), self._proposer.until(car, proposal.plan))
 
     def _words(self, car, plan):
         """The fields of a request for a plan, behind its number."""
@@ -390,6 +389,9 @@ class Bridge:
 
     def answered(self, car, kind, reply):
         """Takes the answer that counts to a message of a vehicle."""
+        if car.id not in self._cars:
+            return
+        self._sense(car)
         if self.settings.is_blind and kind == "request":
             self._go(car, car.proposal.plan)
         elif reply.kind == "confirm":
