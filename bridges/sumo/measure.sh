@@ -117,7 +117,7 @@ tables() {
   tell mapping --columns "demand,left,delay,$clean"
   tell blind --columns "demand,$clean"
   grep '"control": "aim"' "$folder/delay.jsonl" > "$folder/answers.jsonl"
-  tell answers --columns 'asked,confirm fast,confirm steady,reject taken,reject distance,unlocking requests,manager,wall'
+  tell answers --columns 'asked,confirm fast,confirm steady,reject taken,reject distance,unlocking requests'
 }
 
 [ "$#" -gt 0 ] || set -- nets delay short layouts policies faults buffers mapping blind tables
