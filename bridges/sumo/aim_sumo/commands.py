@@ -137,10 +137,10 @@ def _one_run(options, site, vehicle, free, control, flow, seed):
         extra = None
         if control != "priority":
             extra = controls.tuned(site, control, flow, vehicle, free, site.folder / "tuned")
-        trips, collisions, teleports = controls.run(
+        trips, collided, teleported = controls.run(
             site, control, arrivals, vehicle, files, seed, options.end, extra)
-        result = {**metrics.summary(trips, arrivals, free, options.seconds), "by_sumo": collisions}
-        result.update(teleports=teleports, lights=extra.name if extra else "default")
+        result = {**metrics.summary(trips, arrivals, free, options.seconds), "by_sumo": collided}
+        result.update(teleports=teleported, lights=extra.name if extra else "default")
     named = {"label": options.label, "control": control, "flow": flow, "seed": seed, "headway": options.headway}
     result = {**named, **result}
     result["wall"] = round(time.time() - begun, 1)

@@ -31,9 +31,18 @@ def run(site, control, arrivals, vehicle, files, seed, end, extra=None, step=Non
     done = subprocess.run(command, capture_output=True, text=True, check=False)
     if done.returncode != 0:
         raise NoSumo(f"sumo ended with {done.returncode}: {done.stderr[-500:]}")
-    log = files["log"].read_text()
-    pairs = {tuple(sorted(pair)) for pair in re.findall(r"Vehicle '(\d+)'; collision with vehicle '(\d+)'", log)}
-    return metrics.read_trips(files["trips"]), len(pairs), log.lower().count("teleporting vehicle")
+    return metrics.read_trips(files["trips"]), len(collisions(done.stderr)), teleports(done.stderr)
+
+
+def collisions(warnings):
+    """The pairs of vehicles that SUMO's warnings call collided."""
+    found = re.findall(r"Vehicle '(\d+)'; [a-z ]*collision with vehicle '(\d+)'", warnings)
+    return {tuple(sorted(pair)) for pair in found}
+
+
+def teleports(warnings):
+    """How many vehicles SUMO took out of a place where they had waited too long."""
+    return warnings.count("Teleporting vehicle")
 
 
 def tuned(site, control, flow, vehicle, free, folder):

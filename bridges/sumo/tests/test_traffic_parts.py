@@ -1,7 +1,7 @@
 import unittest
 import xml.etree.ElementTree as ET
 
-from aim_sumo import chart, demand, metrics, report
+from aim_sumo import chart, controls, demand, metrics, report
 from aim_sumo.car import Car
 from aim_sumo.curve import Way
 from aim_sumo.demand import Arrival
@@ -242,6 +242,16 @@ class Tellings(unittest.TestCase):
         found = metrics.summary(trips, arrivals, {"a": 40.0}, 600.0)
         self.assertEqual((found["demand"], found["through"], found["left"]), (4, 2, 1))
         self.assertEqual((found["delay"], found["p95"], found["stops"], found["delay_human"]), (10.0, 20.0, 1.0, 20.0))
+
+    def test_what_sumo_warns_of(self):
+        warnings = """Warning: Vehicle '7'; collision with vehicle '3', lane='in_E_1', gap=-0.10, time=23.14, stage=move.
+Warning: Vehicle '12'; junction collision with vehicle '3', lane=':C_1_0', gap=-1.00, time=23.20, stage=move.
+Warning: Vehicle '3'; junction collision with vehicle '12', lane=':C_1_0', gap=-1.00, time=23.22, stage=move.
+Warning: Teleporting vehicle '26'; waited too long (yield), lane='in_E_2', time=356.20.
+Warning: Vehicle '26' ends teleporting on edge 'out_S', time=356.20.
+"""
+        self.assertEqual(controls.collisions(warnings), {("3", "7"), ("12", "3")})
+        self.assertEqual(controls.teleports(warnings), 1)
 
     def test_percentiles(self):
         for values, share, expected in (([], 0.95, 0.0), ([3.0], 0.95, 3.0), (list(range(100)), 0.95, 95)):
