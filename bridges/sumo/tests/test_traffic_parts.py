@@ -244,7 +244,7 @@ class Tellings(unittest.TestCase):
         self.assertEqual((found["delay"], found["p95"], found["stops"], found["delay_human"]), (10.0, 20.0, 1.0, 20.0))
 
     def test_what_sumo_warns_of(self):
-        warnings = """Warning: Vehicle '7'; collision with vehicle '3', lane='in_E_1', gap=-0.10, time=23.14, stage=move.
+        warnings = """Warning: Vehicle '7'; collision with vehicle '3', lane='in_E_1', gap=-0.10, time=23.14.
 Warning: Vehicle '12'; junction collision with vehicle '3', lane=':C_1_0', gap=-1.00, time=23.20, stage=move.
 Warning: Vehicle '3'; junction collision with vehicle '12', lane=':C_1_0', gap=-1.00, time=23.22, stage=move.
 Warning: Teleporting vehicle '26'; waited too long (yield), lane='in_E_2', time=356.20.
