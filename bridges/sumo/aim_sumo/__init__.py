@@ -1,0 +1,1 @@
+"""A bridge between the intersection manager `aim` and the traffic simulator SUMO."""

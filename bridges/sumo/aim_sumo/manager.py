@@ -1,0 +1,133 @@
+"""The manager as a partner process: each event is written as one line, and its answer is one line that is read back.
+
+Script and answers are kept, so that every run can be checked afterwards by replaying the one and comparing the other.
+"""
+
+import pathlib
+import shlex
+import subprocess
+import time
+from dataclasses import dataclass
+
+
+class ManagerFailed(Exception):
+    """The manager ended, or answered something else than what was asked."""
+
+
+@dataclass(frozen=True)
+class Reply:
+    """An answer in words: of its fields only those of its kind are set."""
+
+    kind: str
+    reservation: int = None
+    start: int = 0
+    early: int = 0
+    late: int = 0
+    is_fast: bool = False
+    last: int = 0
+    reason: tuple = ()
+    next: int = 0
+    held: int = None
+
+
+def read_reply(text):
+    """The reply that a text spells."""
+    words = text.split(" ")
+    kind = words[0]
+    if kind == "confirm":
+        number, start, early, late, trial, last = words[1:]
+        return Reply(kind, int(number), int(start), int(early), int(late), trial == "fast", int(last))
+    if kind == "reject":
+        place = words.index("next")
+        held = None if words[place + 3] == "none" else int(words[place + 3])
+        return Reply(kind, reason=tuple(words[1:place]), next=int(words[place + 1]), held=held)
+    if kind == "ack":
+        return Reply(kind, int(words[1]))
+    if kind == "stale":
+        return Reply(kind, last=int(words[1]))
+    if kind == "switched":
+        return Reply(kind, start=int(words[1]))
+    if kind in ("emergency-stop", "stopped"):
+        return Reply(kind)
+    raise ManagerFailed(f"an answer that isn't known: {text!r}")
+
+
+class Manager:
+    """A running `replay`; `head` is the lines of the layout."""
+
+    def __init__(self, command, head, vehicles, folder):
+        self._script = open(pathlib.Path(folder) / "run.script", "w", encoding="ascii")
+        self._answers = open(pathlib.Path(folder) / "run.answers", "w", encoding="ascii")
+        self._process = subprocess.Popen(
+            [*shlex.split(command), "replay"], stdin=subprocess.PIPE, stdout=subprocess.PIPE, text=True,
+        )
+        self.entries = 0
+        self.seconds = 0.0
+        for line in [*head, f"vehicles {vehicles}", "begin"]:
+            self._tell(line)
+
+    def _tell(self, line):
+        self._script.write(line + "\n")
+        try:
+            self._process.stdin.write(line + "\n")
+        except BrokenPipeError:
+            raise ManagerFailed(f"the manager ended before it read {line!r}") from None
+
+    def _hear(self):
+        """The next line that the manager prints."""
+        try:
+            self._process.stdin.flush()
+        except BrokenPipeError:
+            pass
+        line = self._process.stdout.readline()
+        self._answers.write(line)
+        return line.rstrip("\n")
+
+    def ask(self, event):
+        """The reply to an event, `VEHICLE MOMENT MESSAGE` or an order."""
+        begun = time.perf_counter()
+        self._tell(event)
+        line = self._hear()
+        self.seconds += time.perf_counter() - begun
+        known = _as_printed(event)
+        head, arrow, reply = line.partition(" -> ")
+        if not arrow or (known and head != f"{self.entries} {known}"):
+            raise ManagerFailed(f"to {event!r} the manager said {line!r}")
+        self.entries += 1
+        return read_reply(reply)
+
+    def close(self):
+        """Ends the script; the last line must tell the number of entries."""
+        self._tell("end")
+        self._process.stdin.close()
+        last = self._process.stdout.readline()
+        self._answers.write(last)
+        self._script.close()
+        self._answers.close()
+        self._process.stdout.close()
+        status = self._process.wait(10)
+        if last != f"end {self.entries}\n" or status != 0:
+            raise ManagerFailed(f"the manager ended with {last!r} and status {status}")
+
+    def abandon(self):
+        """Ends the process without asking for its last line."""
+        self._process.kill()
+        self._process.wait(10)
+        for stream in (self._process.stdin, self._process.stdout, self._script, self._answers):
+            try:
+                stream.close()
+            except BrokenPipeError:
+                pass
+
+
+def _as_printed(event):
+    """How an entry's line begins behind its position; an order names its policy by number, so it isn't foretold."""
+    return None if event.startswith("operator") else event
+
+
+def replays(command, folder):
+    """True where the manager answers the script of a run with the answers of that run, byte by byte."""
+    folder = pathlib.Path(folder)
+    with open(folder / "run.script", "rb") as script:
+        done = subprocess.run([*shlex.split(command), "replay"], stdin=script, capture_output=True, check=False)
+    return done.stdout == (folder / "run.answers").read_bytes()

@@ -1,0 +1,167 @@
+"""What a vehicle asks for: the earliest arrival that it can reach, behind all others on its lanes."""
+
+import math
+from dataclasses import dataclass
+
+from .car import State
+from .planner import STANDING, Approach, Plan, accel_of
+
+TRIES = 60
+STILL = 0.005
+"""Metres a second below which a vehicle has come to rest."""
+MOST_CROSSING_STEPS = 2040
+
+
+@dataclass(frozen=True)
+class Proposal:
+    """A plan to ask for; one that isn't real can't be driven, and is given back as soon as it is granted."""
+
+    plan: object
+    is_real: bool = True
+
+    @property
+    def steps(self):
+        return self.plan.start - self.plan.begun
+
+    @property
+    def reach(self):
+        """How far before the line it is asked from, as the reservation distance counts it: counted millimetres."""
+        return self.steps * self.plan.speed
+
+
+class Proposer:
+    """Makes proposals for vehicles.
+
+    `hold` is where one without a reservation stands before the line, in metres. `lateness` is by how many steps a
+    message may come too late to the manager.
+    """
+
+    def __init__(self, layout, vehicle, gaps, hold, step, lateness=0):
+        self._layout = layout
+        self._vehicle = vehicle
+        self._gaps = gaps
+        self._hold = hold
+        self._floors = {}
+        self._step = step
+        self._lateness = lateness
+        self.accel = accel_of(vehicle.accel, step)
+
+    def floor(self, car):
+        """The reach of a vehicle that starts from the hold point: nobody asks from less.
+
+        A lane's reservation distance falls to the least reach that was refused, and only a confirm lifts it. A refused
+        vehicle that has come to stand must be able to ask again, so it may not have asked from a shorter reach before.
+        """
+        if car.move.name not in self._floors:
+            entry = math.sqrt(2 * self._vehicle.accel * self._hold) * 0.98
+            speed = min(car.crossing.greatest, math.floor(entry / car.way.entry_ratio * 1000 * self._step))
+            start = Approach(
+                self._hold, 0.0, self._true_speed(car, speed), self._vehicle.road_speed, self._vehicle.accel,
+                self._vehicle.brake)
+            self._floors[car.move.name] = math.ceil(start.soonest / self._step - 1e-6) * speed
+        return self._floors[car.move.name]
+
+    def may_ask(self, car, proposal):
+        """True where a refusal of the proposal, however late it is served, can't keep the vehicle from asking again."""
+        is_sure = proposal.reach - self._lateness * proposal.plan.speed >= self.floor(car)
+        return is_sure or (self.is_standing(car) and car.refused_at < math.inf)
+
+    def until(self, car, plan):
+        """The last step at which a request for a plan may be sent, for that reason."""
+        return plan.start - math.ceil(self.floor(car) / plan.speed) - self._lateness
+
+    def is_standing(self, car):
+        """True where the vehicle has come to rest at the hold point."""
+        return car.speed < STILL and -car.place < self._hold + 0.05
+
+    def best(self, car, others, now):
+        """The earliest proposal that keeps room to the others, or None."""
+        if -car.place <= 0.05:
+            return None
+        speed = self._entry_speed(car)
+        if speed < self._least_speed(car):
+            return None
+        return self._earliest(car, speed, others, now)
+
+    def unlocking(self, car, now):
+        """A proposal that isn't real, from below the reach at which the vehicle was refused; None where it needs none.
+
+        A vehicle that stands needs a longer reach for a real one, and would be refused for its distance for ever, as
+        would all behind it. A grant of any kind lifts the lane's distance, also of an arrival that can't be reached.
+        """
+        speed = min(self._entry_speed(car), math.floor(min(car.refused_at, 1e9) / (self._layout.edge + 1)))
+        if speed < self._least_speed(car) or not self._is_locked(car):
+            return None
+        steps = math.floor(car.refused_at / speed)
+        accel = self.accel if speed < car.crossing.greatest else 0
+        return Proposal(self._plan(car, None, steps, speed, accel, now), is_real=False)
+
+    def _is_locked(self, car):
+        """True where a vehicle at the hold point has even for the soonest arrival a reach above the one refused."""
+        if not self.is_standing(car):
+            return False
+        speed = self._entry_speed(car)
+        approach = self._approach(car, speed)
+        return approach.is_possible and math.ceil(approach.soonest / self._step - 1e-6) * speed > car.refused_at
+
+    def at(self, car, start, speed, accel, others, now):
+        """The plan that is at the line at a given step with a given speed and then crosses so, or None."""
+        steps = start - now
+        approach = self._approach(car, speed)
+        if steps < 1 or not approach.is_possible:
+            return None
+        motion = approach.motion(steps * self._step)
+        if motion is None:
+            return None
+        plan = self._plan(car, motion, steps, speed, accel, now)
+        return plan if self._gaps.keeps_room(car, plan, others, now) else None
+
+    def _true_speed(self, car, speed):
+        """The metres a second at the line of a counted speed."""
+        return speed / 1000 / self._step * car.way.entry_ratio
+
+    def _entry_speed(self, car):
+        """The greatest counted speed with which it can be at the line."""
+        reached = math.sqrt(car.speed**2 - 2 * self._vehicle.accel * car.place) * 0.98
+        return min(car.crossing.greatest, math.floor(reached / car.way.entry_ratio * 1000 * self._step))
+
+    def _least_speed(self, car):
+        """A counted speed at which the crossing at constant speed has no more steps than the manager takes.
+
+        Where the manager found more rows of tiles in it than its layout has room for, the speed is greater.
+        """
+        steps = int((car.way.counted * 1000 + car.way.declared) / MOST_CROSSING_STEPS) + 1
+        return max(steps, car.crossing.refused_speed + 1)
+
+    def _approach(self, car, speed):
+        entry = self._true_speed(car, speed)
+        top = max(car.wish, car.speed, min(entry, self._vehicle.road_speed))
+        return Approach(-car.place, car.speed, entry, top, self._vehicle.accel, self._vehicle.brake)
+
+    def _plan(self, car, motion, steps, speed, accel, now):
+        after = car.crossing.places(speed, accel)
+        return Plan(
+            now, now + steps, car.place, motion, after, speed, accel, self._step, self._vehicle.road_speed)
+
+    def _earliest(self, car, speed, others, now):
+        """The earliest proposal with an entry speed."""
+        approach = self._approach(car, speed)
+        if not approach.is_possible:
+            return None
+        steps = max(math.ceil(approach.soonest / self._step - 1e-6), self._layout.edge + 1)
+        if self._lateness > 0 or car.speed < STANDING:
+            sure = math.ceil(self.floor(car) / speed) + self._lateness
+            steps = max(steps, math.floor(min(sure, car.refused_at / speed)))
+        leader = car.leader
+        if leader is not None and leader.state is State.BOUND:
+            steps = max(steps, leader.plan.start - now + 5)
+        accel = self.accel if speed < car.crossing.greatest else 0
+        stride = max(1, round(0.1 / self._step))
+        for attempt in range(TRIES):
+            motion = approach.motion((steps + attempt * stride) * self._step)
+            if motion is None:
+                return None
+            plan = self._plan(car, motion, steps + attempt * stride, speed, accel, now)
+            if self._gaps.keeps_room(car, plan, others, now):
+                return Proposal(plan)
+        return None

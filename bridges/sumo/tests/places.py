@@ -1,0 +1,13 @@
+"""Where the tests find the package, the examples and the manager."""
+
+import os
+import pathlib
+
+HERE = pathlib.Path(__file__).resolve().parent
+EXAMPLES = HERE.parent / "examples"
+MANAGER = os.environ.get("AIM_MANAGER", str(HERE.parents[2] / "aim"))
+
+
+def head(name):
+    """The text of an example's head."""
+    return (EXAMPLES / f"{name}.aim").read_text(encoding="ascii")
