@@ -12,9 +12,7 @@ ghost use Rattle.aim_script.specs.Headers.{HasName, IsSet, Stands as StandsAsHea
 ghost use Rattle.aim_replay.specs.Stages.{IsOfLines, IsOpen, IsOrdered, Judged, Makes, MayTake, Stands, Takes, decision_of, event_kind, journal_at, stage_of, version_at};
 
 use crate::servers::Server;
-use aim_msg::{
-    Act, Entry, LATEST_MOMENT, Line, MOST_VEHICLES, Message, Name, OPERATOR, Order,
-};
+use aim_msg::{Act, Entry, LATEST_MOMENT, Line, MOST_VEHICLES, Message, Name, OPERATOR, Order};
 use aim_read::read_line;
 use aim_script::{Decision, Headed, Header, Kind, Limit, Names, ScriptVersion, Setting};
 use aim_tiles::Steps;
