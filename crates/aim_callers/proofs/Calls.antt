@@ -89,7 +89,7 @@ can_at n before (line.Free caller call) sets mine a none le count e = at (caller
         let is : ask.Free call ≡ a = some_is _ _ (rw eq at e) in
         subst (λ b. Can sets mine b) is (record { few = omega (arith, count, few, own); there = omega (arith, there, own, count) })
 
--- the same at a place of a script
+-- the call of the line at a place of a script may be made after the lines before it
 pub can_in : (n i : ℕ) (lines : List ShardLine) (l : ShardLine) (sets : ℕ) (mine : List ClaimEntry) (a : Ask) → IsScript lines → slice_get lines i ≡ Some l → sets ≡ length (sets_of lines) → Follows (asked_of n (take i lines)) mine → ask_in n l ≡ Some a → Can sets mine a
 can_in n i lines l sets mine a s at all f e = can_at n (take i lines) l sets mine a (s.each i l at) (omega (arith, all, sets_front i lines)) (follows_length [] (asked_of n (take i lines)) mine f) e
 

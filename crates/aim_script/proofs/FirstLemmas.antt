@@ -7,7 +7,7 @@ use Rattle.aim_script.specs.declared.decisions.Decision.{Decision}
 use Rattle.aim_script.specs.Verdicts.{Judgement, Verdict, judge, goes_on, decides, at_end, then_on, verdict_from}
 use Rattle.aim_script.specs.First.{IsOfTheFirst}
 
--- the same from some lines on
+-- from some lines on, a verdict is of the first line that decides
 record Follows (start : List Line) (input : List Outcome) (v : Verdict) : Type 0 where
   pub more : List Line
   pub all : v.before ≡ start ++ more

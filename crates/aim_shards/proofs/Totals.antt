@@ -11,7 +11,7 @@ module _ {A : Type 0} where
   total_set f (x ∷ xs) zero v w e = let s = ap f (some-injective _ _ e) in omega arith
   total_set f (x ∷ xs) (suc i) v w e = omega (arith, total_set f xs i v w e)
 
-  -- the same, where f of the two is one number
+  -- an element in the place of another keeps the total, where f of the two is one number
   pub total_kept : (f : A → ℕ) (l : List A) (i : ℕ) (v w : A) → get_elem? l i ≡ some v → f w ≡ f v → total f (set l i w) ≡ total f l
   total_kept f l i v w e same = omega (arith, total_set f l i v w e, same)
 

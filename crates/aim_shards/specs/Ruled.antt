@@ -70,7 +70,7 @@ turn q t seen = record { quadrant = q; ticket = t; seen = seen }
 abbrev pub working : Terms → ℕ → List Turn → List ClaimEntry → View
 working terms n held mine = record { terms = terms; number = Some n; waiting = []; held = held; mine = mine; others = [] }
 
--- the same, which waits at a quadrant
+-- the seat of the caller n, with these turns, which waits at a quadrant
 abbrev pub queued : Terms → ℕ → ℕ → ℕ → List Turn → List ClaimEntry → View
 queued terms n q t held mine = record { terms = terms; number = Some n; waiting = (q, t) ∷ []; held = held; mine = mine; others = [] }
 
@@ -201,6 +201,7 @@ pub record Decided (sets : List Quarters) (n : ℕ) (held : List Turn) (plan : P
   pub only : (q : ℕ) → touches sets (stands [] log) plan.act plan.yes q ≡ true → (q < 4) × (1 ≤ total (λ t. at q t.quadrant 1) held)
   pub all : Every (λ t. touches sets (stands [] log) plan.act plan.yes t.quadrant ≡ true) held
 
--- the same after each lawful history that has the turns' lists and the caller's entries
+-- the answer is right, and the call touches just the quadrants of the turns, after each lawful history that has the turns'
+-- lists and the caller's entries
 pub record Decides (sets : List Quarters) (n : ℕ) (held : List Turn) (mine : List ClaimEntry) (plan : Plan) : Type 0 where
   pub after : (log : List ClaimEntry) → IsLegal sets log → Every (λ t. t.seen ≡ of_quadrant sets t.quadrant log) held → entries_of n log ≡ mine → Decided sets n held plan log

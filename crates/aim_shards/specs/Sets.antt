@@ -60,7 +60,7 @@ abbrev pub chosen : List Quarters → Option ℕ → Quarters
 chosen sets None = []
 chosen sets (Some k) = set_at sets k
 
--- the same parts
+-- in each quadrant the two sets have one part
 abbrev pub SameParts : Quarters → Quarters → Type 0
 SameParts a b = (q : ℕ) → part a q ≡ part b q
 

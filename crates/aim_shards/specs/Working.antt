@@ -21,7 +21,7 @@ abbrev pub Carries : Terms → List Turn → List (ℕ × Option Quarter) → Ty
 Carries terms [] carried = carried ≡ []
 Carries terms (t ∷ ts) carried = (k : Quarter) × (cs : List (ℕ × Option Quarter)) × (carried ≡ (t.quadrant, Some k) ∷ cs) × Suits terms t.quadrant t.seen k × Carries terms ts cs
 
--- the same, where the values still lack the entry, which changes the set's cells
+-- what is carried are the turns' slots, whose values still lack the entry, which changes the set's cells
 abbrev pub Lacks : Terms → Quarters → ClaimEntry → List Turn → List (ℕ × Option Quarter) → Type 0
 Lacks terms set e [] carried = carried ≡ []
 Lacks terms set e (t ∷ ts) carried = (k : Quarter) × (cs : List (ℕ × Option Quarter)) × (carried ≡ (t.quadrant, Some k) ∷ cs) × ((seen : List ClaimEntry) × Suits terms t.quadrant seen k × (t.seen ≡ seen ++ e ∷ []) × (length seen < terms.room) × Changes terms.sets set t.quadrant seen e) × Lacks terms set e ts cs
@@ -36,7 +36,7 @@ pub record Works (n : ℕ) (terms : Terms) (mine : List ClaimEntry) (quadrants :
   pub turns : map (λ t. t.quadrant) m.0.held ≡ quadrants
   pub carries : Carries terms m.0.held m.1
 
--- the same, where the quadrants' values lack the entry
+-- the seat of the caller n has the turns of just these quadrants, whose values lack the entry
 pub record Gives (n : ℕ) (terms : Terms) (mine : List ClaimEntry) (set : Quarters) (e : ClaimEntry) (quadrants : List ℕ) (m : Me (Option Quarter) View) : Type 0 where
   pub is : m.0 ≡ working terms n m.0.held mine
   pub turns : map (λ t. t.quadrant) m.0.held ≡ quadrants
