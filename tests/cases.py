@@ -5,6 +5,8 @@ import pathlib
 import subprocess
 import sys
 
+import judging
+
 TOP = pathlib.Path(__file__).resolve().parent.parent
 PROGRAM = TOP / "crates/aim/out/aim"
 
@@ -16,12 +18,7 @@ def difference(case):
         done = subprocess.run([PROGRAM, *words], stdin=script, stdout=subprocess.PIPE, timeout=60, check=False)
     wanted = (case / "output").read_bytes()
     status = int((case / "status").read_text())
-    if done.returncode != status:
-        return f"status {done.returncode}, wanted {status}"
-    if done.stdout != wanted:
-        pairs = zip(done.stdout.split(b"\n") + [b""], wanted.split(b"\n") + [b""])
-        return next((f"{got!r}, wanted {want!r}" for got, want in pairs if got != want), "another number of lines")
-    return ""
+    return judging.difference(done, wanted, status)
 
 
 def main():

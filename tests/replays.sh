@@ -52,6 +52,7 @@ exec {to}>&-
 # A chart behind a whole session, and a partner that asks and reads answers.
 judge 'a chart' "$(sed '$d' examples/session.out; printf '....\n....\n####\n....\nend 17\nstatus 0')" "$(run chart 1755 < examples/session.aim)"
 judge 'a partner process' 'end 11 0' "$(python3 examples/partner.py ./aim 2> /dev/null | tail -n 1)"
+judge 'a partner process in JSON' '{"end":11} 0' "$(python3 examples/partner.py ./aim --json 2> /dev/null | tail -n 1)"
 
 printf 'replays: %s passed, %s failed\n' "$passed" "$failed"
 [ "$failed" -eq 0 ]

@@ -2,8 +2,10 @@
 use Rattle.std.specs.Prelude.{ℕ, Bool, true, false, ◌&&◌, nat_le, List, [], ◌∷◌, Option, Some, None, option_map, codes, bytes_eq, if◌then◌else◌}
 use Rattle.aim_msg.specs.declared.entries.TheConstants.{LATEST_MOMENT}
 use Rattle.aim_read.specs.Faults.{is_number, value_of}
+use Rattle.aim_script.specs.Spellings.{Spelled, by_words}
+use Rattle.aim_json_replay.specs.Spelling.{by_json}
 use Rattle.aim.specs.declared.words.Command.{Command}
-use Rattle.aim.specs.declared.words.Command.TheVariants.{Replay, Chart, Shards}
+use Rattle.aim.specs.declared.words.Command.TheVariants.{Replay, Chart, ReplayJson, Shards}
 
 -- the number that the word spells, if it is one from the least to the most
 abbrev pub number_in : ℕ → ℕ → List ℕ → Option ℕ
@@ -17,9 +19,16 @@ command_with word number =
     else if bytes_eq word (codes "shards") then option_map Shards (number_in 1 64 number)
     else None
 
+-- the command of one word
+abbrev pub command_alone : List ℕ → Option Command
+command_alone word =
+    if bytes_eq word (codes "replay") then Some Replay
+    else if bytes_eq word (codes "replay-json") then Some ReplayJson
+    else None
+
 -- the command of these words, if they are in the table
 abbrev pub command_of : List (List ℕ) → Option Command
-command_of (word ∷ []) = if bytes_eq word (codes "replay") then Some Replay else None
+command_of (word ∷ []) = command_alone word
 command_of (word ∷ number ∷ []) = command_with word number
 command_of _ = None
 
@@ -27,10 +36,17 @@ command_of _ = None
 abbrev pub is_replay : Command → Bool
 is_replay Replay = true
 is_replay (Chart step) = true
+is_replay ReplayJson = true
 is_replay (Shards workers) = false
 
 -- the step of whose chart the command asks, if it does
 abbrev pub asked_in : Command → Option ℕ
 asked_in Replay = None
 asked_in (Chart step) = Some step
+asked_in ReplayJson = None
 asked_in (Shards workers) = None
+
+-- how the lines of the script are spelled, and those that are printed
+abbrev pub spelled_in : Command → Spelled
+spelled_in ReplayJson = by_json
+spelled_in _ = by_words

@@ -1,14 +1,14 @@
 //! The program, over any source and sink.
 
-ghost use Rattle.std.specs.Prelude.{◌≡◌, ◌⊎◌, ◌≤◌, ◌↔◌, ℕ, true, [], None, Some, map, length, IfSome, codes};
+ghost use Rattle.std.specs.Prelude.{◌≡◌, ◌⊎◌, ◌<◌, ◌≤◌, ◌↔◌, ℕ, true, false, [], None, Some, map, length, IfSome, codes};
 ghost use Rattle.std.specs.String.{string_bytes};
 ghost use Rattle.std.specs.Io.KnownBytes.{Appends, IsAtEnd};
 ghost use Rattle.aim_io.specs.Causes.{Rose};
 ghost use Rattle.aim_io.specs.Known.{AppendsFront};
-ghost use Rattle.aim_replay.specs.Replays.{LastNeeded, Replays, StopsShort, TakesAtMost, WritesFront};
-ghost use Rattle.aim_replay.specs.Texts.{replay_text};
+ghost use Rattle.aim_replay.specs.Replays.{LastNeededBy, ReplaysBy, StopsShortBy, TakesAtMost, WritesFront};
+ghost use Rattle.aim_replay.specs.Texts.{text_by};
 ghost use Rattle.aim.specs.declared.words.Command.{Command};
-ghost use Rattle.aim.specs.Commands.{asked_in, command_of as command_in, is_replay};
+ghost use Rattle.aim.specs.Commands.{asked_in, command_of as command_in, is_replay, spelled_in};
 ghost use Rattle.aim_claims.specs.Short.{StopsShort as StopsShortClaims};
 ghost use Rattle.aim_callers.specs.Commands.{Completes as CompletesShards, Shows, ShowsFront};
 ghost use Rattle.aim.specs.Runs.{Completes, TellsUsage};
@@ -16,6 +16,7 @@ ghost use Rattle.aim.specs.Runs.{Completes, TellsUsage};
 use crate::words::{Command, command_of};
 use aim_callers::shards;
 use aim_io::{Sink, Source, put_all};
+use aim_json_replay::replay_json;
 use aim_replay::replay;
 use aim_shards::Hold;
 use std::alloc::Global;
@@ -41,6 +42,55 @@ fn tell_usage<K: Sink>(sink: &mut K) -> u8
     }
 }
 
+// Does what the command asks for.
+fn obey<R: Threads + Wait + Sync, S: Source, K: Sink>(
+    rt: &R,
+    alloc: Global,
+    command: Command,
+    source: &mut S,
+    sink: &mut K,
+) -> u8
+    requires workers { (n : ℕ) → command ≡ Command.Shards n → 0 < n }
+    ensures whole { is_replay command ≡ true
+        → (result ≡ 0) ⊎ ((result ≡ 3) ⊎ (result ≡ 6)) → IfSome (S.left source.old)
+        (λ bytes. ReplaysBy (spelled_in command) (asked_in command) bytes (K.held sink.old) (K.held sink.new) result) }
+    ensures ended { result ≡ 0 → IsAtEnd (S.left source.new) }
+    ensures most { is_replay command ≡ true
+        → TakesAtMost 67108865 (S.left source.old) (S.left source.new) }
+    ensures needed { is_replay command ≡ true
+        → (source.new ≡ source.old) ⊎ LastNeededBy (spelled_in command) (S.left source.old) (S.left source.new) (S.last_read source.new) }
+    ensures front { is_replay command ≡ true
+        → (result ≡ 4) ⊎ ((result ≡ 5) ⊎ (result ≡ 7))
+        → WritesFront (S.left source.old) (K.held sink.old) (K.held sink.new) (text_by (spelled_in command) (asked_in command)) }
+    ensures short { is_replay command ≡ true
+        → result ≡ 4 → StopsShortBy (spelled_in command) (S.left source.old) (S.left source.new) (K.held sink.old) (K.held sink.new) }
+    ensures memory { (spelled_in command).takes_memory ≡ false
+        → result ≡ 7 → Appends (K.held sink.old) (K.held sink.new) [] }
+    ensures shards { (workers : ℕ) → command ≡ Command.Shards workers → (result ≡ 0) ⊎ ((result ≡ 3) ⊎ (result ≡ 6))
+        → IfSome (S.left source.old) (λ bytes. Shows bytes (K.held sink.old) (K.held sink.new) result) }
+    ensures shards_front { (workers : ℕ) → command ≡ Command.Shards workers → result ≡ 5
+        → IfSome (S.left source.old) (λ bytes. ShowsFront bytes (K.held sink.old) (K.held sink.new)) }
+    ensures shards_nothing { (workers : ℕ) → command ≡ Command.Shards workers → result ≡ 4 → Appends (K.held sink.old) (K.held sink.new) [] }
+    ensures shards_short { (workers : ℕ) → command ≡ Command.Shards workers → result ≡ 4
+        → StopsShortClaims (S.left source.old) (S.left source.new) }
+    ensures shards_complete { (workers : ℕ) → command ≡ Command.Shards workers → IfSome (S.left source.old)
+        (λ bytes. CompletesShards bytes (S.faults source.old) (S.faults source.new) (K.faults sink.old) (K.faults sink.new) result) }
+    ensures read { result ≡ 4 → Rose (S.faults source.old) (S.faults source.new) }
+    ensures write { result ≡ 5 → Rose (K.faults sink.old) (K.faults sink.new) }
+    ensures source { S.faults source.old ≤ S.faults source.new }
+    ensures sink { K.faults sink.old ≤ K.faults sink.new }
+    ensures statuses { (result ≡ 0) ⊎ ((result ≡ 3) ⊎ ((result ≡ 4) ⊎ ((result ≡ 5) ⊎ ((result ≡ 6) ⊎ (result ≡ 7))))) }
+    ensures complete { is_replay command ≡ true → IfSome (S.left source.old)
+        (λ bytes. Completes (spelled_in command) bytes (S.faults source.old) (S.faults source.new) (K.faults sink.old) (K.faults sink.new) result) }
+{
+    match command {
+        Command::Replay => replay(alloc, source, sink, None),
+        Command::ReplayJson => replay_json(alloc, source, sink),
+        Command::Chart(step) => replay(alloc, source, sink, Some(step)),
+        Command::Shards(workers) => shards(rt, alloc, workers, source, sink, &NoHold),
+    }
+}
+
 /// Does what the words after the program's name ask for, and answers the status to end with. It is
 /// 0 where a script was whole, 2 for words outside the table, 3 for a line at fault, 4 where the
 /// source fails, 5 where the sink fails, 6 for a limit, and 7 where memory runs out.
@@ -57,11 +107,11 @@ pub fn run<R: Threads + Wait + Sync, S: Source, K: Sink>(
     ensures outside { command_in (map string_bytes words.now) ≡ None → (source.new ≡ source.old) × TellsUsage (K.held sink.old) (K.held sink.new) result }
     ensures inside { result ≡ 2 → command_in (map string_bytes words.now) ≡ None }
 
-    // A replay. With status 0, 3 or 6 the whole text of the source's bytes is written, the chart included that the words ask
-    // for, and the status is theirs.
+    // A replay, of words or of JSON lines. With status 0, 3 or 6 the whole text of the source's bytes is written, the chart
+    // included that the words ask for, and the status is theirs.
     ensures whole { (command : Command) → command_in (map string_bytes words.now) ≡ Some command → is_replay command ≡ true
         → (result ≡ 0) ⊎ ((result ≡ 3) ⊎ (result ≡ 6)) → IfSome (S.left source.old)
-        (λ bytes. Replays (asked_in command) bytes (K.held sink.old) (K.held sink.new) result) }
+        (λ bytes. ReplaysBy (spelled_in command) (asked_in command) bytes (K.held sink.old) (K.held sink.new) result) }
     ensures ended { result ≡ 0 → IsAtEnd (S.left source.new) }
 
     // Whatever the status, no more than one byte past the greatest input is taken, and nothing is read behind bytes that
@@ -69,15 +119,16 @@ pub fn run<R: Threads + Wait + Sync, S: Source, K: Sink>(
     ensures most { (command : Command) → command_in (map string_bytes words.now) ≡ Some command → is_replay command ≡ true
         → TakesAtMost 67108865 (S.left source.old) (S.left source.new) }
     ensures needed { (command : Command) → command_in (map string_bytes words.now) ≡ Some command → is_replay command ≡ true
-        → (source.new ≡ source.old) ⊎ LastNeeded (S.left source.old) (S.left source.new) (S.last_read source.new) }
+        → (source.new ≡ source.old) ⊎ LastNeededBy (spelled_in command) (S.left source.old) (S.left source.new) (S.last_read source.new) }
 
-    // With status 4, 5 or 7 what is written is a front of that text.
+    // With status 4, 5 or 7 what is written is a front of that text, with 7 nothing but where reading JSON takes memory.
     ensures front { (command : Command) → command_in (map string_bytes words.now) ≡ Some command → is_replay command ≡ true
         → (result ≡ 4) ⊎ ((result ≡ 5) ⊎ (result ≡ 7))
-        → WritesFront (S.left source.old) (K.held sink.old) (K.held sink.new) (replay_text (asked_in command)) }
+        → WritesFront (S.left source.old) (K.held sink.old) (K.held sink.new) (text_by (spelled_in command) (asked_in command)) }
     ensures short { (command : Command) → command_in (map string_bytes words.now) ≡ Some command → is_replay command ≡ true
-        → result ≡ 4 → StopsShort (S.left source.old) (S.left source.new) (K.held sink.old) (K.held sink.new) }
-    ensures memory { result ≡ 7 → Appends (K.held sink.old) (K.held sink.new) [] }
+        → result ≡ 4 → StopsShortBy (spelled_in command) (S.left source.old) (S.left source.new) (K.held sink.old) (K.held sink.new) }
+    ensures memory { (command : Command) → command_in (map string_bytes words.now) ≡ Some command → (spelled_in command).takes_memory ≡ false
+        → result ≡ 7 → Appends (K.held sink.old) (K.held sink.new) [] }
 
     // A run of a script of claims. With status 0, 3 or 6 a whole text of the source's bytes is written, and the status is
     // theirs; with status 5 a front of one is, with status 4 nothing.
@@ -98,12 +149,10 @@ pub fn run<R: Threads + Wait + Sync, S: Source, K: Sink>(
     ensures sink { K.faults sink.old ≤ K.faults sink.new }
     ensures statuses { (result ≡ 0) ⊎ ((result ≡ 2) ⊎ ((result ≡ 3) ⊎ ((result ≡ 4) ⊎ ((result ≡ 5) ⊎ ((result ≡ 6) ⊎ (result ≡ 7)))))) }
     ensures complete { (command : Command) → command_in (map string_bytes words.now) ≡ Some command → is_replay command ≡ true → IfSome (S.left source.old)
-        (λ bytes. Completes bytes (S.faults source.old) (S.faults source.new) (K.faults sink.old) (K.faults sink.new) result) }
+        (λ bytes. Completes (spelled_in command) bytes (S.faults source.old) (S.faults source.new) (K.faults sink.old) (K.faults sink.new) result) }
 {
     match command_of(words) {
         None => tell_usage(sink),
-        Some(Command::Replay) => replay(alloc, source, sink, None),
-        Some(Command::Chart(step)) => replay(alloc, source, sink, Some(step)),
-        Some(Command::Shards(workers)) => shards(rt, alloc, workers, source, sink, &NoHold),
+        Some(command) => obey(rt, alloc, command, source, sink),
     }
 }

@@ -2,7 +2,7 @@
 
 ghost use Rattle.std.specs.Prelude.{◌≡◌, map};
 ghost use Rattle.std.specs.String.{string_bytes};
-ghost use Rattle.aim.specs.Commands.{command_of as command_in, command_with as command_of_two, number_in as number_of};
+ghost use Rattle.aim.specs.Commands.{command_alone as command_of_one, command_of as command_in, command_with as command_of_two, number_in as number_of};
 
 use aim_claims::number;
 use aim_msg::LATEST_MOMENT;
@@ -14,6 +14,8 @@ pub enum Command {
     Replay,
     /// `chart STEP`: replay it, and print the chart of that step.
     Chart(u32),
+    /// `replay-json`: replay the script of the input, whose lines are JSON text, and print JSON lines.
+    ReplayJson,
     /// `shards WORKERS`: run the script of claims of the input with so many workers, 1 to 64.
     Shards(u32),
 }
@@ -26,6 +28,19 @@ fn number_in(word: &[u8], low: u32, most: u32) -> Option<u32>
         Ok(n) if low <= n && n <= most => Some(n),
         _ => None,
     }
+}
+
+// The command of one word, if it is in the table.
+fn command_alone(word: &[u8]) -> Option<Command>
+    ensures { result ≡ command_of_one word.now }
+{
+    if word == b"replay".as_slice() {
+        return Some(Command::Replay);
+    }
+    if word == b"replay-json".as_slice() {
+        return Some(Command::ReplayJson);
+    }
+    None
 }
 
 // The command of two words, if they are in the table.
@@ -46,7 +61,7 @@ pub fn command_of(words: &[String]) -> Option<Command>
     ensures { result ≡ command_in (map string_bytes words.now) }
 {
     match words {
-        [word] if word.as_bytes() == b"replay".as_slice() => Some(Command::Replay),
+        [word] => command_alone(word.as_bytes()),
         [word, number] => command_with(word.as_bytes(), number.as_bytes()),
         _ => None,
     }

@@ -1,2 +1,4 @@
 pub mod Callers
 pub mod Sheets
+pub mod Crosses
+pub mod Passes

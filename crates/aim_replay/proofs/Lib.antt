@@ -1,8 +1,7 @@
 pub mod Examples
 pub mod MoreExamples
 pub mod ScriptExamples
-pub mod SheetLemmas
-pub mod StageLemmas
-pub mod ChartLemmas
 pub mod TextLemmas
+pub mod LineLemmas
 pub mod SessionLemmas
+pub mod EndLemmas

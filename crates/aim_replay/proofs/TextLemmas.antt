@@ -3,7 +3,6 @@ use Rattle.std.proofs.Common.{◌≡◌, ℕ, ◌+◌, Bool, true, false, List, 
 use Rattle.std.proofs.lemmas.List.{append-nil, append_assoc}
 use Rattle.std.proofs.lemmas.List.Sums.{fold-append}
 use Rattle.aim_io.specs.Lines.{Outcome}
-use Rattle.aim_msg.specs.Texts.{entry_text}
 use Rattle.aim_msg.specs.declared.script.Line.{Line}
 use Rattle.aim_msg.specs.declared.script.Line.TheVariants as line
 use Rattle.aim_msg.specs.declared.entries.Entry.{Entry}
@@ -11,21 +10,22 @@ use Rattle.aim_paths.specs.Intersection.{Intersection}
 use Rattle.aim_rules.specs.Journals.{Call, journal, entry_of}
 use Rattle.aim_script.specs.Order.{Part, part_after, belongs, to_begin, in_body, nothing}
 use Rattle.aim_script.specs.Said.{layout_of, calls_of, names_of, last_of, name_in, call_in}
-use Rattle.aim_script.specs.Verdicts.{Verdict, journal_of, Judgement, judge, goes_on, decides, then_on, verdict_from}
+use Rattle.aim_script.specs.Verdicts.{Reads, Verdict, journal_of, Judgement, judge, goes_on, decides, then_on, verdict_from}
 use Rattle.aim_replay.specs.Texts.{entry_lines}
 use Rattle.aim_script.specs.Decided.{printed}
+use Rattle.aim_script.specs.Spellings.{Spelled}
 use Rattle.aim_script.proofs.AppendLemmas.{last_of_more, IsSilent, layout_same, calls_more}
 use Rattle.aim_script.proofs.LineLemmas.{goes_on_says, in_order}
 use Rattle.std.specs.Option.{option_to_list}
 
 -- entries' lines, and the lines of more entries
-pub entry_lines-append : (position : ℕ) (es more : List Entry) → entry_lines position (es ++ more) ≡ entry_lines position es ++ entry_lines (position + length es) more
-entry_lines-append position [] more = let same : position ≡ position + 0 = omega arith in ap (λ n. entry_lines n more) same
-entry_lines-append position (e ∷ es) more =
-    let head = printed (entry_text position e) in
+pub entry_lines-append : (w : Spelled) (position : ℕ) (es more : List Entry) → entry_lines w position (es ++ more) ≡ entry_lines w position es ++ entry_lines w (position + length es) more
+entry_lines-append w position [] more = let same : position ≡ position + 0 = omega arith in ap (λ n. entry_lines w n more) same
+entry_lines-append w position (e ∷ es) more =
+    let head = printed (w.entry_text position e) in
     let same : position + 1 + length es ≡ position + length (e ∷ es) = omega arith in
-    ap (λ (t : List ℕ). head ++ t) (entry_lines-append (position + 1) es more ∙ ap (λ n. entry_lines (position + 1) es ++ entry_lines n more) same)
-    ∙ sym (append_assoc head (entry_lines (position + 1) es) (entry_lines (position + length (e ∷ es)) more))
+    ap (λ (t : List ℕ). head ++ t) (entry_lines-append w (position + 1) es more ∙ ap (λ n. entry_lines w (position + 1) es ++ entry_lines w n more) same)
+    ∙ sym (append_assoc head (entry_lines w (position + 1) es) (entry_lines w (position + length (e ∷ es)) more))
 
 -- the journal of more calls begins with that of the first ones
 pub journal_begins : (i : Intersection) (calls more : List Call) → (rest : List Entry) × (journal i (calls ++ more) ≡ journal i calls ++ rest)
@@ -79,26 +79,26 @@ extends_one before all l k e =
       calls = e.calls ∙ ap (λ (cs : List Call). cs ++ e.more) (calls_more before l k.name) ∙ append_assoc (calls_of before) first e.more;
     }
 
-extends : (before : List Line) (os : List Outcome) → is_past (part_after (last_of before)) ≡ true → Extends before (verdict_from before os).before
-extends before [] past = extends_self before
-extends before (o ∷ os) past = go (judge before o) refl (λ l. extends (before ++ l ∷ []) os)
+extends : (reads : Reads) (before : List Line) (os : List Outcome) → is_past (part_after (last_of before)) ≡ true → Extends before (verdict_from reads before os).before
+extends reads before [] past = extends_self before
+extends reads before (o ∷ os) past = go (judge reads before o) refl (λ l. extends reads (before ++ l ∷ []) os)
   where
-    go : (j : Judgement) → judge before o ≡ j → ((l : Line) → is_past (part_after (last_of (before ++ l ∷ []))) ≡ true → Extends (before ++ l ∷ []) (verdict_from (before ++ l ∷ []) os).before)
-        → Extends before (then_on before j (λ more. verdict_from more os)).before
+    go : (j : Judgement) → judge reads before o ≡ j → ((l : Line) → is_past (part_after (last_of (before ++ l ∷ []))) ≡ true → Extends (before ++ l ∷ []) (verdict_from reads (before ++ l ∷ []) os).before)
+        → Extends before (then_on before j (λ more. verdict_from reads more os)).before
     go (decides d) is later = extends_self before
     go (goes_on l) is later =
-        let kept = keeps (part_after (last_of before)) l past (in_order before l (goes_on_says before o l is)) in
-        extends_one before (verdict_from (before ++ l ∷ []) os).before l kept (later l (rw (last_of_more before l) kept.past))
+        let kept = keeps (part_after (last_of before)) l past (in_order before l (goes_on_says reads before o l is)) in
+        extends_one before (verdict_from reads (before ++ l ∷ []) os).before l kept (later l (rw (last_of_more before l) kept.past))
 
 -- the journal so far is the first of that of the whole script
 pub record Begins (h : List Entry) (v : Verdict) : Type 0 where
   pub rest : List Entry
   pub all : journal_of v ≡ h ++ rest
 
-pub journal_of_begins : (before : List Line) (os : List Outcome) (h : List Entry) → is_past (part_after (last_of before)) ≡ true → journal (layout_of before) (calls_of before) ≡ h
-    → Begins h (verdict_from before os)
-journal_of_begins before os h past is =
-    let e = extends before os past in
+pub journal_of_begins : (reads : Reads) (before : List Line) (os : List Outcome) (h : List Entry) → is_past (part_after (last_of before)) ≡ true → journal (layout_of before) (calls_of before) ≡ h
+    → Begins h (verdict_from reads before os)
+journal_of_begins reads before os h past is =
+    let e = extends reads before os past in
     let found = journal_begins (layout_of before) (calls_of before) e.more in
     record {
       rest = found.0;

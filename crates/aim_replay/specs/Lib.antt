@@ -1,6 +1,4 @@
-pub mod Servers
-pub mod Charted
 pub mod Texts
-pub mod Stages
 pub mod Replays
+pub mod Written
 pub mod Sessions

@@ -4,29 +4,27 @@ use Rattle.std.specs.List.{AllByRecursion}
 use Rattle.std.specs.Io.KnownBytes.{Appends, Consumes}
 use Rattle.aim_io.specs.Known.{AppendsFront}
 use Rattle.aim_io.specs.Lines.{Line as LineOf, IsOpen, joined_lines}
-use Rattle.aim_msg.specs.Texts.{entry_text}
 use Rattle.aim_msg.specs.declared.script.Line.{Line}
 use Rattle.aim_rules.specs.Journals.{journal}
-use Rattle.aim_replay.specs.declared.stages.Made.{Made}
 use Rattle.aim_script.specs.Said.{layout_of, calls_of}
-use Rattle.aim_script.specs.Verdicts.{Judgement, decides, goes_on, judge, journal_of, verdict}
-use Rattle.aim_script.specs.Decided.{printed}
-use Rattle.aim_replay.specs.Texts.{entry_lines, replay_text, replay_status}
+use Rattle.aim_script.specs.Verdicts.{Reads, Judgement, decides, goes_on, judge, journal_of, verdict}
+use Rattle.aim_script.specs.Spellings.{Spelled, by_words}
+use Rattle.aim_replay.specs.Texts.{entry_lines, text_by, status_by}
 
 abbrev pub unless_decided : List Line → Judgement → (List Line → Option (List Line)) → Option (List Line)
 unless_decided before (decides d) next = None
 unless_decided before (goes_on l) next = next (before ++ l ∷ [])
 
 -- the script with further lines, if none of them decides
-abbrev pub script_after : List Line → List (List ℕ) → Option (List Line)
-script_after before [] = Some before
-script_after before (line ∷ lines) = unless_decided before (judge before (LineOf line)) (λ more. script_after more lines)
+abbrev pub script_after : Reads → List Line → List (List ℕ) → Option (List Line)
+script_after reads before [] = Some before
+script_after reads before (line ∷ lines) = unless_decided before (judge reads before (LineOf line)) (λ more. script_after reads more lines)
 
 -- whole lines were read that make this script: none of them decides, and none goes past a limit
-pub record AreWhole (lines : List (List ℕ)) (before : List Line) : Type 0 where
+pub record AreWhole (reads : Reads) (lines : List (List ℕ)) (before : List Line) : Type 0 where
   pub each : AllByRecursion IsOpen lines
   pub few : length lines ≤ 262144
-  pub script : script_after [] lines ≡ Some before
+  pub script : script_after reads [] lines ≡ Some before
 
 -- where the source tells its bytes, no more than these were taken
 pub record TakesAtMost (most : ℕ) (left_old left_new : Option (List ℕ)) : Type 0 where
@@ -36,7 +34,7 @@ pub record TakesAtMost (most : ℕ) (left_old left_new : Option (List ℕ)) : Ty
 
 -- The source failed: the bytes that were read are whole lines, none of which decides, and the beginning of a further
 -- line, which doesn't decide either, and what was written are the lines of the entries of these lines' events and orders.
-pub record StopsShort (left_old left_new held_old held_new : Option (List ℕ)) : Type 0 where
+pub record StopsShortBy (w : Spelled) (left_old left_new held_old held_new : Option (List ℕ)) : Type 0 where
   pub lines : List (List ℕ)
   pub part : List ℕ
   pub taken : Consumes left_old left_new (joined_lines lines ++ part)
@@ -44,19 +42,19 @@ pub record StopsShort (left_old left_new held_old held_new : Option (List ℕ)) 
   pub is_open : IsOpen part
   pub undecided : 0 < length part → length lines < 262144
   pub before : List Line
-  pub whole : AreWhole lines before
-  pub written : Appends held_old held_new (entry_lines 0 (journal (layout_of before) (calls_of before)))
+  pub whole : AreWhole w.reads lines before
+  pub written : Appends held_old held_new (entry_lines w 0 (journal (layout_of before) (calls_of before)))
 
 -- The last read was needed: what was read before it are whole lines, none of which decides, and the beginning of a further
 -- line, which doesn't decide either. `piece` is what that read gave, as far as the source tells it.
-pub record LastNeeded (left_old left_new : Option (List ℕ)) (last : Option ℕ) : Type 0 where
+pub record LastNeededBy (w : Spelled) (left_old left_new : Option (List ℕ)) (last : Option ℕ) : Type 0 where
   pub lines : List (List ℕ)
   pub part : List ℕ
   pub piece : List ℕ
   pub taken : Consumes left_old left_new (joined_lines lines ++ (part ++ piece))
   pub within : length (joined_lines lines ++ part) ≤ 67108864
   pub before : List Line
-  pub whole : AreWhole lines before
+  pub whole : AreWhole w.reads lines before
   pub is_open : IsOpen part
   pub undecided : 0 < length part → length lines < 262144
   pub told : IfSome last (λ n. n ≡ length piece)
@@ -70,15 +68,20 @@ abbrev pub Writes : Option (List ℕ) → Option (List ℕ) → Option (List ℕ
 Writes bytes old new text = IfSome bytes (λ bs. Appends old new (text bs))
 
 -- the whole text of these bytes was written, and the status is theirs
-pub record Replays (asked : Option ℕ) (bytes : List ℕ) (old new : Option (List ℕ)) (result : ℕ) : Type 0 where
-  pub text : Appends old new (replay_text asked bytes)
-  pub status : result ≡ replay_status bytes
+pub record ReplaysBy (w : Spelled) (asked : Option ℕ) (bytes : List ℕ) (old new : Option (List ℕ)) (result : ℕ) : Type 0 where
+  pub text : Appends old new (text_by w asked bytes)
+  pub status : result ≡ status_by w bytes
 
 -- the lines of the entries of the events and orders that stand before the line that decides
-abbrev pub entries_text : List ℕ → List ℕ
-entries_text bytes = entry_lines 0 (journal_of (verdict bytes))
+abbrev pub entries_text : Spelled → List ℕ → List ℕ
+entries_text w bytes = entry_lines w 0 (journal_of (verdict w.reads bytes))
 
--- the line of an entry that was made, if one was
-abbrev pub made_line : Option Made → List ℕ
-made_line None = []
-made_line (Some m) = printed (entry_text m.position m.entry)
+-- the same of a script of words
+abbrev pub StopsShort : Option (List ℕ) → Option (List ℕ) → Option (List ℕ) → Option (List ℕ) → Type 0
+StopsShort left_old left_new held_old held_new = StopsShortBy by_words left_old left_new held_old held_new
+
+abbrev pub LastNeeded : Option (List ℕ) → Option (List ℕ) → Option ℕ → Type 0
+LastNeeded left_old left_new last = LastNeededBy by_words left_old left_new last
+
+abbrev pub Replays : Option ℕ → List ℕ → Option (List ℕ) → Option (List ℕ) → ℕ → Type 0
+Replays asked bytes old new result = ReplaysBy by_words asked bytes old new result

@@ -1,10 +1,13 @@
 //! Replays of scripts: what a script says, line by line, and what its replay prints.
 #![tactic(auto)]
 
-mod charts;
+mod faults;
 mod outputs;
-mod servers;
 mod session;
-mod stages;
+mod spellings;
+mod words;
 
-pub use session::replay;
+pub use faults::{Unread, Unwritten};
+pub use session::{replay, replay_by};
+pub use spellings::Spelling;
+pub use words::Words;

@@ -1,60 +1,59 @@
 //! The lines that a replay writes.
 
-ghost use Rattle.std.specs.Prelude.{◌≡◌, List, [], OnOk, OnErr};
-ghost use Rattle.std.specs.Io.KnownBytes.{Appends};
-ghost use Rattle.aim_io.specs.Causes.{HasCause};
-ghost use Rattle.aim_io.specs.Known.{AppendsFront};
-ghost use Rattle.aim_msg.specs.Texts.{entry_text as text_of, spaced};
-ghost use Rattle.aim_script.specs.Decided.{decision_words, printed};
-ghost use Rattle.aim_replay.specs.Replays.{made_line};
-ghost use Rattle.aim_replay.specs.Sessions.{IsWholeLine};
+ghost use Rattle.aim_script.specs.Spellings.{Spelled};
+ghost use Rattle.aim_replay.specs.Sessions.{chart_text, ending_text, made_line};
+ghost use Rattle.aim_replay.specs.Written.{Puts};
 
-use crate::stages::Made;
-use aim_io::{Failed, Sink, put_all};
-use aim_msg::{Entry, entry_text};
-use aim_script::{Decision, last_line};
-
-/// Writes a whole line. This is the only place that writes.
-pub(crate) fn put_line<K: Sink>(sink: &mut K, line: &[u8]) -> Result<(), Failed>
-    requires whole { IsWholeLine line.now }
-    ensures ok { OnOk result (Appends (K.held sink.old) (K.held sink.new) line.now) }
-    ensures err { OnErr result (AppendsFront (K.held sink.old) (K.held sink.new) line.now) }
-    ensures cause { HasCause (K.faults sink.old) (K.faults sink.new) result }
-{
-    put_all(sink, line)
-}
-
-/// Writes the line of an entry.
-pub(crate) fn put_entry<K: Sink>(sink: &mut K, position: u32, entry: &Entry) -> Result<(), Failed>
-    ensures ok { OnOk result (Appends (K.held sink.old) (K.held sink.new) (printed (text_of position entry.now))) }
-    ensures err { OnErr result (AppendsFront (K.held sink.old) (K.held sink.new) (printed (text_of position entry.now))) }
-    ensures cause { HasCause (K.faults sink.old) (K.faults sink.new) result }
-{
-    let mut line = [0; 400];
-    let len = entry_text(position, entry, &mut line);
-    line[len] = b'\n';
-    put_line(sink, &line[..len + 1])
-}
+use crate::faults::Unwritten;
+use crate::spellings::Spelling;
+use aim_io::Sink;
+use aim_server::put_chart;
+use aim_stages::{Finish, Made};
+use std::alloc::Global;
+use std::sync::ledger::Ledger;
 
 /// Writes the line of the entry that was made, if one was.
-pub(crate) fn put_made<K: Sink>(sink: &mut K, made: Option<Made>) -> Result<(), Failed>
-    ensures ok { OnOk result (Appends (K.held sink.old) (K.held sink.new) (made_line made)) }
-    ensures err { OnErr result (AppendsFront (K.held sink.old) (K.held sink.new) (made_line made)) }
-    ensures cause { HasCause (K.faults sink.old) (K.faults sink.new) result }
+pub(crate) fn put_made<P: Spelling, K: Sink>(
+    alloc: Global,
+    sink: &mut K,
+    made: Option<Made>,
+) -> Result<(), Unwritten>
+    ensures { Puts P.spelled result (K.held sink.old) (K.held sink.new) (K.faults sink.old) (K.faults sink.new) (made_line P.spelled made) }
 {
     match made {
-        Some(Made { position, entry }) => put_entry(sink, position, &entry),
+        Some(Made { position, entry }) => P::put_entry(alloc, sink, position, &entry),
         None => Ok(()),
     }
 }
 
-/// Writes the last line.
-pub(crate) fn put_decision<K: Sink>(sink: &mut K, decision: Decision) -> Result<(), Failed>
-    ensures ok { OnOk result (Appends (K.held sink.old) (K.held sink.new) (printed (spaced (decision_words decision)))) }
-    ensures err { OnErr result (AppendsFront (K.held sink.old) (K.held sink.new) (printed (spaced (decision_words decision)))) }
-    ensures cause { HasCause (K.faults sink.old) (K.faults sink.new) result }
+// Writes the chart of a step, if one is asked for and the script is whole.
+fn put_asked<K: Sink, L: Ledger>(
+    sink: &mut K,
+    finish: &Finish<L>,
+    chart: Option<u32>,
+) -> Result<(), Unwritten>
+    ensures { (w : Spelled) → Puts w result (K.held sink.old) (K.held sink.new) (K.faults sink.old) (K.faults sink.new) (chart_text chart finish.now) }
 {
-    let mut line = [0; 400];
-    let len = last_line(decision, &mut line);
-    put_line(sink, &line[..len])
+    match (finish, chart) {
+        (Finish::Whole(server), Some(step)) => match put_chart(sink, server, step) {
+            Ok(()) => Ok(()),
+            Err(_) => Err(Unwritten::Write),
+        },
+        _ => Ok(()),
+    }
+}
+
+/// Writes what stands behind the lines of the entries: the chart, and the last line.
+pub(crate) fn put_ending<P: Spelling, K: Sink, L: Ledger>(
+    alloc: Global,
+    sink: &mut K,
+    finish: &Finish<L>,
+    chart: Option<u32>,
+) -> Result<(), Unwritten>
+    ensures { Puts P.spelled result (K.held sink.old) (K.held sink.new) (K.faults sink.old) (K.faults sink.new) (ending_text P.spelled chart finish.now) }
+{
+    match put_asked(sink, finish, chart) {
+        Err(why) => Err(why),
+        Ok(()) => P::put_last(alloc, sink, finish.decision()),
+    }
 }

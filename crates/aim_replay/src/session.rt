@@ -1,39 +1,37 @@
 //! Replays a script: from bytes to bytes.
 
-ghost use Rattle.std.specs.Prelude.{◌≡◌, ◌⊎◌, ◌<◌, ◌≤◌, List, [], None, true, Ok, Err, IfOk, IfSome, OnOk, OnErr};
+ghost use Rattle.std.specs.Prelude.{◌≡◌, ◌⊎◌, ◌<◌, ◌≤◌, true, false, List, [], Err, IfOk, IfSome};
 ghost use Rattle.std.specs.Io.KnownBytes.{Appends, IsAtEnd};
-ghost use Rattle.aim_io.specs.Causes.{HasCause, Rose};
-ghost use Rattle.aim_io.specs.Known.{AppendsFront};
+ghost use Rattle.aim_io.specs.Causes.{Rose};
 ghost use Rattle.aim_msg.specs.declared.script.Line.{Line};
-ghost use Rattle.aim_script.specs.Headers.{Stands as StandsAsHeader};
-ghost use Rattle.aim_replay.specs.Texts.{replay_text};
-ghost use Rattle.aim_replay.specs.Stages.{MayTake, Stands, decision_of};
-ghost use Rattle.aim_replay.specs.Replays.{LastNeeded, Replays, StopsShort, TakesAtMost, Writes, WritesFront, entries_text};
-ghost use Rattle.aim_replay.specs.Sessions.{Comes, Responds, chart_text, ending_text, is_whole};
+ghost use Rattle.aim_stages.specs.Stages.{Makes, MayTake, Stands, journal_at, stage_of};
+ghost use Rattle.aim_replay.specs.Texts.{replay_text, text_by};
+ghost use Rattle.aim_replay.specs.Replays.{LastNeeded, LastNeededBy, Replays, ReplaysBy, StopsShort, StopsShortBy, TakesAtMost, WritesFront};
+ghost use Rattle.aim_replay.specs.Sessions.{Came, Caused, Judged, Ran, Responds, at_fault, cut_by, halted, status_for};
 
-use crate::charts::put_chart;
-use crate::outputs::{put_decision, put_made};
-use crate::stages::{Finish, Refusal, Stage, Taken};
-use aim_io::{Failed, LineFault, LineReader, Sink, Source};
-use aim_script::{Header, Kind, Limit};
+use crate::faults::{Unread, Unwritten};
+use crate::outputs::{put_ending, put_made};
+use crate::spellings::Spelling;
+use crate::words::Words;
+use aim_io::{LineFault, LineReader, Sink, Source};
+use aim_script::{Decision, Header, Kind, Limit};
+use aim_stages::{Finish, Refusal, Stage, Taken};
 use aim_tiles::Steps;
 use std::alloc::Global;
 use std::marker::Brand;
 use std::sync::ledger::{Blank, Ledger};
 
 /// Why a line isn't answered.
+#[derive(Clone, Copy)]
 enum Halt {
-    /// It is at fault.
-    Bad(Kind),
-    /// It goes past a limit.
-    Limit(Limit),
-    /// The sink has failed.
-    Write,
-    /// Memory has run out.
-    NoMemory,
+    /// It isn't taken.
+    Refused(Refusal),
+    /// It was taken, and the line of its entry wasn't written whole.
+    Unwritten(Unwritten),
 }
 
 /// Why a replay stops before its text is whole.
+#[derive(Clone, Copy)]
 enum Stop {
     /// The source has failed.
     Read,
@@ -43,8 +41,33 @@ enum Stop {
     NoMemory,
 }
 
+// Takes the next line of a script, without its byte 10, and answers its event or order, if it is one.
+fn take_line<P: Spelling, L: Ledger>(
+    stage: Stage<L>,
+    alloc: Global,
+    bytes: &[u8],
+    steps: &mut Steps<L>,
+) -> Result<Taken<L>, Refusal>
+    requires { MayTake stage }
+    ensures judged { (before : List Line) → Stands before stage → Judged P.spelled before bytes.now (stage_of result) }
+    ensures makes { IfOk result (λ t. Makes (journal_at stage) (journal_at t.stage) t.made) }
+    ensures memory { result ≡ Err Refusal.NoMemory → P.spelled.takes_memory ≡ false → journal_at stage ≡ [] }
+{
+    match P::read(alloc, bytes, stage.version()) {
+        Ok(line) => stage.take(alloc, &line, steps),
+        Err(Unread::Bad(kind)) => {
+            drop(stage);
+            Err(Refusal::Bad(kind))
+        }
+        Err(Unread::NoMemory) => {
+            drop(stage);
+            Err(Refusal::NoMemory)
+        }
+    }
+}
+
 // Takes a line, and writes the line of its entry, if it makes one.
-fn answer_line<K: Sink, L: Ledger>(
+fn answer_line<P: Spelling, K: Sink, L: Ledger>(
     alloc: Global,
     stage: Stage<L>,
     sink: &mut K,
@@ -52,152 +75,156 @@ fn answer_line<K: Sink, L: Ledger>(
     steps: &mut Steps<L>,
 ) -> Result<Stage<L>, Halt>
     requires may { MayTake stage }
-    ensures responds { (before : List Line) → Stands before stage → Responds before stage line.now (K.held sink.old) (K.held sink.new) result }
-    ensures write { result ≡ Err Halt.Write → Rose (K.faults sink.old) (K.faults sink.new) }
+    ensures responds { (before : List Line) → Stands before stage → Responds P.spelled before stage line.now (K.held sink.old) (K.held sink.new) result }
+    ensures write { result ≡ Err (Halt.Unwritten Unwritten.Write) → Rose (K.faults sink.old) (K.faults sink.new) }
     ensures later { K.faults sink.old ≤ K.faults sink.new }
 {
-    match stage.take(alloc, line, steps) {
-        Err(Refusal::Bad(kind)) => Err(Halt::Bad(kind)),
-        Err(Refusal::Limit(limit)) => Err(Halt::Limit(limit)),
-        Err(Refusal::NoMemory) => Err(Halt::NoMemory),
-        Ok(Taken { stage: next, made }) => match put_made(sink, made) {
+    match take_line::<P, L>(stage, alloc, line, steps) {
+        Err(refusal) => Err(Halt::Refused(refusal)),
+        Ok(Taken { stage: next, made }) => match put_made::<P, K>(alloc, sink, made) {
             Ok(()) => Ok(next),
-            Err(_) => Err(Halt::Write),
+            Err(why) => {
+                drop(next);
+                Err(Halt::Unwritten(why))
+            }
         },
     }
 }
 
+// What a fault of the input comes to.
+fn after_fault<L: Ledger>(fault: LineFault) -> Result<Finish<L>, Stop>
+    ensures { result ≡ at_fault fault }
+{
+    match fault {
+        LineFault::Read => Err(Stop::Read),
+        LineFault::Long(number) => Ok(Finish::Bad(number, Kind::Long)),
+        LineFault::Bytes => Ok(Finish::Limit(Limit::Bytes)),
+        LineFault::Lines => Ok(Finish::Limit(Limit::Lines)),
+    }
+}
+
+// Why a replay stops where a line wasn't written whole.
+fn after_cut(why: Unwritten) -> Stop
+    ensures { result ≡ cut_by why }
+{
+    match why {
+        Unwritten::Write => Stop::Write,
+        Unwritten::NoMemory => Stop::NoMemory,
+    }
+}
+
+// What the line of that number comes to, which isn't answered.
+fn after_halt<L: Ledger>(number: u32, halt: Halt) -> Result<Finish<L>, Stop>
+    ensures { result ≡ halted number halt }
+{
+    match halt {
+        Halt::Refused(Refusal::Bad(kind)) => Ok(Finish::Bad(number, kind)),
+        Halt::Refused(Refusal::Limit(limit)) => Ok(Finish::Limit(limit)),
+        Halt::Refused(Refusal::NoMemory) => Err(Stop::NoMemory),
+        Halt::Unwritten(why) => Err(after_cut(why)),
+    }
+}
+
 // Reads the lines of a script, answers its events, and says what it comes to.
-fn replay_lines<S: Source, K: Sink, L: Ledger>(
+fn replay_lines<P: Spelling, S: Source, K: Sink, L: Ledger>(
     alloc: Global,
     source: &mut S,
     sink: &mut K,
     steps: &mut Steps<L>,
 ) -> Result<Finish<L>, Stop>
-    ensures verdict { IfOk result (λ finish. Comes finish (S.left source.old)) }
-    ensures written { OnOk result (Writes (S.left source.old) (K.held sink.old) (K.held sink.new) entries_text) }
-    ensures front { OnErr result (WritesFront (S.left source.old) (K.held sink.old) (K.held sink.new) entries_text) }
-    ensures ended { IfOk result (λ finish. is_whole finish ≡ true → IsAtEnd (S.left source.new)) }
-    ensures most { TakesAtMost 67108865 (S.left source.old) (S.left source.new) }
-    ensures needed { (source.new ≡ source.old) ⊎ LastNeeded (S.left source.old) (S.left source.new) (S.last_read source.new) }
-    ensures short { result ≡ Err Stop.Read → StopsShort (S.left source.old) (S.left source.new) (K.held sink.old) (K.held sink.new) }
-    ensures memory { result ≡ Err Stop.NoMemory → Appends (K.held sink.old) (K.held sink.new) [] }
-    ensures read { result ≡ Err Stop.Read → Rose (S.faults source.old) (S.faults source.new) }
-    ensures write { result ≡ Err Stop.Write → Rose (K.faults sink.old) (K.faults sink.new) }
-    ensures source { S.faults source.old ≤ S.faults source.new }
-    ensures sink { K.faults sink.old ≤ K.faults sink.new }
+    ensures ran { Ran P.spelled result (S.left source.old) (S.left source.new) (K.held sink.old) (K.held sink.new) }
+    ensures needed { (source.new ≡ source.old) ⊎ LastNeededBy P.spelled (S.left source.old) (S.left source.new) (S.last_read source.new) }
+    ensures caused { Caused result (S.faults source.old) (S.faults source.new) (K.faults sink.old) (K.faults sink.new) }
 {
     let mut reader = LineReader::new();
     let mut stage = Stage::Header(Header::new());
     let mut number = 0u32;
     'lines: loop {
         match reader.advance(source) {
-            Err(LineFault::Read) => return Err(Stop::Read),
-            Err(LineFault::Long(line)) => return Ok(Finish::Bad(line, Kind::Long)),
-            Err(LineFault::Bytes) => return Ok(Finish::Limit(Limit::Bytes)),
-            Err(LineFault::Lines) => return Ok(Finish::Limit(Limit::Lines)),
-            Ok(false) => return Ok(stage.at_end(number)),
-            Ok(true) => {
-                number += 1;
-                match answer_line(alloc, stage, sink, reader.line(), steps) {
-                    Ok(next) => stage = next,
-                    Err(Halt::Bad(kind)) => return Ok(Finish::Bad(number, kind)),
-                    Err(Halt::Limit(limit)) => return Ok(Finish::Limit(limit)),
-                    Err(Halt::Write) => return Err(Stop::Write),
-                    Err(Halt::NoMemory) => return Err(Stop::NoMemory),
-                }
+            Err(fault) => {
+                drop(stage);
+                return after_fault(fault);
             }
+            Ok(false) => return Ok(stage.at_end(number)),
+            Ok(true) => {}
+        }
+        number += 1;
+        match answer_line::<P, K, L>(alloc, stage, sink, reader.line(), steps) {
+            Ok(next) => stage = next,
+            Err(halt) => return after_halt(number, halt),
         }
     }
 }
 
-// Writes the chart of a step, if one is asked for and the script is whole.
-fn put_asked<K: Sink, L: Ledger>(
-    sink: &mut K,
-    finish: &Finish<L>,
-    chart: Option<u32>,
-) -> Result<(), Failed>
-    ensures ok { OnOk result (Appends (K.held sink.old) (K.held sink.new) (chart_text chart finish.now)) }
-    ensures err { OnErr result (AppendsFront (K.held sink.old) (K.held sink.new) (chart_text chart finish.now)) }
-    ensures cause { HasCause (K.faults sink.old) (K.faults sink.new) result }
-{
-    match (finish, chart) {
-        (Finish::Whole(server), Some(step)) => put_chart(sink, server, step),
-        _ => Ok(()),
-    }
-}
-
-// Writes what stands behind the lines of the entries: the chart, and the last line.
-fn put_ending<K: Sink, L: Ledger>(
-    sink: &mut K,
-    finish: &Finish<L>,
-    chart: Option<u32>,
-) -> Result<(), Failed>
-    ensures ok { OnOk result (Appends (K.held sink.old) (K.held sink.new) (ending_text chart finish.now)) }
-    ensures err { OnErr result (AppendsFront (K.held sink.old) (K.held sink.new) (ending_text chart finish.now)) }
-    ensures cause { HasCause (K.faults sink.old) (K.faults sink.new) result }
-{
-    match put_asked(sink, finish, chart) {
-        Err(failed) => Err(failed),
-        Ok(()) => put_decision(sink, finish.decision()),
-    }
-}
-
-// Replays a script, and says what it comes to.
-fn replay_script<S: Source, K: Sink, L: Ledger>(
-    alloc: Global,
-    source: &mut S,
-    sink: &mut K,
-    chart: Option<u32>,
-    steps: &mut Steps<L>,
-) -> Result<Finish<L>, Stop>
-    ensures verdict { IfOk result (λ finish. Comes finish (S.left source.old)) }
-    ensures written { OnOk result (Writes (S.left source.old) (K.held sink.old) (K.held sink.new) (replay_text chart)) }
-    ensures front { OnErr result (WritesFront (S.left source.old) (K.held sink.old) (K.held sink.new) (replay_text chart)) }
-    ensures ended { IfOk result (λ finish. is_whole finish ≡ true → IsAtEnd (S.left source.new)) }
-    ensures most { TakesAtMost 67108865 (S.left source.old) (S.left source.new) }
-    ensures needed { (source.new ≡ source.old) ⊎ LastNeeded (S.left source.old) (S.left source.new) (S.last_read source.new) }
-    ensures short { result ≡ Err Stop.Read → StopsShort (S.left source.old) (S.left source.new) (K.held sink.old) (K.held sink.new) }
-    ensures memory { result ≡ Err Stop.NoMemory → Appends (K.held sink.old) (K.held sink.new) [] }
-    ensures read { result ≡ Err Stop.Read → Rose (S.faults source.old) (S.faults source.new) }
-    ensures write { result ≡ Err Stop.Write → Rose (K.faults sink.old) (K.faults sink.new) }
-    ensures source { S.faults source.old ≤ S.faults source.new }
-    ensures sink { K.faults sink.old ≤ K.faults sink.new }
-{
-    match replay_lines(alloc, source, sink, steps) {
-        Err(stop) => Err(stop),
-        Ok(finish) => match put_ending(sink, &finish, chart) {
-            Err(_) => Err(Stop::Write),
-            Ok(()) => Ok(finish),
-        },
-    }
-}
-
-// Replays a script with a manager whose words are counted in the ledger of the blank.
-fn replay_over<S: Source, K: Sink, L: Ledger>(
+// Replays a script with a manager whose words are counted in the ledger of the blank, and says what it comes to.
+fn replay_script<P: Spelling, S: Source, K: Sink, L: Ledger>(
     alloc: Global,
     source: &mut S,
     sink: &mut K,
     chart: Option<u32>,
     blank: Blank,
-) -> u8
+) -> Result<Decision, Stop>
     requires name { blank.name ≡ L.name }
     requires parts { blank.parts ≡ L.parts }
     requires some { 0 < blank.parts }
+    ensures came { Came P.spelled chart result (S.left source.old) (S.left source.new) (K.held sink.old) (K.held sink.new) }
+    ensures needed { (source.new ≡ source.old) ⊎ LastNeededBy P.spelled (S.left source.old) (S.left source.new) (S.last_read source.new) }
+    ensures caused { Caused result (S.faults source.old) (S.faults source.new) (K.faults sink.old) (K.faults sink.new) }
+{
+    let mut steps = Steps::<L>::new(blank);
+    match replay_lines::<P, S, K, L>(alloc, source, sink, &mut steps) {
+        Err(stop) => Err(stop),
+        Ok(finish) => {
+            let decision = finish.decision();
+            let put = put_ending::<P, K, L>(alloc, sink, &finish, chart);
+            drop(finish);
+            match put {
+                Ok(()) => Ok(decision),
+                Err(why) => Err(after_cut(why)),
+            }
+        }
+    }
+}
+
+// The status of a replay.
+fn status(came: Result<Decision, Stop>) -> u8
+    ensures { result ≡ status_for came }
+{
+    match came {
+        Ok(Decision::Whole(_)) => 0,
+        Ok(Decision::Bad(..)) => 3,
+        Ok(Decision::Limit(_)) => 6,
+        Err(Stop::Read) => 4,
+        Err(Stop::Write) => 5,
+        Err(Stop::NoMemory) => 7,
+    }
+}
+
+/// Replays a script in a spelling: reads its lines, writes the line of each event's and each order's
+/// entry before it takes the next line, then the chart of a step, if one is asked for and the script
+/// is whole, and last what the script comes to. The status is 0 for a whole script, 3 for a line at
+/// fault, 4 where the source fails, 5 where the sink fails, 6 for a limit, and 7 where memory runs
+/// out. Always returns.
+pub fn replay_by<P: Spelling, S: Source, K: Sink>(
+    alloc: Global,
+    source: &mut S,
+    sink: &mut K,
+    chart: Option<u32>,
+) -> u8
     // With status 0, 3 or 6 the whole text of the bytes is written, and the status is theirs.
     ensures whole { (result ≡ 0) ⊎ ((result ≡ 3) ⊎ (result ≡ 6)) → IfSome (S.left source.old)
-        (λ bytes. Replays chart bytes (K.held sink.old) (K.held sink.new) result) }
+        (λ bytes. ReplaysBy P.spelled chart bytes (K.held sink.old) (K.held sink.new) result) }
     ensures ended { result ≡ 0 → IsAtEnd (S.left source.new) }
 
     // Whatever the status, no more than one byte past the greatest input is taken, and nothing is read behind bytes that
     // decide.
     ensures most { TakesAtMost 67108865 (S.left source.old) (S.left source.new) }
-    ensures needed { (source.new ≡ source.old) ⊎ LastNeeded (S.left source.old) (S.left source.new) (S.last_read source.new) }
+    ensures needed { (source.new ≡ source.old) ⊎ LastNeededBy P.spelled (S.left source.old) (S.left source.new) (S.last_read source.new) }
 
     // With another status what is written is a front of that text.
-    ensures front { (result ≡ 4) ⊎ ((result ≡ 5) ⊎ (result ≡ 7)) → WritesFront (S.left source.old) (K.held sink.old) (K.held sink.new) (replay_text chart) }
-    ensures short { result ≡ 4 → StopsShort (S.left source.old) (S.left source.new) (K.held sink.old) (K.held sink.new) }
-    ensures memory { result ≡ 7 → Appends (K.held sink.old) (K.held sink.new) [] }
+    ensures front { (result ≡ 4) ⊎ ((result ≡ 5) ⊎ (result ≡ 7)) → WritesFront (S.left source.old) (K.held sink.old) (K.held sink.new) (text_by P.spelled chart) }
+    ensures short { result ≡ 4 → StopsShortBy P.spelled (S.left source.old) (S.left source.new) (K.held sink.old) (K.held sink.new) }
+    ensures memory { result ≡ 7 → P.spelled.takes_memory ≡ false → Appends (K.held sink.old) (K.held sink.new) [] }
 
     // Each status has its cause.
     ensures read { result ≡ 4 → Rose (S.faults source.old) (S.faults source.new) }
@@ -206,18 +233,10 @@ fn replay_over<S: Source, K: Sink, L: Ledger>(
     ensures sink { K.faults sink.old ≤ K.faults sink.new }
     ensures statuses { (result ≡ 0) ⊎ ((result ≡ 3) ⊎ ((result ≡ 4) ⊎ ((result ≡ 5) ⊎ ((result ≡ 6) ⊎ (result ≡ 7))))) }
 {
-    let mut steps = Steps::<L>::new(blank);
-    match replay_script(alloc, source, sink, chart, &mut steps) {
-        Ok(Finish::Whole(_)) => 0,
-        Ok(Finish::Bad(..)) => 3,
-        Ok(Finish::Limit(_)) => 6,
-        Err(Stop::Read) => 4,
-        Err(Stop::Write) => 5,
-        Err(Stop::NoMemory) => 7,
-    }
+    status(replay_script::<P, S, K, Brand>(alloc, source, sink, chart, Blank::new(1)))
 }
 
-/// Replays a script: reads its lines, writes the line of each event's and each order's entry before
+/// Replays a script of words: reads its lines, writes the line of each event's and each order's entry before
 /// it takes the next line, then the chart of a step, if one is asked for and the script is whole,
 /// and last what the script comes to. The status is 0 for a whole script, 3 for a line at fault, 4
 /// where the source fails, 5 where the sink fails, 6 for a limit, and 7 where memory runs out, which
@@ -250,5 +269,5 @@ pub fn replay<S: Source, K: Sink>(
     ensures sink { K.faults sink.old ≤ K.faults sink.new }
     ensures statuses { (result ≡ 0) ⊎ ((result ≡ 3) ⊎ ((result ≡ 4) ⊎ ((result ≡ 5) ⊎ ((result ≡ 6) ⊎ (result ≡ 7))))) }
 {
-    replay_over::<S, K, Brand>(alloc, source, sink, chart, Blank::new(1))
+    replay_by::<Words, S, K>(alloc, source, sink, chart)
 }

@@ -32,14 +32,14 @@ filter_map-single : {X Y : Type 0} (f : X → Option Y) (x : X) (o : Option Y) �
 filter_map-single f x None e = rw e refl
 filter_map-single f x (Some y) e = rw e refl
 
-filter_map-one : {X Y : Type 0} (f : X → Option Y) (xs : List X) (x : X) → filter_map f (xs ++ x ∷ []) ≡ filter_map f xs ++ option_to_list (f x)
+pub filter_map-one : {X Y : Type 0} (f : X → Option Y) (xs : List X) (x : X) → filter_map f (xs ++ x ∷ []) ≡ filter_map f xs ++ option_to_list (f x)
 filter_map-one f xs x = filter_map-append f xs (x ∷ []) ∙ ap (λ ys. filter_map f xs ++ ys) (filter_map-single f x (f x) refl)
 
 or_none : {X : Type 0} (o : Option X) → option_or o None ≡ o
 or_none None = refl
 or_none (Some x) = refl
 
-find_map-one : {X Y : Type 0} (f : X → Option Y) (xs : List X) (x : X) → find_map f (xs ++ x ∷ []) ≡ option_or (find_map f xs) (f x)
+pub find_map-one : {X Y : Type 0} (f : X → Option Y) (xs : List X) (x : X) → find_map f (xs ++ x ∷ []) ≡ option_or (find_map f xs) (f x)
 find_map-one f xs x = find_map-append f xs (x ∷ []) ∙ ap (option_or (find_map f xs)) (or_none (f x))
 
 -- the version stays, if the line says none

@@ -18,7 +18,7 @@ use Rattle.aim_rules.proofs.LegalLemmas.{IsLegal-journal}
 use Rattle.aim_script.specs.declared.decisions.Limit.TheVariants as limit
 use Rattle.aim_script.specs.Said.{layout_of, name_in, names_of, is_named, number_of, vehicles_in, vehicles_of, call_in, calls_of}
 use Rattle.aim_script.specs.Kinds.{vehicles_limit}
-use Rattle.aim_script.specs.Verdicts.{Verdict}
+use Rattle.aim_script.specs.Verdicts.{Reads, Verdict}
 use Rattle.aim_script.specs.First.{IsOfTheFirst}
 use Rattle.aim_script.specs.Verdicts.{journal_of}
 use Rattle.aim_script.proofs.AppendLemmas.{names_are_policies}
@@ -127,12 +127,12 @@ within spans n h = go (nat_lt MOST_VEHICLES n) refl h
     go false e h = grind (arith, nat_tests)
 
 -- a script whose lines go on declares as many vehicles as there may be
-few_vehicles : (input : List Outcome) (v : Verdict) → IsOfTheFirst input v → vehicles_of v.before ≤ MOST_VEHICLES
-few_vehicles input v f =
+few_vehicles : (reads : Reads) (input : List Outcome) (v : Verdict) → IsOfTheFirst reads input v → vehicles_of v.before ≤ MOST_VEHICLES
+few_vehicles reads input v f =
     first_of vehicles_in MOST_VEHICLES v.before (λ k l n at e.
     let g = f.goes_on_at k l at in
     let i = layout_of (take k v.before) in
-    within i.grid.spans n (rw e at ((goes_on_says (take k v.before) g.0 l g.2).no_limit)))
+    within i.grid.spans n (rw e at ((goes_on_says reads (take k v.before) g.0 l g.2).no_limit)))
 
 -- a fact of what each element gives
 all_given : {X Y : Type 0} (f : X → Option Y) (P : Y → Type 0) (xs : List X) → ((k : ℕ) (x : X) (y : Y) → slice_get xs k ≡ Some x → f x ≡ Some y → P y) → AllByRecursion P (filter_map f xs)
@@ -143,10 +143,10 @@ all_given {Y = Y} f P (x ∷ xs) each = go (f x) refl (all_given f P xs (λ k y 
     go None e rest = rest
     go (Some y) e rest = (each 0 x y refl e, rest)
 
-pub calls_may_be : (input : List Outcome) (v : Verdict) → IsOfTheFirst input v → MayCall (layout_of v.before) (vehicles_of v.before) (calls_of v.before)
-calls_may_be input v f =
+pub calls_may_be : (reads : Reads) (input : List Outcome) (v : Verdict) → IsOfTheFirst reads input v → MayCall (layout_of v.before) (vehicles_of v.before) (calls_of v.before)
+calls_may_be reads input v f =
     all_given (call_in (names_of v.before)) (MayBe v.before) v.before
-    (λ k l c at e. let g = f.goes_on_at k l at in call_may_be v.before k l c (few_vehicles input v f) (goes_on_says (take k v.before) g.0 l g.2) e)
+    (λ k l c at e. let g = f.goes_on_at k l at in call_may_be v.before k l c (few_vehicles reads input v f) (goes_on_says reads (take k v.before) g.0 l g.2) e)
 
-pub journal_legal : (input : List Outcome) (v : Verdict) → IsOfTheFirst input v → IsLegal (layout_of v.before) (vehicles_of v.before) (journal_of v)
-journal_legal input v f = IsLegal-journal (layout_of v.before) (vehicles_of v.before) (calls_of v.before) (calls_may_be input v f)
+pub journal_legal : (reads : Reads) (input : List Outcome) (v : Verdict) → IsOfTheFirst reads input v → IsLegal (layout_of v.before) (vehicles_of v.before) (journal_of v)
+journal_legal reads input v f = IsLegal-journal (layout_of v.before) (vehicles_of v.before) (calls_of v.before) (calls_may_be reads input v f)

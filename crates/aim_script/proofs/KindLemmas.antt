@@ -22,11 +22,11 @@ use Rattle.aim_script.specs.Said.{last_of, layout_of, grid_of, times_of, times6_
 use Rattle.aim_script.specs.Kinds.{Test, kinds, kind_of_fault, is_wide, is_no_move}
 
 -- the kind of the first row whose test holds
-abbrev first_kind : List (Kind × Test) → List Line → Line → Option Kind
+abbrev pub first_kind : List (Kind × Test) → List Line → Line → Option Kind
 first_kind [] before l = None
 first_kind (row ∷ rows) before l = if row.1 before l then Some row.0 else first_kind rows before l
 
-first_kind_is : (rows : List (Kind × Test)) (before : List Line) (l : Line) → option_map (λ row. row.0) (find (λ row. row.1 before l) rows) ≡ first_kind rows before l
+pub first_kind_is : (rows : List (Kind × Test)) (before : List Line) (l : Line) → option_map (λ row. row.0) (find (λ row. row.1 before l) rows) ≡ first_kind rows before l
 first_kind_is [] before l = refl
 first_kind_is (row ∷ rows) before l = elim (cases_Bool (row.1 before l)) [
   | inl is ↦ rw is refl

@@ -25,6 +25,8 @@ kind_text (kind.Spelling read.Words) = codes "words"
 kind_text (kind.Spelling read.Number) = codes "number"
 kind_text (kind.Spelling read.Range) = codes "range"
 kind_text (kind.Spelling read.Unknown) = codes "unknown"
+kind_text kind.Json = codes "json"
+kind_text kind.Form = codes "form"
 kind_text kind.Order = codes "order"
 kind_text kind.Version = codes "version"
 kind_text kind.Grid = codes "grid"
@@ -37,12 +39,14 @@ kind_text kind.Policy = codes "policy"
 kind_text kind.Phase = codes "phase"
 kind_text kind.Vehicle = codes "vehicle"
 kind_text kind.Moment = codes "moment"
+kind_text kind.Driver = codes "driver"
 
 abbrev pub limit_text : Limit → List ℕ
 limit_text limit.Bytes = codes "bytes"
 limit_text limit.Lines = codes "lines"
 limit_text limit.Vehicles = codes "vehicles"
 limit_text limit.Sheets = codes "sheets"
+limit_text limit.Orders = codes "orders"
 
 -- the words of the last line
 abbrev pub decision_words : Decision → Words

@@ -7,3 +7,4 @@ pub mod Decided
 pub mod Versions
 pub mod Names
 pub mod Headers
+pub mod Spellings

@@ -2,10 +2,9 @@
 use Rattle.std.specs.Prelude.{ℕ, ◌+◌, List, [], ◌∷◌, ◌++◌, length, Option, Some, None, Result, Ok, Err, if◌then◌else◌}
 use Rattle.aim_io.specs.Lines.{InputFault, LongLine, TooManyBytes, TooManyLines, Outcome, Line, Stop, outcomes_of}
 use Rattle.aim_msg.specs.declared.script.Line.{Line as ScriptLine}
-use Rattle.aim_msg.specs.declared.script.LineKind.{LineKind}
-use Rattle.aim_read.specs.Reading.{line_at}
 use Rattle.aim_script.specs.declared.decisions.Decision.{Decision}
 use Rattle.aim_script.specs.declared.decisions.Decision.TheVariants as decision
+use Rattle.aim_script.specs.declared.decisions.Kind.{Kind}
 use Rattle.aim_script.specs.declared.decisions.Kind.{Kind}
 use Rattle.aim_script.specs.declared.decisions.Kind.TheVariants as kind
 use Rattle.aim_script.specs.declared.decisions.Limit.{Limit}
@@ -26,6 +25,10 @@ pub data Judgement : Type 0 where
   decides : Decision → Judgement
   goes_on : ScriptLine → Judgement
 
+-- which line bytes spell in a version, or why they spell none
+abbrev pub Reads : Type 0
+Reads = ℕ → List ℕ → Result ScriptLine Kind
+
 -- the number of the line behind those
 abbrev pub number_after : List ScriptLine → ℕ
 number_after before = length before + 1
@@ -44,14 +47,14 @@ abbrev pub unless_bad : List ScriptLine → ScriptLine → Option Kind → Judge
 unless_bad before l None = unless_limited l (limit_of before l)
 unless_bad before l (Some why) = decides (decision.Bad (number_after before) why)
 
-abbrev pub of_read : List ScriptLine → Result ScriptLine LineKind → Judgement
+abbrev pub of_read : List ScriptLine → Result ScriptLine Kind → Judgement
 of_read before (Ok l) = unless_bad before l (kind_of_fault before l)
-of_read before (Err why) = decides (decision.Bad (number_after before) (kind.Spelling why))
+of_read before (Err why) = decides (decision.Bad (number_after before) why)
 
 -- what stands behind those lines decides, or goes on
-abbrev pub judge : List ScriptLine → Outcome → Judgement
-judge before (Stop f) = decides (of_fault f)
-judge before (Line bytes) = of_read before (line_at (version_after before) bytes)
+abbrev pub judge : Reads → List ScriptLine → Outcome → Judgement
+judge reads before (Stop f) = decides (of_fault f)
+judge reads before (Line bytes) = of_read before (reads (version_after before) bytes)
 
 -- what the end of the input behind those lines decides
 abbrev pub at_end : List ScriptLine → Decision
@@ -64,13 +67,13 @@ then_on before (decides d) next = record { before = before; decision = d }
 then_on before (goes_on l) next = next (before ++ l ∷ [])
 
 -- the first decision of what stands behind those lines
-abbrev pub verdict_from : List ScriptLine → List Outcome → Verdict
-verdict_from before [] = record { before = before; decision = at_end before }
-verdict_from before (o ∷ os) = then_on before (judge before o) (λ more. verdict_from more os)
+abbrev pub verdict_from : Reads → List ScriptLine → List Outcome → Verdict
+verdict_from reads before [] = record { before = before; decision = at_end before }
+verdict_from reads before (o ∷ os) = then_on before (judge reads before o) (λ more. verdict_from reads more os)
 
--- what a replay script comes to
-abbrev pub verdict : List ℕ → Verdict
-verdict bytes = verdict_from [] (outcomes_of bytes)
+-- what a replay script comes to, whose lines are read so
+abbrev pub verdict : Reads → List ℕ → Verdict
+verdict reads bytes = verdict_from reads [] (outcomes_of bytes)
 
 -- the journal of the calls before the line that decides
 abbrev pub journal_of : Verdict → List Entry

@@ -16,6 +16,10 @@ pub enum Kind {
     End,
     /// It spells no line.
     Spelling(LineKind),
+    /// Its bytes are no JSON value, where lines are JSON.
+    Json,
+    /// The JSON value is that of no line.
+    Form,
     /// A line of that form may not stand at that place.
     Order,
     /// The version isn't 1, 2 or 3.
@@ -38,8 +42,10 @@ pub enum Kind {
     Phase,
     /// There are no vehicles, or the vehicle isn't one of those declared.
     Vehicle,
-    /// The moment is above 1,073,741,824.
+    /// The moment is above 1,073,741,824. In a drive, it isn't one of its steps, or falls.
     Moment,
+    /// A number of a drive's plan, change or cancel is out of its bounds, or the line says what was said before.
+    Driver,
 }
 
 /// What a script goes past.
@@ -53,6 +59,8 @@ pub enum Limit {
     Vehicles,
     /// So many spans in the sheets of all vehicles.
     Sheets,
+    /// So many orders of a drive.
+    Orders,
 }
 
 /// What a script comes to.
@@ -88,6 +96,8 @@ fn kind_text(kind: Kind) -> &'static [u8]
         Kind::Long => b"long",
         Kind::End => b"end",
         Kind::Spelling(kind) => spelling_text(kind),
+        Kind::Json => b"json",
+        Kind::Form => b"form",
         Kind::Order => b"order",
         Kind::Version => b"version",
         Kind::Grid => b"grid",
@@ -100,6 +110,7 @@ fn kind_text(kind: Kind) -> &'static [u8]
         Kind::Phase => b"phase",
         Kind::Vehicle => b"vehicle",
         Kind::Moment => b"moment",
+        Kind::Driver => b"driver",
     }
 }
 
@@ -113,6 +124,7 @@ fn limit_text(limit: Limit) -> &'static [u8]
         Limit::Lines => b"lines",
         Limit::Vehicles => b"vehicles",
         Limit::Sheets => b"sheets",
+        Limit::Orders => b"orders",
     }
 }
 

@@ -1,4 +1,4 @@
-//! Laws of the definitions, each the contract of a function that does nothing.
+//! Laws of the definitions, each the contract of a function that does nothing. They hold however lines are read.
 
 ghost use Rattle.std.specs.Prelude.{◌≡◌, ℕ, List, take, slice_get, Some, true};
 ghost use Rattle.aim_msg.specs.declared.script.Line.{Line};
@@ -6,22 +6,22 @@ ghost use Rattle.aim_script.specs.Order.{may_follow};
 ghost use Rattle.aim_rules.specs.Legal.{IsLegal};
 ghost use Rattle.aim_script.specs.Said.{last_of, layout_of, vehicles_of};
 ghost use Rattle.aim_io.specs.Lines.{outcomes_of};
-ghost use Rattle.aim_script.specs.Verdicts.{journal_of, verdict};
+ghost use Rattle.aim_script.specs.Verdicts.{Reads, journal_of, verdict};
 ghost use Rattle.aim_script.specs.First.{IsOfTheFirst};
 
 /// A verdict is of the first line that decides: each line before it goes on behind those before, and that line decides.
 pub fn verdict_is_of_the_first_line_that_decides()
-    ensures { (bytes : List ℕ) → IsOfTheFirst (outcomes_of bytes) (verdict bytes) }
+    ensures { (reads : Reads) (bytes : List ℕ) → IsOfTheFirst reads (outcomes_of bytes) (verdict reads bytes) }
 {}
 
 /// The lines before the one that decides stand in the order of a script.
 pub fn lines_before_a_verdict_stand_in_order()
-    ensures { (bytes : List ℕ) (k : ℕ) (l : Line) → slice_get (verdict bytes).before k ≡ Some l →
-        may_follow (last_of (take k (verdict bytes).before)) l ≡ true }
+    ensures { (reads : Reads) (bytes : List ℕ) (k : ℕ) (l : Line) → slice_get (verdict reads bytes).before k ≡ Some l →
+        may_follow (last_of (take k (verdict reads bytes).before)) l ≡ true }
 {}
 
 /// The journal of the lines before the one that decides is legal: its calls may be made on the layout of these lines.
 pub fn journal_of_a_verdict_is_legal()
-    ensures { (bytes : List ℕ) →
-        IsLegal (layout_of (verdict bytes).before) (vehicles_of (verdict bytes).before) (journal_of (verdict bytes)) }
+    ensures { (reads : Reads) (bytes : List ℕ) →
+        IsLegal (layout_of (verdict reads bytes).before) (vehicles_of (verdict reads bytes).before) (journal_of (verdict reads bytes)) }
 {}

@@ -2,6 +2,14 @@
 #![tactic(auto)]
 
 #[cfg(test)]
+mod again;
+#[cfg(test)]
 mod calls;
 #[cfg(test)]
 mod crossing;
+#[cfg(test)]
+mod four;
+#[cfg(test)]
+mod lanes;
+#[cfg(test)]
+mod threads;

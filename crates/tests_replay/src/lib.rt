@@ -2,4 +2,6 @@
 #![tactic(auto)]
 
 #[cfg(test)]
+mod json;
+#[cfg(test)]
 mod replay;

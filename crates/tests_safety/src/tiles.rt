@@ -20,7 +20,7 @@ fn line(x0: u32, y0: u32, x1: u32, y1: u32) -> Shape {
 }
 
 // Two lanes that cross, with room for so many spans in a request.
-fn crossing(alloc: Global, spans: u32) -> Result<Layout, Fail> {
+pub(crate) fn crossing(alloc: Global, spans: u32) -> Result<Layout, Fail> {
     let grid = Grid {
         side: 4000,
         n: 4,
@@ -51,7 +51,7 @@ fn crossing(alloc: Global, spans: u32) -> Result<Layout, Fail> {
     Ok(builder.finish().ok().ok_or("unfinished")?)
 }
 
-fn car(speed: u32) -> Params {
+pub(crate) fn car(speed: u32) -> Params {
     Params {
         lane: 0,
         turn: Turn::Straight,
@@ -65,7 +65,7 @@ fn car(speed: u32) -> Params {
     }
 }
 
-fn entry(body: Body, reply: Reply) -> Entry {
+pub(crate) fn entry(body: Body, reply: Reply) -> Entry {
     Entry {
         caller: 0,
         moment: 0,
@@ -74,7 +74,7 @@ fn entry(body: Body, reply: Reply) -> Entry {
     }
 }
 
-fn confirm() -> Reply {
+pub(crate) fn confirm() -> Reply {
     Reply::Confirm {
         id: 0,
         start: 10,

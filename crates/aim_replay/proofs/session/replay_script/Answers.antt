@@ -1,11 +1,12 @@
-use Rattle.aim_replay.proofs.SessionLemmas.{all_written, front_of_text, front_written}
+use Rattle.std.proofs.Common.{ap, Err}
+use Rattle.aim_replay.proofs.EndLemmas.{came_stop, came_cut, came_whole}
 use Rattle.aim_replay.proofs.session.replay_script.Goals as goal
 
-pub returns-in-Err-clause-front : goal.returns-in-Err-clause-front
-returns-in-Err-clause-front g c = front_of_text _ _ _ _ c.in-Err.ensures.front
+pub returns-in-Err-clause-came : goal.returns-in-Err-clause-came
+returns-in-Err-clause-came g c = came_stop g.P.Spelling.spelled _ _ _ _ _ _ c.in-Err.ensures.ran
 
-pub returns-in-Err-put_ending-clause-front : goal.returns-in-Err-put_ending-clause-front
-returns-in-Err-put_ending-clause-front g c = front_written _ _ _ _ _ _ c.in-Ok.ensures.verdict c.in-Ok.ensures.written c.in-Err-put_ending.ensures.err
+pub returns-in-Ok-put-clause-came : goal.returns-in-Ok-put-clause-came
+returns-in-Ok-put-clause-came g c = rw c.decision-decision.ensures (came_whole g.P.Spelling.spelled _ _ _ _ _ _ _ c.in-Ok.ensures.ran c.in-Ok-put.ensures.ok)
 
-pub returns-in-Ok-put_ending-clause-written : goal.returns-in-Ok-put_ending-clause-written
-returns-in-Ok-put_ending-clause-written g c = all_written _ _ _ _ _ _ c.in-Ok.ensures.verdict c.in-Ok.ensures.written c.in-Ok-put_ending.ensures.ok
+pub returns-clause-came : goal.returns-clause-came
+returns-clause-came g c = rw c.after_cut.ensures (came_cut g.P.Spelling.spelled _ _ c.in-Err-put.why _ _ _ _ _ c.in-Ok.ensures.ran c.in-Err-put.ensures.err (λ is. c.in-Err-put.ensures.memory (ap Err is)))

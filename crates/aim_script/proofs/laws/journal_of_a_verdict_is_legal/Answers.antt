@@ -5,4 +5,4 @@ use Rattle.aim_script.proofs.CallLemmas.{journal_legal}
 use Rattle.aim_script.proofs.laws.journal_of_a_verdict_is_legal.Goals as goal
 
 pub returns : goal.returns
-returns c bytes = journal_legal (outcomes_of bytes) (verdict bytes) (first_that_decides (outcomes_of bytes))
+returns c reads bytes = journal_legal reads (outcomes_of bytes) (verdict reads bytes) (first_that_decides reads (outcomes_of bytes))

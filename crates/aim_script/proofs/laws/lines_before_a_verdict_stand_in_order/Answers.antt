@@ -5,4 +5,4 @@ use Rattle.aim_script.proofs.LineLemmas.{lines_in_order}
 use Rattle.aim_script.proofs.laws.lines_before_a_verdict_stand_in_order.Goals as goal
 
 pub returns : goal.returns
-returns c bytes = lines_in_order (outcomes_of bytes) (verdict bytes) (first_that_decides (outcomes_of bytes))
+returns c reads bytes = lines_in_order reads (outcomes_of bytes) (verdict reads bytes) (first_that_decides reads (outcomes_of bytes))

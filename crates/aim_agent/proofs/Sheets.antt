@@ -1,0 +1,21 @@
+-- Journals without room, and agents that stay a manager's.
+use Rattle.std.proofs.Common.{◌≡◌, ℕ, length, Some, sym, ◌∙◌, subst, arith}
+use Rattle.std.specs.Prelude.{IsSomeAnd}
+use Rattle.aim_turn.specs.Models.{IsSamePass, TurnstileModel}
+use Rattle.aim_manager.specs.declared.keeper.Setting.{Setting}
+use Rattle.aim_agent.specs.Agents.{AgentPass, AgentModel, IsFull, IsAgentOf}
+use Rattle.aim_agent.specs.Went.{Went}
+
+pub full_is : (s : Setting) (p : AgentPass) → p.setting ≡ Some s → length p.seen ≡ s.room → IsFull p
+full_is s p set is = subst (λ o. IsSomeAnd o (λ x. length p.seen ≡ x.room)) (sym set) is
+
+-- an agent of a manager stays one
+pub agent_of : (t : TurnstileModel Setting) (a b : AgentModel) → IsSamePass a.pass b.pass → b.pool.room ≡ a.pool.room → IsAgentOf t a → IsAgentOf t b
+agent_of t a b same room of = record {
+  pass = record { table = same.table ∙ of.pass.table; setting = same.setting ∙ of.pass.setting };
+  vehicle = let is : b.pass.number ≡ a.pass.number = same.number in let l = of.vehicle in omega arith;
+  room = room ∙ of.room;
+}
+
+pub agent_went : (t : TurnstileModel Setting) (s : Setting) (first last : ℕ) (a b : AgentModel) → Went s first last a b → IsAgentOf t a → IsAgentOf t b
+agent_went t s first last a b w of = agent_of t a b w.goes.same w.goes.room of

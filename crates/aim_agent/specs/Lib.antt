@@ -1,0 +1,5 @@
+pub mod Agents
+pub mod Places
+pub mod Went
+pub mod Followed
+pub mod Turns

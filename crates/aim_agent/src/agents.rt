@@ -1,0 +1,273 @@
+//! Agents.
+
+ghost use Rattle.std.specs.Prelude.{◌≡◌, ◌+◌, ◌≤◌, [], true, Some, IfNone, OnOk};
+ghost use Rattle.aim_msg.specs.declared.entries.TheConstants.{LATEST_MOMENT};
+ghost use Rattle.aim_driver.specs.Models.{step_of};
+ghost use Rattle.aim_driver.specs.Keeps.{keeps};
+ghost use Rattle.aim_driver.specs.Links.{delivered, after_delivery};
+ghost use Rattle.aim_driver.specs.Turns.{begun};
+ghost use Rattle.aim_driver.specs.Follows.{calling, turn};
+ghost use Rattle.aim_turn.specs.Models.{IsPassOf};
+ghost use Rattle.aim_agent.specs.Agents.{front_of, state_of, HasSheets, IsAgentOf, IsFull, IsWhole};
+ghost use Rattle.aim_agent.specs.Went.{new_agent, Went, Met};
+ghost use Rattle.aim_agent.specs.Followed.{IsNew};
+ghost use Rattle.aim_agent.specs.Turns.{Called, Tried};
+
+use aim_book::laws::sheets_are_those_of_own_entries;
+use aim_buffers::prepare;
+use aim_driver::{Driver, Link, LogItem, NoMemory, begin_turn};
+use aim_manager::{Full, Manager, ManagerFront, ManagerPass};
+use aim_msg::{Message, Reply};
+use aim_pool::Pool;
+use std::marker::Model;
+use std::sync::Wait;
+use std::sync::ledger::Ledger;
+
+/// What is called before each call of a vehicle, at the step of its turn. It says nothing of what it does.
+pub trait Gate: Sync {
+    fn before(&self, vehicle: u32, step: u32);
+}
+
+/// Why an agent does nothing more.
+#[derive(Clone, Copy, Debug, PartialEq, Eq)]
+pub enum Trouble {
+    /// There was no memory for an item of its log or of a link.
+    NoMemory,
+    /// The journal has as many entries as there is room for.
+    Full,
+}
+
+impl From<NoMemory> for Trouble {
+    ghost use Rattle.std.specs.Prelude.{◌≡◌};
+    ghost use Rattle.aim_agent.specs.declared.agents.Trouble.TheVariants as trouble;
+
+    ghost from_gives = { λ _ t. t ≡ trouble.NoMemory };
+
+    fn from(_fault: NoMemory) -> Trouble {
+        Trouble::NoMemory
+    }
+}
+
+impl From<Full> for Trouble {
+    ghost use Rattle.std.specs.Prelude.{◌≡◌};
+    ghost use Rattle.aim_agent.specs.declared.agents.Trouble.TheVariants as trouble;
+
+    ghost from_gives = { λ _ t. t ≡ trouble.Full };
+
+    fn from(_fault: Full) -> Trouble {
+        Trouble::Full
+    }
+}
+
+/// A driver with its two links, a pass of a manager and three sheets.
+///
+/// Contracts see the driver, the links, the pass, how many sheets are not in use and their room, and the trouble.
+#[derive(Drop)]
+pub struct Agent<L: Ledger> {
+    driver: Driver,
+    up: Link<Message>,
+    down: Link<(u32, Reply)>,
+    pass: ManagerPass<L>,
+    pool: Pool,
+    trouble: Option<Trouble>,
+}
+
+impl<L: Ledger> Model for Agent<L> {
+    ghost use Rattle.aim_agent.specs.Agents.{AgentModel, Stands};
+
+    ghost Value = { AgentModel };
+
+    ghost view = { λ a. record { driver = a.driver; up = a.up; down = a.down; pass = a.pass; pool = a.pool; trouble = a.trouble } };
+
+    ghost invariant = { λ a. Stands a.pass a.pool a.trouble };
+}
+
+impl<L: Ledger> Agent<L> {
+    /// An agent that has done nothing. A message reaches the manager in the step in which it goes up, and its reply is
+    /// heard in the next one, where the links' fates let them.
+    pub fn new(
+        driver: Driver,
+        up: Link<Message>,
+        down: Link<(u32, Reply)>,
+        pass: ManagerPass<L>,
+        pool: Pool,
+    ) -> Agent<L>
+        requires driver { driver.log ≡ [] }
+        requires up { (up.lag ≡ 0) × (up.sent ≡ []) }
+        requires down { (down.lag ≡ 1) × (down.sent ≡ []) }
+        requires pass { pass.mine ≡ [] }
+        requires pool { pool.count ≡ 3 }
+        ensures agent { result ≡ new_agent driver up down pass pool }
+        ensures new { IsNew result }
+    {
+        let _number = pass.number();
+        sheets_are_those_of_own_entries();
+        Agent {
+            driver,
+            up,
+            down,
+            pass,
+            pool,
+            trouble: None,
+        }
+    }
+
+    /// Why it does nothing more, if it doesn't.
+    pub fn trouble(&self) -> Option<Trouble>
+        ensures trouble { result ≡ self.now.trouble }
+        ensures full { result ≡ Some Trouble.Full → IsFull self.now.pass }
+    {
+        self.trouble
+    }
+
+    /// What its driver did and was told, in order. It keeps the rules.
+    pub fn log(&self) -> &[LogItem]
+        ensures items { result.now ≡ self.now.driver.log }
+        ensures rules { keeps self.now.driver.log ≡ true }
+    {
+        self.driver.log()
+    }
+
+    /// How many of its three sheets are not in use: all, or one less where one is kept for its vehicle.
+    pub fn sheets(&self) -> u32
+        ensures count { result ≡ self.now.pool.count }
+        ensures kept { HasSheets self.now.pass self.now.pool }
+    {
+        self.pool.count()
+    }
+
+    /// Its driver and its pass.
+    pub fn into_parts(self) -> (Driver, ManagerPass<L>)
+        ensures driver { result.0 ≡ self.driver }
+        ensures pass { result.1 ≡ self.pass }
+    {
+        let Agent {
+            driver,
+            up: _,
+            down: _,
+            pass,
+            pool: _,
+            trouble: _,
+        } = self;
+        (driver, pass)
+    }
+
+    /// A note of what its pass has seen.
+    pub fn front(&mut self, manager: &Manager<L>) -> ManagerFront<L>
+        requires own { IsPassOf manager.now self.old.pass }
+        ensures same { self.new ≡ self.old }
+        ensures front { result ≡ front_of self.old.pass }
+    {
+        manager.front(&mut self.pass)
+    }
+
+    /// Lets its pass see what the front shows, so that its next call stands behind all of it.
+    pub fn meet(&mut self, manager: &Manager<L>, front: ManagerFront<L>)
+        requires own { IsPassOf manager.now self.old.pass }
+        requires front { front.table ≡ manager.now.table }
+        ensures { Met manager.now.setting self.old front self.new }
+    {
+        manager.meet(&mut self.pass, front);
+    }
+
+    // It hears, enters if it does, and acts.
+    fn begin(&mut self, step: u32) -> Result<(), NoMemory>
+        requires step { step_of self.old.driver.log ≤ step }
+        requires most { step ≤ LATEST_MOMENT }
+        ensures rest { self.new ≡ record self.old { driver = self.new.driver; up = self.new.up; down = self.new.down } }
+        ensures plan { self.new.driver.plan ≡ self.old.driver.plan }
+        ensures last { step_of self.new.driver.log ≤ step }
+        ensures whole { IsWhole self.old.pass }
+        ensures begun { OnOk result (state_of self.new ≡ begun self.old.driver.plan step (state_of self.old)) }
+    {
+        begin_turn(&mut self.driver, &mut self.up, &mut self.down, step)
+    }
+
+    // The message that comes on the up link.
+    fn next_message(&mut self, step: u32) -> Option<Message>
+        ensures message { result ≡ delivered self.old.up step }
+        ensures rest { self.new ≡ record self.old { up = after_delivery self.old.up step } }
+        ensures none { IfNone result (self.new ≡ self.old) }
+    {
+        self.up.deliver(step)
+    }
+
+    // A call of the message; the reply goes down.
+    fn call<R: Wait, G: Gate>(
+        &mut self,
+        rt: &R,
+        manager: &Manager<L>,
+        gate: &G,
+        step: u32,
+        message: &Message,
+    ) -> Result<(), Trouble>
+        requires own { IsAgentOf manager.now self.old }
+        requires calm { self.old.trouble ≡ None }
+        requires most { step ≤ LATEST_MOMENT }
+        ensures { Called manager.now.setting step message.now result self.old self.new }
+    {
+        gate.before(self.pass.number(), step);
+        let (Ok(first), Ok(second)) = (self.pool.take(), self.pool.take()) else {
+            unreachable!()
+        };
+        let prepared = prepare(manager.layout(), message, first, second);
+        let reply = manager.serve(rt, &mut self.pass, step, prepared, &mut self.pool)?;
+        self.down.send(step, (message.seq, reply))?;
+        Ok(())
+    }
+
+    // A call of each message that comes on the up link.
+    fn make_calls<R: Wait, G: Gate>(
+        &mut self,
+        rt: &R,
+        manager: &Manager<L>,
+        gate: &G,
+        step: u32,
+    ) -> Result<(), Trouble>
+        requires own { IsAgentOf manager.now self.old }
+        requires calm { self.old.trouble ≡ None }
+        requires whole { IsWhole self.old.pass }
+        requires last { step_of self.old.driver.log ≤ step }
+        requires most { step ≤ LATEST_MOMENT }
+        ensures { Tried manager.now.setting (calling step) step result self.old self.new }
+    {
+        while let Some(message) = self.next_message(step) {
+            self.call(rt, manager, gate, step, &message)?;
+        }
+        Ok(())
+    }
+
+    // A turn of an agent without trouble.
+    fn try_turn<R: Wait, G: Gate>(
+        &mut self,
+        rt: &R,
+        manager: &Manager<L>,
+        gate: &G,
+        step: u32,
+    ) -> Result<(), Trouble>
+        requires own { IsAgentOf manager.now self.old }
+        requires calm { self.old.trouble ≡ None }
+        requires last { step_of self.old.driver.log ≤ step }
+        requires most { step ≤ LATEST_MOMENT }
+        ensures { Tried manager.now.setting (turn self.old.driver.plan step) step result self.old self.new }
+    {
+        self.begin(step)?;
+        self.make_calls(rt, manager, gate, step)
+    }
+
+    /// One turn: it hears the replies that come, enters if its driver does, acts, and makes a call of each message that
+    /// comes on the up link. Before each call it tells the gate. In trouble it does nothing.
+    pub fn turn<R: Wait, G: Gate>(&mut self, rt: &R, manager: &Manager<L>, gate: &G, step: u32)
+        requires own { IsAgentOf manager.now self.old }
+        requires last { step_of self.old.driver.log ≤ step }
+        requires most { step ≤ LATEST_MOMENT }
+        ensures { Went manager.now.setting step (step + 1) self.old self.new }
+    {
+        if self.trouble.is_some() {
+            return;
+        }
+        if let Err(trouble) = self.try_turn(rt, manager, gate, step) {
+            self.trouble = Some(trouble);
+        }
+    }
+}

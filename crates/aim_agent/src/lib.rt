@@ -1,0 +1,7 @@
+//! A vehicle's agent: a driver with its links, a pass of the manager that threads share, and the turns that it takes.
+#![tactic(auto)]
+
+mod agents;
+pub mod laws;
+
+pub use agents::{Agent, Gate, Trouble};

@@ -1,0 +1,102 @@
+//! The turns of one run of neighbours, and the meetings of all agents with the operator.
+
+ghost use Rattle.std.specs.Prelude.{◌≡◌, ◌+◌, ◌≤◌, length, All};
+ghost use Rattle.aim_msg.specs.declared.entries.TheConstants.{LATEST_MOMENT};
+ghost use Rattle.aim_driver.specs.Models.{step_of};
+ghost use Rattle.aim_turn.specs.Models.{IsPassOf, IsSamePass};
+ghost use Rattle.aim_agent.specs.Agents.{IsAgentOf, front_of};
+ghost use Rattle.aim_agent.specs.Went.{Met};
+ghost use Rattle.aim_agents.specs.Runs.{Behind, Done, Followed, Gathered, IsFrontOf, Ran, shown_by};
+
+use aim_agent::{Agent, Gate};
+use aim_manager::{Manager, ManagerFront, ManagerPass};
+use std::sync::Wait;
+use std::sync::ledger::Ledger;
+
+// Lets the agent meet the one before it, if there is one.
+fn follow<L: Ledger>(manager: &Manager<L>, agent: &mut Agent<L>, before: Option<ManagerFront<L>>)
+    requires own { IsAgentOf manager.now agent.old }
+    requires before { IsFrontOf manager.now before }
+    ensures { Followed manager.now.setting (shown_by before) agent.old agent.new }
+{
+    match before {
+        Some(front) => agent.meet(manager, front),
+        None => {}
+    }
+}
+
+// One turn behind the agent before, and a note of what was seen then.
+fn one_turn<L: Ledger, R: Wait, G: Gate>(
+    rt: &R,
+    manager: &Manager<L>,
+    gate: &G,
+    step: u32,
+    agent: &mut Agent<L>,
+    before: Option<ManagerFront<L>>,
+) -> ManagerFront<L>
+    requires own { IsAgentOf manager.now agent.old }
+    requires last { step_of agent.old.driver.log ≤ step }
+    requires most { step ≤ LATEST_MOMENT }
+    requires before { IsFrontOf manager.now before }
+    ensures behind { Behind manager.now.setting step (shown_by before) agent.old agent.new }
+    ensures table { result.table ≡ manager.now.table }
+    ensures seen { result.seen ≡ agent.new.pass.seen }
+{
+    follow(manager, agent, before);
+    agent.turn(rt, manager, gate, step);
+    agent.front(manager)
+}
+
+/// The turns of a run, one agent after another, each behind all that the one before had seen.
+pub(crate) fn run_turns<L: Ledger, R: Wait, G: Gate>(
+    rt: &R,
+    manager: &Manager<L>,
+    gate: &G,
+    step: u32,
+    agents: &mut [Agent<L>],
+)
+    requires own { All (IsAgentOf manager.now) agents.old }
+    requires last { All (λ a. step_of a.driver.log ≤ step) agents.old }
+    requires most { step ≤ LATEST_MOMENT }
+    ensures { Ran manager.now.setting step agents.old agents.new }
+{
+    let mut before = None;
+    for agent in agents.iter_mut() {
+        before = Some(one_turn(rt, manager, gate, step, agent, before));
+    }
+}
+
+/// Lets the operator's pass see what each agent's pass has seen.
+pub(crate) fn gather<L: Ledger>(
+    manager: &Manager<L>,
+    operator: &mut ManagerPass<L>,
+    agents: &mut [Agent<L>],
+)
+    requires operator { IsPassOf manager.now operator.old }
+    requires agents { All (IsAgentOf manager.now) agents.old }
+    ensures same { IsSamePass operator.old operator.new }
+    ensures gathered { Gathered (length agents.old) operator.old operator.new agents.old agents.new }
+{
+    for agent in agents.iter_mut() {
+        let front = agent.front(manager);
+        manager.meet(operator, front);
+    }
+}
+
+/// Lets each agent's pass see what the operator's has seen.
+pub(crate) fn meet_all<L: Ledger>(
+    manager: &Manager<L>,
+    operator: &mut ManagerPass<L>,
+    agents: &mut [Agent<L>],
+)
+    requires operator { IsPassOf manager.now operator.old }
+    requires agents { All (IsAgentOf manager.now) agents.old }
+    ensures operator { operator.new ≡ operator.old }
+    ensures met { Done (λ a b. Met manager.now.setting a (front_of operator.old) b) (length agents.old)
+        agents.old agents.new }
+{
+    for agent in agents.iter_mut() {
+        let front = manager.front(operator);
+        agent.meet(manager, front);
+    }
+}

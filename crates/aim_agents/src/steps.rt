@@ -1,0 +1,101 @@
+//! The steps one after another, and in each the runs side by side.
+
+ghost use Rattle.std.specs.Prelude.{◌≡◌, ◌<◌, ◌≤◌, length, All};
+ghost use Rattle.aim_msg.specs.declared.entries.TheConstants.{LATEST_MOMENT};
+ghost use Rattle.aim_driver.specs.Models.{step_of};
+ghost use Rattle.aim_turn.specs.Models.{IsPassOf};
+ghost use Rattle.aim_agent.specs.Agents.{IsAgentOf};
+ghost use Rattle.aim_agents.specs.Runs.{Ran, RunsWent};
+ghost use Rattle.aim_agents.specs.Rounds.{Rounds, Stepped, run_size};
+
+use crate::runs::{gather, meet_all, run_turns};
+use aim_agent::{Agent, Gate};
+use aim_manager::{Manager, ManagerPass};
+use std::sync::Wait;
+use std::sync::ledger::Ledger;
+use std::thread;
+use std::thread::Threads;
+
+// The turns of all runs of one step, side by side.
+fn turns<L: Ledger + Send, R: Threads + Wait + Sync, G: Gate>(
+    rt: &R,
+    manager: &Manager<L>,
+    agents: &mut [Agent<L>],
+    gate: &G,
+    step: u32,
+    size: usize,
+)
+    requires size { 0 < size }
+    requires agents { All (IsAgentOf manager.now) agents.old }
+    requires last { All (λ a. step_of a.driver.log ≤ step) agents.old }
+    requires most { step ≤ LATEST_MOMENT }
+    ensures { RunsWent manager.now.setting step size agents.old agents.new }
+{
+    thread::for_each_chunk_mut(
+        rt,
+        agents,
+        size,
+        &|_start: usize, run: &mut [Agent<L>]|
+            requires { All (IsAgentOf manager.now) run.now × All (λ a. step_of a.driver.log ≤ step) run.now × (step ≤ LATEST_MOMENT) }
+            ensures { Ran manager.entry.now.setting step run.entry.now run.exit.now }
+        { run_turns(rt, manager, gate, step, run) },
+    );
+}
+
+// One step: the turns, and then the meetings.
+fn one_step<L: Ledger + Send, R: Threads + Wait + Sync, G: Gate>(
+    rt: &R,
+    manager: &Manager<L>,
+    operator: &mut ManagerPass<L>,
+    agents: &mut [Agent<L>],
+    gate: &G,
+    step: u32,
+    size: usize,
+)
+    requires size { 0 < size }
+    requires operator { IsPassOf manager.now operator.old }
+    requires agents { All (IsAgentOf manager.now) agents.old }
+    requires last { All (λ a. step_of a.driver.log ≤ step) agents.old }
+    requires most { step ≤ LATEST_MOMENT }
+    ensures { Stepped manager.now.setting step size operator.old operator.new agents.old agents.new }
+{
+    turns(rt, manager, agents, gate, step, size);
+    gather(manager, operator, agents);
+    meet_all(manager, operator, agents);
+}
+
+/// Lets the agents take their turns of the steps from `from` on and below `to`. In each step they are cut into runs of
+/// so many neighbours that there are at most `workers` runs. The runs go side by side, on threads of their own where
+/// threads can be had, and are joined before the next step; in a run each agent's turn stands behind that of the one
+/// before. Between two steps all that any of them has seen is seen by all, and by the operator's pass.
+pub fn rounds<L: Ledger + Send, R: Threads + Wait + Sync, G: Gate>(
+    rt: &R,
+    manager: &Manager<L>,
+    operator: &mut ManagerPass<L>,
+    agents: &mut [Agent<L>],
+    gate: &G,
+    from: u32,
+    to: u32,
+    workers: u32,
+)
+    requires steps { from ≤ to }
+    requires most { to ≤ 65536 }
+    requires workers { (0 < workers) × (workers ≤ 64) }
+    requires operator { IsPassOf manager.now operator.old }
+    requires agents { All (IsAgentOf manager.now) agents.old }
+    requires last { All (λ a. step_of a.driver.log ≤ from) agents.old }
+    ensures { Rounds manager.now.setting from to (run_size (length agents.old) workers) operator.old operator.new
+        agents.old agents.new }
+{
+    if from == to {
+        return;
+    }
+    if agents.is_empty() {
+        return;
+    }
+    let size = agents.len().div_ceil(workers as usize);
+    meet_all(manager, operator, agents);
+    for step in from..to {
+        one_step(rt, manager, operator, agents, gate, step, size);
+    }
+}

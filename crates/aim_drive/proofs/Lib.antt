@@ -1,0 +1,7 @@
+pub mod Lists
+pub mod Seats
+pub mod Closings
+pub mod Fitting
+pub mod Endings
+pub mod Headlines
+pub mod Rows

@@ -1,0 +1,154 @@
+//! A whole drive.
+
+ghost use Rattle.std.specs.Prelude.{◌≡◌, ◌≢◌, false, ◌+◌, ◌*◌, ◌<◌, ◌≤◌, ◌++◌, length, map, All, Some, None, IfOk, OnOk};
+ghost use Rattle.aim_msg.specs.declared.entries.TheConstants.{OPERATOR};
+ghost use Rattle.aim_turn.specs.Models.{new_pass};
+ghost use Rattle.aim_agent.specs.declared.agents.Trouble.TheVariants as trouble;
+ghost use Rattle.aim_agent.specs.Agents.{AgentModel, IsFull};
+ghost use Rattle.aim_agents.specs.Rounds.{run_size};
+ghost use Rattle.aim_plans.specs.Fits.{IsFit};
+ghost use Rattle.aim_plans.specs.Scripts.{drive_told};
+ghost use Rattle.aim_drive.specs.Headline.{Headline};
+ghost use Rattle.aim_drive.specs.Making.{all_passes, told_by, log_of};
+
+use crate::NoMemory;
+use crate::making::agents_of;
+use aim_agent::{Agent, Gate, Trouble};
+use aim_driver::Driver;
+use aim_fleet::drive;
+use aim_manager::{Manager, ManagerPass, OpenFault, Opened};
+use aim_msg::Entry;
+use aim_paths::Layout;
+use aim_plans::DriveScript;
+use std::alloc::Global;
+use std::sync::Wait;
+use std::sync::ledger::{Blank, Ledger};
+use std::thread::Threads;
+
+/// The log of a vehicle's driver.
+#[derive(Drop)]
+pub struct Logged {
+    pub vehicle: u32,
+    pub driver: Driver,
+}
+
+/// What a drive leaves.
+#[derive(Drop)]
+pub struct Drove {
+    /// All that was asked and answered, the oldest first.
+    pub journal: Vec<Entry>,
+    /// In the order of the plans.
+    pub logs: Vec<Logged>,
+}
+
+// A new manager with room for all calls and orders of a drive.
+fn open<L: Ledger>(
+    alloc: Global,
+    layout: Layout,
+    vehicles: u32,
+    orders: u32,
+    blank: Blank,
+) -> Result<Opened<L>, NoMemory>
+    requires vehicles { (0 < vehicles) × (vehicles ≤ 256) }
+    requires orders { orders ≤ 1024 }
+    requires name { blank.name ≡ L.name }
+    requires parts { blank.parts ≡ L.parts }
+    requires some { 0 < blank.parts }
+    ensures manager { IfOk result (λ o. o.manager.setting ≡ record { layout = layout; vehicles = vehicles; room = 128 * vehicles + orders + 1 }) }
+    ensures passes { IfOk result (λ o. o.passes.items ≡ all_passes o.manager) }
+    ensures operator { IfOk result (λ o. o.operator ≡ new_pass o.manager OPERATOR) }
+{
+    match Manager::<L>::open(alloc, layout, vehicles, 128 * vehicles + orders + 1, blank) {
+        Ok(opened) => Ok(opened),
+        Err(OpenFault::NoMemory) => Err(NoMemory),
+        Err(OpenFault::Vehicles) => unreachable!(),
+        Err(OpenFault::Room) => unreachable!(),
+    }
+}
+
+// Whether one of them found no memory.
+fn lack_memory<L: Ledger>(agents: &Vec<Agent<L>>) -> bool
+    ensures { result ≡ false → All (λ a. (a.trouble ≢ Some trouble.NoMemory) × (a.trouble ≡ Some trouble.Full → IsFull a.pass)) agents.now.items }
+{
+    for agent in agents {
+        if let Some(Trouble::NoMemory) = agent.trouble() {
+            return true;
+        }
+    }
+    false
+}
+
+// The logs of the drivers, in the order of the agents. Their passes come behind the others.
+fn logs_of<L: Ledger>(
+    alloc: Global,
+    agents: Vec<Agent<L>>,
+    passes: &mut Vec<ManagerPass<L>>,
+) -> Result<Vec<Logged>, NoMemory>
+    ensures logs { IfOk result (λ v. map log_of v.items ≡ map told_by agents.items) }
+    ensures passes { OnOk result (passes.new.items ≡ passes.old.items ++ map (λ (a : AgentModel). a.pass) agents.items) }
+{
+    let mut logs = Vec::with_capacity(alloc, agents.len())?;
+    for agent in agents {
+        let (driver, pass) = agent.into_parts();
+        logs.push_reserved(Logged {
+            vehicle: pass.number(),
+            driver,
+        });
+        passes.push(pass)?;
+    }
+    Ok(logs)
+}
+
+/// Runs a whole script: an agent for each plan, their turns of all steps in rounds of that many runs side by side, and
+/// the operator's orders between them. The journal and the logs are as the headline says.
+pub fn run_script<L: Ledger + Send, R: Threads + Wait + Sync, G: Gate>(
+    rt: &R,
+    alloc: Global,
+    script: DriveScript,
+    gate: &G,
+    workers: u32,
+    blank: Blank,
+) -> Result<Drove, NoMemory>
+    requires script { IsFit script }
+    requires workers { (0 < workers) × (workers ≤ 64) }
+    requires name { blank.name ≡ L.name }
+    requires parts { blank.parts ≡ L.parts }
+    requires some { 0 < blank.parts }
+    ensures { IfOk result (λ d. Headline script.layout script.vehicles script.until (run_size (length script.plans.items) workers)
+        (map drive_told script.plans.items) script.orders.items d.journal.items (map log_of d.logs.items)) }
+{
+    let DriveScript {
+        layout,
+        vehicles,
+        until,
+        plans,
+        orders,
+    } = script;
+    let spans = layout.ground().grid().spans;
+    let opened = open::<L>(alloc, layout, vehicles, orders.len() as u32, blank)?;
+    let Opened {
+        manager,
+        mut passes,
+        mut operator,
+    } = opened;
+    let mut agents = agents_of(alloc, &manager, plans, &mut passes, spans)?;
+    let went = drive(
+        rt,
+        &manager,
+        &mut operator,
+        &mut agents,
+        gate,
+        &orders,
+        until,
+        workers,
+    );
+    if lack_memory(&agents) {
+        return Err(NoMemory);
+    }
+    let logs = logs_of(alloc, agents, &mut passes)?;
+    let journal = manager.close(passes, operator).journal;
+    match went {
+        Ok(()) => Ok(Drove { journal, logs }),
+        Err(_full) => unreachable!(),
+    }
+}

@@ -1,0 +1,71 @@
+use Rattle.std.proofs.Common.{◌≡◌, ◌<◌, ◌≤◌, ◌∷◌, ◌++◌, [], length, map, get_or, refl, ap, ◌∙◌, arith}
+use Rattle.aim_msg.specs.declared.entries.Act.TheVariants as act
+use Rattle.aim_msg.specs.declared.entries.Order.TheVariants as order
+use Rattle.aim_msg.specs.declared.entries.Entry.{Entry}
+use Rattle.aim_agent.proofs.Passes.{extends_by, mine_is}
+use Rattle.aim_agents.specs.Rounds.{run_size}
+use Rattle.aim_plans.specs.declared.scripts.Ordered.{Ordered}
+use Rattle.aim_fleet.specs.Orders.{order_of}
+use Rattle.aim_fleet.proofs.DriveLaws.{driven_begin, driven_order, driven_rounds}
+use Rattle.aim_fleet.proofs.OrderLaws.{given_count, given_more, on_err, reached_first, reached_next}
+use Rattle.aim_fleet.proofs.driving.drive.Goals as goal
+
+abbrev none : Ordered
+none = record { moment = 0; order = order.Switch 0 }
+
+pub loop-ordered-init : goal.loop-ordered-init
+loop-ordered-init g c = record {
+  same = record { table = refl; setting = refl; number = refl };
+  driven = driven_begin c.args.manager.now.setting c.args.manager.now (run_size (length c.args.agents.now) c.args.workers) c.args.operator.now c.args.agents.now c.requires.new_operator.0 c.requires.new_operator.1 c.requires.agents;
+  given = ap (map order_of) c.requires.new_operator.1;
+  reached = reached_first c.args.until c.args.orders.now;
+}
+
+pub loop-ordered-preserved : goal.loop-ordered-preserved
+loop-ordered-preserved g c =
+    let set = c.args.manager.now.setting in
+    let i = c.loop-ordered.invariant in
+    let at = c.loop-ordered.ordered-index in
+    let x = get_or c.args.orders.now at none in
+    let le : c.loop-ordered.step ≤ x.moment = i.reached.ahead at none (omega arith) c.loop-ordered-test.true in
+    let r = c.rounds.ensures.same in
+    let t = c.operate.ensures.same in
+    let e : Entry = record { caller = c.rounds.new.operator.number; moment = x.moment; act = act.Order x.order; reply = c.in_ok-operate.field-0 } in
+    let call = extends_by set x.moment (act.Order x.order) c.in_ok-operate.field-0 c.rounds.new.operator c.operate.new.operator t c.in_ok-operate.ensures.served in
+    record {
+      same = record { table = t.table ∙ r.table ∙ i.same.table; setting = t.setting ∙ r.setting ∙ i.same.setting; number = t.number ∙ r.number ∙ i.same.number };
+      driven = driven_order set x.moment (run_size (length c.args.agents.now) c.args.workers) c.rounds.new.operator c.operate.new.operator
+          e c.args.agents.now c.rounds.new.agents call refl
+          (driven_rounds set c.loop-ordered.step x.moment (run_size (length c.args.agents.now) c.args.workers) (run_size (length c.loop-ordered.agents) c.args.workers)
+          c.loop-ordered.operator c.rounds.new.operator c.args.agents.now c.loop-ordered.agents c.rounds.new.agents le (ap (λ n. run_size n c.args.workers) i.driven.len) i.driven c.rounds.ensures);
+      given = given_more c.loop-ordered.operator.mine c.operate.new.operator.mine c.args.orders.now at none
+          e c.loop-ordered-test.true i.given
+          (mine_is set e c.rounds.new.operator c.operate.new.operator call ∙ ap (λ l. l ++ e ∷ []) c.rounds.ensures.operator.mine) refl;
+      reached = reached_next c.args.manager.now.setting.layout c.args.manager.now.setting.vehicles c.args.until at c.args.orders.now none c.requires.orders c.loop-ordered-test.true;
+    }
+
+pub returns-in_err-operate-clause-full : goal.returns-in_err-operate-clause-full
+returns-in_err-operate-clause-full g c =
+    let set = c.args.manager.now.setting in
+    let i = c.loop-ordered.invariant in
+    let at = c.loop-ordered.ordered-index in
+    let x = get_or c.args.orders.now at none in
+    let le : c.loop-ordered.step ≤ x.moment = i.reached.ahead at none (omega arith) c.loop-ordered-test.true in
+    let lt : at < length c.args.orders.now = c.loop-ordered-test.true in
+    let count : length c.loop-ordered.operator.mine ≡ at = given_count c.loop-ordered.operator.mine c.args.orders.now at (omega arith) i.given in
+    let mine : length c.operate.new.operator.mine ≡ length c.loop-ordered.operator.mine = ap (λ l. length l) (c.in_err-operate.ensures.served.mine ∙ c.rounds.ensures.operator.mine) in
+    on_err _ c.from_residual.result (record {
+      step = x.moment;
+      before = c.rounds.new.operator;
+      driven = driven_rounds set c.loop-ordered.step x.moment (run_size (length c.args.agents.now) c.args.workers) (run_size (length c.loop-ordered.agents) c.args.workers)
+          c.loop-ordered.operator c.rounds.new.operator c.args.agents.now c.loop-ordered.agents c.rounds.new.agents le (ap (λ n. run_size n c.args.workers) i.driven.len) i.driven c.rounds.ensures;
+      full = c.in_err-operate.ensures.served.full;
+      few = omega arith;
+    })
+
+pub returns-clause-driven : goal.returns-clause-driven
+returns-clause-driven g c =
+    let set = c.args.manager.now.setting in
+    let i = c.loop-ordered.invariant in
+    driven_rounds set c.loop-ordered.step c.args.until (run_size (length c.args.agents.now) c.args.workers) (run_size (length c.loop-ordered.agents) c.args.workers)
+    c.loop-ordered.operator c.rounds-2.new.operator c.args.agents.now c.loop-ordered.agents c.rounds-2.new.agents i.reached.below (ap (λ n. run_size n c.args.workers) i.driven.len) i.driven c.rounds-2.ensures

@@ -1,0 +1,14 @@
+use Rattle.std.proofs.Common.{length, take}
+use Rattle.aim_turn.specs.Models.{IsSamePass}
+use Rattle.aim_agents.specs.Rounds.{run_size}
+use Rattle.aim_fleet.specs.Driven.{Driven}
+use Rattle.aim_fleet.specs.Orders.{CarryOrders, IsReached}
+use Rattle.aim_fleet.proofs.driving.drive.Given as goal
+
+abbrev pub invariant-loop-ordered : goal.invariant-loop-ordered
+invariant-loop-ordered g l = record {
+  same : IsSamePass l.fn.operator l.operator;
+  driven : Driven l.manager.setting l.step (run_size (length l.fn.agents) l.workers) l.operator l.fn.agents l.agents;
+  given : CarryOrders l.operator.mine (take l.ordered-index l.orders);
+  reached : IsReached l.step l.ordered-index l.until l.orders;
+}

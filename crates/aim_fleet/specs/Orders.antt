@@ -1,0 +1,43 @@
+-- The orders of a drive.
+use Rattle.std.specs.Prelude.{◌≡◌, ℕ, ◌<◌, ◌≤◌, List, length, map, slice_index_or, Option, Some, None}
+use Rattle.aim_msg.specs.declared.entries.Act.TheVariants as act
+use Rattle.aim_msg.specs.declared.entries.Act.{Act}
+use Rattle.aim_msg.specs.declared.entries.Entry.{Entry}
+use Rattle.aim_msg.specs.declared.entries.TheConstants.{OPERATOR}
+use Rattle.aim_paths.specs.Intersection.{Intersection}
+use Rattle.aim_rules.specs.Legal.{IsOfLayout}
+use Rattle.aim_plans.specs.declared.scripts.Ordered.{Ordered}
+use Rattle.aim_manager.specs.declared.keeper.Setting.{Setting}
+use Rattle.aim_agent.specs.Agents.{AgentModel, AgentPass}
+use Rattle.aim_fleet.specs.Driven.{Driven}
+
+-- They are of the layout, at steps below the last one, and their moments don't fall.
+pub record AreOrders (i : Intersection) (vehicles until : ℕ) (orders : List Ordered) : Type 0 where
+  pub below : (k : ℕ) (d : Ordered) → k < length orders → (slice_index_or orders k d).moment < until
+  pub rising : (j k : ℕ) (d : Ordered) → j < k → k < length orders → (slice_index_or orders j d).moment ≤ (slice_index_or orders k d).moment
+  pub known : (k : ℕ) (d : Ordered) → k < length orders → IsOfLayout i vehicles OPERATOR (act.Order (slice_index_or orders k d).order)
+
+abbrev pub order_at : ℕ → Act → Option Ordered
+order_at moment (act.Order o) = Some (record { moment = moment; order = o })
+order_at moment (act.Message m) = None
+
+-- the order that an entry carries, if it carries one
+abbrev pub order_of : Entry → Option Ordered
+order_of e = order_at e.moment e.act
+
+-- the entries carry just these orders
+abbrev pub CarryOrders : List Entry → List Ordered → Type 0
+CarryOrders es orders = map order_of es ≡ map (λ x. Some x) orders
+
+-- An order found the journal full, after some steps.
+pub record FoundFull (s : Setting) (until size : ℕ) (op : AgentPass) (xs ys : List AgentModel) (orders : ℕ) : Type 0 where
+  pub step : ℕ
+  pub before : AgentPass
+  pub driven : Driven s step size before xs ys
+  pub full : length op.seen ≡ s.room
+  pub few : length op.mine < orders
+
+-- the step lies before all orders from that place on, and below the last step
+pub record IsReached (step place until : ℕ) (orders : List Ordered) : Type 0 where
+  pub below : step ≤ until
+  pub ahead : (k : ℕ) (d : Ordered) → place ≤ k → k < length orders → step ≤ (slice_index_or orders k d).moment

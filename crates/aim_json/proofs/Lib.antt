@@ -1,0 +1,5 @@
+pub mod JsonExamples
+pub mod Names
+pub mod Values
+pub mod Lists
+pub mod OneLine

@@ -1,0 +1,121 @@
+-- The JSON value of a script's line.
+use Rattle.std.specs.Prelude.{ℕ, ◌==◌, Bool, List, [], ◌∷◌, ◌++◌, codes, map, filter, take, if◌then◌else◌}
+use Rattle.serde_json.specs.Data.{Data}
+use Rattle.serde_json.specs.Written.{compact_text}
+use Rattle.aim_msg.specs.declared.messages.Params.{Params}
+use Rattle.aim_msg.specs.declared.messages.Body.{Body}
+use Rattle.aim_msg.specs.declared.messages.Body.TheVariants as body
+use Rattle.aim_msg.specs.declared.messages.Message.{Message}
+use Rattle.aim_msg.specs.declared.script.Line.{Line}
+use Rattle.aim_msg.specs.declared.script.Line.TheVariants as line
+use Rattle.aim_msg.specs.declared.script.MoveShape.{MoveShape}
+use Rattle.aim_msg.specs.declared.script.MoveShape.TheVariants as shape
+use Rattle.aim_msg.specs.declared.script.FateList.{FateList}
+use Rattle.aim_msg.specs.Texts.{turn_word, class_word}
+use Rattle.aim_msg.specs.Lines.{name_word, kind_word, window_word, has_lane, all_lanes}
+use Rattle.aim_json.specs.Members.{count, word, list, Member, object_of}
+
+-- an object with its kind and further members
+abbrev pub of_kind : List ℕ → List Member → Data
+of_kind name members = object_of ((codes "kind", word name) ∷ members)
+
+-- a vehicle's speed, greatest speed, acceleration and size, and its class
+abbrev pub vehicle_members : Params → List Member
+vehicle_members p =
+    (codes "speed", count p.speed)
+    ∷ (codes "max", count p.max_speed)
+    ∷ (codes "accel", count p.accel)
+    ∷ (codes "length", count p.length)
+    ∷ (codes "width", count p.width)
+    ∷ (codes "class", word (class_word p.emergency))
+    ∷ []
+
+abbrev pub way_members : Params → List Member
+way_members p = (codes "lane", count p.lane) ∷ (codes "turn", word (turn_word p.turn)) ∷ []
+
+abbrev pub params_members : Params → List Member
+params_members p = (way_members p ++ (codes "arrive", count p.arrive) ∷ []) ++ vehicle_members p
+
+abbrev pub body_json : ℕ → Body → Data
+body_json seq (body.Request p) = of_kind (codes "request") ((codes "seq", count seq) ∷ params_members p)
+body_json seq (body.Change id p) = of_kind (codes "change") ((codes "seq", count seq) ∷ (codes "id", count id) ∷ params_members p)
+body_json seq (body.Cancel id) = of_kind (codes "cancel") ((codes "seq", count seq) ∷ (codes "id", count id) ∷ [])
+body_json seq (body.Done id) = of_kind (codes "done") ((codes "seq", count seq) ∷ (codes "id", count id) ∷ [])
+
+abbrev pub message_json : Message → Data
+message_json m = body_json m.seq m.body
+
+-- a line with its form and further members
+abbrev pub of_form : List ℕ → List Member → Data
+of_form name members = object_of ((codes "form", word name) ∷ members)
+
+abbrev pub shape_members : MoveShape → List Member
+shape_members (shape.Line x0 y0 x1 y1 m) =
+    (codes "shape", word (codes "line"))
+    ∷ (codes "x0", count x0) ∷ (codes "y0", count y0)
+    ∷ (codes "x1", count x1) ∷ (codes "y1", count y1)
+    ∷ (codes "m", count m) ∷ []
+shape_members (shape.Curve x0 y0 x1 y1 x2 y2 m) =
+    (codes "shape", word (codes "curve"))
+    ∷ (codes "x0", count x0) ∷ (codes "y0", count y0)
+    ∷ (codes "x1", count x1) ∷ (codes "y1", count y1)
+    ∷ (codes "x2", count x2) ∷ (codes "y2", count y2)
+    ∷ (codes "m", count m) ∷ []
+
+-- the numbers of the lanes of a set, rising
+abbrev pub lanes_json : ℕ → Data
+lanes_json lanes = list (map count (filter (has_lane lanes) all_lanes))
+
+abbrev pub fate_json : ℕ → Data
+fate_json f =
+    if f == 0 then word (codes "d") else if f == 256 then word (codes "l") else if f == 257 then word (codes "r") else count f
+
+abbrev pub fates_json : FateList → Data
+fates_json fs = list (map fate_json (take fs.len fs.fates))
+
+-- the window, which only plans of version 3 have
+abbrev pub window_members : ℕ → Bool → List Member
+window_members version ahead = if version == 3 then (codes "window", word (window_word ahead)) ∷ [] else []
+
+-- the value of a line of a script of that version
+abbrev pub json_of : ℕ → Line → Data
+json_of version (line.Version n) = of_form (codes "aim") ((codes "n", count n) ∷ [])
+json_of version (line.Grid g) =
+    of_form (codes "grid")
+    ((codes "side", count g.side) ∷ (codes "n", count g.n) ∷ (codes "spacing", count g.spacing)
+    ∷ (codes "static", count g.fixed) ∷ (codes "half", count g.half) ∷ (codes "spans", count g.spans) ∷ [])
+json_of version (line.Times t) =
+    of_form (codes "times")
+    ((codes "horizon", count t.horizon) ∷ (codes "longest", count t.longest) ∷ (codes "clearance", count t.clearance)
+    ∷ (codes "internal", count t.internal) ∷ (codes "edge", count t.edge) ∷ [])
+json_of version (line.Times6 t) =
+    of_form (codes "times")
+    ((codes "horizon", count t.horizon) ∷ (codes "longest", count t.longest) ∷ (codes "clearance", count t.clearance)
+    ∷ (codes "early", count t.early) ∷ (codes "late", count t.late) ∷ (codes "edge", count t.edge) ∷ [])
+json_of version (line.Lanes n) = of_form (codes "lanes") ((codes "n", count n) ∷ [])
+json_of version (line.Move lane turn shape) =
+    of_form (codes "move") ((codes "lane", count lane) ∷ (codes "turn", word (turn_word turn)) ∷ shape_members shape)
+json_of version (line.Policy name k) = of_form (codes "policy") ((codes "name", word (name_word name)) ∷ (codes "kind", word (kind_word k)) ∷ [])
+json_of version (line.Phase red green lanes) =
+    of_form (codes "phase") ((codes "red", count red) ∷ (codes "green", count green) ∷ (codes "lanes", lanes_json lanes) ∷ [])
+json_of version (line.Vehicles n) = of_form (codes "vehicles") ((codes "n", count n) ∷ [])
+json_of version line.Begin = of_form (codes "begin") []
+json_of version (line.Event vehicle moment message) =
+    of_form (codes "event") ((codes "vehicle", count vehicle) ∷ (codes "moment", count moment) ∷ (codes "message", message_json message) ∷ [])
+json_of version (line.SwitchTo moment name) = of_form (codes "switch") ((codes "moment", count moment) ∷ (codes "name", word (name_word name)) ∷ [])
+json_of version (line.StopAt moment) = of_form (codes "stop") ((codes "moment", count moment) ∷ [])
+json_of version (line.Until step) = of_form (codes "until") ((codes "step", count step) ∷ [])
+json_of version (line.PlanFor vehicle first lead resend params ahead) =
+    of_form (codes "plan")
+    (((codes "v", count vehicle) ∷ (codes "first", count first) ∷ (codes "lead", count lead) ∷ (codes "resend", count resend) ∷ way_members params)
+    ++ (vehicle_members params ++ window_members version ahead))
+json_of version (line.ChangeAt vehicle step lead) =
+    of_form (codes "change") ((codes "v", count vehicle) ∷ (codes "step", count step) ∷ (codes "lead", count lead) ∷ [])
+json_of version (line.CancelAt vehicle step) = of_form (codes "cancel") ((codes "v", count vehicle) ∷ (codes "step", count step) ∷ [])
+json_of version (line.Up vehicle fates) = of_form (codes "up") ((codes "v", count vehicle) ∷ (codes "fates", fates_json fates) ∷ [])
+json_of version (line.Down vehicle fates) = of_form (codes "down") ((codes "v", count vehicle) ∷ (codes "fates", fates_json fates) ∷ [])
+json_of version line.End = of_form (codes "end") []
+
+-- the line as JSON text, without white space and with the members in the order of their names
+abbrev pub json_text : ℕ → Line → List ℕ
+json_text version l = compact_text (json_of version l)

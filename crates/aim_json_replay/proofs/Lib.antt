@@ -1,0 +1,3 @@
+pub mod JsonScriptExamples
+pub mod DecisionLemmas
+pub mod SpellingLemmas

@@ -1,0 +1,80 @@
+//! The last line.
+
+ghost use Rattle.std.specs.Prelude.{◌≡◌, IfOk};
+ghost use Rattle.serde_json.specs.View.{view};
+ghost use Rattle.aim_script.specs.Decided.{kind_text, limit_text};
+ghost use Rattle.aim_json_replay.specs.Spelling.{decision_json, decision_json_text};
+
+use aim_msg::{LineKind, NoMemory};
+use aim_script::{Decision, Kind, Limit};
+use serde_json::{Value, json};
+use std::alloc::Global;
+
+// The word for a kind of line that is no line of words.
+fn spelling_text(kind: LineKind) -> &'static str
+    ensures { result.now ≡ kind_text (Kind.Spelling kind) }
+{
+    match kind {
+        LineKind::Words => "words",
+        LineKind::Number => "number",
+        LineKind::Range => "range",
+        LineKind::Unknown => "unknown",
+    }
+}
+
+// The word for a kind of line at fault.
+fn kind_text(kind: Kind) -> &'static str
+    ensures { result.now ≡ kind_text kind }
+{
+    match kind {
+        Kind::Long => "long",
+        Kind::End => "end",
+        Kind::Spelling(kind) => spelling_text(kind),
+        Kind::Json => "json",
+        Kind::Form => "form",
+        Kind::Order => "order",
+        Kind::Version => "version",
+        Kind::Grid => "grid",
+        Kind::Buffers => "buffers",
+        Kind::Times => "times",
+        Kind::Lane => "lane",
+        Kind::Move => "move",
+        Kind::Spacing => "spacing",
+        Kind::Policy => "policy",
+        Kind::Phase => "phase",
+        Kind::Vehicle => "vehicle",
+        Kind::Moment => "moment",
+        Kind::Driver => "driver",
+    }
+}
+
+// The word for a limit.
+fn limit_text(limit: Limit) -> &'static str
+    ensures { result.now ≡ limit_text limit }
+{
+    match limit {
+        Limit::Bytes => "bytes",
+        Limit::Lines => "lines",
+        Limit::Vehicles => "vehicles",
+        Limit::Sheets => "sheets",
+        Limit::Orders => "orders",
+    }
+}
+
+fn decision_value(alloc: Global, decision: Decision) -> Result<Value, NoMemory>
+    ensures { IfOk result (λ v. view v ≡ decision_json decision) }
+{
+    match decision {
+        Decision::Bad(number, kind) => { json!(in alloc; {"bad": number, "kind": kind_text(kind)}) }
+        Decision::Limit(limit) => json!(in alloc; {"limit": limit_text(limit)}),
+        Decision::Whole(entries) => json!(in alloc; {"end": entries}),
+    }
+}
+
+/// The text of the last line, without its byte 10.
+#[tactic(auto, using(crate::proofs::DecisionLemmas::decision_has_no_float))]
+pub(crate) fn decision_text(alloc: Global, decision: Decision) -> Result<Vec<u8>, NoMemory>
+    ensures { IfOk result (λ b. b.items ≡ decision_json_text decision) }
+{
+    decision_value(alloc, decision)?.to_vec(alloc)
+}

@@ -1,0 +1,19 @@
+use Rattle.std.proofs.Common.{◌∙◌, ap, refl, get_or, filter_map}
+use Rattle.std.proofs.lemmas.Option.{slice_get-get_or}
+use Rattle.aim_msg.specs.declared.script.Line.TheVariants as line
+use Rattle.aim_plans.specs.Said.{ordered_in}
+use Rattle.aim_plans.proofs.Scanning.{given_next}
+use Rattle.aim_plans.proofs.building.orders_of.Goals as goal
+
+pub add_ordered-requires-clause-name : goal.add_ordered-requires-clause-name
+add_ordered-requires-clause-name c =
+    let lines = c.args.lines.now in
+    let i = c.loop-line.line-index in
+    c.requires.named.each i (get_or lines i (line.Version 0)) (slice_get-get_or lines i (line.Version 0) c.loop-line-test.true)
+
+pub loop-line-preserved : goal.loop-line-preserved
+loop-line-preserved c =
+    let lines = c.args.lines.now in
+    let i = c.loop-line.line-index in
+    let names = c.args.setting.now.names in
+    given_next (ordered_in names) lines i (line.Version 0) c.loop-line.orders.items (ordered_in names (get_or lines i (line.Version 0))) c.add_ordered.new.orders.items c.loop-line-test.true c.loop-line.invariant refl c.in_ok-add_ordered.ensures

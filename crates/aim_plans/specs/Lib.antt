@@ -1,0 +1,9 @@
+pub mod Order
+pub mod Said
+pub mod Seen
+pub mod Kinds
+pub mod Verdicts
+pub mod Scripts
+pub mod Short
+pub mod Fits
+pub mod Drafts

@@ -1,0 +1,9 @@
+use Rattle.std.proofs.Common.{◌∙◌, ap}
+use Rattle.aim_geometry.specs.declared.ground.Grid.{Grid}
+use Rattle.aim_server.proofs.SheetLemmas.{served_first}
+use Rattle.aim_server.proofs.servers.Server.open.Goals as goal
+
+pub invariant_of-result : goal.invariant_of-result
+invariant_of-result g c =
+    let spans = ap (λ (x : Grid). x.spans) (c.grid-spans.ensures.grid ∙ c.ground.ensures.grid) in
+    served_first c.args.layout c.args.vehicles _ _ (c.in_ok-book.ensures.ok ∙ c.in-Ok.ensures.book) (rw spans at c.in_ok-pool.ensures) c.requires.most

@@ -1,0 +1,127 @@
+//! The manager of a script, and the sheets with which it is asked.
+
+use aim_book::{Book, Full};
+use aim_buffers::prepare;
+use aim_msg::{Act, MOST_ENTRIES, Message, Order, Reply};
+use aim_paths::Layout;
+use aim_pool::Pool;
+use aim_tiles::Steps;
+use std::alloc::{AllocError as NoMemory, Global};
+use std::marker::Model;
+use std::sync::ledger::Ledger;
+
+/// A manager with room for an entry of every line, and a pool. The sheets in the pool and those that the manager keeps
+/// for its vehicles are one for each vehicle, and two: so two are there for every message.
+#[derive(Drop)]
+pub struct Server<L: Ledger> {
+    book: Box<Book<L>>,
+    pool: Pool,
+}
+
+impl<L: Ledger> Model for Server<L> {
+    ghost use Rattle.aim_book.specs.State.{State};
+    ghost use Rattle.aim_server.specs.Servers.{IsServed};
+
+    ghost Value = { State };
+
+    ghost view = { λ s. s.book.value };
+
+    ghost invariant = { λ s. IsServed s.book.value s.pool };
+}
+
+impl<L: Ledger> Server<L> {
+    ghost use Rattle.std.specs.Prelude.{◌≡◌, ◌<◌, ◌≤◌, ◌++◌, ◌∷◌, [], ℕ, length, IfOk};
+    ghost use Rattle.aim_msg.specs.declared.entries.TheConstants.{LATEST_MOMENT, MOST_ENTRIES, MOST_VEHICLES, OPERATOR};
+    ghost use Rattle.aim_rules.specs.Answer.{answer};
+    ghost use Rattle.aim_rules.specs.Legal.{IsOfLayout};
+    ghost use Rattle.aim_server.specs.Charted.{MarksRow};
+
+    /// A manager that was not asked yet. It takes all of its memory here.
+    pub fn open(alloc: Global, layout: Layout, vehicles: u32) -> Result<Server<L>, NoMemory>
+        requires some { 0 < vehicles }
+        requires most { vehicles ≤ MOST_VEHICLES }
+        ensures { IfOk result (λ s. s ≡ record { layout = layout; vehicles = vehicles; room = MOST_ENTRIES; journal = [] }) }
+    {
+        let spans = layout.ground().grid().spans;
+        let Ok(book) = Book::open(alloc, layout, vehicles, MOST_ENTRIES) else {
+            return Err(NoMemory);
+        };
+        let book = Box::new(alloc, book)?;
+        let pool = Pool::new(alloc, vehicles + 2, spans)?;
+        Ok(Server { book, pool })
+    }
+
+    /// How many vehicles there are.
+    pub fn vehicles(&self) -> u32
+        ensures { result ≡ self.now.vehicles }
+    {
+        self.book.vehicles()
+    }
+
+    /// How many entries the journal has.
+    pub fn entries(&self) -> u32
+        ensures { result ≡ length self.now.journal }
+    {
+        self.book.journal().len() as u32
+    }
+
+    /// The layout.
+    pub fn layout(&self) -> &Layout
+        ensures { result.now ≡ self.now.layout }
+    {
+        self.book.layout()
+    }
+
+    /// Answers a message of a vehicle.
+    pub fn serve(
+        &mut self,
+        vehicle: u32,
+        moment: u32,
+        message: &Message,
+        steps: &mut Steps<L>,
+    ) -> Reply
+        requires vehicle { vehicle < self.old.vehicles }
+        requires moment { moment ≤ LATEST_MOMENT }
+        requires room { length self.old.journal < MOST_ENTRIES }
+        ensures reply { result ≡ answer self.old.layout self.old.journal vehicle moment (Act.Message message.now) }
+        ensures entry { self.new ≡ record self.old { journal = self.old.journal ++ (record { caller = vehicle; moment = moment; act = Act.Message message.now; reply = result }) ∷ [] } }
+    {
+        let Ok(first) = self.pool.take() else {
+            unreachable!()
+        };
+        let Ok(second) = self.pool.take() else {
+            unreachable!()
+        };
+        let prepared = prepare(self.book.layout(), message, first, second);
+        match self
+            .book
+            .serve(vehicle, moment, prepared, &mut self.pool, steps)
+        {
+            Ok(reply) => reply,
+            Err(Full) => unreachable!(),
+        }
+    }
+
+    /// Answers an order of the operator.
+    pub fn operate(&mut self, moment: u32, order: Order, steps: &mut Steps<L>) -> Reply
+        requires moment { moment ≤ LATEST_MOMENT }
+        requires order { IsOfLayout self.old.layout self.old.vehicles OPERATOR (Act.Order order) }
+        requires room { length self.old.journal < MOST_ENTRIES }
+        ensures reply { result ≡ answer self.old.layout self.old.journal OPERATOR moment (Act.Order order) }
+        ensures entry { self.new ≡ record self.old { journal = self.old.journal ++ (record { caller = OPERATOR; moment = moment; act = Act.Order order; reply = result }) ∷ [] } }
+    {
+        match self.book.operate(moment, order, steps) {
+            Ok(reply) => reply,
+            Err(Full) => unreachable!(),
+        }
+    }
+
+    /// The columns of a row that a vehicle holds at a step, and those that a lane claims, as bits. Of a step below the
+    /// greatest moment of the journal there are none.
+    pub fn chart_row(&self, row: u8, step: u32) -> (u64, u64)
+        requires { row < self.now.layout.grid.n }
+        ensures { MarksRow self.now row step result.0 result.1 }
+    {
+        self.book.chart_row(row, step)
+    }
+}

@@ -1,0 +1,14 @@
+use denote.Param.Send.{sendable}
+use Rattle.std.proofs.Crossing.{crosses, sync}
+use Rattle.aim_manager.proofs.Crosses.{shared}
+use Rattle.bench_manager.proofs.Turns.TheSendSync as turns
+use Rattle.bench_manager.proofs.all_turns.Goals as goal
+
+pub map_vec-requires-send-J : goal.map_vec-requires-send-J
+map_vec-requires-send-J g c κs within = search (sendable, crosses, shared) depth 30
+
+pub map_vec-requires-send-X : goal.map_vec-requires-send-X
+map_vec-requires-send-X g c κs within = search (sendable, crosses, shared) depth 30
+
+pub map_vec-requires-sync-F : goal.map_vec-requires-sync-F
+map_vec-requires-sync-F g c κs within = search (sendable, crosses, sync, turns.the_sync, shared) depth 40

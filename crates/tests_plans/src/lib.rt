@@ -1,0 +1,7 @@
+//! Tests of reading drive scripts.
+#![tactic(auto)]
+
+#[cfg(test)]
+mod drives;
+#[cfg(test)]
+mod scripts;

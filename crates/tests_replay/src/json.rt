@@ -1,0 +1,21 @@
+//! A replay of JSON lines, from bytes to bytes, where memory is ample.
+
+use aim_io::{MemSink, MemSource};
+use aim_json_replay::replay_json;
+use std::test::Fail;
+
+const SCRIPT: &[u8] =
+    b"{\"form\":\"aim\",\"n\":1}\n{\"form\":\"grid\",\"half\":450,\"n\":4,\"side\":4000,\"spacing\":100,\"spans\":4096,\"static\":0}\n{\"clearance\":20,\"edge\":0,\"form\":\"times\",\"horizon\":1500,\"internal\":0,\"longest\":25}\n{\"form\":\"lanes\",\"n\":2}\n{\"form\":\"move\",\"lane\":0,\"m\":40,\"shape\":\"line\",\"turn\":\"straight\",\"x0\":0,\"x1\":4000,\"y0\":1500,\"y1\":1500}\n{\"form\":\"move\",\"lane\":1,\"m\":40,\"shape\":\"line\",\"turn\":\"straight\",\"x0\":2500,\"x1\":2500,\"y0\":0,\"y1\":4000}\n{\"form\":\"policy\",\"kind\":\"fcfs\",\"name\":\"plain\"}\n{\"form\":\"policy\",\"kind\":\"light\",\"name\":\"lights\"}\n{\"form\":\"phase\",\"green\":80,\"lanes\":[0],\"red\":20}\n{\"form\":\"phase\",\"green\":80,\"lanes\":[1],\"red\":20}\n{\"form\":\"policy\",\"kind\":\"emerg\",\"name\":\"siren\"}\n{\"form\":\"vehicles\",\"n\":8}\n{\"form\":\"begin\"}\n{\"form\":\"switch\",\"moment\":5,\"name\":\"lights\"}\n{\"form\":\"event\",\"message\":{\"accel\":0,\"arrive\":1494,\"class\":\"car\",\"kind\":\"request\",\"lane\":1,\"length\":1000,\"max\":500,\"seq\":1,\"speed\":500,\"turn\":\"straight\",\"width\":700},\"moment\":5,\"vehicle\":0}\n{\"form\":\"event\",\"message\":{\"accel\":0,\"arrive\":1520,\"class\":\"car\",\"kind\":\"request\",\"lane\":1,\"length\":1000,\"max\":500,\"seq\":1,\"speed\":500,\"turn\":\"straight\",\"width\":700},\"moment\":5,\"vehicle\":1}\n{\"form\":\"event\",\"message\":{\"accel\":0,\"arrive\":1530,\"class\":\"car\",\"kind\":\"request\",\"lane\":1,\"length\":1000,\"max\":500,\"seq\":2,\"speed\":500,\"turn\":\"straight\",\"width\":700},\"moment\":100,\"vehicle\":1}\n{\"form\":\"event\",\"message\":{\"accel\":0,\"arrive\":1530,\"class\":\"car\",\"kind\":\"request\",\"lane\":0,\"length\":1000,\"max\":500,\"seq\":1,\"speed\":500,\"turn\":\"straight\",\"width\":700},\"moment\":100,\"vehicle\":2}\n{\"form\":\"end\"}\n";
+
+const TEXT: &[u8] =
+    b"{\"act\":{\"kind\":\"switch\",\"policy\":1},\"caller\":\"operator\",\"moment\":5,\"position\":0,\"reply\":{\"from\":1505,\"kind\":\"switched\"}}\n{\"act\":{\"accel\":0,\"arrive\":1494,\"class\":\"car\",\"kind\":\"request\",\"lane\":1,\"length\":1000,\"max\":500,\"seq\":1,\"speed\":500,\"turn\":\"straight\",\"width\":700},\"caller\":0,\"moment\":5,\"position\":1,\"reply\":{\"early\":0,\"id\":1,\"kind\":\"confirm\",\"last\":1504,\"late\":0,\"start\":1494,\"trial\":\"steady\"}}\n{\"act\":{\"accel\":0,\"arrive\":1520,\"class\":\"car\",\"kind\":\"request\",\"lane\":1,\"length\":1000,\"max\":500,\"seq\":1,\"speed\":500,\"turn\":\"straight\",\"width\":700},\"caller\":1,\"moment\":5,\"position\":2,\"reply\":{\"held\":null,\"kind\":\"reject\",\"next\":30,\"reason\":{\"kind\":\"far\",\"reach\":1505}}}\n{\"act\":{\"accel\":0,\"arrive\":1530,\"class\":\"car\",\"kind\":\"request\",\"lane\":1,\"length\":1000,\"max\":500,\"seq\":2,\"speed\":500,\"turn\":\"straight\",\"width\":700},\"caller\":1,\"moment\":100,\"position\":3,\"reply\":{\"held\":null,\"kind\":\"reject\",\"next\":125,\"reason\":{\"col\":2,\"kind\":\"green\",\"lane\":0,\"row\":1,\"step\":1531}}}\n{\"act\":{\"accel\":0,\"arrive\":1530,\"class\":\"car\",\"kind\":\"request\",\"lane\":0,\"length\":1000,\"max\":500,\"seq\":1,\"speed\":500,\"turn\":\"straight\",\"width\":700},\"caller\":2,\"moment\":100,\"position\":4,\"reply\":{\"early\":0,\"id\":4,\"kind\":\"confirm\",\"last\":1540,\"late\":0,\"start\":1530,\"trial\":\"steady\"}}\n{\"end\":5}\n";
+
+#[test]
+fn confirmed_refused_and_switched(rt: HostRuntime) -> Result<(), Fail> {
+    let alloc = rt.alloc();
+    let mut source = MemSource::new(SCRIPT.to_vec(alloc)?, Vec::new(alloc));
+    let mut sink = MemSink::new(alloc, 8192, Vec::new(alloc))?;
+    assert_eq!(rt; replay_json(alloc, &mut source, &mut sink), 0);
+    assert_eq!(rt; sink.bytes(), TEXT);
+    Ok(())
+}
