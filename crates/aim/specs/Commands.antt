@@ -1,11 +1,11 @@
 -- The table of the words that the program takes.
-use Rattle.std.specs.Prelude.{ℕ, Bool, true, false, ◌&&◌, nat_le, List, [], ◌∷◌, Option, Some, None, option_map, codes, bytes_eq, if◌then◌else◌}
+use Rattle.std.specs.Prelude.{ℕ, ◌<◌, ◌≤◌, Bool, true, false, ◌&&◌, nat_le, List, [], ◌∷◌, Option, Some, None, option_map, codes, bytes_eq, if◌then◌else◌}
 use Rattle.aim_msg.specs.declared.entries.TheConstants.{LATEST_MOMENT}
 use Rattle.aim_read.specs.Faults.{is_number, value_of}
 use Rattle.aim_script.specs.Spellings.{Spelled, by_words}
 use Rattle.aim_json_replay.specs.Spelling.{by_json}
 use Rattle.aim.specs.declared.words.Command.{Command}
-use Rattle.aim.specs.declared.words.Command.TheVariants.{Replay, Chart, ReplayJson, Shards}
+use Rattle.aim.specs.declared.words.Command.TheVariants.{Replay, Chart, ReplayJson, Drive, Generate, Shards}
 
 -- the number that the word spells, if it is one from the least to the most
 abbrev pub number_in : ℕ → ℕ → List ℕ → Option ℕ
@@ -16,6 +16,7 @@ number_in low most word =
 abbrev pub command_with : List ℕ → List ℕ → Option Command
 command_with word number =
     if bytes_eq word (codes "chart") then option_map Chart (number_in 0 LATEST_MOMENT number)
+    else if bytes_eq word (codes "drive") then option_map Drive (number_in 1 64 number)
     else if bytes_eq word (codes "shards") then option_map Shards (number_in 1 64 number)
     else None
 
@@ -26,24 +27,53 @@ command_alone word =
     else if bytes_eq word (codes "replay-json") then Some ReplayJson
     else None
 
+-- the generated traffic of a number and a count, where both are there
+abbrev pub generated : Option ℕ → Option ℕ → Option Command
+generated (Some number) (Some count) = Some (Generate number count)
+generated _ _ = None
+
+-- the command of three words
+abbrev pub command_of_numbers : List ℕ → List ℕ → List ℕ → Option Command
+command_of_numbers word number count =
+    if bytes_eq word (codes "generate") then generated (number_in 0 4294967295 number) (number_in 1 256 count) else None
+
 -- the command of these words, if they are in the table
 abbrev pub command_of : List (List ℕ) → Option Command
 command_of (word ∷ []) = command_alone word
 command_of (word ∷ number ∷ []) = command_with word number
+command_of (word ∷ number ∷ count ∷ []) = command_of_numbers word number count
 command_of _ = None
+
+-- its numbers are within their bounds
+abbrev pub IsWithin : Command → Type 0
+IsWithin Replay = Unit {0}
+IsWithin (Chart step) = Unit {0}
+IsWithin ReplayJson = Unit {0}
+IsWithin (Drive workers) = (0 < workers) × (workers ≤ 64)
+IsWithin (Generate number count) = (0 < count) × (count ≤ 256)
+IsWithin (Shards workers) = (0 < workers) × (workers ≤ 64)
 
 -- whether the command replays a script
 abbrev pub is_replay : Command → Bool
 is_replay Replay = true
 is_replay (Chart step) = true
 is_replay ReplayJson = true
+is_replay (Drive workers) = false
+is_replay (Generate number count) = false
 is_replay (Shards workers) = false
+
+-- whether the command reads its input
+abbrev pub reads_input : Command → Bool
+reads_input (Generate number count) = false
+reads_input _ = true
 
 -- the step of whose chart the command asks, if it does
 abbrev pub asked_in : Command → Option ℕ
 asked_in Replay = None
 asked_in (Chart step) = Some step
 asked_in ReplayJson = None
+asked_in (Drive workers) = None
+asked_in (Generate number count) = None
 asked_in (Shards workers) = None
 
 -- how the lines of the script are spelled, and those that are printed

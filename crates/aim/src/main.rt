@@ -6,9 +6,17 @@ mod program;
 mod tests;
 mod words;
 
+use aim_agent::Gate;
 use aim_io::{StdSink, StdSource};
 use std::process::ExitCode;
 use std::{env, io};
+
+// A gate at which nobody waits.
+struct NoGate;
+
+impl Gate for NoGate {
+    fn before(&self, _vehicle: u32, _step: u32) {}
+}
 
 fn main(rt: HostRuntime) -> ExitCode {
     let alloc = rt.alloc();
@@ -17,12 +25,12 @@ fn main(rt: HostRuntime) -> ExitCode {
     let status = match env::args(&rt) {
         // The first word is the program's name.
         Ok(words) => match words.skip(1).collect::<Vec<String>>(alloc) {
-            Ok(words) => program::run(&rt, alloc, &words, &mut source, &mut sink),
+            Ok(words) => program::run(&rt, alloc, &words, &mut source, &mut sink, &NoGate),
             Err(_) => 7,
         },
         Err(error) if error.kind() == io::ErrorKind::OutOfMemory => 7,
         // A word that is no text is in no table.
-        Err(_) => program::run(&rt, alloc, &[], &mut source, &mut sink),
+        Err(_) => program::run(&rt, alloc, &[], &mut source, &mut sink, &NoGate),
     };
     ExitCode::from(status)
 }

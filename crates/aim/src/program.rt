@@ -8,13 +8,19 @@ ghost use Rattle.aim_io.specs.Known.{AppendsFront};
 ghost use Rattle.aim_replay.specs.Replays.{LastNeededBy, ReplaysBy, StopsShortBy, TakesAtMost, WritesFront};
 ghost use Rattle.aim_replay.specs.Texts.{text_by};
 ghost use Rattle.aim.specs.declared.words.Command.{Command};
-ghost use Rattle.aim.specs.Commands.{asked_in, command_of as command_in, is_replay, spelled_in};
+ghost use Rattle.aim.specs.Commands.{IsWithin, asked_in, command_of as command_in, is_replay, reads_input, spelled_in};
+ghost use Rattle.aim_plans.specs.Scripts.{TakesAtMost as TakesAtMostOfDrive};
+ghost use Rattle.aim_plans.specs.Short.{StopsShort as StopsShortDrive};
+ghost use Rattle.aim_driving.specs.Commands.{Completes as CompletesDrive, Shows as ShowsDrive, ShowsFront as ShowsFrontOfDrive};
+ghost use Rattle.aim_driving.specs.Generated.{Counts, CountsFront};
 ghost use Rattle.aim_claims.specs.Short.{StopsShort as StopsShortClaims};
 ghost use Rattle.aim_callers.specs.Commands.{Completes as CompletesShards, Shows, ShowsFront};
 ghost use Rattle.aim.specs.Runs.{Completes, TellsUsage};
 
 use crate::words::{Command, command_of};
+use aim_agent::Gate;
 use aim_callers::shards;
+use aim_driving::{drive, generate};
 use aim_io::{Sink, Source, put_all};
 use aim_json_replay::replay_json;
 use aim_replay::replay;
@@ -43,18 +49,19 @@ fn tell_usage<K: Sink>(sink: &mut K) -> u8
 }
 
 // Does what the command asks for.
-fn obey<R: Threads + Wait + Sync, S: Source, K: Sink>(
+fn obey<R: Threads + Wait + Sync, S: Source, K: Sink, G: Gate>(
     rt: &R,
     alloc: Global,
     command: Command,
     source: &mut S,
     sink: &mut K,
+    gate: &G,
 ) -> u8
-    requires workers { (n : ℕ) → command ≡ Command.Shards n → 0 < n }
+    requires within { IsWithin command }
     ensures whole { is_replay command ≡ true
         → (result ≡ 0) ⊎ ((result ≡ 3) ⊎ (result ≡ 6)) → IfSome (S.left source.old)
         (λ bytes. ReplaysBy (spelled_in command) (asked_in command) bytes (K.held sink.old) (K.held sink.new) result) }
-    ensures ended { result ≡ 0 → IsAtEnd (S.left source.new) }
+    ensures ended { reads_input command ≡ true → result ≡ 0 → IsAtEnd (S.left source.new) }
     ensures most { is_replay command ≡ true
         → TakesAtMost 67108865 (S.left source.old) (S.left source.new) }
     ensures needed { is_replay command ≡ true
@@ -66,6 +73,20 @@ fn obey<R: Threads + Wait + Sync, S: Source, K: Sink>(
         → result ≡ 4 → StopsShortBy (spelled_in command) (S.left source.old) (S.left source.new) (K.held sink.old) (K.held sink.new) }
     ensures memory { (spelled_in command).takes_memory ≡ false
         → result ≡ 7 → Appends (K.held sink.old) (K.held sink.new) [] }
+    ensures drive { (workers : ℕ) → command ≡ Command.Drive workers → (result ≡ 0) ⊎ ((result ≡ 3) ⊎ (result ≡ 6))
+        → IfSome (S.left source.old) (λ bytes. ShowsDrive workers bytes (K.held sink.old) (K.held sink.new) result) }
+    ensures drive_front { (workers : ℕ) → command ≡ Command.Drive workers → result ≡ 5
+        → IfSome (S.left source.old) (λ bytes. ShowsFrontOfDrive workers bytes (K.held sink.old) (K.held sink.new)) }
+    ensures drive_nothing { (workers : ℕ) → command ≡ Command.Drive workers → (result ≡ 4) ⊎ (result ≡ 7) → Appends (K.held sink.old) (K.held sink.new) [] }
+    ensures drive_short { (workers : ℕ) → command ≡ Command.Drive workers → result ≡ 4 → StopsShortDrive (S.left source.old) (S.left source.new) }
+    ensures drive_most { (workers : ℕ) → command ≡ Command.Drive workers → TakesAtMostOfDrive 67108865 (S.left source.old) (S.left source.new) }
+    ensures drive_complete { (workers : ℕ) → command ≡ Command.Drive workers → IfSome (S.left source.old)
+        (λ bytes. CompletesDrive bytes (S.faults source.old) (S.faults source.new) (K.faults sink.old) (K.faults sink.new) result) }
+    ensures generate { (number count : ℕ) → command ≡ Command.Generate number count → result ≡ 0 → Counts number count (K.held sink.old) (K.held sink.new) }
+    ensures generate_front { (number count : ℕ) → command ≡ Command.Generate number count → result ≡ 5 → CountsFront number count (K.held sink.old) (K.held sink.new) }
+    ensures generate_nothing { (number count : ℕ) → command ≡ Command.Generate number count → result ≡ 7 → Appends (K.held sink.old) (K.held sink.new) [] }
+    ensures generate_statuses { (number count : ℕ) → command ≡ Command.Generate number count → (result ≡ 0) ⊎ ((result ≡ 5) ⊎ (result ≡ 7)) }
+    ensures unread { reads_input command ≡ false → source.new ≡ source.old }
     ensures shards { (workers : ℕ) → command ≡ Command.Shards workers → (result ≡ 0) ⊎ ((result ≡ 3) ⊎ (result ≡ 6))
         → IfSome (S.left source.old) (λ bytes. Shows bytes (K.held sink.old) (K.held sink.new) result) }
     ensures shards_front { (workers : ℕ) → command ≡ Command.Shards workers → result ≡ 5
@@ -87,6 +108,8 @@ fn obey<R: Threads + Wait + Sync, S: Source, K: Sink>(
         Command::Replay => replay(alloc, source, sink, None),
         Command::ReplayJson => replay_json(alloc, source, sink),
         Command::Chart(step) => replay(alloc, source, sink, Some(step)),
+        Command::Drive(workers) => drive(rt, alloc, workers, source, sink, gate),
+        Command::Generate(number, count) => generate(rt, alloc, number, count, sink),
         Command::Shards(workers) => shards(rt, alloc, workers, source, sink, &NoHold),
     }
 }
@@ -95,13 +118,15 @@ fn obey<R: Threads + Wait + Sync, S: Source, K: Sink>(
 /// 0 where a script was whole, 2 for words outside the table, 3 for a line at fault, 4 where the
 /// source fails, 5 where the sink fails, 6 for a limit, and 7 where memory runs out.
 ///
-/// With the word `shards` it waits for turns, and returns where these come.
-pub fn run<R: Threads + Wait + Sync, S: Source, K: Sink>(
+/// With the words `drive`, `generate` and `shards` it waits for turns, and returns where these come. Before each call of a
+/// vehicle in `drive` it tells the gate.
+pub fn run<R: Threads + Wait + Sync, S: Source, K: Sink, G: Gate>(
     rt: &R,
     alloc: Global,
     words: &[String],
     source: &mut S,
     sink: &mut K,
+    gate: &G,
 ) -> u8
     // Words outside the table: nothing is read, and the usage is all that is written.
     ensures outside { command_in (map string_bytes words.now) ≡ None → (source.new ≡ source.old) × TellsUsage (K.held sink.old) (K.held sink.new) result }
@@ -112,7 +137,8 @@ pub fn run<R: Threads + Wait + Sync, S: Source, K: Sink>(
     ensures whole { (command : Command) → command_in (map string_bytes words.now) ≡ Some command → is_replay command ≡ true
         → (result ≡ 0) ⊎ ((result ≡ 3) ⊎ (result ≡ 6)) → IfSome (S.left source.old)
         (λ bytes. ReplaysBy (spelled_in command) (asked_in command) bytes (K.held sink.old) (K.held sink.new) result) }
-    ensures ended { result ≡ 0 → IsAtEnd (S.left source.new) }
+    ensures ended { (command : Command) → command_in (map string_bytes words.now) ≡ Some command → reads_input command ≡ true
+        → result ≡ 0 → IsAtEnd (S.left source.new) }
 
     // Whatever the status, no more than one byte past the greatest input is taken, and nothing is read behind bytes that
     // decide.
@@ -129,6 +155,27 @@ pub fn run<R: Threads + Wait + Sync, S: Source, K: Sink>(
         → result ≡ 4 → StopsShortBy (spelled_in command) (S.left source.old) (S.left source.new) (K.held sink.old) (K.held sink.new) }
     ensures memory { (command : Command) → command_in (map string_bytes words.now) ≡ Some command → (spelled_in command).takes_memory ≡ false
         → result ≡ 7 → Appends (K.held sink.old) (K.held sink.new) [] }
+
+    // A drive, in so many runs side by side: THE HEADLINE. With status 0, 3 or 6 a whole text of the source's bytes is
+    // written, and the status is theirs. Of a whole script it is the report of a journal and logs of which the headline
+    // holds, by the script's lines. With status 5 a front of such a text is written, with status 4 or 7 nothing.
+    ensures drive { (workers : ℕ) → command_in (map string_bytes words.now) ≡ Some (Command.Drive workers) → (result ≡ 0) ⊎ ((result ≡ 3) ⊎ (result ≡ 6))
+        → IfSome (S.left source.old) (λ bytes. ShowsDrive workers bytes (K.held sink.old) (K.held sink.new) result) }
+    ensures drive_front { (workers : ℕ) → command_in (map string_bytes words.now) ≡ Some (Command.Drive workers) → result ≡ 5
+        → IfSome (S.left source.old) (λ bytes. ShowsFrontOfDrive workers bytes (K.held sink.old) (K.held sink.new)) }
+    ensures drive_nothing { (workers : ℕ) → command_in (map string_bytes words.now) ≡ Some (Command.Drive workers) → (result ≡ 4) ⊎ (result ≡ 7) → Appends (K.held sink.old) (K.held sink.new) [] }
+    ensures drive_short { (workers : ℕ) → command_in (map string_bytes words.now) ≡ Some (Command.Drive workers) → result ≡ 4 → StopsShortDrive (S.left source.old) (S.left source.new) }
+    ensures drive_most { (workers : ℕ) → command_in (map string_bytes words.now) ≡ Some (Command.Drive workers) → TakesAtMostOfDrive 67108865 (S.left source.old) (S.left source.new) }
+    ensures drive_complete { (workers : ℕ) → command_in (map string_bytes words.now) ≡ Some (Command.Drive workers) → IfSome (S.left source.old)
+        (λ bytes. CompletesDrive bytes (S.faults source.old) (S.faults source.new) (K.faults sink.old) (K.faults sink.new) result) }
+    // Generated traffic. With status 0 the counts of a drive of its script, with one worker, are written: of a journal and
+    // logs of which the headline holds. With status 5 a front of these lines is written, with 7 nothing, and there is no
+    // other status. Nothing is read.
+    ensures generate { (number count : ℕ) → command_in (map string_bytes words.now) ≡ Some (Command.Generate number count) → result ≡ 0 → Counts number count (K.held sink.old) (K.held sink.new) }
+    ensures generate_front { (number count : ℕ) → command_in (map string_bytes words.now) ≡ Some (Command.Generate number count) → result ≡ 5 → CountsFront number count (K.held sink.old) (K.held sink.new) }
+    ensures generate_nothing { (number count : ℕ) → command_in (map string_bytes words.now) ≡ Some (Command.Generate number count) → result ≡ 7 → Appends (K.held sink.old) (K.held sink.new) [] }
+    ensures generate_statuses { (number count : ℕ) → command_in (map string_bytes words.now) ≡ Some (Command.Generate number count) → (result ≡ 0) ⊎ ((result ≡ 5) ⊎ (result ≡ 7)) }
+    ensures unread { (command : Command) → command_in (map string_bytes words.now) ≡ Some command → reads_input command ≡ false → source.new ≡ source.old }
 
     // A run of a script of claims. With status 0, 3 or 6 a whole text of the source's bytes is written, and the status is
     // theirs; with status 5 a front of one is, with status 4 nothing.
@@ -153,6 +200,6 @@ pub fn run<R: Threads + Wait + Sync, S: Source, K: Sink>(
 {
     match command_of(words) {
         None => tell_usage(sink),
-        Some(command) => obey(rt, alloc, command, source, sink),
+        Some(command) => obey(rt, alloc, command, source, sink, gate),
     }
 }

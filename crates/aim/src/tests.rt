@@ -1,9 +1,11 @@
 use crate::program::run;
+use aim_agent::Gate;
 use aim_io::{MemSink, MemSource};
 use std::alloc::{AllocError, Global};
 use std::sync::Wait;
+use std::sync::atomic::{AtomicU64, Ordering};
 use std::test::Fail;
-use std::thread::Threads;
+use std::thread::{Threads, yield_now};
 
 // A crossing of two straight lanes under FCFS, for eight vehicles.
 const HEADER: &[u8] =
@@ -57,8 +59,20 @@ const CHART_FAULTS: [(&[u64], u8, &[u8]); 7] = [
     ),
 ];
 
+// Two vehicles of one lane each. The second asks at step 0, and its message comes at step 1, together with the same
+// message sent again; the first asks at step 1.
+const DRIVE: &[u8] =
+    b"aim 1\ngrid 4000 4 100 0 450 4096\ntimes 1500 25 20 0 0\nlanes 2\nmove 0 straight line 0 1500 4000 1500 40\nmove 1 straight line 2500 0 2500 4000 40\npolicy plain fcfs\nvehicles 2\nbegin\nuntil 3\nplan 0 1 10 3 0 straight 500 500 0 1000 700 car\nplan 1 0 10 1 1 straight 500 500 0 1000 700 car\nup 1 1\nend\n";
+
+// How often a caller looks whether the other has come.
+const LOOKS: u32 = 100_000_000;
+
+// What is printed of generated traffic of one vehicle.
+const GENERATED: &[u8] =
+    b"steps 4033\nentries 2\nconfirms 1\nrejects 0\nentered 1\nend 2\n";
+
 // Words that are outside the table.
-const OUTSIDE: [&[&str]; 12] = [
+const OUTSIDE: [&[&str]; 18] = [
     &["replay", "now"],
     &[],
     &["Replay"],
@@ -66,6 +80,12 @@ const OUTSIDE: [&[&str]; 12] = [
     &["chart", "015"],
     &["chart", "1073741825"],
     &["chart", "15", "16"],
+    &["drive"],
+    &["drive", "0"],
+    &["drive", "65"],
+    &["generate", "1"],
+    &["generate", "01", "1"],
+    &["generate", "1", "257"],
     &["shards"],
     &["shards", "0"],
     &["shards", "65"],
@@ -73,22 +93,62 @@ const OUTSIDE: [&[&str]; 12] = [
     &["shards", "1", "1"],
 ];
 
+/// A gate at which nobody waits.
+struct Open;
+
+impl Gate for Open {
+    fn before(&self, _vehicle: u32, _step: u32) {}
+}
+
+/// Vehicle 1 waits here, at its first call, until vehicle 0 has come, and vehicle 0 until vehicle 1 has come twice, the
+/// second time after its first call was answered. Each waits for a while only, and counts where that was in vain.
+struct Meeting {
+    first: AtomicU64,
+    second: AtomicU64,
+    missed: AtomicU64,
+}
+
+impl Meeting {
+    fn wait_for(&self, calls: &AtomicU64, least: u64) {
+        for _ in 0..LOOKS {
+            if calls.load(Ordering::SeqCst) >= least {
+                return;
+            }
+            yield_now();
+        }
+        self.missed.fetch_add(1, Ordering::SeqCst);
+    }
+}
+
+impl Gate for Meeting {
+    fn before(&self, vehicle: u32, _step: u32) {
+        if vehicle == 0 {
+            if self.first.fetch_add(1, Ordering::SeqCst) == 0 {
+                self.wait_for(&self.second, 2);
+            }
+        } else if self.second.fetch_add(1, Ordering::SeqCst) == 0 {
+            self.wait_for(&self.first, 1);
+        }
+    }
+}
+
 // A sink that has got what the program writes, and its status.
-fn answer(
+fn answer<G: Gate>(
     rt: &(impl Threads + Wait + Sync),
     alloc: Global,
     words: &[&str],
     script: Vec<u8>,
     reads: &[u64],
     writes: &[u64],
+    gate: &G,
 ) -> Result<(u8, MemSink), AllocError> {
     let mut texts = Vec::new(alloc);
     for word in words {
         texts.push(String::from_str(alloc, word)?)?;
     }
     let mut source = MemSource::new(script, reads.to_vec(alloc)?);
-    let mut sink = MemSink::new(alloc, 4096, writes.to_vec(alloc)?)?;
-    let status = run(rt, alloc, &texts, &mut source, &mut sink);
+    let mut sink = MemSink::new(alloc, 8192, writes.to_vec(alloc)?)?;
+    let status = run(rt, alloc, &texts, &mut source, &mut sink, gate);
     Ok((status, sink))
 }
 
@@ -103,7 +163,7 @@ fn behind(alloc: Global, first: &[u8], others: &[u8]) -> Result<Vec<u8>, AllocEr
 fn words_outside_the_table(rt: HostRuntime) -> Result<(), Fail> {
     let alloc = rt.alloc();
     for words in OUTSIDE {
-        let (status, sink) = answer(&rt, alloc, words, Vec::new(alloc), &[], &[])?;
+        let (status, sink) = answer(&rt, alloc, words, Vec::new(alloc), &[], &[], &Open)?;
         assert_eq!(rt; status, 2);
         assert_eq!(rt; sink.bytes(), b"usage\n".as_slice());
     }
@@ -116,7 +176,7 @@ fn faults_of_the_source_and_the_sink(rt: HostRuntime) -> Result<(), Fail> {
     for (reads, writes, status, text) in FAULTS {
         let mut script = behind(alloc, HEADER, FIRST)?;
         script.extend_from_slice(b"end\n")?;
-        let (answered, sink) = answer(&rt, alloc, &["replay"], script, reads, writes)?;
+        let (answered, sink) = answer(&rt, alloc, &["replay"], script, reads, writes, &Open)?;
         assert_eq!(rt; answered, status);
         assert_eq!(rt; sink.bytes(), text);
     }
@@ -129,9 +189,39 @@ fn faults_of_the_sink_in_a_chart(rt: HostRuntime) -> Result<(), Fail> {
     for (writes, status, text) in CHART_FAULTS {
         let mut script = behind(alloc, HEADER, FIRST)?;
         script.extend_from_slice(b"end\n")?;
-        let (answered, sink) = answer(&rt, alloc, &["chart", "15"], script, &[], writes)?;
+        let (answered, sink) = answer(&rt, alloc, &["chart", "15"], script, &[], writes, &Open)?;
         assert_eq!(rt; answered, status);
         assert_eq!(rt; sink.bytes(), text);
     }
+    Ok(())
+}
+
+#[test]
+fn two_drivers_call_at_once(rt: HostRuntime) -> Result<(), Fail> {
+    let alloc = rt.alloc();
+    let gate = Meeting {
+        first: AtomicU64::new(0),
+        second: AtomicU64::new(0),
+        missed: AtomicU64::new(0),
+    };
+    let script = DRIVE.to_vec(alloc)?;
+    let (status, sink) = answer(&rt, alloc, &["drive", "2"], script, &[], &[], &gate)?;
+    assert_eq!(rt; status, 0);
+    assert_eq!(rt;
+        gate.missed.load(Ordering::SeqCst),
+        0,
+        "the runs didn't go side by side"
+    );
+    assert!(rt; sink.bytes().ends_with(b"end 3\n"));
+    Ok(())
+}
+
+#[test]
+fn traffic_is_counted(rt: HostRuntime) -> Result<(), Fail> {
+    let alloc = rt.alloc();
+    let words = ["generate", "1", "1"];
+    let (status, sink) = answer(&rt, alloc, &words, Vec::new(alloc), &[], &[], &Open)?;
+    assert_eq!(rt; status, 0);
+    assert_eq!(rt; sink.bytes(), GENERATED);
     Ok(())
 }

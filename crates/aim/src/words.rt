@@ -1,8 +1,8 @@
 //! The words that the program takes.
 
-ghost use Rattle.std.specs.Prelude.{◌≡◌, map};
+ghost use Rattle.std.specs.Prelude.{◌≡◌, ◌≤◌, map, IfSome};
 ghost use Rattle.std.specs.String.{string_bytes};
-ghost use Rattle.aim.specs.Commands.{command_alone as command_of_one, command_of as command_in, command_with as command_of_two, number_in as number_of};
+ghost use Rattle.aim.specs.Commands.{IsWithin, command_alone as command_of_one, command_of as command_in, command_with as command_of_two, command_of_numbers as command_of_three, number_in as number_of};
 
 use aim_claims::number;
 use aim_msg::LATEST_MOMENT;
@@ -16,13 +16,18 @@ pub enum Command {
     Chart(u32),
     /// `replay-json`: replay the script of the input, whose lines are JSON text, and print JSON lines.
     ReplayJson,
+    /// `drive WORKERS`: run the drive script of the input with so many workers, 1 to 64.
+    Drive(u32),
+    /// `generate NUMBER COUNT`: run generated traffic of so many vehicles, 1 to 256, and print counts.
+    Generate(u32, u32),
     /// `shards WORKERS`: run the script of claims of the input with so many workers, 1 to 64.
     Shards(u32),
 }
 
 // The number that the word spells, if it is one from `low` to `most`.
 fn number_in(word: &[u8], low: u32, most: u32) -> Option<u32>
-    ensures { result ≡ number_of low most word.now }
+    ensures value { result ≡ number_of low most word.now }
+    ensures within { IfSome result (λ n. (low ≤ n) × (n ≤ most)) }
 {
     match number(word) {
         Ok(n) if low <= n && n <= most => Some(n),
@@ -32,7 +37,8 @@ fn number_in(word: &[u8], low: u32, most: u32) -> Option<u32>
 
 // The command of one word, if it is in the table.
 fn command_alone(word: &[u8]) -> Option<Command>
-    ensures { result ≡ command_of_one word.now }
+    ensures value { result ≡ command_of_one word.now }
+    ensures within { IfSome result IsWithin }
 {
     if word == b"replay".as_slice() {
         return Some(Command::Replay);
@@ -45,10 +51,14 @@ fn command_alone(word: &[u8]) -> Option<Command>
 
 // The command of two words, if they are in the table.
 fn command_with(word: &[u8], number: &[u8]) -> Option<Command>
-    ensures { result ≡ command_of_two word.now number.now }
+    ensures value { result ≡ command_of_two word.now number.now }
+    ensures within { IfSome result IsWithin }
 {
     if word == b"chart".as_slice() {
         return Some(Command::Chart(number_in(number, 0, LATEST_MOMENT)?));
+    }
+    if word == b"drive".as_slice() {
+        return Some(Command::Drive(number_in(number, 1, 64)?));
     }
     if word == b"shards".as_slice() {
         return Some(Command::Shards(number_in(number, 1, 64)?));
@@ -56,13 +66,30 @@ fn command_with(word: &[u8], number: &[u8]) -> Option<Command>
     None
 }
 
+// The command of three words, if they are in the table.
+fn command_of_numbers(word: &[u8], number: &[u8], count: &[u8]) -> Option<Command>
+    ensures value { result ≡ command_of_three word.now number.now count.now }
+    ensures within { IfSome result IsWithin }
+{
+    if word == b"generate".as_slice() {
+        let number = number_in(number, 0, u32::MAX)?;
+        let count = number_in(count, 1, 256)?;
+        return Some(Command::Generate(number, count));
+    }
+    None
+}
+
 /// The command of the words, if they are in the table.
 pub fn command_of(words: &[String]) -> Option<Command>
-    ensures { result ≡ command_in (map string_bytes words.now) }
+    ensures value { result ≡ command_in (map string_bytes words.now) }
+    ensures within { IfSome result IsWithin }
 {
     match words {
         [word] => command_alone(word.as_bytes()),
         [word, number] => command_with(word.as_bytes(), number.as_bytes()),
+        [word, number, count] => {
+            command_of_numbers(word.as_bytes(), number.as_bytes(), count.as_bytes())
+        }
         _ => None,
     }
 }

@@ -114,8 +114,9 @@ pub fn run_script<L: Ledger + Send, R: Threads + Wait + Sync, G: Gate>(
     requires name { blank.name ≡ L.name }
     requires parts { blank.parts ≡ L.parts }
     requires some { 0 < blank.parts }
-    ensures { IfOk result (λ d. Headline script.layout script.vehicles script.until (run_size (length script.plans.items) workers)
+    ensures headline { IfOk result (λ d. Headline script.layout script.vehicles script.until (run_size (length script.plans.items) workers)
         (map drive_told script.plans.items) script.orders.items d.journal.items (map log_of d.logs.items)) }
+    ensures few { IfOk result (λ d. length d.journal.items ≤ 128 * script.vehicles + length script.orders.items + 1) }
 {
     let DriveScript {
         layout,

@@ -1,6 +1,6 @@
 //! Rounds of two agents on two threads, and orders between them.
 
-ghost use Rattle.std.specs.Prelude.{◌≡◌, ◌<◌, [], length, All, IfOk};
+ghost use Rattle.std.specs.Prelude.{◌≡◌, ◌<◌, true, [], length, All, IfOk};
 ghost use Rattle.aim_agent.specs.Agents.{IsAgentOf};
 
 use crate::crossing::{crossing, request};
@@ -22,6 +22,18 @@ use std::thread::{Threads, yield_now};
 
 // How often a caller looks whether the other has come.
 const LOOKS: u32 = 1_000_000;
+
+// What the operator asks for.
+const ORDERS: [Ordered; 2] = [
+    Ordered {
+        moment: 2,
+        order: Order::Switch(0),
+    },
+    Ordered {
+        moment: 5,
+        order: Order::Stop,
+    },
+];
 
 /// In step 0 a caller waits here, for a while, until two have come. It counts those that waited in vain.
 #[derive(Drop)]
@@ -69,12 +81,29 @@ fn assert_asked(rt: &impl Abort, log: &[LogItem], lane: u8) {
 }
 
 // Whether it is the operator's entry of that place.
-fn is_order(entry: &Entry, place: u32) -> bool {
+fn is_order(entry: &Entry, place: u32) -> bool
+    ensures { result ≡ true → place < 2 }
+{
     match entry.act {
         Act::Order(Order::Switch(0)) => place == 0 && entry.moment == 2,
         Act::Order(Order::Stop) => place == 1 && entry.moment == 5,
         _ => false,
     }
+}
+
+// Moments don't fall, and the operator's entries are the two orders.
+fn assert_in_order(rt: &impl Abort, journal: &[Entry]) {
+    let mut moment = 0;
+    let mut given = 0u32;
+    for entry in journal {
+        assert!(rt; moment <= entry.moment);
+        moment = entry.moment;
+        if entry.caller == OPERATOR {
+            assert!(rt; is_order(entry, given));
+            given += 1;
+        }
+    }
+    assert_eq!(rt; given, 2);
 }
 
 // Two agents of two runs make their first calls side by side. The operator switches at step 2 and stops at step 5.
@@ -99,16 +128,6 @@ fn two_runs<L: Ledger + Send, R: Threads + Wait + Sync + Abort>(
         came: AtomicU64::new(0),
         missed: AtomicU64::new(0),
     };
-    let orders = [
-        Ordered {
-            moment: 2,
-            order: Order::Switch(0),
-        },
-        Ordered {
-            moment: 5,
-            order: Order::Stop,
-        },
-    ];
     let first = agent_of(alloc, &manager, first, 0, Fate::Deliver)?;
     let second = agent_of(alloc, &manager, second, 1, Fate::Deliver)?;
     let mut agents = vec![in alloc; first, second]?;
@@ -118,7 +137,7 @@ fn two_runs<L: Ledger + Send, R: Threads + Wait + Sync + Abort>(
         &mut operator,
         &mut agents,
         &door,
-        &orders,
+        &ORDERS,
         40,
         2,
     );
@@ -135,18 +154,7 @@ fn two_runs<L: Ledger + Send, R: Threads + Wait + Sync + Abort>(
     assert_asked(rt, second.log(), 1);
     passes.push_reserved(first.into_parts().1);
     passes.push_reserved(second.into_parts().1);
-    let journal = manager.close(passes, operator).journal;
-    let mut moment = 0;
-    let mut given = 0u32;
-    for entry in &journal {
-        assert!(rt; moment <= entry.moment);
-        moment = entry.moment;
-        if entry.caller == OPERATOR {
-            assert!(rt; is_order(entry, given));
-            given += 1;
-        }
-    }
-    assert_eq!(rt; given, 2);
+    assert_in_order(rt, &manager.close(passes, operator).journal);
     Ok(())
 }
 

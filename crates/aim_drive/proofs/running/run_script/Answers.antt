@@ -110,8 +110,8 @@ unreachable-requires g c =
     never_full m spans size plans xs ys rest c.in_ok-agents.ensures.agents c.in_ok-agents.ensures.left ride c.args.script.until op h (length c.args.script.orders.items) closed memory room
     (lent_full m.setting c.args.script.until c.args.workers op xs c.deref_mut.result.now ys (length c.deref.result.now) (length c.args.script.orders.items) c.deref_mut.ensures.value (ap (λ (l : List Ordered). length l) c.deref.ensures.value) c.in-Err.ensures.full)
 
-pub returns : goal.returns
-returns g c =
+pub returns-clause-headline : goal.returns-clause-headline
+returns-clause-headline g c =
     let m = c.in_ok-opened.opened.manager in
     let xs = c.in_ok-agents.agents.items in
     let ys = c.drive-went.new.agents in
@@ -159,3 +159,10 @@ returns g c =
       closed = closed;
       valid = subst (λ (i : Intersection). IsValid i) (sym (ap (λ (x : Setting). x.layout) e)) c.ground.ensures.valid;
     }))
+
+pub returns-clause-few : goal.returns-clause-few
+returns-clause-few g c =
+    let room_is : c.in_ok-opened.opened.manager.setting.room ≡ 128 * c.args.script.vehicles + c.len.result + 1 = ap (λ (x : Setting). x.room) c.in_ok-opened.ensures.manager in
+    let many_orders : c.len.result ≡ length c.args.script.orders.items = omega arith in
+    let fits : length c.close-journal.result.journal.items ≤ c.in_ok-opened.opened.manager.setting.room = c.close-journal.ensures.fits in
+    omega arith

@@ -1,0 +1,41 @@
+-- A run of a script is one of the lines that say it.
+use Rattle.std.proofs.Common.{◌≡◌, ℕ, List, length, map, sym, ap, ◌∙◌, subst}
+use Rattle.std.proofs.lemmas.List.{length-map}
+use Rattle.aim_msg.specs.declared.entries.Entry.{Entry}
+use Rattle.aim_msg.specs.declared.script.Line.{Line}
+use Rattle.aim_paths.specs.Intersection.{Intersection}
+use Rattle.aim_script.specs.Said.{layout_of, vehicles_of}
+use Rattle.aim_plans.specs.declared.scripts.DriveScript.{DriveScript}
+use Rattle.aim_plans.specs.declared.scripts.Ordered.{Ordered}
+use Rattle.aim_plans.specs.declared.scripts.Planned.{Planned}
+use Rattle.aim_plans.specs.Said.{Drive, until_of, drives_of, orders_of}
+use Rattle.aim_plans.specs.Scripts.{IsScriptOf, drive_told}
+use Rattle.aim_report.specs.Reports.{report}
+use Rattle.aim_agents.specs.Rounds.{run_size}
+use Rattle.aim_drive.specs.Headline.{Headline, VehicleLog}
+use Rattle.aim_driving.specs.Ordered.{in_order}
+use Rattle.aim_driving.specs.Runs.{IsRunOf}
+use Rattle.aim_driving.specs.Commands.{IsReport}
+
+module _ (workers : ℕ) (lines : List Line) (s : DriveScript) (is : IsScriptOf lines s) (h : List Entry) (logs : List VehicleLog) where
+  count : length s.plans.items ≡ length (drives_of lines)
+  count = sym (length-map s.plans.items drive_told) ∙ ap length is.plans
+
+  pub is_run : Headline s.layout s.vehicles s.until (run_size (length s.plans.items) workers) (map drive_told s.plans.items) s.orders.items h logs → IsRunOf workers lines h logs
+  is_run l =
+      subst (λ (i : Intersection). Headline i (vehicles_of lines) (until_of lines) (run_size (length (drives_of lines)) workers) (drives_of lines) (orders_of lines) h logs) is.layout
+      (subst (λ (n : ℕ). Headline s.layout n (until_of lines) (run_size (length (drives_of lines)) workers) (drives_of lines) (orders_of lines) h logs) is.vehicles
+      (subst (λ (n : ℕ). Headline s.layout s.vehicles n (run_size (length (drives_of lines)) workers) (drives_of lines) (orders_of lines) h logs) is.until
+      (subst (λ (n : ℕ). Headline s.layout s.vehicles s.until (run_size n workers) (drives_of lines) (orders_of lines) h logs) count
+      (subst (λ (ds : List Drive). Headline s.layout s.vehicles s.until (run_size (length s.plans.items) workers) ds (orders_of lines) h logs) is.plans
+      (subst (λ (os : List Ordered). Headline s.layout s.vehicles s.until (run_size (length s.plans.items) workers) (map drive_told s.plans.items) os h logs) is.orders l)))))
+
+  -- the report of a run of the script is one of the lines
+  pub is_report : (i : Intersection) (text : List ℕ) → i ≡ s.layout → text ≡ report i h (in_order s.vehicles logs)
+      → Headline s.layout s.vehicles s.until (run_size (length s.plans.items) workers) (map drive_told s.plans.items) s.orders.items h logs → IsReport workers lines text
+  is_report i text same told l = record {
+    journal = h;
+    logs = logs;
+    run = is_run l;
+    is = told ∙ ap (λ (x : Intersection). report x h (in_order s.vehicles logs)) (same ∙ is.layout) ∙ ap (λ (n : ℕ). report (layout_of lines) h (in_order n logs)) is.vehicles;
+  }

@@ -1,0 +1,4 @@
+pub mod Ordered
+pub mod Runs
+pub mod Commands
+pub mod Summaries

@@ -1,0 +1,47 @@
+-- The counts of a drive, and how they are printed.
+use Rattle.std.specs.Prelude.{ℕ, Bool, true, false, List, [], ◌∷◌, ◌++◌, length, filter, codes, decimal}
+use Rattle.std.specs.List.{list_any}
+use Rattle.aim_msg.specs.declared.entries.Entry.{Entry}
+use Rattle.aim_msg.specs.declared.replies.Reply.{Reply}
+use Rattle.aim_msg.specs.declared.replies.Reply.TheVariants as reply
+use Rattle.aim_msg.specs.Texts.{spaced}
+use Rattle.aim_driver.specs.declared.logs.LogItem.{LogItem}
+use Rattle.aim_driver.specs.declared.logs.LogItem.TheVariants as item
+use Rattle.aim_script.specs.Decided.{printed}
+use Rattle.aim_drive.specs.Headline.{VehicleLog}
+
+abbrev pub is_confirm : Entry → Bool
+is_confirm e = confirms_in e.reply
+  where
+    abbrev confirms_in : Reply → Bool
+    confirms_in (reply.Confirm id start early late accelerate last) = true
+    confirms_in _ = false
+
+abbrev pub is_reject : Entry → Bool
+is_reject e = rejects_in e.reply
+  where
+    abbrev rejects_in : Reply → Bool
+    rejects_in (reply.Reject reason next held) = true
+    rejects_in _ = false
+
+abbrev pub is_entered : LogItem → Bool
+is_entered (item.Entered step id) = true
+is_entered _ = false
+
+-- whether the vehicle of the log has entered
+abbrev pub has_entered : VehicleLog → Bool
+has_entered x = list_any is_entered x.1
+
+-- a word and a number
+abbrev pub counted : List ℕ → ℕ → List ℕ
+counted word n = printed (spaced (word ∷ decimal n ∷ []))
+
+-- the steps, the entries, those that confirm and those that reject, and the vehicles that entered
+abbrev pub summary : ℕ → List Entry → List VehicleLog → List ℕ
+summary steps h logs =
+    counted (codes "steps") steps ++
+    counted (codes "entries") (length h) ++
+    counted (codes "confirms") (length (filter is_confirm h)) ++
+    counted (codes "rejects") (length (filter is_reject h)) ++
+    counted (codes "entered") (length (filter has_entered logs)) ++
+    counted (codes "end") (length h)
