@@ -10,9 +10,11 @@ run() { # run WORD .. < INPUT
   printf 'status %s' $?
 }
 
-# Each example prints what stands beside it.
+# Each example prints what stands beside it. A drive, which has an `until` line, does with one worker.
 for text in examples/*.out; do
-  judge "$text" "$(cat "$text"; printf 'status 0')" "$(run replay < "${text%.out}.aim")"
+  words=(replay)
+  ! grep -q '^until ' "${text%.out}.aim" || words=(drive 1)
+  judge "$text" "$(cat "$text"; printf 'status 0')" "$(run "${words[@]}" < "${text%.out}.aim")"
 done
 
 # No script, words that the program doesn't know, an input that can't be read, an output that can't be written.
