@@ -56,5 +56,9 @@ judge 'a chart' "$(sed '$d' examples/session.out; printf '....\n....\n####\n....
 judge 'a partner process' 'end 11 0' "$(python3 examples/partner.py ./aim 2> /dev/null | tail -n 1)"
 judge 'a partner process in JSON' '{"end":11} 0' "$(python3 examples/partner.py ./aim --json 2> /dev/null | tail -n 1)"
 
+# The picture of a drive is made of the example as it stands.
+picture=$(python3 tools/drive_picture.py examples/lossy.aim examples/lossy.out)
+judge 'the picture of a drive' "$(cat docs/pictures/drive.svg)" "$picture"
+
 printf 'replays: %s passed, %s failed\n' "$passed" "$failed"
 [ "$failed" -eq 0 ]
