@@ -136,6 +136,45 @@ tiles 0 1 3 14 19
 end 2
 """
 
+# What drivers do at the edges of their rules, on the small crossing with windows from 1 step early to 3 steps late.
+EDGES = {
+    "an answer in the last step of the window": (
+        "until 40", "plan 0 0 10 255 0 straight 500 500 0 1000 700 car start", "down 0 12"),
+    "an answer one step behind the window": (
+        "until 40", "plan 0 0 10 255 0 straight 500 500 0 1000 700 car start", "down 0 13"),
+    "an answer in the first step of the early window": (
+        "until 40", "plan 0 0 10 255 0 straight 500 500 0 1000 700 car early", "down 0 8"),
+    "a second change before the first is answered": (
+        "until 90", "plan 0 0 10 3 0 straight 500 500 0 1000 700 car start", "change 0 1 40", "change 0 2 60",
+        "down 0 d 5"),
+    "a cancel before a change is answered": (
+        "until 90", "plan 0 0 10 3 0 straight 500 500 0 1000 700 car start", "change 0 1 40", "cancel 0 2",
+        "down 0 d 9"),
+    "a cancel and a change of one step": (
+        "until 90", "plan 0 0 10 3 0 straight 500 500 0 1000 700 car start", "change 0 4 40", "cancel 0 4"),
+    "a change that is refused, and then the crossing": (
+        "until 40", "plan 0 0 10 3 0 straight 500 500 0 1000 700 car start", "change 0 3 1"),
+    "a change from too far, then another request": (
+        "until 60", "plan 2 0 30 3 1 straight 500 500 0 1000 700 car start",
+        "plan 0 1 12 3 0 straight 500 500 0 1000 700 car start",
+        "plan 1 2 29 3 0 straight 500 500 0 1000 700 car start", "change 0 5 50", "cancel 0 7"),
+    "a stop between a confirm and a change": (
+        "until 40", "plan 0 0 10 3 0 straight 500 500 0 1000 700 car start", "change 0 3 20", "operator 2 stop"),
+    "a stop before an answer that is late": (
+        "until 40", "plan 0 0 10 3 0 straight 500 500 0 1000 700 car early", "down 0 6 2", "operator 2 stop"),
+    "a first letter that comes behind the second": (
+        "until 60", "plan 0 0 20 5 0 straight 500 500 0 1000 700 car start", "cancel 0 8", "up 0 d 9 r 7 r"),
+    "all letters twice": (
+        "until 60", "plan 0 0 20 1 0 straight 500 500 0 1000 700 car early", "up 0 r r r r r r r r",
+        "down 0 r r r r r r r r"),
+    "answers that are all lost": (
+        "until 120", "plan 0 0 20 1 0 straight 500 500 0 1000 700 car start", "down 0" + " l" * 64),
+    "a done that is lost": (
+        "until 60", "plan 0 0 10 4 0 straight 500 500 0 1000 700 car start", "up 0 d l l"),
+    "a plan with a speed of nought": (
+        "until 9", "plan 0 0 3 3 0 straight 0 500 0 1000 700 car start"),
+}
+
 
 # ---- Scripts that are made.
 
@@ -319,10 +358,13 @@ def main():
         for fate in ("d", "l", "r", "1", "255"):
             drive(f"the lossy drive with `{way} {vehicle} {fate}`", faulty(vehicle, way, fate), 1)
     drive("a driver that enters early", EARLY, 1, EARLY_TEXT)
+    head = CROSSING.format(version=3, times="1500 25 20 1 3 4", policies=PLAIN_AND_LIGHTS, vehicles=3)
+    for what, lines in EDGES.items():
+        drive(what, head + "\n".join([*lines, "end", ""]), 1)
     for seed in range(18):
         version, policies = VERSIONS[seed % len(VERSIONS)]
         script = small_drive(seed, version, policies, seed % 3 == 2)
-        drive(f"small drive {seed} of version {version}", script, 1 + seed % 2)
+        drive(f"small drive {seed} of version {version}", script, (1, 2, 3, 64)[seed % 4])
     for seed in range(3):
         for workers in (1, 2, 4):
             drive(f"busy drive {seed}", busy_drive(seed), workers)
