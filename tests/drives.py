@@ -152,6 +152,10 @@ EDGES = {
         "down 0 d 9"),
     "a cancel and a change of one step": (
         "until 90", "plan 0 0 10 3 0 straight 500 500 0 1000 700 car start", "change 0 4 40", "cancel 0 4"),
+    "a cancel in the step of entering": (
+        "until 40", "plan 0 0 10 3 0 straight 500 500 0 1000 700 car start", "cancel 0 10"),
+    "a change in the step of entering": (
+        "until 40", "plan 0 0 10 3 0 straight 500 500 0 1000 700 car early", "change 0 9 20"),
     "a change that is refused, and then the crossing": (
         "until 40", "plan 0 0 10 3 0 straight 500 500 0 1000 700 car start", "change 0 3 1"),
     "a change from too far, then another request": (
