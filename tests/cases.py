@@ -1,6 +1,7 @@
 """Runs the program that ./aim built over the cases of tests/cases, as a user does. Ends with a status other than 0
 where anything differs. A case is a folder with `words` (one a line), `input`, `output` and `status`; its name says what
-it shows."""
+it shows. AIM names another program."""
+import os
 import pathlib
 import subprocess
 import sys
@@ -8,7 +9,7 @@ import sys
 import judging
 
 TOP = pathlib.Path(__file__).resolve().parent.parent
-PROGRAM = TOP / "crates/aim/out/aim"
+PROGRAM = os.environ.get("AIM", TOP / "crates/aim/out/aim")
 
 
 def difference(case):

@@ -10,9 +10,11 @@ run() { # run WORD .. < INPUT
   printf 'status %s' $?
 }
 
-# Each example prints what stands beside it.
+# Each example prints what stands beside it. A drive, which has an `until` line, does with one worker.
 for text in examples/*.out; do
-  judge "$text" "$(cat "$text"; printf 'status 0')" "$(run replay < "${text%.out}.aim")"
+  words=(replay)
+  ! grep -q '^until ' "${text%.out}.aim" || words=(drive 1)
+  judge "$text" "$(cat "$text"; printf 'status 0')" "$(run "${words[@]}" < "${text%.out}.aim")"
 done
 
 # No script, words that the program doesn't know, an input that can't be read, an output that can't be written.
@@ -53,6 +55,10 @@ exec {to}>&-
 judge 'a chart' "$(sed '$d' examples/session.out; printf '....\n....\n####\n....\nend 17\nstatus 0')" "$(run chart 1755 < examples/session.aim)"
 judge 'a partner process' 'end 11 0' "$(python3 examples/partner.py ./aim 2> /dev/null | tail -n 1)"
 judge 'a partner process in JSON' '{"end":11} 0' "$(python3 examples/partner.py ./aim --json 2> /dev/null | tail -n 1)"
+
+# The picture of a drive is made of the example as it stands.
+picture=$(python3 tools/drive_picture.py examples/lossy.aim examples/lossy.out)
+judge 'the picture of a drive' "$(cat docs/pictures/drive.svg)" "$picture"
 
 printf 'replays: %s passed, %s failed\n' "$passed" "$failed"
 [ "$failed" -eq 0 ]

@@ -1,17 +1,20 @@
 """Runs the program that ./aim built in surroundings that cut, fill and break what it reads and writes. Ends with a
-status other than 0 where anything differs."""
+status other than 0 where anything differs. AIM names another program."""
 import os
 import pathlib
 import subprocess
 import sys
 
 TOP = pathlib.Path(__file__).resolve().parent.parent
-PROGRAM = TOP / "crates/aim/out/aim"
+PROGRAM = os.environ.get("AIM", TOP / "crates/aim/out/aim")
 CASE = TOP / "tests/cases/a-first-confirm"
 SCRIPT = (CASE / "input").read_bytes()
 TEXT = (CASE / "output").read_bytes()
 CONFIRMED = TEXT.split(b"\n")[0] + b"\n"
 HEADER = SCRIPT[: SCRIPT.index(b"begin\n") + 6]
+LOSSY_CASE = TOP / "tests/cases/drive-lost-late-and-repeated-letters"
+LOSSY = (LOSSY_CASE / "input").read_bytes()
+LOSSY_TEXT = (LOSSY_CASE / "output").read_bytes()
 FAILURES = []
 COUNT = 0
 
@@ -111,12 +114,100 @@ def reader_goes_away():
     judge("a reader that goes away", True, status == 5 or status < 0)
 
 
+def cut_line(rest, line, number):
+    """The text for a drive of whose line of that number only such a rest is there, and no line behind it."""
+    words, whole = rest.split(" "), line.split(" ")
+    lacks_digits = len(words) == len(whole) and whole[-1].isdigit()
+    if rest in ("", line):
+        return f"bad line {number + (rest != '')} end\n"
+    if words[0] != whole[0]:
+        return f"bad line {number} unknown\n"
+    if lacks_digits and words[-1] == "" and whole[0] not in ("up", "down"):
+        return f"bad line {number} number\n"
+    if lacks_digits and words[-1] != "":
+        # A number that lacks digits is a number. But as many stations of a move are too far apart.
+        return f"bad line {number} spacing\n" if whole[0] == "move" else f"bad line {number + 1} end\n"
+    if len(words) == len(whole) and whole[0] == "operator" and words[-1] != "":
+        return f"bad line {number} policy\n"
+    return f"bad line {number} words\n"
+
+
+def drives_cut_everywhere():
+    """The lossy drive cut behind each of its bytes: where the script isn't whole, the verdict alone is printed."""
+    script = LOSSY.decode()
+    for place in range(len(script) + 1):
+        before, rest = script[:place].split("\n")[:-1], script[:place].split("\n")[-1]
+        wanted = 0, LOSSY_TEXT
+        if script[:place].rstrip("\n") != script.rstrip("\n"):
+            wanted = 3, cut_line(rest, script.split("\n")[len(before)], len(before) + 1).encode()
+        judge(f"a drive cut behind byte {place}", wanted, run(LOSSY[:place], "drive", "1"))
+
+
+def drives_with_other_bytes():
+    """A byte that no text has in the place of each byte of two plans, and lines that are filled up to a length."""
+    lines = LOSSY.split(b"\n")[:-1]
+    for number, line in enumerate(lines, 1):
+        around = [b"\n".join(lines[: number - 1] + [b""]), b"\n".join([b"", *lines[number:], b""])]
+        for place in range(len(line)) if line.startswith(b"plan ") else []:
+            for byte in (b"\0", b"\t", b"\xff", b"\r"):
+                status, text = run((line[:place] + byte + line[place + 1 :]).join(around), "drive", "1")
+                texts = [b"bad line %d %s\n" % (number, kind) for kind in (b"unknown", b"words", b"number")]
+                judge(f"byte {byte!r} at {place} of line {number} of a drive", True, status == 3 and text in texts)
+        for length, kind in ((400, b"words"), (401, b"long")):
+            wanted = 3, b"bad line %d %s\n" % (number, kind)
+            got = run(line.ljust(length).join(around), "drive", "1")
+            judge(f"line {number} of a drive filled up to {length} bytes", wanted, got)
+
+
+def drives_in_pieces():
+    """The lossy drive byte by byte; an input and an output that fail; an input without an end, and one of 64 MiB."""
+    program = subprocess.Popen([PROGRAM, "drive", "1"], stdin=subprocess.PIPE, stdout=subprocess.PIPE, bufsize=0)
+    for place in range(len(LOSSY)):
+        program.stdin.write(LOSSY[place : place + 1])
+    text, _ = program.communicate(timeout=60)
+    judge("a drive byte by byte", (0, LOSSY_TEXT), (program.returncode, text))
+    folder = os.open(TOP, os.O_RDONLY)
+    done = subprocess.run([PROGRAM, "drive", "1"], stdin=folder, stdout=subprocess.PIPE, timeout=60, check=False)
+    os.close(folder)
+    judge("a drive from a folder", (4, b""), (done.returncode, done.stdout))
+    with open("/dev/full", "wb") as full:
+        done = subprocess.run([PROGRAM, "drive", "1"], input=LOSSY, stdout=full, timeout=60, check=False)
+    judge("a drive to a full output", 5, done.returncode)
+    with open("/dev/zero", "rb") as endless:
+        done = subprocess.run([PROGRAM, "drive", "1"], stdin=endless, stdout=subprocess.PIPE, timeout=60, check=False)
+    judge("a drive from /dev/zero", (3, b"bad line 1 long\n"), (done.returncode, done.stdout))
+    judge("a drive of 64 MiB in one line", (3, b"bad line 1 long\n"), run(b"a" * 67_108_864, "drive", "1"))
+
+
+def reader_of_a_drive_goes_away():
+    """The reader of a drive's output closes it, at once or behind some bytes of a text of some MiB."""
+    head = LOSSY[: LOSSY.index(b"vehicles ")] + b"vehicles 256\nbegin\nuntil 400\n"
+    plans = b"".join(b"plan %d 0 10 3 9 straight 500 500 0 1000 700 car\n" % vehicle for vehicle in range(256))
+    for what, count in (("at once", 0), ("behind some bytes", 10)):
+        read, write = os.pipe()
+        program = subprocess.Popen([PROGRAM, "drive", "1"], stdin=subprocess.PIPE, stdout=write)
+        os.close(write)
+        if count == 0:
+            os.close(read)
+        program.stdin.write(head + plans + b"end\n")
+        program.stdin.close()
+        if count != 0:
+            os.read(read, count)
+            os.close(read)
+        status = program.wait(timeout=60)
+        judge(f"a reader of a drive that goes away {what}", True, status == 5 or status < 0)
+
+
 def main():
     cut_everywhere()
     bytes_everywhere()
     great_inputs()
     endless_input()
     reader_goes_away()
+    drives_cut_everywhere()
+    drives_with_other_bytes()
+    drives_in_pieces()
+    reader_of_a_drive_goes_away()
     print(f"surroundings: {COUNT - len(FAILURES)} passed, {len(FAILURES)} failed")
     return 1 if FAILURES else 0
 

@@ -184,7 +184,7 @@ def check_presses(page):
 
 
 def check_links_and_routes(page):
-    page.open(runs.EXAMPLES / "lossy.aim", runs.OUTPUTS / "lossy.out", after="#vehicle=0")
+    page.open(runs.EXAMPLES / "lossy.aim", runs.EXAMPLES / "lossy.out", after="#vehicle=0")
     labels = page.run("[...document.querySelectorAll('#letters [role=button]')].map(e => e.getAttribute('aria-label'))")
     judge("a lost letter", 1, sum(label.endswith(" lost") for label in labels))
     judge("a repeated letter", 1, sum(label.endswith(" twice") for label in labels))
@@ -192,7 +192,7 @@ def check_links_and_routes(page):
     judge("a late letter", True, "4 late" in page.text("#letters"))
     rows = page.run("rowsOf(crossingNow()).filter(row => row.letters).map(row => [row.word, row.count])")
     judge("faults of links on the timeline", [["lost", 1], ["late", 1], ["repeated", 1]], rows)
-    page.open(runs.EXAMPLES / "route.aim", runs.OUTPUTS / "route.out", after="#vehicle=1")
+    page.open(runs.EXAMPLES / "route.aim", runs.output_of("route"), after="#vehicle=1")
     page.browser.press_in("#crossings button:nth-child(2)")
     judge("the other crossing", 1, page.run("state.at"))
     page.ask("choose", {"kind": "vehicle", "v": 0})
@@ -200,7 +200,7 @@ def check_links_and_routes(page):
 
 
 def check_tab_key(page):
-    page.open(runs.EXAMPLES / "siren.aim", runs.OUTPUTS / "siren.out")
+    page.open(runs.EXAMPLES / "siren.aim", runs.EXAMPLES / "siren.out")
     reached = set()
     for _ in range(60):
         page.browser.key("Tab")
@@ -271,7 +271,7 @@ def check_choosing_keys(page):
 def check_cuts(page):
     page.empty()
     for name in ("lossy", "lights"):
-        script, output = (runs.EXAMPLES / f"{name}.aim").read_text(), (runs.OUTPUTS / f"{name}.out").read_text()
+        script, output = (runs.EXAMPLES / f"{name}.aim").read_text(), (runs.output_of(name)).read_text()
         judge(f"{name}: the output, cut", [], page.run(f"untoldCuts({json.dumps(output)}, readOutput)"))
         # A script's last line may lack its newline.
         wanted = [[len(script) - 1, None]]
@@ -320,8 +320,8 @@ def check_wrong(page):
 def check_pairs(page):
     """Files that don't belong together, or come one by one."""
     for script, output, wanted in (
-        (runs.EXAMPLES / "refusal.aim", runs.OUTPUTS / "lights.out", "lights.out, line 1: the script has no policy 1"),
-        (runs.EXAMPLES / "phases.aim", runs.OUTPUTS / "siren.out", "siren.out, line 1: the script's plan of vehicle 0"),
+        (runs.EXAMPLES / "refusal.aim", runs.EXAMPLES / "lights.out", "lights.out, line 1: the script has no policy 1"),
+        (runs.EXAMPLES / "phases.aim", runs.EXAMPLES / "siren.out", "siren.out, line 1: the script's plan of vehicle 0"),
     ):
         page.choose(script, output)
         judge("another script's output", wanted, page.told()[: len(wanted)])
@@ -331,7 +331,7 @@ def check_pairs(page):
     judge("an output alone", "The output is read. Open its script", page.told()[:35])
     page.browser.choose_files([str(runs.EXAMPLES / "refusal.aim")])
     judge("and then its script", [True, ""], [page.wait("crossingNow()?.journal.count === 6"), page.told()])
-    paths = runs.EXAMPLES / "lossy.aim", runs.OUTPUTS / "lossy.out"
+    paths = runs.EXAMPLES / "lossy.aim", runs.EXAMPLES / "lossy.out"
     page.ask("drop", [[path.name, path.read_text()] for path in paths])
     judge("files that are dropped", True, page.wait("crossingNow()?.journal.count === 12"))
     page.choose(runs.EXAMPLES / "refusal.aim")
@@ -350,7 +350,7 @@ def check_eyes(page):
         ".map(n => [n.slice(2), getComputedStyle(document.documentElement).getPropertyValue(n).trim()])"
     for dark in (False, True):
         page.browser.scheme(dark)
-        page.open(runs.EXAMPLES / "phases.aim", runs.OUTPUTS / "phases.out")
+        page.open(runs.EXAMPLES / "phases.aim", runs.EXAMPLES / "phases.out")
         theme = "dark" if dark else "light"
         judge(f"{theme}: as the system says", theme, page.run("document.documentElement.dataset.theme"))
         own = dict(page.run(style))
@@ -364,7 +364,7 @@ def check_widths(page):
     for wide in (320, 390):
         page.browser.size(wide, 740, 2, True)
         for name in ("siren", "route", "lossy", "twelve-lanes"):
-            page.open(runs.EXAMPLES / f"{name}.aim", runs.OUTPUTS / f"{name}.out", after="#vehicle=0")
+            page.open(runs.EXAMPLES / f"{name}.aim", runs.output_of(name), after="#vehicle=0")
             judge(f"{name} at a width of {wide}", wide, page.run("document.documentElement.scrollWidth"))
     page.browser.size(1100, 640)
     page.open(runs.EXAMPLES / "refusal.aim", runs.EXAMPLES / "refusal.out")

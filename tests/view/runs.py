@@ -30,6 +30,12 @@ def words_of(script):
     return ["drive", "1"] if re.search(r"^until ", text, re.M) else ["replay"]
 
 
+def output_of(name):
+    """The stored output of an example: beside it, or among the outputs where the program doesn't print it yet."""
+    beside = EXAMPLES / f"{name}.out"
+    return beside if beside.is_file() else OUTPUTS / f"{name}.out"
+
+
 def stored():
     """All stored outputs: NAME.out beside a script or among the outputs, and NAME.chart-STEP.out.
 
