@@ -1,5 +1,6 @@
 -- The logs of vehicles, one after another.
-use Rattle.std.proofs.Common.{◌≡◌, ℕ, zero, suc, ◌+◌, ◌-◌, ◌<◌, List, [], ◌∷◌, ◌++◌, refl, sym, ap, ◌∙◌, arith, append_assoc}
+use Rattle.std.proofs.Common.{◌≡◌, ℕ, zero, suc, ◌+◌, ◌-◌, ◌<◌, ◌≤◌, List, [], ◌∷◌, ◌++◌, refl, sym, ap, ◌∙◌, arith, append_assoc}
+use Rattle.std.proofs.lemmas.List.{append-nil}
 use Rattle.aim_driver.specs.declared.logs.LogItem.{LogItem}
 use Rattle.aim_drive.specs.Headline.{VehicleLog}
 use Rattle.aim_driving.specs.Ordered.{log_among, logs_from}
@@ -11,3 +12,23 @@ first_log first (suc count) logs some = let e : count ≡ suc count - 1 = omega 
 
 pub no_log : (first count : ℕ) (logs : List VehicleLog) → count ≡ 0 → logs_from first count logs ≡ []
 no_log first count logs none = ap (λ n. logs_from first n logs) none
+
+module _ (text : ℕ → List LogItem → List ℕ) (all : List VehicleLog → List ℕ) (empty : all [] ≡ []) (more : (x : VehicleLog) (xs : List VehicleLog) → all (x ∷ xs) ≡ text x.0 x.1 ++ all xs) (logs : List VehicleLog) where
+  -- the text of one vehicle more was appended
+  pub text_more : (v n : ℕ) (out out' whole : List ℕ) → v < n → out' ≡ out ++ text v (log_among v logs)
+      → out ++ all (logs_from v (n - v) logs) ≡ whole → out' ++ all (logs_from (v + 1) (n - (v + 1)) logs) ≡ whole
+  text_more v n out out' whole less is before =
+      let one : List ℕ = text v (log_among v logs) in
+      let rest : List ℕ = all (logs_from (v + 1) (n - (v + 1)) logs) in
+      let count : n - v - 1 ≡ n - (v + 1) = omega arith in
+      let first : logs_from v (n - v) logs ≡ (v, log_among v logs) ∷ logs_from (v + 1) (n - (v + 1)) logs =
+      first_log v (n - v) logs (omega (arith, less)) ∙ ap (λ k. (v, log_among v logs) ∷ logs_from (v + 1) k logs) count in
+      let whole_is : out ++ (one ++ rest) ≡ whole =
+      sym (ap (λ l. out ++ l) (ap all first ∙ more (v, log_among v logs) (logs_from (v + 1) (n - (v + 1)) logs))) ∙ before in
+      ap (λ l. l ++ rest) is ∙ append_assoc out one rest ∙ whole_is
+
+  -- no vehicle is left
+  pub text_done : (v n : ℕ) (out whole : List ℕ) → n ≤ v → out ++ all (logs_from v (n - v) logs) ≡ whole → out ≡ whole
+  text_done v n out whole least before =
+      let none : n - v ≡ 0 = omega (arith, least) in
+      sym (ap (λ l. out ++ l) (ap all (no_log v (n - v) logs none) ∙ empty) ∙ append-nil out) ∙ before
