@@ -3,9 +3,11 @@
 use crate::scripts::{LOSSY, OPENING, PHASES, SCRIPTS, SIREN};
 use aim_driver::Fate;
 use aim_io::MemSource;
-use aim_msg::Order;
+use aim_msg::{Order, Turn};
+use aim_paths::Path;
 use aim_plans::{DriveScript, Ending, Planned, read_drive};
 use aim_script::{Decision, last_line};
+use aim_traffic::traffic;
 use std::alloc::{AllocError, Global};
 use std::test::Fail;
 
@@ -169,5 +171,24 @@ fn a_source_that_fails(rt: HostRuntime) -> Result<(), Fail> {
     let alloc = rt.alloc();
     let mut source = MemSource::new(LOSSY.to_vec(alloc)?, vec![in alloc; 0]?);
     assert!(rt; matches!(read_drive(alloc, &mut source), Err(Ending::Read)));
+    Ok(())
+}
+
+#[test]
+fn generated_traffic(rt: HostRuntime) -> Result<(), Fail> {
+    let script = traffic(rt.alloc(), 2026, 3)?;
+    assert_eq!(rt; (script.vehicles, script.until, script.plans.len()), (3, 4099, 3));
+    assert_eq!(rt;
+        plan_of(&script.plans[1]),
+        [1, 33, 131, 50, 10, 253, 999, 999, 999, 999, 999]
+    );
+    assert_eq!(rt;
+        plan_of(&script.plans[2]),
+        [2, 66, 159, 50, 8, 232, 999, 999, 999, 999, 999]
+    );
+    assert_eq!(rt; (script.layout.lanes(), script.layout.policies()), (12, 1));
+    let path = Path::of(&script.layout, 9, Turn::Left).ok_or("no path")?;
+    assert_eq!(rt; path.parts(), 280);
+    assert_eq!(rt; path.station(280), (24000, 10500));
     Ok(())
 }

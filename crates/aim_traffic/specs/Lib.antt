@@ -1,0 +1,4 @@
+pub mod Arms
+pub mod Drawn
+pub mod Traffic
+pub mod Laid
