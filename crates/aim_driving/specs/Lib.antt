@@ -2,3 +2,4 @@ pub mod Ordered
 pub mod Runs
 pub mod Commands
 pub mod Summaries
+pub mod Generated

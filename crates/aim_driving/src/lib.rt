@@ -1,8 +1,10 @@
-//! The command `drive`: reads a drive script, runs it, and prints the journal, the logs and the tiles.
+//! The commands that run drives: of a script, whose journal, logs and tiles are printed, and of generated traffic.
 #![tactic(auto)]
 
 mod commands;
+mod generating;
 mod reports;
 mod summaries;
 
 pub use commands::drive;
+pub use generating::generate;

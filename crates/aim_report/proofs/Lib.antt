@@ -1,2 +1,4 @@
 pub mod Lines
 pub mod StayLemmas
+pub mod Telling
+pub mod Rows

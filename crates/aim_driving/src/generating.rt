@@ -1,0 +1,75 @@
+//! The command that runs generated traffic, and prints counts.
+
+ghost use Rattle.std.specs.Prelude.{◌≡◌, ◌⊎◌, ◌<◌, ◌≤◌, [], IfOk};
+ghost use Rattle.std.specs.Io.KnownBytes.{Appends};
+ghost use Rattle.aim_io.specs.Causes.{Rose};
+ghost use Rattle.aim_driving.specs.Generated.{Counts, CountsFront, IsSummary};
+
+use crate::summaries::summary_of;
+use aim_agent::Gate;
+use aim_drive::run_script;
+use aim_io::{Sink, put_all};
+use aim_report::NoMemory;
+use aim_traffic::traffic;
+use std::alloc::Global;
+use std::marker::Brand;
+use std::sync::Wait;
+use std::sync::ledger::{Blank, Ledger};
+use std::thread::Threads;
+
+// A gate at which nobody waits.
+struct NoGate;
+
+impl Gate for NoGate {
+    fn before(&self, _vehicle: u32, _step: u32) {}
+}
+
+// Runs generated traffic, with a manager whose words are counted in the ledger of the blank, and gives the text that counts.
+fn text_of_traffic<L: Ledger + Send, R: Threads + Wait + Sync>(
+    rt: &R,
+    alloc: Global,
+    number: u32,
+    count: u32,
+    blank: Blank,
+) -> Result<Vec<u8>, NoMemory>
+    requires count { (0 < count) × (count ≤ 256) }
+    requires name { blank.name ≡ L.name }
+    requires parts { blank.parts ≡ L.parts }
+    requires some { 0 < blank.parts }
+    ensures { IfOk result (λ text. IsSummary number count text.items) }
+{
+    let script = traffic(alloc, number, count)?;
+    let steps = script.until;
+    let drove = run_script::<L, R, NoGate>(rt, alloc, script, &NoGate, 1, blank)?;
+    summary_of(alloc, steps, &drove)
+}
+
+/// Makes the drive script of generated traffic, runs it as `drive` does with one worker, and writes six lines: the steps, the
+/// entries, those that confirm, those that reject, the vehicles that entered, and the entries again. The status is 0, 5 where
+/// the sink fails, or 7 where memory runs out.
+pub fn generate<R: Threads + Wait + Sync, K: Sink>(
+    rt: &R,
+    alloc: Global,
+    number: u32,
+    count: u32,
+    sink: &mut K,
+) -> u8
+    requires count { (0 < count) × (count ≤ 256) }
+
+    // The whole text with status 0, a front of one with 5, and nothing with 7.
+    ensures whole { result ≡ 0 → Counts number count (K.held sink.old) (K.held sink.new) }
+    ensures front { result ≡ 5 → CountsFront number count (K.held sink.old) (K.held sink.new) }
+    ensures nothing { result ≡ 7 → Appends (K.held sink.old) (K.held sink.new) [] }
+    ensures write { result ≡ 5 → Rose (K.faults sink.old) (K.faults sink.new) }
+    ensures sink { K.faults sink.old ≤ K.faults sink.new }
+    ensures statuses { (result ≡ 0) ⊎ ((result ≡ 5) ⊎ (result ≡ 7)) }
+{
+    let text = match text_of_traffic::<Brand, R>(rt, alloc, number, count, Blank::new(1)) {
+        Ok(text) => text,
+        Err(_) => return 7,
+    };
+    match put_all(sink, &text) {
+        Ok(()) => 0,
+        Err(_) => 5,
+    }
+}
