@@ -5,4 +5,5 @@ pub mod Openings
 pub mod Bodies
 pub mod Scripts
 pub mod Drawing
+pub mod Spelling
 pub mod Rows

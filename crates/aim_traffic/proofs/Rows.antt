@@ -1,5 +1,5 @@
 -- Worked rows: the lines of the layout as they are spelled, and the first plans of two numbers, drawn outside.
-use Rattle.std.proofs.Common.{◌≡◌, [], ◌∷◌, map, refl}
+use Rattle.std.proofs.Common.{◌≡◌, [], ◌∷◌, map, drop, refl}
 use Rattle.std.specs.Prelude.{codes}
 use Rattle.std.specs.Fmt.{digits}
 use Rattle.rand_core.specs.Steps.{u32_at, word_bytes}
@@ -7,6 +7,7 @@ use Rattle.rand_core.specs.Pcg32Seed.{pcg32_seed}
 use Rattle.aim_msg.specs.Lines.{line_text}
 use Rattle.aim_traffic.specs.Arms.{layout_lines, moves}
 use Rattle.aim_traffic.specs.Drawn.{generator, plan_lines}
+use Rattle.aim_traffic.specs.Traffic.{traffic_lines}
 
 pub layout_spelled : map (line_text 1) layout_lines ≡
     codes "aim 1"
@@ -30,13 +31,17 @@ pub layout_spelled : map (line_text 1) layout_lines ≡
 unfolding digits layout_lines moves
 layout_spelled = refl
 
-pub plans_of_7 : map (line_text 1) (plan_lines 0 3 (generator 7)) ≡
-    codes "plan 0 0 106 50 5 right 252 300 2 4500 1900 car"
+pub behind_the_layout_of_7 : map (line_text 1) (drop 17 (traffic_lines 7 3))
+    ≡ codes "vehicles 3"
+    ∷ codes "begin"
+    ∷ codes "until 4099"
+    ∷ codes "plan 0 0 106 50 5 right 252 300 2 4500 1900 car"
     ∷ codes "plan 1 33 160 50 0 left 226 300 2 4500 1900 car"
     ∷ codes "plan 2 66 168 50 8 right 209 300 2 4500 1900 car"
+    ∷ codes "end"
     ∷ []
-unfolding digits plan_lines u32_at pcg32_seed word_bytes
-plans_of_7 = refl
+unfolding digits traffic_lines layout_lines moves plan_lines u32_at pcg32_seed word_bytes
+behind_the_layout_of_7 = refl
 
 pub plans_of_2026 : map (line_text 1) (plan_lines 0 3 (generator 2026)) ≡
     codes "plan 0 0 174 50 3 left 213 300 2 4500 1900 car"

@@ -177,7 +177,10 @@ fn a_source_that_fails(rt: HostRuntime) -> Result<(), Fail> {
 #[test]
 fn generated_traffic(rt: HostRuntime) -> Result<(), Fail> {
     let script = traffic(rt.alloc(), 2026, 3)?;
-    assert_eq!(rt; (script.vehicles, script.until, script.plans.len()), (3, 4099, 3));
+    assert_eq!(rt;
+        (script.vehicles, script.until, script.plans.len()),
+        (3, 4099, 3)
+    );
     assert_eq!(rt;
         plan_of(&script.plans[1]),
         [1, 33, 131, 50, 10, 253, 999, 999, 999, 999, 999]
