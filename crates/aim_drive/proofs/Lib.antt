@@ -4,4 +4,5 @@ pub mod Closings
 pub mod Fitting
 pub mod Endings
 pub mod Headlines
+pub mod Entering
 pub mod Rows

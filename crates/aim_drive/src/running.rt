@@ -6,6 +6,7 @@ ghost use Rattle.aim_turn.specs.Models.{new_pass};
 ghost use Rattle.aim_agent.specs.declared.agents.Trouble.TheVariants as trouble;
 ghost use Rattle.aim_agent.specs.Agents.{AgentModel, IsFull};
 ghost use Rattle.aim_agents.specs.Rounds.{run_size};
+ghost use Rattle.aim_safety.specs.Tiles.{EntersBy};
 ghost use Rattle.aim_plans.specs.Fits.{IsFit};
 ghost use Rattle.aim_plans.specs.Scripts.{drive_told};
 ghost use Rattle.aim_drive.specs.Headline.{Headline};
@@ -100,7 +101,8 @@ fn logs_of<L: Ledger>(
 }
 
 /// Runs a whole script: an agent for each plan, their turns of all steps in rounds of that many runs side by side, and
-/// the operator's orders between them. The journal and the logs are as the headline says.
+/// the operator's orders between them. The journal and the logs are as the headline says, and each driver enters at a
+/// step for which its tiles can be told.
 pub fn run_script<L: Ledger + Send, R: Threads + Wait + Sync, G: Gate>(
     rt: &R,
     alloc: Global,
@@ -114,8 +116,9 @@ pub fn run_script<L: Ledger + Send, R: Threads + Wait + Sync, G: Gate>(
     requires name { blank.name ≡ L.name }
     requires parts { blank.parts ≡ L.parts }
     requires some { 0 < blank.parts }
-    ensures { IfOk result (λ d. Headline script.layout script.vehicles script.until (run_size (length script.plans.items) workers)
+    ensures headline { IfOk result (λ d. Headline script.layout script.vehicles script.until (run_size (length script.plans.items) workers)
         (map drive_told script.plans.items) script.orders.items d.journal.items (map log_of d.logs.items)) }
+    ensures enters { IfOk result (λ d. All (λ l. EntersBy 2147483648 l.driver.log) d.logs.items) }
 {
     let DriveScript {
         layout,

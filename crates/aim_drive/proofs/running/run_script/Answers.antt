@@ -9,11 +9,13 @@ use Rattle.aim_plans.specs.Scripts.{drive_told}
 use Rattle.aim_agent.specs.Agents.{AgentModel, AgentPass, IsAgentOf}
 use Rattle.aim_agents.specs.Rounds.{run_size}
 use Rattle.aim_fleet.specs.Orders.{AreOrders, CarryOrders}
+use Rattle.aim_drive.specs.Headline.{Headline}
 use Rattle.aim_drive.specs.Making.{ArePlans, told_by, log_of}
 use Rattle.aim_drive.proofs.Seats.{agents_own, agents_new}
 use Rattle.aim_drive.proofs.Fitting.{are_plans, are_orders}
 use Rattle.aim_drive.proofs.Endings.{HasMemory, Rode, ridden, lent_back, lent_full, lent_driven, closed_by, own_passes, count_passes, never_full, has_room, all_calm, left_idle}
 use Rattle.aim_drive.proofs.Headlines.{renamed, headline, count_orders}
+use Rattle.aim_drive.proofs.Entering.{logs_enter_by}
 use Rattle.aim_drive.proofs.running.run_script.Goals as goal
 
 pub agents_of-requires-clause-plans : goal.agents_of-requires-clause-plans
@@ -144,6 +146,8 @@ returns g c =
     let made = c.in_ok-agents.ensures.agents in
     let left = c.in_ok-agents.ensures.left in
     let short = has_room m spans size plans xs ys rest made left ride op h (length c.args.script.orders.items) closed memory (omega arith) room in
+    let told : Headline c.args.script.layout c.args.script.vehicles c.args.script.until (run_size (length c.args.script.plans.items) c.args.workers)
+    (map drive_told c.args.script.plans.items) c.args.script.orders.items h (map log_of c.in_ok-logs.logs.items) =
     renamed m.setting.layout c.args.script.layout m.setting.vehicles c.args.script.vehicles c.args.script.until size (run_size (length c.args.script.plans.items) c.args.workers)
     (map drive_told plans) c.args.script.orders.items h (map told_by ys) (map log_of c.in_ok-logs.logs.items)
     (ap (λ (x : Setting). x.layout) e) vehicles_is (ap (λ (n : ℕ). run_size n c.args.workers) made.count) (sym (c.in_ok-logs.ensures.logs ∙ ap (λ (l : List AgentModel). map told_by l) back))
@@ -158,4 +162,8 @@ returns g c =
       idle = left_idle m spans size plans xs ys rest made left ride;
       closed = closed;
       valid = subst (λ (i : Intersection). IsValid i) (sym (ap (λ (x : Setting). x.layout) e)) c.ground.ensures.valid;
-    }))
+    })) in record {
+      headline = told;
+      enters = logs_enter_by c.args.script.layout c.args.script.vehicles c.args.script.until (run_size (length c.args.script.plans.items) c.args.workers)
+          (map drive_told c.args.script.plans.items) c.args.script.orders.items h c.in_ok-logs.logs.items c.requires.script.until told;
+    }
