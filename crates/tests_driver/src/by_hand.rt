@@ -114,7 +114,7 @@ fn repeated_lost_and_delayed(rt: HostRuntime) -> Result<(), Fail> {
 #[test]
 fn sleeps_between_its_steps(rt: HostRuntime) -> Result<(), Fail> {
     let mut driver = Driver::new(rt.alloc(), plan(0, 5, 10, Changes::none()))?;
-    assert_eq!(rt; driver.idle_until(0), 5);
+    assert_eq!(rt; driver.idle_until(3), 5);
     assert_eq!(rt; driver.idle_until(5), 5);
     acts(&rt, &mut driver, 5, Some(request(1, 0, 15)))?;
     assert_eq!(rt; driver.idle_until(6), 8);
