@@ -112,9 +112,9 @@ goes_same s f g first last a b same p =
       idle = p.idle;
     }
 
--- an agent that does nothing, where it is in trouble or the course does nothing
+-- an agent that does nothing, where it is in trouble or its course does nothing
 pub rests : (s : Setting) (f : Course → Course) (first last : ℕ) (a : AgentModel)
-    → (a.trouble ≡ None → (x : Course) → f x ≡ x) → Goes s f first last a a
+    → (a.trouble ≡ None → (before : List Call) (left : List Reply) → f (running (state_of a) before left) ≡ running (state_of a) before left) → Goes s f first last a a
 rests s f first last a nothing =
     record {
       same = same_self a.pass;
@@ -127,7 +127,7 @@ rests s f first last a nothing =
       calls = sees_self a.pass;
       times = λ k e c. let l : k < length a.pass.seen = at_lt a.pass.seen k e c.stands in let m : length a.pass.seen ≤ k = c.later in absurd (omega arith);
       calm = λ n. n;
-      course = λ n before more. nothing n (running (state_of a) before more) ∙ ap (λ l. running (state_of a) l more) (sym (append-nil before));
+      course = λ n before more. nothing n before more ∙ ap (λ l. running (state_of a) l more) (sym (append-nil before));
       halts = λ calm full before. absurd (cc (calm, full));
       idle = λ _. (refl, refl, refl);
     }
@@ -142,7 +142,7 @@ stuck_went s step a stuck = record {
 }
 
 pub stays_went : (s : Setting) (step : ℕ) (a : AgentModel) → Went s step step a a
-stays_went s step a = record { count = 0; steps = add-zero step; goes = rests s (turns a.driver.plan step 0) step step a (λ _ x. refl); late = λ le. le }
+stays_went s step a = record { count = 0; steps = add-zero step; goes = rests s (turns a.driver.plan step 0) step step a (λ _ before left. refl); late = λ le. le }
 
 -- a meeting takes no step
 pub met_went : (s : Setting) (step : ℕ) (a : AgentModel) (front : AgentFront) (b : AgentModel) → Met s a front b → Went s step step a b

@@ -5,3 +5,4 @@ pub mod Sheets
 pub mod Turns
 pub mod Followed
 pub mod Rows
+pub mod Rests

@@ -1,5 +1,5 @@
 -- What contracts see of an agent.
-use Rattle.std.specs.Prelude.{◌≡◌, ℕ, ◌+◌, ◌<◌, length, Option, Some, IsSomeAnd}
+use Rattle.std.specs.Prelude.{◌≡◌, ℕ, ◌+◌, ◌<◌, length, Option, Some, None, IsSomeAnd}
 use Rattle.aim_msg.specs.declared.entries.Entry.{Entry}
 use Rattle.aim_msg.specs.declared.messages.Message.{Message}
 use Rattle.aim_msg.specs.declared.replies.Reply.{Reply}
@@ -12,6 +12,7 @@ use Rattle.aim_turn.specs.History.{entries_of}
 use Rattle.aim_turn.specs.Models.{PassModel, FrontModel, TurnstileModel, IsPassOf}
 use Rattle.aim_manager.specs.Seen.{caller_of}
 use Rattle.aim_manager.specs.declared.keeper.Setting.{Setting}
+use Rattle.aim_agent.specs.Rests.{IsStill, AreStill}
 use Rattle.aim_agent.specs.declared.agents.Trouble.{Trouble}
 use Rattle.aim_agent.specs.declared.agents.Trouble.TheVariants as trouble
 
@@ -51,11 +52,16 @@ IsFull p = IsSomeAnd p.setting (λ s. length p.seen ≡ s.room)
 abbrev pub HasSheets : AgentPass → Stock → Type 0
 HasSheets p stock = stock.count + sheets_kept p.number p.mine ≡ 3
 
--- what holds of every agent
-pub record Stands (p : AgentPass) (stock : Stock) (why : Option Trouble) : Type 0 where
+-- what holds of every agent, which is still from the step `first` on and below `last`
+pub record Stands (d : DriverModel) (up : LinkModel Message) (down : LinkModel (ℕ × Reply)) (p : AgentPass) (stock : Stock) (why : Option Trouble) (first last : ℕ) : Type 0 where
   pub whole : IsWhole p
   pub sheets : HasSheets p stock
   pub full : why ≡ Some trouble.Full → IsFull p
+  pub still : AreStill d up down first last
+
+-- its turn at the step does nothing: it is in trouble, or nothing is to be done
+abbrev pub Idles : AgentModel → ℕ → Type 0
+Idles a step = a.trouble ≡ None → IsStill a.driver a.up a.down step
 
 -- an agent of this manager: its pass is a vehicle's, and its sheets have the room that the layout wants
 pub record IsAgentOf (t : TurnstileModel Setting) (a : AgentModel) : Type 0 where

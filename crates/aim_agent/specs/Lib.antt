@@ -1,3 +1,4 @@
+pub mod Rests
 pub mod Agents
 pub mod Places
 pub mod Went

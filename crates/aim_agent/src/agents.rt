@@ -1,6 +1,6 @@
 //! Agents.
 
-ghost use Rattle.std.specs.Prelude.{◌≡◌, ◌+◌, ◌≤◌, [], true, Some, IfNone, OnOk};
+ghost use Rattle.std.specs.Prelude.{◌≡◌, ℕ, ◌+◌, ◌<◌, ◌≤◌, [], true, Some, IfNone, OnOk};
 ghost use Rattle.aim_msg.specs.declared.entries.TheConstants.{LATEST_MOMENT};
 ghost use Rattle.aim_driver.specs.Models.{step_of};
 ghost use Rattle.aim_driver.specs.Keeps.{keeps};
@@ -8,7 +8,8 @@ ghost use Rattle.aim_driver.specs.Links.{delivered, after_delivery};
 ghost use Rattle.aim_driver.specs.Turns.{begun};
 ghost use Rattle.aim_driver.specs.Follows.{calling, turn};
 ghost use Rattle.aim_turn.specs.Models.{IsPassOf};
-ghost use Rattle.aim_agent.specs.Agents.{front_of, state_of, HasSheets, IsAgentOf, IsFull, IsWhole};
+ghost use Rattle.aim_agent.specs.Rests.{AreStill};
+ghost use Rattle.aim_agent.specs.Agents.{front_of, state_of, HasSheets, Idles, IsAgentOf, IsFull, IsWhole};
 ghost use Rattle.aim_agent.specs.Went.{new_agent, Went, Met};
 ghost use Rattle.aim_agent.specs.Followed.{IsNew};
 ghost use Rattle.aim_agent.specs.Turns.{Called, Tried};
@@ -17,7 +18,7 @@ use aim_book::laws::sheets_are_those_of_own_entries;
 use aim_buffers::prepare;
 use aim_driver::{Driver, Link, LogItem, NoMemory, begin_turn};
 use aim_manager::{Full, Manager, ManagerFront, ManagerPass};
-use aim_msg::{Message, Reply};
+use aim_msg::{LATEST_MOMENT, Message, Reply};
 use aim_pool::Pool;
 use std::marker::Model;
 use std::sync::Wait;
@@ -59,6 +60,16 @@ impl From<Full> for Trouble {
     }
 }
 
+// The steps at which an agent is known to do nothing: from `first` on and below `last`.
+#[derive(Clone, Copy)]
+struct Rest {
+    first: u32,
+    last: u64,
+}
+
+// No step.
+const NO_REST: Rest = Rest { first: 0, last: 0 };
+
 /// A driver with its two links, a pass of a manager and three sheets.
 ///
 /// Contracts see the driver, the links, the pass, how many sheets are not in use and their room, and the trouble.
@@ -70,6 +81,7 @@ pub struct Agent<L: Ledger> {
     pass: ManagerPass<L>,
     pool: Pool,
     trouble: Option<Trouble>,
+    rest: Rest,
 }
 
 impl<L: Ledger> Model for Agent<L> {
@@ -79,7 +91,7 @@ impl<L: Ledger> Model for Agent<L> {
 
     ghost view = { λ a. record { driver = a.driver; up = a.up; down = a.down; pass = a.pass; pool = a.pool; trouble = a.trouble } };
 
-    ghost invariant = { λ a. Stands a.pass a.pool a.trouble };
+    ghost invariant = { λ a. Stands a.driver a.up a.down a.pass a.pool a.trouble a.rest.first a.rest.last };
 }
 
 impl<L: Ledger> Agent<L> {
@@ -109,6 +121,7 @@ impl<L: Ledger> Agent<L> {
             pass,
             pool,
             trouble: None,
+            rest: NO_REST,
         }
     }
 
@@ -148,6 +161,7 @@ impl<L: Ledger> Agent<L> {
             pass,
             pool: _,
             trouble: _,
+            rest: _,
         } = self;
         (driver, pass)
     }
@@ -180,6 +194,7 @@ impl<L: Ledger> Agent<L> {
         ensures whole { IsWhole self.old.pass }
         ensures begun { OnOk result (state_of self.new ≡ begun self.old.driver.plan step (state_of self.old)) }
     {
+        self.rest = NO_REST;
         begin_turn(&mut self.driver, &mut self.up, &mut self.down, step)
     }
 
@@ -189,6 +204,7 @@ impl<L: Ledger> Agent<L> {
         ensures rest { self.new ≡ record self.old { up = after_delivery self.old.up step } }
         ensures none { IfNone result (self.new ≡ self.old) }
     {
+        self.rest = NO_REST;
         self.up.deliver(step)
     }
 
@@ -206,6 +222,7 @@ impl<L: Ledger> Agent<L> {
         requires most { step ≤ LATEST_MOMENT }
         ensures { Called manager.now.setting step message.now result self.old self.new }
     {
+        self.rest = NO_REST;
         gate.before(self.pass.number(), step);
         let (Ok(first), Ok(second)) = (self.pool.take(), self.pool.take()) else {
             unreachable!()
@@ -255,9 +272,8 @@ impl<L: Ledger> Agent<L> {
         self.make_calls(rt, manager, gate, step)
     }
 
-    /// One turn: it hears the replies that come, enters if its driver does, acts, and makes a call of each message that
-    /// comes on the up link. Before each call it tells the gate. In trouble it does nothing.
-    pub fn turn<R: Wait, G: Gate>(&mut self, rt: &R, manager: &Manager<L>, gate: &G, step: u32)
+    // A turn, whatever is known of the steps at which it does nothing.
+    fn take_turn<R: Wait, G: Gate>(&mut self, rt: &R, manager: &Manager<L>, gate: &G, step: u32)
         requires own { IsAgentOf manager.now self.old }
         requires last { step_of self.old.driver.log ≤ step }
         requires most { step ≤ LATEST_MOMENT }
@@ -268,6 +284,57 @@ impl<L: Ledger> Agent<L> {
         }
         if let Err(trouble) = self.try_turn(rt, manager, gate, step) {
             self.trouble = Some(trouble);
+        }
+    }
+
+    // It is still from that step on and below the one that it gives.
+    fn still_until(&self, from: u32) -> u64
+        requires most { from ≤ LATEST_MOMENT }
+        ensures { AreStill self.now.driver self.now.up self.now.down from result }
+    {
+        let until = self.driver.idle_until(from);
+        until.min(self.up.idle_until()).min(self.down.idle_until())
+    }
+
+    // Takes note of how long it is still.
+    fn note_rest(&mut self, from: u32)
+        requires most { from ≤ LATEST_MOMENT }
+        ensures { self.new ≡ self.old }
+    {
+        self.rest = Rest {
+            first: from,
+            last: self.still_until(from),
+        };
+    }
+
+    /// From that step on and below the one that it gives its turns do nothing.
+    pub fn idle_until(&self, step: u32) -> u64
+        ensures { (s : ℕ) → step ≤ s → s < result → Idles self.now s }
+    {
+        if self.trouble.is_some() {
+            return u64::MAX;
+        }
+        if self.rest.first <= step {
+            self.rest.last
+        } else {
+            0
+        }
+    }
+
+    /// One turn: it hears the replies that come, enters if its driver does, acts, and makes a call of each message that
+    /// comes on the up link. Before each call it tells the gate. In trouble it does nothing.
+    pub fn turn<R: Wait, G: Gate>(&mut self, rt: &R, manager: &Manager<L>, gate: &G, step: u32)
+        requires own { IsAgentOf manager.now self.old }
+        requires last { step_of self.old.driver.log ≤ step }
+        requires most { step ≤ LATEST_MOMENT }
+        ensures { Went manager.now.setting step (step + 1) self.old self.new }
+    {
+        if (step as u64) < self.idle_until(step) {
+            return;
+        }
+        self.take_turn(rt, manager, gate, step);
+        if step < LATEST_MOMENT {
+            self.note_rest(step + 1);
         }
     }
 }

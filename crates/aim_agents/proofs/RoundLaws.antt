@@ -1,17 +1,19 @@
 -- One step after another.
 use Rattle.std.proofs.Common.{◌≡◌, ℕ, ◌+◌, ◌<◌, ◌≤◌, ◌⊎◌, inl, inr, List, length, get_or, refl, sym, ◌∙◌, subst, arith}
 use Rattle.std.specs.Prelude.{All}
+use Rattle.std.proofs.lemmas.Bool.{cases_lt}
 use Rattle.aim_msg.specs.declared.entries.Entry.{Entry}
 use Rattle.aim_turn.specs.Models.{TurnstileModel, IsSamePass}
 use Rattle.aim_turn.specs.History.{Begins}
 use Rattle.aim_manager.specs.declared.keeper.Setting.{Setting}
-use Rattle.aim_agent.specs.Agents.{AgentModel, AgentPass, IsAgentOf, front_of}
+use Rattle.aim_agent.specs.Agents.{AgentModel, AgentPass, Idles, IsAgentOf, front_of}
 use Rattle.aim_agent.specs.Places.{IsCallSince, Before, Any, Earlier, SameMoment}
 use Rattle.aim_agent.specs.Went.{Went, Met, Sees}
 use Rattle.aim_agent.proofs.Places.{at_lt}
 use Rattle.aim_agent.proofs.Passes.{length_begins, sees_self, sees_trans}
 use Rattle.aim_agent.proofs.Courses.{went_then, met_went, stays_went, no_calls}
-use Rattle.aim_agents.specs.Runs.{Done, InRun, RunsWent, Gathered}
+use Rattle.aim_agent.proofs.Rests.{idles_went}
+use Rattle.aim_agents.specs.Runs.{AllIdle, Done, InRun, RunsWent, Gathered}
 use Rattle.aim_agents.specs.Rounds.{StepOf, Stepped, RoundingOf, Rounding, Rounds}
 use Rattle.aim_agents.proofs.RunLaws.{split_since}
 
@@ -35,7 +37,8 @@ module _ (set : Setting) where
         mid = m;
         went = w;
         told = told;
-        back = met_went set (step + 1) m (front_of op') b (subst (λ x. Met set x (front_of op') b) same met);
+        back = λ n. met_went set n m (front_of op') b (subst (λ x. Met set x (front_of op') b) same met);
+        rest = (subst (λ x. Met set x (front_of op') b) same met).rest;
         knows = met.meets.shows;
       }
 
@@ -56,18 +59,18 @@ module _ (set : Setting) where
         order = λ j k d r l.
             let jk : j < k = r.order in
             before_met Any (step + 1) (step + 1) (get_or xs j d) (get_or ys j d) (get_or ws j d) (get_or xs k d) (get_or ys k d) (get_or ws k d)
-            (p.order j k d r l) (of j d (omega arith)).back (of k d l).back;
+            (p.order j k d r l) ((of j d (omega arith)).back (step + 1)) ((of k d l).back (step + 1));
       }
 
   whole_step : (step : ℕ) (op : AgentPass) (a b : AgentModel) → StepOf set step op a b → Went set step (step + 1) a b
-  whole_step step op a b s = went_then set step (step + 1) (step + 1) a s.mid b s.went s.back
+  whole_step step op a b s = went_then set step (step + 1) (step + 1) a s.mid b s.went (s.back (step + 1))
 
   -- one agent, one step further
   pub rounding_more : (first step : ℕ) (op0 op op' : AgentPass) (a b c : AgentModel) → Sees op0 op → RoundingOf set first step op0 op a b → StepOf set step op' b c → RoundingOf set first (step + 1) op0 op' a c
   rounding_more first step op0 op op' a b c sees r s =
       let mid_went = went_then set first step (step + 1) a b s.mid r.went s.went in
       record {
-        went = went_then set first (step + 1) (step + 1) a s.mid c mid_went s.back;
+        went = went_then set first (step + 1) (step + 1) a s.mid c mid_went (s.back (step + 1));
         knows = s.knows;
         past = λ k e h.
             elim (split_since set step (step + 1) a b c (whole_step step op' b c s) k e h) [
@@ -79,14 +82,16 @@ module _ (set : Setting) where
                   omega arith)
             ];
         covered = λ k e h.
-            elim (split_since set (step + 1) (step + 1) a s.mid c s.back k e h) [
+            elim (split_since set (step + 1) (step + 1) a s.mid c (s.back (step + 1)) k e h) [
               | inl x ↦ (
                   let l : k < length s.mid.pass.seen = at_lt s.mid.pass.seen k e x.stands in
                   let m : length s.mid.pass.seen ≤ length op'.seen = length_begins s.mid.pass.seen op'.seen s.told in
                   omega arith)
-              | inr x ↦ absurd (no_calls set (step + 1) s.mid c s.back k e x)
+              | inr x ↦ absurd (no_calls set (step + 1) s.mid c (s.back (step + 1)) k e x)
             ];
-        told = λ _. record { mid = s.mid; went = mid_went; told = s.told; back = s.back };
+        told = λ _. record { mid = s.mid; went = mid_went; told = s.told; back = s.back (step + 1) };
+        back = λ _. s.back;
+        rest = λ _. s.rest;
       }
 
   -- the calls of two agents, one step further
@@ -154,6 +159,70 @@ module _ (set : Setting) where
             same_more first step op0 op op' (get_or xs j d) (get_or ys j d) (get_or zs j d) (get_or xs k d) (get_or ys k d) (get_or zs k d) (r.each j d (omega arith)) (s.each j d (omega arith)) (r.each k d lk) (s.each k d (omega arith)) (r.runs j k d i lk) (s.order j k d i (omega arith));
       }
 
+  idle_step : (step : ℕ) (a : AgentModel) → Idles a step → Went set step (step + 1) a a
+  idle_step step a idle = idles_went set step (step + 1) a (omega arith) (λ t lo hi. let is : step ≡ t = omega arith in subst (λ n. Idles a n) is idle)
+
+  -- one agent, past a step at which it idles
+  rounding_idle : (first step : ℕ) (op0 op : AgentPass) (a b : AgentModel) → first < step → Idles b step → RoundingOf set first step op0 op a b → RoundingOf set first (step + 1) op0 op a b
+  rounding_idle first step op0 op a b lt idle r =
+      let t = r.told lt in
+      let before : Idles t.mid step = subst (λ x. Idles x step) (r.rest lt) idle in
+      record {
+        went = went_then set first step (step + 1) a b b r.went (idle_step step b idle);
+        knows = r.knows;
+        past = r.past;
+        covered = r.covered;
+        told = λ _. record {
+          mid = t.mid;
+          went = went_then set first step (step + 1) a t.mid t.mid t.went (idle_step step t.mid before);
+          told = t.told;
+          back = r.back lt (step + 1);
+        };
+        back = λ _. r.back lt;
+        rest = λ _. r.rest lt;
+      }
+
+  -- all agents, past a step at which they all idle
+  rounds_idle : (first step size : ℕ) (op0 op : AgentPass) (xs ys : List AgentModel) → first < step → ((k : ℕ) (d : AgentModel) → k < length ys → Idles (get_or ys k d) step) → Rounding set first step size op0 op xs ys → Rounding set first (step + 1) size op0 op xs ys
+  rounds_idle first step size op0 op xs ys lt idle r =
+      let len : length ys ≡ length xs = r.len in
+      record {
+        operator = r.operator;
+        whole = r.whole;
+        same = r.same;
+        len = r.len;
+        each = λ k d l. rounding_idle first step op0 op (get_or xs k d) (get_or ys k d) lt (idle k d (omega arith)) (r.each k d l);
+        steps = r.steps;
+        runs = r.runs;
+      }
+
+  -- all agents after the steps from `first` on and below `step`, who idle below the step `wake`
+  pub record Going (first step wake size : ℕ) (op0 op : AgentPass) (xs ys : List AgentModel) : Type 0 where
+    pub rounding : Rounding set first step size op0 op xs ys
+    pub idle : AllIdle step wake ys
+    pub begun : first ≡ step → wake ≡ 0
+
+  pub going_on : (first step wake size : ℕ) (op0 op op' : AgentPass) (xs ys zs : List AgentModel) → first ≤ step → Rounding set first step size op0 op xs ys → Stepped set step size op op' ys zs → AllIdle (step + 1) wake zs → Going first (step + 1) wake size op0 op' xs zs
+  going_on first step wake size op0 op op' xs ys zs le r s idle = record {
+    rounding = rounds_more first step size op0 op op' xs ys zs r s;
+    idle = idle;
+    begun = λ is. absurd (omega arith);
+  }
+
+  pub going_idle : (first step wake size : ℕ) (op0 op : AgentPass) (xs ys : List AgentModel) → first ≤ step → step < wake → Going first step wake size op0 op xs ys → Going first (step + 1) wake size op0 op xs ys
+  going_idle first step wake size op0 op xs ys le lt g = record {
+    rounding = rounds_idle first step size op0 op xs ys (after g.begun) (λ k d l. g.idle k d l step (omega arith) lt) g.rounding;
+    idle = λ k d l t lo hi. g.idle k d l t (omega arith) hi;
+    begun = λ is. absurd (omega arith);
+  }
+    where
+      after : (first ≡ step → wake ≡ 0) → first < step
+      after begun =
+          elim (cases_lt first step) [
+            | inl less ↦ less
+            | inr more ↦ (let none : wake ≡ 0 = begun (omega arith) in absurd (omega arith))
+          ]
+
   met_rounding : (first : ℕ) (op : AgentPass) (a b : AgentModel) → Met set a (front_of op) b → RoundingOf set first first op op a b
   met_rounding first op a b m =
       let went = met_went set first a (front_of op) b m in
@@ -163,6 +232,8 @@ module _ (set : Setting) where
         past = λ k e c. absurd (no_calls set first a b went k e c);
         covered = λ k e c. absurd (no_calls set first a b went k e c);
         told = λ lt. absurd (omega arith);
+        back = λ lt. absurd (omega arith);
+        rest = λ lt. absurd (omega arith);
       }
 
   -- before the first step all have met the operator

@@ -123,6 +123,10 @@ module _ (s : Setting) where
             ];
       }
 
+  -- all as one run
+  pub whole_went : (step size : ℕ) (xs ys : List AgentModel) → Ran s step xs ys → RunsWent s step size xs ys
+  whole_went step size xs ys r = record { len = r.len; each = r.each; order = λ j k d i l. r.order j k d i.order l }
+
   chunk_at : (xs : List AgentModel) (size n i : ℕ) (d : AgentModel) → i < size → get_or (slice_chunk xs size n) i d ≡ get_or xs (n * size + i) d
   chunk_at xs size n i d lt = get_or-take size (drop (n * size) xs) i d lt ∙ get_or-drop (n * size) xs i d
 

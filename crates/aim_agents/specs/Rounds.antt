@@ -14,12 +14,14 @@ abbrev pub run_size : ℕ → ℕ → ℕ
 run_size count workers = count / workers + min 1 (count % workers)
 
 module _ (s : Setting) where
-  -- one agent in one step: its turn, what the operator then saw, and what the agent saw of the operator
+  -- one agent in one step: its turn, what the operator then saw, and what the agent saw of the operator, which takes no
+  -- step and changes its pass alone
   pub record StepOf (step : ℕ) (op : AgentPass) (a b : AgentModel) : Type 0 where
     pub mid : AgentModel
     pub went : Went s step (step + 1) a mid
     pub told : Begins mid.pass.seen op.seen
-    pub back : Went s (step + 1) (step + 1) mid b
+    pub back : (n : ℕ) → Went s n n mid b
+    pub rest : b ≡ record mid { pass = b.pass }
     pub knows : Begins op.seen b.pass.seen
 
   pub record Stepped (step size : ℕ) (op op' : AgentPass) (xs ys : List AgentModel) : Type 0 where
@@ -44,6 +46,8 @@ module _ (s : Setting) where
     pub past : (k : ℕ) (e : Entry) → IsCallSince a b k e → length op0.seen ≤ k
     pub covered : (k : ℕ) (e : Entry) → IsCallSince a b k e → k < length op.seen
     pub told : first < step → ToldLast first step op a b
+    pub back : (lt : first < step) → (n : ℕ) → Went s n n (told lt).mid b
+    pub rest : (lt : first < step) → b ≡ record (told lt).mid { pass = b.pass }
 
   -- all agents after the steps from `first` on and below `step`
   pub record Rounding (first step size : ℕ) (op0 op : AgentPass) (xs ys : List AgentModel) : Type 0 where

@@ -1,10 +1,10 @@
 -- What the agents of a run do in one step.
-use Rattle.std.specs.Prelude.{◌≡◌, ℕ, ◌+◌, ◌*◌, ◌<◌, ◌≤◌, List, length, Option, Some, None, slice_index_or}
+use Rattle.std.specs.Prelude.{◌≡◌, ℕ, ◌+◌, ◌*◌, ◌<◌, ◌≤◌, List, length, Option, Some, None, slice_index_or, All}
 use Rattle.aim_msg.specs.declared.entries.Entry.{Entry}
 use Rattle.aim_turn.specs.Models.{TurnstileModel}
 use Rattle.aim_turn.specs.History.{Begins}
 use Rattle.aim_manager.specs.declared.keeper.Setting.{Setting}
-use Rattle.aim_agent.specs.Agents.{AgentModel, AgentPass, AgentFront, IsWhole}
+use Rattle.aim_agent.specs.Agents.{AgentModel, AgentPass, AgentFront, Idles, IsWhole}
 use Rattle.aim_agent.specs.Places.{IsCallSince, Before, Any}
 use Rattle.aim_agent.specs.Went.{Sees, Went}
 
@@ -13,6 +13,10 @@ pub record Done (R : AgentModel → AgentModel → Type 0) (n : ℕ) (xs ys : Li
   pub len : length ys ≡ length xs
   pub each : (k : ℕ) (d : AgentModel) → k < n → R (slice_index_or xs k d) (slice_index_or ys k d)
   pub others : (k : ℕ) (d : AgentModel) → n ≤ k → slice_index_or ys k d ≡ slice_index_or xs k d
+
+-- all of them idle at the steps from `first` on and below `last`
+abbrev pub AllIdle : ℕ → ℕ → List AgentModel → Type 0
+AllIdle first last xs = All (λ a. (step : ℕ) → first ≤ step → step < last → Idles a step) xs
 
 abbrev pub shown_by : Option AgentFront → ℕ
 shown_by None = 0

@@ -5,7 +5,7 @@ ghost use Rattle.aim_msg.specs.declared.entries.TheConstants.{LATEST_MOMENT};
 ghost use Rattle.aim_driver.specs.Models.{step_of};
 ghost use Rattle.aim_turn.specs.Models.{IsPassOf};
 ghost use Rattle.aim_agent.specs.Agents.{IsAgentOf};
-ghost use Rattle.aim_agents.specs.Runs.{Ran, RunsWent};
+ghost use Rattle.aim_agents.specs.Runs.{AllIdle, Ran, RunsWent};
 ghost use Rattle.aim_agents.specs.Rounds.{Rounds, Stepped, run_size};
 
 use crate::runs::{gather, meet_all, run_turns};
@@ -16,7 +16,33 @@ use std::sync::ledger::Ledger;
 use std::thread;
 use std::thread::Threads;
 
-// The turns of all runs of one step, side by side.
+// The step that it gives is the first one, from `step` on, at which one of them may have something to do.
+fn wakes_at<L: Ledger>(agents: &[Agent<L>], step: u32) -> u64
+    ensures { AllIdle step result agents.now }
+{
+    let mut least = u64::MAX;
+    for agent in agents {
+        least = least.min(agent.idle_until(step));
+    }
+    least
+}
+
+// Whether agents of two runs may have something to do at the step.
+fn are_two_runs_busy<L: Ledger>(agents: &[Agent<L>], step: u32, size: usize) -> bool
+    requires size { 0 < size }
+{
+    let mut first = None;
+    for place in 0..agents.len() {
+        let run = place / size;
+        if agents[place].idle_until(step) <= step as u64 && *first.get_or_insert(run) != run {
+            return true;
+        }
+    }
+    false
+}
+
+// The turns of all agents of one step. The runs go side by side where two of them have something to do; otherwise the
+// agents take their turns one after another, which keeps the order within each run too.
 fn turns<L: Ledger + Send, R: Threads + Wait + Sync, G: Gate>(
     rt: &R,
     manager: &Manager<L>,
@@ -31,6 +57,10 @@ fn turns<L: Ledger + Send, R: Threads + Wait + Sync, G: Gate>(
     requires most { step ≤ LATEST_MOMENT }
     ensures { RunsWent manager.now.setting step size agents.old agents.new }
 {
+    if !are_two_runs_busy(agents, step, size) {
+        run_turns(rt, manager, gate, step, agents);
+        return;
+    }
     thread::for_each_chunk_mut(
         rt,
         agents,
@@ -65,9 +95,10 @@ fn one_step<L: Ledger + Send, R: Threads + Wait + Sync, G: Gate>(
 }
 
 /// Lets the agents take their turns of the steps from `from` on and below `to`. In each step they are cut into runs of
-/// so many neighbours that there are at most `workers` runs. The runs go side by side, on threads of their own where
-/// threads can be had, and are joined before the next step; in a run each agent's turn stands behind that of the one
-/// before. Between two steps all that any of them has seen is seen by all, and by the operator's pass.
+/// so many neighbours that there are at most `workers` runs. Where two runs have something to do the runs go side by
+/// side, on threads of their own where threads can be had, and are joined before the next step; in a run each agent's
+/// turn stands behind that of the one before. Between two steps all that any of them has seen is seen by all, and by the
+/// operator's pass. A step in which no agent has anything to do is passed over.
 pub fn rounds<L: Ledger + Send, R: Threads + Wait + Sync, G: Gate>(
     rt: &R,
     manager: &Manager<L>,
@@ -95,7 +126,12 @@ pub fn rounds<L: Ledger + Send, R: Threads + Wait + Sync, G: Gate>(
     }
     let size = agents.len().div_ceil(workers as usize);
     meet_all(manager, operator, agents);
+    let mut wake = 0u64;
     for step in from..to {
+        if (step as u64) < wake {
+            continue;
+        }
         one_step(rt, manager, operator, agents, gate, step, size);
+        wake = wakes_at(agents, step + 1);
     }
 }

@@ -12,3 +12,4 @@ pub mod CrossingLemmas
 pub mod TurnLemmas
 pub mod CountLemmas
 pub mod HearLemmas
+pub mod IdleLemmas

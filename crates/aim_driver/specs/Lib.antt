@@ -4,6 +4,7 @@ pub mod Keeps
 pub mod Rules
 pub mod Own
 pub mod Steps
+pub mod Idle
 pub mod Models
 pub mod Links
 pub mod Turns

@@ -2,6 +2,7 @@
 #![tactic(auto)]
 
 mod drivers;
+mod idle;
 mod known;
 pub mod laws;
 mod links;

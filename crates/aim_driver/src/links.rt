@@ -1,6 +1,6 @@
 //! Links, on which items are lost, repeated and delayed.
 
-ghost use Rattle.std.specs.Prelude.{◌≡◌, ◌+◌, ◌^◌, ◌<◌, ◌≤◌, [], ◌∷◌, Some, length, slice_get, option_map, OnOk, OnErr, IfNone};
+ghost use Rattle.std.specs.Prelude.{◌≡◌, ℕ, ◌+◌, ◌^◌, ◌<◌, ◌≤◌, [], ◌∷◌, Some, None, length, slice_get, option_map, OnOk, OnErr, IfNone};
 ghost use Rattle.std.specs.Option.{ForSome};
 ghost use Rattle.aim_driver.specs.Links.{new_link, sent_on, sooner, is_step, next_due, fate_at, earliest, first_at, first_by, item_of, came_again, delivered, after_delivery};
 
@@ -189,5 +189,16 @@ impl<T: Copy> Link<T> {
     {
         let place = first_due(self.lag, &self.sent, step)?;
         Some(take(&mut self.sent, place))
+    }
+
+    /// Below the step that it gives nothing comes: the step at which something comes next, and the greatest number
+    /// where nothing is under way.
+    pub fn idle_until(&self) -> u64
+        ensures { (s : ℕ) → s < result → delivered self.now s ≡ None }
+    {
+        match earliest_due(self.lag, &self.sent) {
+            Some(due) => due,
+            None => u64::MAX,
+        }
     }
 }

@@ -112,7 +112,9 @@ fn one_vehicle<L: Ledger, R: Wait + Abort>(rt: &R, alloc: Global, blank: Blank) 
     let mut agent = agent_of(alloc, &manager, pass, 0, Fate::Lose)?;
     drive(rt, &manager, &mut agent, &gate, 0, 5);
     assert_eq!(rt; agent.sheets(), 2, "one sheet is kept");
+    assert_eq!(rt; agent.idle_until(5), 10, "it enters then");
     drive(rt, &manager, &mut agent, &gate, 5, 30);
+    assert_eq!(rt; agent.idle_until(30), u64::MAX, "it is through");
     assert!(rt; agent.trouble().is_none());
     assert_eq!(rt; agent.sheets(), 3, "it came back");
     let wanted = [

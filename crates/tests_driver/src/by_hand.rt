@@ -110,3 +110,30 @@ fn repeated_lost_and_delayed(rt: HostRuntime) -> Result<(), Fail> {
     }
     Ok(())
 }
+
+#[test]
+fn sleeps_between_its_steps(rt: HostRuntime) -> Result<(), Fail> {
+    let mut driver = Driver::new(rt.alloc(), plan(0, 5, 10, Changes::none()))?;
+    assert_eq!(rt; driver.idle_until(3), 5);
+    assert_eq!(rt; driver.idle_until(5), 5);
+    acts(&rt, &mut driver, 5, Some(request(1, 0, 15)))?;
+    assert_eq!(rt; driver.idle_until(6), 8);
+    got(&rt, &mut driver, 6, 1, confirm(0, 20, 30))?;
+    assert_eq!(rt; driver.idle_until(8), 20);
+    enters(&rt, &mut driver, 20, true)?;
+    assert_eq!(rt; driver.idle_until(25), 31);
+    Ok(())
+}
+
+#[test]
+fn nothing_comes_before(rt: HostRuntime) -> Result<(), Fail> {
+    let fates = vec![in rt.alloc(); Fate::Delay(4), Fate::Lose]?;
+    let mut link = Link::new(rt.alloc(), 1, fates);
+    assert_eq!(rt; link.idle_until(), u64::MAX);
+    link.send(3, 7u32)?;
+    link.send(4, 8)?;
+    assert_eq!(rt; link.idle_until(), 8);
+    delivers(&rt, &mut link, 8, Some(7));
+    assert_eq!(rt; link.idle_until(), u64::MAX);
+    Ok(())
+}
