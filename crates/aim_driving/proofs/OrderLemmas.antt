@@ -1,8 +1,12 @@
 -- The logs of vehicles, one after another.
-use Rattle.std.proofs.Common.{◌≡◌, ℕ, zero, suc, ◌+◌, ◌-◌, ◌<◌, ◌≤◌, List, [], ◌∷◌, ◌++◌, refl, sym, ap, ◌∙◌, arith, append_assoc}
+use Rattle.std.proofs.Common.{◌≡◌, ℕ, zero, suc, ◌+◌, ◌-◌, ◌<◌, ◌≤◌, ◌==◌, Bool, true, false, List, [], ◌∷◌, ◌++◌, length, map, drop, get_or, if◌then◌else◌, refl, sym, ap, ◌∙◌, arith, append_assoc}
 use Rattle.std.proofs.lemmas.List.{append-nil}
+use Rattle.std.proofs.Math.Seq.{drop-cons}
+use Rattle.std.specs.List.{filter}
 use Rattle.aim_driver.specs.declared.logs.LogItem.{LogItem}
+use Rattle.aim_drive.specs.declared.running.Logged.{Logged}
 use Rattle.aim_drive.specs.Headline.{VehicleLog}
+use Rattle.aim_drive.specs.Making.{log_of}
 use Rattle.aim_driving.specs.Ordered.{log_among, logs_from}
 
 -- of some vehicles more the first, and the others
@@ -32,3 +36,25 @@ module _ (text : ℕ → List LogItem → List ℕ) (all : List VehicleLog → L
   text_done v n out whole least before =
       let none : n - v ≡ 0 = omega (arith, least) in
       sym (ap (λ l. out ++ l) (ap all (no_log v (n - v) logs none) ∙ empty) ∙ append-nil out) ∙ before
+
+-- the vehicle's log is the one at a place where its number stands
+pub log_here : (v : ℕ) (ls : List Logged) (k : ℕ) (d : Logged) → k < length ls → ((get_or ls k d).vehicle == v) ≡ true → log_among v (map log_of (drop k ls)) ≡ (get_or ls k d).driver.log
+log_here v ls k d less own =
+    ap (λ l. log_among v (map log_of l)) (drop-cons ls k d less)
+    ∙ ap (λ b. if b then (get_or ls k d).driver.log else log_among v (map log_of (drop (suc k) ls))) own
+
+-- and stands further on where another number does
+pub log_later : (v : ℕ) (ls : List Logged) (k : ℕ) (d : Logged) → k < length ls → ((get_or ls k d).vehicle == v) ≡ false
+    → log_among v (map log_of (drop k ls)) ≡ log_among v (map log_of (drop (suc k) ls))
+log_later v ls k d less other =
+    ap (λ l. log_among v (map log_of l)) (drop-cons ls k d less)
+    ∙ ap (λ b. if b then (get_or ls k d).driver.log else log_among v (map log_of (drop (suc k) ls))) other
+
+-- how many pass a test of what they tell
+pub counted_told : (p : VehicleLog → Bool) (ls : List Logged) → length (filter p (map log_of ls)) ≡ length (filter (λ l. p (log_of l)) ls)
+counted_told p [] = refl
+counted_told p (l ∷ ls) = go (p (log_of l)) (counted_told p ls)
+  where
+    go : (b : Bool) → length (filter p (map log_of ls)) ≡ length (filter (λ x. p (log_of x)) ls) → length (if b then log_of l ∷ filter p (map log_of ls) else filter p (map log_of ls)) ≡ length (if b then l ∷ filter (λ x. p (log_of x)) ls else filter (λ x. p (log_of x)) ls)
+    go true rest = ap suc rest
+    go false rest = rest

@@ -1,5 +1,6 @@
 -- A run of a script is one of the lines that say it.
-use Rattle.std.proofs.Common.{◌≡◌, ℕ, List, length, map, sym, ap, ◌∙◌, subst}
+use Rattle.std.proofs.Common.{◌≡◌, ℕ, List, length, map, Result, Ok, Err, sym, ap, ◌∙◌, subst}
+use Rattle.std.specs.Prelude.{IfOk}
 use Rattle.std.proofs.lemmas.List.{length-map}
 use Rattle.aim_msg.specs.declared.entries.Entry.{Entry}
 use Rattle.aim_msg.specs.declared.script.Line.{Line}
@@ -16,6 +17,11 @@ use Rattle.aim_drive.specs.Headline.{Headline, VehicleLog}
 use Rattle.aim_driving.specs.Ordered.{in_order}
 use Rattle.aim_driving.specs.Runs.{IsRunOf}
 use Rattle.aim_driving.specs.Commands.{IsReport}
+
+-- what holds of a value holds, where it follows
+pub if_ok : {A E : Type 0} {P Q : A → Type 0} (r : Result A E) → ((a : A) → P a → Q a) → IfOk r P → IfOk r Q
+if_ok (Ok a) f p = f a p
+if_ok (Err e) f p = p
 
 module _ (workers : ℕ) (lines : List Line) (s : DriveScript) (is : IsScriptOf lines s) (h : List Entry) (logs : List VehicleLog) where
   count : length s.plans.items ≡ length (drives_of lines)
