@@ -1,9 +1,7 @@
-//! Tests of the calls of agents: turns one after another, and rounds on threads.
+//! Tests of the calls of agents: turns one after another.
 #![tactic(auto)]
 
 #[cfg(test)]
 mod crossing;
-#[cfg(test)]
-mod rounds;
 #[cfg(test)]
 mod turns;
