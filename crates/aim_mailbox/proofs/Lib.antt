@@ -1,0 +1,7 @@
+pub mod CallLemmas
+pub mod Deals
+pub mod Opens
+pub mod Posts
+pub mod Responses
+pub mod Settles
+pub mod Views
