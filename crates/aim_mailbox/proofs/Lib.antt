@@ -1,4 +1,5 @@
 pub mod CallLemmas
+pub mod Crosses
 pub mod Deals
 pub mod Opens
 pub mod Posts
