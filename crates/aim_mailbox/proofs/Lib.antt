@@ -1,4 +1,5 @@
 pub mod CallLemmas
+pub mod Clients
 pub mod Crosses
 pub mod Deals
 pub mod Opens

@@ -90,3 +90,10 @@ pub record IsSettled (room : ℕ) (journal : List Entry) (c : ClientModel) : Typ
   pub entries : own c.vehicle journal ≡ entries_of c.vehicle c.calls
   pub full : (refused ≡ []) ⊎ (length journal ≡ room)
   pub kept : c.kept ≡ sheets_kept c.vehicle (own c.vehicle journal)
+
+-- the client is of the same mailbox and vehicle as before
+pub record IsSameClient (old new : ClientModel) : Type 0 where
+  pub asks_on : new.asks_on ≡ old.asks_on
+  pub hears_on : new.hears_on ≡ old.hears_on
+  pub setting : new.setting ≡ old.setting
+  pub vehicle : new.vehicle ≡ old.vehicle
