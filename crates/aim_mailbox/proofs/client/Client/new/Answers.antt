@@ -1,0 +1,5 @@
+use Rattle.aim_mailbox.proofs.Opens.{open_new}
+use Rattle.aim_mailbox.proofs.client.Client.new.Goals as goal
+
+pub invariant_of-result : goal.invariant_of-result
+invariant_of-result c = (open_new _ _ c.requires.new.0 c.requires.new.1, c.requires.room)

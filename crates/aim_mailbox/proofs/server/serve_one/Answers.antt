@@ -1,0 +1,11 @@
+use Rattle.std.proofs.Common.{subst}
+use Rattle.aim_mailbox.specs.Post.{IsFor, IsServable}
+use Rattle.aim_mailbox.proofs.server.serve_one.Goals as goal
+
+pub answer-requires-clause-moment : goal.answer-requires-clause-moment
+answer-requires-clause-moment g c =
+    (subst (λ o. IsServable o c.in-Call.moment c.in-Call.prepared) c.requires.made.1 (subst (IsFor c.args.intake.now.setting) c.in-Call.is c.receive-from.ensures.word)).0
+
+pub answer-requires-clause-prepared : goal.answer-requires-clause-prepared
+answer-requires-clause-prepared g c =
+    (subst (λ o. IsServable o c.in-Call.moment c.in-Call.prepared) c.requires.made.1 (subst (IsFor c.args.intake.now.setting) c.in-Call.is c.receive-from.ensures.word)).1

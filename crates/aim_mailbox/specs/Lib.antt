@@ -1,0 +1,4 @@
+pub mod Calls
+pub mod Mail
+pub mod Post
+pub mod Slips

@@ -1,0 +1,193 @@
+-- The server, the clients and their calls.
+-- No public clause cites it: only the models of clients and servers, and contracts of private functions.
+use Rattle.std.specs.Prelude.{◌≡◌, ℕ, ◌+◌, ◌<◌, ◌≤◌, ◌==◌, ◌||◌, ◌⊎◌, Bool, true, false, List, [], ◌∷◌, ◌++◌, map, filter, length, Option, Some, None, Result, Ok, Err}
+use mathlib.Core.Option.{some}
+use lib.ListN.{get_elem?}
+use Rattle.atomic_table.specs.Seated.{TableId}
+use Rattle.atomic_table.specs.declared.badge.Badge.{Badge}
+use Rattle.crossbeam_channel.specs.declared.flavors.array.Key.{Key}
+use Rattle.aim_msg.specs.declared.entries.Act.TheVariants as act
+use Rattle.aim_msg.specs.declared.entries.Entry.{Entry}
+use Rattle.aim_msg.specs.declared.messages.Message.{Message}
+use Rattle.aim_msg.specs.declared.replies.Reply.{Reply}
+use Rattle.aim_buffers.specs.Requests.{Request}
+use Rattle.aim_rules.specs.Legal.{IsLegal}
+use Rattle.aim_book.specs.declared.book.Full.{Full}
+use Rattle.aim_book.specs.Sheets.{own, sheets_kept}
+use Rattle.aim_book.specs.State.{State}
+use Rattle.aim_mailbox.specs.declared.letter.Letter.{Letter}
+use Rattle.aim_mailbox.specs.declared.letter.Response.{Response}
+use Rattle.aim_mailbox.specs.declared.letter.Setting.{Setting}
+use Rattle.aim_mailbox.specs.declared.letter.Word.{Word}
+use Rattle.aim_mailbox.specs.declared.letter.Word.TheVariants as W
+use Rattle.aim_mailbox.specs.Calls.{Answer, Call, Channel, ClientModel, ServerModel, entry_of, IsReply, IsFull}
+use Rattle.aim_mailbox.specs.Post.{Every, of, PortModel, IntakeModel}
+use Rattle.aim_mailbox.specs.Slips.{Lawful, kept_after, room_in, SlipModel, InletModel}
+
+-- what is asked by a call
+pub record Ask : Type 0 where
+  pub moment : ℕ
+  pub message : Message
+
+abbrev pub ask : ℕ → Request → Ask
+ask moment p = record { moment = moment; message = p.message }
+
+abbrev pub asked : Word → List Ask
+asked (W.Opening s) = []
+asked (W.Call moment p) = ask moment p ∷ []
+asked W.Last = []
+
+abbrev pub is_last : Word → Bool
+is_last (W.Opening s) = false
+is_last (W.Call moment p) = false
+is_last W.Last = true
+
+-- what the calls among the letters ask
+abbrev pub asks : List Letter → List Ask
+asks [] = []
+asks (l ∷ ls) = asked l.word ++ asks ls
+
+-- whether a last word is among the letters
+abbrev pub has_last : List Letter → Bool
+has_last [] = false
+has_last (l ∷ ls) = is_last l.word || has_last ls
+
+abbrev pub call_of : Ask → Answer → Call
+call_of a answer = record { moment = a.moment; message = a.message; answer = answer }
+
+-- each ask with the response in its place
+abbrev pub pairs : List Ask → List Response → List Call
+pairs [] rs = []
+pairs (a ∷ as') [] = []
+pairs (a ∷ as') (r ∷ rs) = call_of a r.answer ∷ pairs as' rs
+
+-- the calls of a client that sent and heard so
+abbrev pub calls_in : List Letter → List Response → List Call
+calls_in sent heard = pairs (asks sent) heard
+
+-- what contracts see of a client with these ends
+abbrev pub client_of : PortModel → InletModel → ClientModel
+client_of port inlet = record {
+  asks_on = record { table = port.table; key = port.key };
+  hears_on = record { table = inlet.table; key = inlet.key };
+  setting = port.setting;
+  vehicle = port.from;
+  calls = calls_in port.sent inlet.heard;
+  kept = kept_after inlet.heard;
+}
+
+-- a client that has an answer to each of its calls
+pub record IsOpen (sent : List Letter) (heard : List Response) : Type 0 where
+  pub each : length (asks sent) ≡ length heard
+  pub going : has_last sent ≡ false
+
+-- the same, with its last word sent
+pub record IsEnded (sent : List Letter) (heard : List Response) : Type 0 where
+  pub calls : List Letter
+  pub last : Letter
+  pub is : sent ≡ calls ++ last ∷ []
+  pub word : is_last last.word ≡ true
+  pub each : length (asks sent) ≡ length heard
+  pub going : has_last calls ≡ false
+
+-- the sheets that come to a client of the setting have the room of its layout's spans
+pub record HasRoom (setting : Option Setting) (first : Option Response) : Type 0 where
+  pub terms : Setting
+  pub is : setting ≡ Some terms
+  pub room : room_in first ≡ terms.layout.grid.spans
+
+abbrev pub call_letter : ℕ → ℕ → Request → Letter
+call_letter from moment p = record { from = from; word = W.Call moment p }
+
+abbrev pub last_letter : ℕ → Letter
+last_letter from = record { from = from; word = W.Last }
+
+-- what was served: whose call it was, what it asked, and the answer
+pub record Deal : Type 0 where
+  pub vehicle : ℕ
+  pub ask : Ask
+  pub answer : Answer
+
+abbrev pub deal : ℕ → Ask → Answer → Deal
+deal v a r = record { vehicle = v; ask = a; answer = r }
+
+abbrev pub deals_of : ℕ → List Deal → List Deal
+deals_of p ds = filter (λ d. d.vehicle == p) ds
+
+-- the entries of what was served
+abbrev pub entries_in : List Deal → List Entry
+entries_in [] = []
+entries_in (d ∷ ds) = entry_of d.vehicle d.ask.moment d.ask.message d.answer ++ entries_in ds
+
+-- what the server knows of one client
+pub record Owes (p spans : ℕ) (journal : List Entry) (log : List Deal) (got : List Letter) (s : SlipModel) : Type 0 where
+  pub put : map (λ r. r.answer) s.put ≡ map (λ d. d.answer) (deals_of p log)
+  pub lawful : Lawful s.first s.put
+  pub room : room_in s.first ≡ spans
+  pub kept : kept_after s.put ≡ sheets_kept p journal
+  pub ended : s.ended ≡ true → has_last (of p got) ≡ true
+
+-- What the server knows: all that it served, first what had room and then what had not.
+pub record Stands (book : State) (got : List Letter) (slips : List SlipModel) : Type 0 where
+  pub replied : List Deal
+  pub refused : List Deal
+  pub replies : Every (λ d. IsReply d.answer) replied
+  pub refusals : Every (λ d. IsFull d.answer) refused
+  pub full : (refused ≡ []) ⊎ (length book.journal ≡ book.room)
+  pub asked : (p : ℕ) → asks (of p got) ≡ map (λ d. d.ask) (deals_of p (replied ++ refused))
+  pub count : length slips ≡ book.vehicles
+  pub each : (p : ℕ) (s : SlipModel) → get_elem? slips p ≡ some s → Owes p book.layout.grid.spans book.journal (replied ++ refused) got s
+  pub entries : book.journal ≡ entries_in replied
+  pub known : Every (λ d. d.vehicle < book.vehicles) replied
+  pub legal : IsLegal book.layout book.vehicles book.journal
+  pub within : length book.journal ≤ book.room
+
+-- the same book, maybe with another journal
+pub record IsSameBook (a b : State) : Type 0 where
+  pub layout : b.layout ≡ a.layout
+  pub vehicles : b.vehicles ≡ a.vehicles
+  pub room : b.room ≡ a.room
+
+-- what no call changes of a book
+abbrev pub setting_of : State → Setting
+setting_of b = record { layout = b.layout; vehicles = b.vehicles; room = b.room }
+
+-- the slips of the same channels, and the clients that had ended still have
+pub record IsSameSlip (a b : SlipModel) : Type 0 where
+  pub table : b.table ≡ a.table
+  pub key : b.key ≡ a.key
+  pub ended : a.ended ≡ true → b.ended ≡ true
+
+abbrev pub AreSameSlips : List SlipModel → List SlipModel → Type 0
+AreSameSlips xs ys = (length ys ≡ length xs) × ((p : ℕ) (a : SlipModel) → get_elem? xs p ≡ some a → (b : SlipModel) × (get_elem? ys p ≡ some b) × IsSameSlip a b)
+
+-- the client has ended
+abbrev pub HasEnded : List SlipModel → ℕ → Type 0
+HasEnded slips p = (s : SlipModel) → get_elem? slips p ≡ some s → s.ended ≡ true
+
+pub record IsSameIntake (a b : IntakeModel) : Type 0 where
+  pub table : b.table ≡ a.table
+  pub key : b.key ≡ a.key
+  pub setting : b.setting ≡ a.setting
+  pub made : b.made ≡ a.made
+  pub known : b.known ≡ a.known
+
+-- the server's end of a client's channel
+abbrev pub channel_of : SlipModel → Channel Response
+channel_of s = record { table = s.table; key = s.key }
+
+-- a client that ended, with all that it sent and heard
+pub record Gone : Type 0 where
+  pub client : ClientModel
+  pub sent : List Letter
+  pub heard : List Response
+
+-- what a client that ended was found to have heard
+pub record Found (slips : List SlipModel) (g : Gone) : Type 0 where
+  pub ends : IsEnded g.sent g.heard
+  pub calls : g.client.calls ≡ calls_in g.sent g.heard
+  pub kept : g.client.kept ≡ kept_after g.heard
+  pub slip : SlipModel
+  pub at : get_elem? slips g.client.vehicle ≡ some slip
+  pub rest : List Response
+  pub put : slip.put ≡ g.heard ++ rest

@@ -1,0 +1,122 @@
+//! The clients.
+ghost use Rattle.std.specs.Prelude.{◌≡◌, ◌+◌, ◌≤◌, ◌++◌, [], ◌∷◌, IfSome};
+ghost use Rattle.aim_msg.specs.declared.entries.TheConstants.{LATEST_MOMENT};
+ghost use Rattle.aim_buffers.specs.Requests.{IsPreparedFor};
+ghost use Rattle.aim_mailbox.specs.Mail.{client_of, HasRoom};
+
+use crate::letter::{Letter, Response, Word};
+use crate::post::Port;
+use crate::slip::Inlet;
+use aim_book::Full;
+use aim_buffers::Prepared;
+use aim_msg::Reply;
+use aim_pool::Pool;
+use std::marker::Model;
+use std::sync::Wait;
+
+/// The client of one vehicle. Contracts see its vehicle, the setting of its mailbox, the list of its calls, and how many
+/// sheets the book keeps for the vehicle.
+#[derive(Drop)]
+pub struct Client {
+    pub(crate) port: Port,
+    pub(crate) inlet: Inlet,
+}
+
+impl Model for Client {
+    ghost use Rattle.aim_mailbox.specs.Calls.{ClientModel};
+    ghost use Rattle.aim_mailbox.specs.Mail.{client_of, HasRoom, IsOpen};
+
+    ghost Value = { ClientModel };
+
+    ghost view = { λ c. client_of c.port c.inlet };
+
+    ghost invariant = { λ c. IsOpen c.port.sent c.inlet.heard × HasRoom c.port.setting c.inlet.first };
+}
+
+/// A client that sent its last word.
+#[derive(Drop)]
+pub struct Ended {
+    pub(crate) port: Port,
+    pub(crate) inlet: Inlet,
+}
+
+impl Model for Ended {
+    ghost use Rattle.aim_mailbox.specs.Calls.{ClientModel};
+    ghost use Rattle.aim_mailbox.specs.Mail.{client_of, IsEnded};
+
+    ghost Value = { ClientModel };
+
+    ghost view = { λ c. client_of c.port c.inlet };
+
+    ghost invariant = { λ c. IsEnded c.port.sent c.inlet.heard };
+}
+
+// Moves all sheets of one pool into another.
+fn move_over(mut sheets: Pool, back: &mut Pool)
+    requires room { sheets.room ≡ back.old.room }
+    requires few { back.old.count + sheets.count ≤ 2000000 }
+    ensures { back.new ≡ record back.old { count = back.old.count + sheets.count } }
+{
+    for _ in 0..sheets.count() {
+        let Ok(sheet) = sheets.take() else {
+            unreachable!()
+        };
+        back.give(sheet);
+    }
+}
+
+impl Client {
+    pub(crate) fn new(port: Port, inlet: Inlet) -> Client
+        requires new { (port.sent ≡ []) × (inlet.heard ≡ []) }
+        requires room { HasRoom port.setting inlet.first }
+        ensures { result ≡ client_of port inlet }
+    {
+        Client { port, inlet }
+    }
+
+    /// Makes one call, and waits for its answer. The sheets that the book gives back come into `back`.
+    pub fn call<R: Wait>(
+        &mut self,
+        rt: &R,
+        moment: u32,
+        prepared: Prepared,
+        back: &mut Pool,
+    ) -> Result<Reply, Full>
+        requires moment { moment ≤ LATEST_MOMENT }
+        requires prepared { IfSome self.old.setting (λ s. IsPreparedFor s.layout prepared) }
+        requires count { back.old.count ≤ 1000000 }
+        requires room { IfSome self.old.setting (λ s. back.old.room ≡ s.layout.grid.spans) }
+        ensures call { self.new ≡ record self.old { calls = self.old.calls ++ (record { moment = moment; message = prepared.message; answer = result }) ∷ []; kept = self.new.kept } }
+        ensures sheets { back.new.count + self.new.kept ≡ back.old.count + self.old.kept + 2 }
+        ensures kept { self.new.kept ≤ 1 }
+        ensures pool { back.new.room ≡ back.old.room }
+    {
+        let from = self.port.from();
+        let letter = Letter {
+            from,
+            word: Word::Call { moment, prepared },
+        };
+        self.port.send(rt, letter);
+        let Response {
+            answer,
+            sheets,
+            kept: _,
+        } = self.inlet.hear(rt);
+        move_over(sheets, back);
+        answer
+    }
+
+    /// Sends the last word.
+    pub fn finish<R: Wait>(self, rt: &R) -> Ended
+        ensures { result ≡ self }
+    {
+        let Client { mut port, inlet } = self;
+        let from = port.from();
+        let letter = Letter {
+            from,
+            word: Word::Last,
+        };
+        port.send(rt, letter);
+        Ended { port, inlet }
+    }
+}

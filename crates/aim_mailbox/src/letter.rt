@@ -1,0 +1,40 @@
+//! What goes over the channels.
+use aim_book::Full;
+use aim_buffers::Prepared;
+use aim_msg::Reply;
+use aim_paths::Layout;
+use aim_pool::Pool;
+
+/// What no call changes of a mailbox.
+#[derive(Drop)]
+pub struct Setting {
+    pub layout: Layout,
+    pub vehicles: u32,
+    pub room: u32,
+}
+
+/// What is said to the server.
+#[derive(Drop)]
+pub enum Word {
+    /// The setting. It is the first word, which opening sends and receives.
+    Opening(Setting),
+    /// A call.
+    Call { moment: u32, prepared: Prepared },
+    /// A client's last word.
+    Last,
+}
+
+/// A word with the number of the vehicle whose client says it.
+#[derive(Drop)]
+pub struct Letter {
+    pub from: u32,
+    pub word: Word,
+}
+
+/// What comes back of a call: the answer, the sheets that the book gave back, and how many it now keeps for the vehicle.
+#[derive(Drop)]
+pub struct Response {
+    pub answer: Result<Reply, Full>,
+    pub sheets: Pool,
+    pub kept: u32,
+}

@@ -1,0 +1,17 @@
+//! A server that owns the book, and clients that hand it calls over a channel and wait for each answer.
+#![tactic(auto)]
+
+mod client;
+mod letter;
+mod mailbox;
+mod post;
+mod server;
+mod slip;
+
+pub use aim_book::{Full, OpenFault};
+pub use client::{Client, Ended};
+pub use letter::{Letter, Response, Setting, Word};
+pub use mailbox::{Mailbox, OpenedMail};
+pub use post::{Hand, Intake, Note, Port};
+pub use server::{Served, Server, settle};
+pub use slip::{Inlet, Slate, Slip};
