@@ -68,8 +68,7 @@ const DRIVE: &[u8] =
 const LOOKS: u32 = 100_000_000;
 
 // What is printed of generated traffic of one vehicle.
-const GENERATED: &[u8] =
-    b"steps 4033\nentries 2\nconfirms 1\nrejects 0\nentered 1\nend 2\n";
+const GENERATED: &[u8] = b"steps 4033\nentries 2\nconfirms 1\nrejects 0\nentered 1\nend 2\n";
 
 // Words that are outside the table.
 const OUTSIDE: [&[&str]; 18] = [

@@ -94,6 +94,27 @@ fn got(step: u32, seq: u32, reply: Reply) -> LogItem {
     LogItem::Got { step, seq, reply }
 }
 
+// The log of a vehicle whose first message is lost.
+fn whole_crossing() -> [LogItem; 6] {
+    [
+        LogItem::Sent {
+            step: 0,
+            message: request(1, 0, 10),
+        },
+        LogItem::Sent {
+            step: 2,
+            message: request(1, 0, 10),
+        },
+        got(3, 1, confirm(0)),
+        LogItem::Entered { step: 10, id: 0 },
+        LogItem::Sent {
+            step: 21,
+            message: done(2, 0),
+        },
+        got(22, 2, Reply::Ack { id: 0 }),
+    ]
+}
+
 // It is confirmed, enters, leaves and says so, though its first message is lost.
 fn one_vehicle<L: Ledger, R: Wait + Abort>(rt: &R, alloc: Global, blank: Blank) -> Result<(), Fail>
     requires name { blank.name ≡ L.name }
@@ -117,23 +138,7 @@ fn one_vehicle<L: Ledger, R: Wait + Abort>(rt: &R, alloc: Global, blank: Blank) 
     assert_eq!(rt; agent.idle_until(30), u64::MAX, "it is through");
     assert!(rt; agent.trouble().is_none());
     assert_eq!(rt; agent.sheets(), 3, "it came back");
-    let wanted = [
-        LogItem::Sent {
-            step: 0,
-            message: request(1, 0, 10),
-        },
-        LogItem::Sent {
-            step: 2,
-            message: request(1, 0, 10),
-        },
-        got(3, 1, confirm(0)),
-        LogItem::Entered { step: 10, id: 0 },
-        LogItem::Sent {
-            step: 21,
-            message: done(2, 0),
-        },
-        got(22, 2, Reply::Ack { id: 0 }),
-    ];
+    let wanted = whole_crossing();
     assert!(rt; agent.log() == &wanted[..]);
     assert_eq!(rt; gate.calls.load(Ordering::SeqCst), 2);
     assert_eq!(rt; gate.steps.load(Ordering::SeqCst), 23);
