@@ -101,6 +101,7 @@ impl Gate for Open {
 
 /// Vehicle 1 waits here, at its first call, until vehicle 0 has come, and vehicle 0 until vehicle 1 has come twice, the
 /// second time after its first call was answered. Each waits for a while only, and counts where that was in vain.
+#[derive(Drop)]
 struct Meeting {
     first: AtomicU64,
     second: AtomicU64,
