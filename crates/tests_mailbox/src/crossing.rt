@@ -1,0 +1,75 @@
+//! A crossing of two straight lanes, and requests for it.
+
+use aim_geometry::{Grid, Ground, Times};
+use aim_msg::{Body, Message, Params, Turn};
+use aim_paths::{Builder, Kind, Layout, Shape};
+use std::alloc::Global;
+use std::test::Fail;
+
+const GRID: Grid = Grid {
+    side: 4000,
+    n: 4,
+    spacing: 100,
+    fixed: 0,
+    half: 450,
+    spans: 4096,
+};
+
+const TIMES: Times = Times {
+    horizon: 1500,
+    longest: 25,
+    clearance: 20,
+    early: 0,
+    late: 0,
+    edge: 0,
+};
+
+const EAST: Shape = Shape::Line {
+    x0: 0,
+    y0: 1500,
+    x1: 4000,
+    y1: 1500,
+    m: 40,
+};
+
+const NORTH: Shape = Shape::Line {
+    x0: 2500,
+    y0: 0,
+    x1: 2500,
+    y1: 4000,
+    m: 40,
+};
+
+/// Lane 0 goes east, lane 1 north, and they share the tile in row 1, column 2. The one policy has no lights.
+pub fn crossing(alloc: Global) -> Result<Layout, Fail> {
+    let ground = Ground::build(GRID, TIMES).ok().ok_or("no ground")?;
+    let mut builder = Builder::new(alloc, ground, 2).ok().ok_or("no builder")?;
+    builder
+        .add_move(0, Turn::Straight, EAST)
+        .ok()
+        .ok_or("no move east")?;
+    builder
+        .add_move(1, Turn::Straight, NORTH)
+        .ok()
+        .ok_or("no move north")?;
+    builder.add_policy(Kind::Fcfs).ok().ok_or("no policy")?;
+    Ok(builder.finish().ok().ok_or("no layout")?)
+}
+
+/// A request for a crossing of 11 steps.
+pub fn request(seq: u32, lane: u8, arrive: u32) -> Message {
+    Message {
+        seq,
+        body: Body::Request(Params {
+            lane,
+            turn: Turn::Straight,
+            arrive,
+            speed: 500,
+            max_speed: 500,
+            accel: 0,
+            length: 1000,
+            width: 700,
+            emergency: false,
+        }),
+    }
+}

@@ -1,0 +1,341 @@
+//! Clients and the server on threads of their own, over a crossing of two lanes.
+
+ghost use Rattle.std.specs.Prelude.{◌≡◌, ◌<◌, ◌≤◌, IfSome, IfOk};
+ghost use Rattle.std.specs.Thread.{IsSync};
+ghost use Rattle.aim_mailbox.specs.Calls.{IsOfMail, IsSameClient};
+
+use crate::calls::{called, numbered, settled};
+use crate::crossing::{crossing, request};
+use aim_mailbox::{Client, Ended, Full, Mailbox, OpenedMail, Served, Server};
+use aim_msg::{Entry, Reply};
+use aim_paths::Layout;
+use aim_pool::Pool;
+use std::alloc::Global;
+use std::marker::Brand;
+use std::process::Abort;
+use std::sync::Wait;
+use std::sync::atomic::{AtomicU64, Ordering};
+use std::sync::ledger::{Blank, Ledger};
+use std::test::Fail;
+use std::thread::{Threads, join, yield_now};
+
+// Two clients that said their last word, and how their calls were answered.
+#[derive(Drop)]
+struct Left {
+    first: Ended,
+    second: Ended,
+    replies: (Result<Reply, Full>, Result<Reply, Full>),
+}
+
+fn confirmed(id: u32, start: u32) -> Result<Reply, Full>
+    requires { start < 2000 }
+{
+    Ok(Reply::Confirm {
+        id,
+        start,
+        early: 0,
+        late: 0,
+        accelerate: false,
+        last: start + 10,
+    })
+}
+
+// A server with two clients.
+#[derive(Drop)]
+struct Staff<L: Ledger> {
+    server: Server<L>,
+    first: Client,
+    second: Client,
+}
+
+// Opens a mailbox for two vehicles.
+fn opened<L: Ledger, R: Wait>(
+    rt: &R,
+    alloc: Global,
+    layout: &Layout,
+    room: u32,
+    blank: Blank,
+) -> Result<Staff<L>, Fail>
+    requires name { blank.name ≡ L.name }
+    requires parts { blank.parts ≡ L.parts }
+    requires some { 0 < blank.parts }
+    ensures own { IfOk result (λ s. IsOfMail s.server s.first × IsOfMail s.server s.second) }
+    ensures layout { IfOk result (λ s. s.server.setting.layout ≡ layout.now) }
+{
+    let OpenedMail {
+        server,
+        mut clients,
+    } = Mailbox::open::<L, R>(rt, alloc, layout.copy()?, 2, room, blank)?;
+    let Some(second) = clients.pop() else {
+        unreachable!()
+    };
+    let Some(first) = clients.pop() else {
+        unreachable!()
+    };
+    Ok(Staff {
+        server,
+        first,
+        second,
+    })
+}
+
+// The first client calls. Then it calls again, or else the second one calls. Then they say their last words.
+fn in_turn<R: Wait + Abort>(
+    rt: &R,
+    mut first: Client,
+    mut second: Client,
+    layout: &Layout,
+    mut pool: Pool,
+    alone: bool,
+    answered: &AtomicU64,
+) -> Left
+    requires layouts { IfSome first.setting (λ s. s.layout ≡ layout.now) × IfSome second.setting (λ s. s.layout ≡ layout.now) }
+    ensures { IsSameClient first result.first × IsSameClient second result.second }
+{
+    let one = called(rt, &mut first, layout, &mut pool, 0, &request(1, 0, 10));
+    answered.store(1, Ordering::SeqCst);
+    let two = if alone {
+        called(rt, &mut first, layout, &mut pool, 0, &request(2, 0, 40))
+    } else {
+        called(rt, &mut second, layout, &mut pool, 0, &request(1, 1, 40))
+    };
+    Left {
+        first: first.finish(rt),
+        second: second.finish(rt),
+        replies: (one, two),
+    }
+}
+
+// A server that has served, and whether a call was answered before it ran.
+#[derive(Drop)]
+struct Late<L: Ledger> {
+    served: Served<L>,
+    early: bool,
+}
+
+// Lets so many turns go by, and then serves.
+fn run_late<L: Ledger, R: Wait>(
+    rt: &R,
+    server: Server<L>,
+    turns: u32,
+    answered: &AtomicU64,
+) -> Late<L>
+    ensures { result.served ≡ server }
+{
+    let mut early = false;
+    for _ in 0..turns {
+        if answered.load(Ordering::SeqCst) == 1 {
+            early = true;
+        }
+        yield_now();
+    }
+    Late {
+        served: server.run(rt),
+        early,
+    }
+}
+
+// The server on one thread, which it begins after so many turns, and its two clients on another.
+fn beside<L: Ledger + Send + Sync, R: Threads + Wait + Abort + Sync>(
+    rt: &R,
+    staff: Staff<L>,
+    layout: &Layout,
+    pool: Pool,
+    alone: bool,
+    turns: u32,
+    answered: &AtomicU64,
+) -> (Late<L>, Left)
+    requires layouts { IfSome staff.first.setting (λ s. s.layout ≡ layout.now) × IfSome staff.second.setting (λ s. s.layout ≡ layout.now) }
+    ensures served { result.0.served ≡ staff.server }
+    ensures clients { IsSameClient staff.first result.1.first × IsSameClient staff.second result.1.second }
+{
+    let Staff {
+        server,
+        first,
+        second,
+    } = staff;
+    join(
+        rt,
+        move || -> Late<L>
+            requires { IsSync R.row }
+            ensures { result.served ≡ server }
+        { run_late(rt, server, turns, answered) },
+        move || -> Left
+            requires { IsSync R.row × IfSome first.setting (λ s. s.layout ≡ layout.now) × IfSome second.setting (λ s. s.layout ≡ layout.now) }
+            ensures { IsSameClient first result.first × IsSameClient second result.second }
+        { in_turn(rt, first, second, layout, pool, alone, answered) },
+    )
+}
+
+// What two calls left.
+#[derive(Drop)]
+struct Outcome {
+    journal: Vec<Entry>,
+    replies: (Result<Reply, Full>, Result<Reply, Full>),
+    early: bool,
+}
+
+// Two calls beside a server that begins after so many turns.
+fn two_calls<L: Ledger + Send + Sync, R: Threads + Wait + Abort + Sync>(
+    rt: &R,
+    alloc: Global,
+    blank: Blank,
+    room: u32,
+    alone: bool,
+    turns: u32,
+) -> Result<Outcome, Fail>
+    requires name { blank.name ≡ L.name }
+    requires parts { blank.parts ≡ L.parts }
+    requires some { 0 < blank.parts }
+{
+    let layout = crossing(alloc)?;
+    let staff = opened::<L, R>(rt, alloc, &layout, room, blank)?;
+    let pool = Pool::new(alloc, 6, 4096)?;
+    let answered = AtomicU64::new(0);
+    let (late, left) = beside(rt, staff, &layout, pool, alone, turns, &answered);
+    let Left {
+        first,
+        second,
+        replies,
+    } = left;
+    Ok(Outcome {
+        journal: settled(alloc, late.served, first, second)?,
+        replies,
+        early: late.early,
+    })
+}
+
+#[test]
+fn two_clients_are_answered_in_turn(rt: HostRuntime) -> Result<(), Fail> {
+    let outcome = two_calls::<Brand, HostRuntime>(&rt, rt.alloc(), Blank::new(1), 2, false, 0)?;
+    assert!(rt; outcome.replies == (confirmed(0, 10), confirmed(1, 40)));
+    assert_eq!(rt; outcome.journal.len(), 2);
+    for (entry, caller) in outcome.journal.iter().zip([0, 1]) {
+        assert_eq!(rt; entry.caller, caller);
+    }
+    Ok(())
+}
+
+#[test]
+fn the_second_call_finds_no_room(rt: HostRuntime) -> Result<(), Fail> {
+    let outcome = two_calls::<Brand, HostRuntime>(&rt, rt.alloc(), Blank::new(1), 1, true, 0)?;
+    assert!(rt; outcome.replies == (confirmed(0, 10), Err(Full)));
+    assert_eq!(rt; outcome.journal.len(), 1);
+    Ok(())
+}
+
+#[test]
+fn no_answer_before_the_server_runs(rt: HostRuntime) -> Result<(), Fail> {
+    let outcome = two_calls::<Brand, HostRuntime>(
+        &rt,
+        rt.alloc(),
+        Blank::new(1),
+        2,
+        false,
+        1_000_000,
+    )?;
+    assert!(rt; !outcome.early, "answered without the server");
+    assert!(rt; outcome.replies == (confirmed(0, 10), confirmed(1, 40)));
+    Ok(())
+}
+
+// Makes as many requests as `count`, with the numbers from 1 on, and says the last word.
+fn requests<R: Wait + Abort>(
+    rt: &R,
+    mut client: Client,
+    layout: &Layout,
+    mut pool: Pool,
+    lane: u8,
+    count: u32,
+) -> Ended
+    requires layout { IfSome client.setting (λ s. s.layout ≡ layout.now) }
+    requires count { count ≤ 1000 }
+    ensures { IsSameClient client result }
+{
+    for place in 0..count {
+        let message = request(place + 1, lane, place + 10);
+        let _reply = called(rt, &mut client, layout, &mut pool, place, &message);
+    }
+    client.finish(rt)
+}
+
+// Two clients on two threads, each with fifty requests.
+fn fifty_each<R: Threads + Wait + Abort + Sync>(
+    rt: &R,
+    first: Client,
+    second: Client,
+    layout: &Layout,
+    left: Pool,
+    right: Pool,
+) -> (Ended, Ended)
+    requires layouts { IfSome first.setting (λ s. s.layout ≡ layout.now) × IfSome second.setting (λ s. s.layout ≡ layout.now) }
+    ensures { IsSameClient first result.0 × IsSameClient second result.1 }
+{
+    join(
+        rt,
+        move || -> Ended
+            requires { IsSync R.row × IfSome first.setting (λ s. s.layout ≡ layout.now) }
+            ensures { IsSameClient first result }
+        { requests(rt, first, layout, left, 0, 50) },
+        move || -> Ended
+            requires { IsSync R.row × IfSome second.setting (λ s. s.layout ≡ layout.now) }
+            ensures { IsSameClient second result }
+        { requests(rt, second, layout, right, 1, 50) },
+    )
+}
+
+// The server on a third thread.
+fn three<L: Ledger + Send + Sync, R: Threads + Wait + Abort + Sync>(
+    rt: &R,
+    staff: Staff<L>,
+    layout: &Layout,
+    left: Pool,
+    right: Pool,
+) -> (Served<L>, (Ended, Ended))
+    requires layouts { IfSome staff.first.setting (λ s. s.layout ≡ layout.now) × IfSome staff.second.setting (λ s. s.layout ≡ layout.now) }
+    ensures served { result.0 ≡ staff.server }
+    ensures clients { IsSameClient staff.first result.1.0 × IsSameClient staff.second result.1.1 }
+{
+    let Staff {
+        server,
+        first,
+        second,
+    } = staff;
+    join(
+        rt,
+        move || -> Served<L>
+            requires { IsSync R.row }
+            ensures { result ≡ server }
+        { server.run(rt) },
+        move || -> (Ended, Ended)
+            requires { IsSync R.row × IfSome first.setting (λ s. s.layout ≡ layout.now) × IfSome second.setting (λ s. s.layout ≡ layout.now) }
+            ensures { IsSameClient first result.0 × IsSameClient second result.1 }
+        { fifty_each(rt, first, second, layout, left, right) },
+    )
+}
+
+fn hundred_calls<L: Ledger + Send + Sync, R: Threads + Wait + Abort + Sync>(
+    rt: &R,
+    alloc: Global,
+    blank: Blank,
+) -> Result<Vec<Entry>, Fail>
+    requires name { blank.name ≡ L.name }
+    requires parts { blank.parts ≡ L.parts }
+    requires some { 0 < blank.parts }
+{
+    let layout = crossing(alloc)?;
+    let staff = opened::<L, R>(rt, alloc, &layout, 100, blank)?;
+    let left = Pool::new(alloc, 3, 4096)?;
+    let right = Pool::new(alloc, 3, 4096)?;
+    let (served, (first, second)) = three(rt, staff, &layout, left, right);
+    Ok(settled(alloc, served, first, second)?)
+}
+
+#[test]
+fn three_threads_keep_each_clients_calls(rt: HostRuntime) -> Result<(), Fail> {
+    let journal = hundred_calls::<Brand, HostRuntime>(&rt, rt.alloc(), Blank::new(1))?;
+    assert_eq!(rt; journal.len(), 100);
+    assert_eq!(rt; numbered(&journal, 0), Some(50));
+    assert_eq!(rt; numbered(&journal, 1), Some(50));
+    Ok(())
+}
