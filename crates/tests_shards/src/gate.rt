@@ -12,23 +12,30 @@ use std::sync::atomic::{AtomicBool, Ordering};
 use std::test::Fail;
 use std::thread::{Threads, join, yield_now};
 
-// How often a hold looks.
+// How often one looks whether the other has come so far.
 const LOOKS: u32 = 1_000_000;
 
-// A hold that waits until the gate is open, for a while.
+// Waits until the flag is set, for a while.
+fn wait_for(flag: &AtomicBool) {
+    for _ in 0..LOOKS {
+        if flag.load(Ordering::SeqCst) {
+            return;
+        }
+        yield_now();
+    }
+}
+
+// A hold that says that it holds, and waits until the gate is open.
 #[derive(Drop)]
 struct Waits<'a> {
+    held: &'a AtomicBool,
     open: &'a AtomicBool,
 }
 
 impl Hold for Waits<'_> {
     fn holding(&self, _caller: u32, _call: u32) {
-        for _ in 0..LOOKS {
-            if self.open.load(Ordering::SeqCst) {
-                return;
-            }
-            yield_now();
-        }
+        self.held.store(true, Ordering::SeqCst);
+        wait_for(self.open);
     }
 }
 
@@ -52,12 +59,13 @@ fn claim<R: Wait, H: Hold>(rt: &R, shards: &Shards, mut pass: ShardPass, set: u3
     Made { pass, ticket }
 }
 
-// Claims the first set, and holds it until another thread has claimed the second one.
+// Claims the first set, and holds it until another thread, which waits until it is held, has claimed the second one.
 fn side_by_side<R: Threads + Wait + Sync>(
     rt: &R,
     shards: &Shards,
     first: ShardPass,
     second: ShardPass,
+    held: &AtomicBool,
     open: &AtomicBool,
 ) -> (Made, Made)
     requires own { IsPassOf shards.now first × IsPassOf shards.now second }
@@ -69,11 +77,12 @@ fn side_by_side<R: Threads + Wait + Sync>(
         move || -> Made
             requires { IsSync R.row × IsPassOf shards.now first × (length shards.now.sets ≡ 2) }
             ensures { IsSamePass first result.pass }
-        { claim(rt, shards, first, 0, &Waits { open }) },
+        { claim(rt, shards, first, 0, &Waits { held, open }) },
         move || -> Made
             requires { IsSync R.row × IsPassOf shards.now second × (length shards.now.sets ≡ 2) }
             ensures { IsSamePass second result.pass }
         {
+            wait_for(held);
             let made = claim(rt, shards, second, 1, &NoHold);
             open.store(true, Ordering::SeqCst);
             made
@@ -92,8 +101,9 @@ fn claims_of_two_quadrants_do_not_wait_for_each_other(rt: HostRuntime) -> Result
     let Some(first) = passes.pop() else {
         unreachable!()
     };
+    let held = AtomicBool::new(false);
     let open = AtomicBool::new(false);
-    let (first, second) = side_by_side(&rt, &shards, first, second, &open);
+    let (first, second) = side_by_side(&rt, &shards, first, second, &held, &open);
     assert_eq!(rt; first.ticket, Some(1), "one lock for all quadrants");
     assert_eq!(rt; second.ticket, Some(0));
     passes.push_reserved(first.pass);
