@@ -1,16 +1,19 @@
 -- Lists of tiles, one more at a time.
-use Rattle.std.proofs.Common.{◌≡◌, ℕ, zero, suc, ◌+◌, ◌-◌, Bool, true, false, cond, List, [], ◌∷◌, ◌++◌, get_or, filter, map, arith, refl, sym, ap, ◌∙◌, append_assoc}
-use Rattle.std.specs.Prelude.{flat_map}
+use Rattle.std.proofs.Common.{◌≡◌, ℕ, zero, suc, ◌+◌, ◌-◌, ◌<◌, ◌≤◌, Bool, true, false, cond, List, [], ◌∷◌, ◌++◌, get_or, filter, length, map, arith, refl, sym, ap, ◌∙◌, append_assoc}
+use Rattle.std.specs.Prelude.{bit_or, flat_map}
 use Rattle.std.specs.List.{range_with_len}
 use Rattle.std.proofs.lemmas.Grind.{flat_map-append}
 use Rattle.std.proofs.lemmas.List.{append-nil, map-append}
 use Rattle.std.proofs.lemmas.List.Elements.{filter-append}
 use Rattle.std.proofs.lemmas.List.FromFn.{filter_of_map_range_with_len_more}
+use Rattle.std.proofs.Math.Decide.{dec_lt}
+use Rattle.std.proofs.lemmas.Bool.{or_parts}
 use Rattle.aim_geometry.specs.Rects.{has_bit}
+use Rattle.aim_geometry.proofs.Bits.{has_bit_or}
 use Rattle.aim_geometry.specs.Cells as rules
 use Rattle.aim_safety.specs.declared.cells.Cell.{Cell}
 use Rattle.aim_safety.specs.Tiles.{cell_of, of_tile}
-use Rattle.aim_safety.specs.Traces.{is_traced}
+use Rattle.aim_safety.specs.Traces.{is_traced, IsNeverShown}
 
 range_more : (a n : ℕ) → range_with_len a (n + 1) ≡ range_with_len a n ++ (a + n) ∷ []
 range_more a zero = let e : a ≡ a + 0 = omega arith in ap (λ n. n ∷ []) e
@@ -51,3 +54,27 @@ step_more steps first k row col old new initial b shown before pushed =
     mapped : (b : Bool) (new : List Cell) → new ≡ cond b (old ++ record { row = row; col = col; step = first + k } ∷ []) old → map cell_of new ≡ map cell_of old ++ cond b (one ∷ []) []
     mapped true new e = ap (map cell_of) e ∙ map-append cell_of old (record { row = row; col = col; step = first + k } ∷ [])
     mapped false new e = ap (map cell_of) e ∙ sym (append-nil (map cell_of old))
+
+-- a tile that no masks show is in no step
+pub none_traced : (steps : List (List ℕ)) (first count row col : ℕ) → count ≤ length steps → IsNeverShown steps row col → filter (is_traced steps first) (of_tile first count row col) ≡ []
+none_traced steps first zero row col l never = refl
+none_traced steps first (suc k) row col l never =
+    let s : suc k ≡ k + 1 = omega arith in
+    let p = is_traced steps first in
+    let before = filter p (of_tile first k row col) in
+    ap (λ n. filter p (of_tile first n row col)) s
+    ∙ filter_of_map_range_with_len_more p (λ s. record { row = row; col = col; step = s }) first k (first + k) refl
+    ∙ ap (λ t. before ++ cond t (record { row = row; col = col; step = first + k } ∷ []) []) (shown_at steps first k row col ∙ never k (omega arith))
+    ∙ append-nil before
+    ∙ none_traced steps first k row col (omega arith) never
+
+-- what is unset in the tiles shown by one step more is shown by none of these
+pub unset_more : (steps : List (List ℕ)) (k row shown col : ℕ) → ((j : ℕ) → j < k → has_bit shown col ≡ false → has_bit (get_or (get_or steps j []) row 0) col ≡ false) →
+    (j : ℕ) → j < k + 1 → has_bit (bit_or shown (get_or (get_or steps k []) row 0)) col ≡ false → has_bit (get_or (get_or steps j []) row 0) col ≡ false
+unset_more steps k row shown col before j l unset =
+    let m = get_or (get_or steps k []) row 0 in
+    let parts = or_parts (has_bit shown col) (has_bit m col) (sym (has_bit_or shown m col) ∙ unset) in
+    elim (dec_lt j k) [
+      | yes below ↦ before j below parts.0
+      | no above ↦ (let e : j ≡ k = omega arith in ap (λ j. has_bit (get_or (get_or steps j []) row 0) col) e ∙ parts.1)
+    ]

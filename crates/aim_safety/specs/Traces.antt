@@ -16,6 +16,10 @@ pub record IsTraced (old : Trace) (masks : List ℕ) (new : Trace) : Type 0 wher
 abbrev pub is_traced : List (List ℕ) → ℕ → Cell → Bool
 is_traced steps first c = tile_at (slice_index_or steps (c.step - first) []) c.row c.col
 
+-- no masks show the tile
+abbrev pub IsNeverShown : List (List ℕ) → ℕ → ℕ → Type 0
+IsNeverShown steps row col = (k : ℕ) → k < length steps → tile_at (slice_index_or steps k []) row col ≡ false
+
 -- the masks show the tiles of so many crossing steps
 pub record AreFootprints (i : Intersection) (p : Params) (fast : Bool) (n : ℕ) (steps : List (List ℕ)) : Type 0 where
   pub all : length steps ≡ n

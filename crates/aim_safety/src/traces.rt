@@ -2,7 +2,7 @@
 
 ghost use Rattle.std.specs.Prelude.{◌≡◌, ℕ, ◌+◌, ◌<◌, ◌≤◌, ◌++◌, Bool, true, false, length, filter, map, OnOk};
 ghost use Rattle.aim_safety.specs.Tiles.{cell_of, of_row, of_rows, of_tile};
-ghost use Rattle.aim_safety.specs.Traces.{is_traced, IsTraced};
+ghost use Rattle.aim_safety.specs.Traces.{is_traced, IsNeverShown, IsTraced};
 ghost use Rattle.aim_geometry.specs.Rects.{has_bit};
 
 use crate::NoMemory;
@@ -34,6 +34,18 @@ fn has_tile(mask: u64, col: u8) -> bool
     ensures { result ≡ has_bit mask col }
 {
     (mask >> col) & 1 == 1
+}
+
+// The tiles of a row that the masks of any step show.
+fn shown_ever(steps: &[[u64; 64]], row: u8) -> u64
+    requires row { row < 64 }
+    ensures { (col : ℕ) → has_bit result col ≡ false → IsNeverShown steps.now row col }
+{
+    let mut shown = 0;
+    for masks in steps {
+        shown |= masks[row as usize];
+    }
+    shown
 }
 
 // Appends a tile in each step whose masks show it.
@@ -78,8 +90,11 @@ fn push_row(
     ensures { OnOk result (map cell_of cells.new.items ≡ map cell_of cells.old.items ++
         filter (is_traced steps.now first) (of_row first (length steps.now) n row)) }
 {
+    let shown = shown_ever(steps, row);
     for col in 0..n {
-        push_steps(cells, steps, first, row, col)?;
+        if has_tile(shown, col) {
+            push_steps(cells, steps, first, row, col)?;
+        }
     }
     Ok(())
 }

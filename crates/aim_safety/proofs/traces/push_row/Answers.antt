@@ -1,12 +1,25 @@
-use Rattle.std.proofs.Common.{◌+◌, filter, length, map}
+use Rattle.std.proofs.Common.{◌≡◌, ◌+◌, ◌++◌, ◌∙◌, ap, arith, filter, length, map, sym}
+use Rattle.std.proofs.lemmas.List.{append-nil}
 use Rattle.aim_safety.specs.Tiles.{cell_of, of_row, of_tile}
 use Rattle.aim_safety.specs.Traces.{is_traced}
-use Rattle.aim_safety.proofs.TraceLemmas.{goes_on, parts_more}
+use Rattle.aim_safety.proofs.TraceLemmas.{goes_on, none_traced, parts_more}
 use Rattle.aim_safety.proofs.traces.push_row.Goals as goal
+use Rattle.aim_safety.proofs.traces.push_row.Goals.{then-has_tile+in_ok-push_steps, else-has_tile}
 
 pub loop-col-preserved : goal.loop-col-preserved
 loop-col-preserved c =
-    let p = is_traced c.args.steps.now c.args.first in
-    let count = length c.args.steps.now in
-    goes_on (map cell_of c.loop-col.cells.items) (map cell_of c.push_steps.new.cells.items) (filter p (of_row c.args.first count c.loop-col.col c.args.row)) (filter p (of_tile c.args.first count c.args.row c.loop-col.col))
-    (filter p (of_row c.args.first count (c.loop-col.col + 1) c.args.row)) (map cell_of c.args.cells.now.items) c.loop-col.invariant c.in_ok-push_steps.ensures (parts_more (of_tile c.args.first count c.args.row) p c.loop-col.col)
+    let steps = c.args.steps.now in
+    let p = is_traced steps c.args.first in
+    let count = length steps in
+    let row = of_row c.args.first count in
+    let tile = filter p (of_tile c.args.first count c.args.row c.loop-col.col) in
+    let old = map cell_of c.loop-col.cells.items in
+    let part : map cell_of c.if-has_tile.cells.items ≡ old ++ tile = elim c.if-has_tile.branch [
+      | then-has_tile+in_ok-push_steps w ↦ ap (λ v. map cell_of v.items) w.cells-is ∙ w.in_ok-push_steps.ensures
+      | else-has_tile w ↦
+          (let never = c.shown_ever-shown.ensures c.loop-col.col (sym c.has_tile.ensures ∙ w.if-has_tile.false) in
+          ap (λ v. map cell_of v.items) w.cells-is ∙ sym (append-nil old)
+          ∙ ap (λ xs. old ++ xs) (sym (none_traced steps c.args.first count c.args.row c.loop-col.col (omega arith) never)))
+    ] in
+    goes_on old (map cell_of c.if-has_tile.cells.items) (filter p (row c.loop-col.col c.args.row)) tile (filter p (row (c.loop-col.col + 1) c.args.row)) (map cell_of c.args.cells.now.items) c.loop-col.invariant part
+    (parts_more (of_tile c.args.first count c.args.row) p c.loop-col.col)
