@@ -11,13 +11,18 @@ cp aim crates.txt "$copy/repository"
 for name in $(sed -n 's/^\([a-z_0-9]*\).*:.*/\1/p' crates.txt); do mkdir -p "$copy/repository/crates/$name/src"; done
 ln -s ../repository/aim "$copy/elsewhere/link"
 
-# The toolchain of the tests: a build takes RT_SLEEP seconds, that of RT_FAILS fails, and each is noted as it begins and ends.
+# The toolchain of the tests: a build takes RT_SLEEP seconds, that of RT_FAILS fails, and each is noted as it begins and ends,
+# also where a library below it isn't beside it. What it makes of a library is out/rlib/made.
 cat > "$copy/tools/rt" << 'END'
 #!/usr/bin/env bash
 name=${PWD##*/}
 printf 'begin %s\n' "$name" >> "$RT_NOTES"
 sleep "${RT_SLEEP-0.2}"
 [ "$name" != "${RT_FAILS-}" ] || { printf 'a goal is open\n'; exit 1; }
+for use in $(sed -n "s/^$name[ :].*: *//p; s/^$name: *//p" ../../crates.txt | sort -u); do
+  [ ! -d "../../crates/$use/src" ] || [ -f "../$use/out/rlib/made" ] || printf 'lacks %s of %s\n' "$use" "$name" >> "$RT_NOTES"
+done
+[ "$1" != lib ] || { mkdir -p out/rlib && touch out/rlib/made; }
 printf 'end %s\n' "$name" >> "$RT_NOTES"
 [ "$1" != run ] || { mkdir -p out; printf '#!/bin/sh\necho "ran $*"; cat; exit 3\n' > out/aim; chmod +x out/aim; exit 2; }
 END
@@ -33,6 +38,8 @@ script
 status 3' "$(cd "$copy/elsewhere" && printf 'script\n' | ./link replay 'a b' 2> "$copy/told"; printf 'status %s' $?)"
 judge 'what is left of it' '' "$(ls "$copy/temporary")"
 count=$(grep -c '^end' "$RT_NOTES")
+judge 'what is built' "$((count - 1))" "$(ls -d "$copy"/repository/crates/*/out/rlib/made | wc -l)"
+judge 'the trees that are left' lock "$(ls "$copy/repository/.build")"
 judge 'what it tells last' "aim: built in" "$(tail -n 1 "$copy/told" | cut -d ' ' -f 1-3)"
 judge 'what it tells of each' "$count" "$(grep -c " of $count proved; now proving " "$copy/told")"
 
@@ -40,13 +47,14 @@ judge 'what it tells of each' "$count" "$(grep -c " of $count proved; now provin
 declare -A ended=()
 order=right
 while read -r what name; do
-  if [ "$what" = end ]; then ended[$name]=yes; continue; fi
+  if [ "$what" != begin ]; then ended[$name]=yes; continue; fi
   for use in $(sed -n "s/^$name[ :].*: *//p; s/^$name: *//p" crates.txt | sort -u); do
     grep -q "^$use[ :]" crates.txt || continue
     [ -n "${ended[$use]+set}" ] || order="$name before $use"
   done
 done < "$RT_NOTES"
 judge 'the order of the crates' right "$order"
+judge 'what a build lacks' 0 "$(grep -c '^lacks' "$RT_NOTES")"
 judge 'the program last' 'end aim' "$(tail -n 1 "$RT_NOTES")"
 
 # What is built isn't built again, unless a source of it is newer.
@@ -73,7 +81,7 @@ kill -TERM "$builder"
 wait "$builder"
 judge 'an interrupt' 143 $?
 judge 'processes after it' 0 "$(pgrep -c -f 'sleep 31.4')"
-judge 'files after it' '' "$(ls "$copy/temporary")"
+judge 'files after it' lock "$(ls "$copy/temporary" "$copy/repository/.build" | grep -v : | sort -u | xargs)"
 
 printf 'building: %s passed, %s failed\n' "$passed" "$failed"
 [ "$failed" -eq 0 ]
