@@ -7,7 +7,7 @@ source tests/judge.sh
 
 copy=$(mktemp -d) && trap 'rm -rf "$copy"' EXIT
 mkdir "$copy/tools" "$copy/repository" "$copy/elsewhere" "$copy/temporary"
-cp aim crates.txt "$copy/repository"
+cp aim crates.txt HANDLES "$copy/repository"
 for name in $(sed -n 's/^\([a-z_0-9]*\).*:.*/\1/p' crates.txt); do mkdir -p "$copy/repository/crates/$name/src"; done
 ln -s ../repository/aim "$copy/elsewhere/link"
 
@@ -40,6 +40,7 @@ judge 'what is left of it' '' "$(ls "$copy/temporary")"
 count=$(grep -c '^end' "$RT_NOTES")
 judge 'what is built' "$((count - 1))" "$(ls -d "$copy"/repository/crates/*/out/rlib/made | wc -l)"
 judge 'the trees that are left' lock "$(ls "$copy/repository/.build")"
+judge 'what it tells besides' '' "$(grep -v '^aim: ' "$copy/told")"
 judge 'what it tells last' "aim: built in" "$(tail -n 1 "$copy/told" | cut -d ' ' -f 1-3)"
 judge 'what it tells of each' "$count" "$(grep -c " of $count proved; now proving " "$copy/told")"
 
