@@ -2,6 +2,7 @@
 status other than 0 where anything differs. AIM names another program."""
 import os
 import pathlib
+import resource
 import subprocess
 import sys
 
@@ -198,6 +199,30 @@ def reader_of_a_drive_goes_away():
         judge(f"a reader of a drive that goes away {what}", True, status == 5 or status < 0)
 
 
+def run_within(limit, script, words):
+    """The status and the text of a run that may have so many bytes of address space."""
+    bound = lambda: resource.setrlimit(resource.RLIMIT_AS, (limit, limit))
+    done = subprocess.run(
+        [PROGRAM, *words], input=script, stdout=subprocess.PIPE, stderr=subprocess.DEVNULL, timeout=60, check=False, preexec_fn=bound
+    )
+    return done.returncode, done.stdout
+
+
+def scarce_memory():
+    """Ever more memory: first the words alone are answered, then memory is wanting, at last the whole text comes."""
+    pages = 16 * resource.getpagesize()
+    least = next(k for k in range(1, 4000) if run_within(k * pages, b"", [])[0] == 2)
+    for words, script, text in ((["replay"], SCRIPT, TEXT), (["drive", "1"], LOSSY, LOSSY_TEXT)):
+        refused, whole, limit = 0, 0, least
+        while whole < 3 and limit < 4000:
+            status, got = run_within(limit * pages, script, words)
+            refused, whole = refused + (status == 7), whole + (status == 0)
+            judge(f"{words[0]} within {limit * pages} bytes", True, (status, got) in ((0, text), (7, b"")))
+            limit += 1
+        judge(f"{words[0]}: how often memory was wanting", True, refused > 0)
+        judge(f"{words[0]}: how often the whole text came", 3, whole)
+
+
 def main():
     cut_everywhere()
     bytes_everywhere()
@@ -208,6 +233,7 @@ def main():
     drives_with_other_bytes()
     drives_in_pieces()
     reader_of_a_drive_goes_away()
+    scarce_memory()
     print(f"surroundings: {COUNT - len(FAILURES)} passed, {len(FAILURES)} failed")
     return 1 if FAILURES else 0
 
