@@ -1,5 +1,5 @@
 -- Worked rows: logs in order, counts, what is printed, the run of a script with nobody in it, and what isn't a run.
-use Rattle.std.proofs.Common.{◌≡◌, ℕ, ◌+◌, ◌*◌, ◌<◌, ◌≤◌, false, List, [], ◌∷◌, ◌++◌, length, codes, Some, None, refl, arith}
+use Rattle.std.proofs.Common.{◌≡◌, inl, inr, ℕ, ◌+◌, ◌*◌, ◌<◌, ◌≤◌, false, List, [], ◌∷◌, ◌++◌, length, codes, Some, None, refl, arith}
 use Rattle.std.specs.Fmt.{digits}
 use Rattle.aim_io.specs.Lines.{outcomes_from}
 use Rattle.aim_msg.specs.declared.messages.Message.{Message}
@@ -20,7 +20,7 @@ use Rattle.aim_driver.proofs.SmallFacts.{none_some}
 use Rattle.aim_script.specs.declared.decisions.Decision.TheVariants as decision
 use Rattle.aim_script.specs.declared.decisions.Kind.TheVariants as why
 use Rattle.aim_script.specs.declared.decisions.Limit.TheVariants as limit
-use Rattle.aim_script.specs.Said.{layout_of, vehicles_of}
+use Rattle.aim_script.specs.Said.{layout_of}
 use Rattle.aim_plans.specs.Said.{Drive, drives_of}
 use Rattle.aim_traffic.specs.Arms.{layout_lines, moves}
 use Rattle.aim_traffic.specs.Drawn.{plan_lines}
@@ -32,7 +32,7 @@ use Rattle.aim_drive.proofs.Rows.{idle_agents}
 use Rattle.aim_driving.specs.Ordered.{log_among, logs_from, in_order}
 use Rattle.aim_driving.specs.Runs.{IsRunOf}
 use Rattle.aim_driving.specs.Summaries.{summary}
-use Rattle.aim_driving.specs.Commands.{IsReport, IsTextOf, Shows, ShowsFront}
+use Rattle.aim_driving.specs.Commands.{Completes, IsTextOf, Shows, ShowsFront}
 use Rattle.aim_driving.specs.Generated.{IsSummary, Counts}
 use Rattle.aim_one.proofs.Texts.{same_summary}
 
@@ -167,6 +167,30 @@ unfolding digits outcomes_from
 front_shown = record {
   writes = record { text = codes "bad line 1 order\n"; is = refl; written = record { front = codes "bad l"; rest = codes "ine 1 order\n"; whole = refl; added = refl } };
 }
+
+-- a whole script
+
+abbrev whole : List ℕ
+whole = codes "aim 1\ngrid 4000 4 100 0 450 4096\ntimes 1500 25 20 0 0\nlanes 1\nmove 0 straight line 0 1500 4000 1500 40\npolicy plain fcfs\nvehicles 1\nbegin\nuntil 40\nend\n"
+
+pub whole_shown : Shows 1 whole (Some (codes "so ")) (Some (codes "so end 0\n")) 0
+unfolding digits outcomes_from layout_of
+whole_shown = record { writes = record { text = codes "end 0\n"; is = record { journal = []; logs = []; run = nothing _ _ _ _; is = refl }; written = refl }; status = refl }
+
+-- where neither the source nor the sink failed, its status is 0, or 7
+pub whole_completes : Completes whole 0 0 0 0 5 → ⊥
+unfolding digits outcomes_from layout_of
+whole_completes x = elim (x refl (λ r. absurd (omega arith)) (λ r. absurd (omega arith))) [ inl e ↦ absurd (omega arith) | inr e ↦ absurd (omega arith) ]
+
+pub source_failed : Completes whole 0 1 0 0 4
+source_failed = λ status source sink. absurd (source (omega arith))
+
+pub sink_failed : Completes whole 3 3 0 2 5
+sink_failed = λ status source sink. absurd (sink (omega arith))
+
+pub bad_completes : Completes (codes "begin\n") 0 0 0 0 3
+unfolding digits outcomes_from layout_of
+bad_completes = λ status source sink. absurd (omega arith)
 
 -- traffic of no vehicle, which nobody asks for
 

@@ -1,5 +1,6 @@
 -- With one worker all drivers are in one run, and one text is printed.
-use Rattle.std.proofs.Common.{◌≡◌, ℕ, ◌≤◌, ◌++◌, List, length, Some, sym, ◌∙◌, ap, arith}
+use Rattle.std.proofs.Common.{◌≡◌, ℕ, ◌≤◌, ◌++◌, List, length, Option, Some, sym, ◌∙◌, ap, subst, arith}
+use Rattle.aim_io.specs.Known.{AppendsFront}
 use Rattle.aim_msg.specs.declared.entries.Entry.{Entry}
 use Rattle.aim_msg.specs.declared.script.Line.{Line}
 use Rattle.aim_script.specs.declared.decisions.Decision.{Decision}
@@ -13,9 +14,9 @@ use Rattle.aim_agents.specs.Rounds.{run_size}
 use Rattle.aim_drive.specs.Headline.{VehicleLog}
 use Rattle.aim_driving.specs.Ordered.{in_order}
 use Rattle.aim_driving.specs.Runs.{IsRunOf}
-use Rattle.aim_driving.specs.Commands.{IsReport, IsTextOf, Shows}
+use Rattle.aim_driving.specs.Commands.{IsReport, IsTextOf, Shows, ShowsFront}
 use Rattle.aim_driving.specs.Summaries.{summary}
-use Rattle.aim_driving.specs.Generated.{IsSummary, Counts}
+use Rattle.aim_driving.specs.Generated.{IsSummary, Counts, CountsFront}
 use Rattle.aim_one.proofs.Journals.{same_journal, same_logs_too}
 
 one_run : (count : ℕ) → count ≤ run_size count 1
@@ -50,6 +51,11 @@ same_shown bytes before after other status another a b =
     let w = b.writes in
     (written_same before after other v.text w.text v.written w.written (same_text (drive_verdict bytes).before (drive_verdict bytes).decision v.text w.text v.is w.is), a.status ∙ sym b.status)
 
+pub front_shown : (bytes text : List ℕ) (old new : Option (List ℕ)) → ShowsFront 1 bytes old new → (let v = drive_verdict bytes in IsTextOf 1 v.before v.decision text) → AppendsFront old new text
+front_shown bytes text old new a is =
+    let w = a.writes in
+    subst (λ (t : List ℕ). AppendsFront old new t) (same_text (drive_verdict bytes).before (drive_verdict bytes).decision w.text text w.is is) w.written
+
 pub same_summary : (number count : ℕ) (text other : List ℕ) → IsSummary number count text → IsSummary number count other → text ≡ other
 same_summary number count text other a b =
     let h : a.journal ≡ b.journal = run_journal (traffic_lines number count) a.journal b.journal a.logs b.logs a.run b.run in
@@ -58,3 +64,6 @@ same_summary number count text other a b =
 
 pub same_counts : (number count : ℕ) (before after other : List ℕ) → Counts number count (Some before) (Some after) → Counts number count (Some before) (Some other) → after ≡ other
 same_counts number count before after other a b = written_same before after other a.text b.text a.written b.written (same_summary number count a.text b.text a.is b.is)
+
+pub front_counted : (number count : ℕ) (text : List ℕ) (old new : Option (List ℕ)) → CountsFront number count old new → IsSummary number count text → AppendsFront old new text
+front_counted number count text old new a is = subst (λ (t : List ℕ). AppendsFront old new t) (same_summary number count a.text text a.is is) a.written
