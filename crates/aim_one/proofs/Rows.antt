@@ -35,7 +35,6 @@ use Rattle.aim_driving.specs.Summaries.{summary}
 use Rattle.aim_driving.specs.Commands.{Completes, IsTextOf, Shows, ShowsFront}
 use Rattle.aim_driving.specs.Generated.{IsSummary, Counts}
 use Rattle.aim_one.proofs.Texts.{same_summary}
-
 -- with two workers
 pub mod Choice
 
