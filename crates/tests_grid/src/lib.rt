@@ -1,0 +1,5 @@
+//! Tests of scripts of several crossings.
+#![tactic(auto)]
+
+#[cfg(test)]
+mod lines;
