@@ -1,25 +1,8 @@
--- What holds of the routes of a script.
-use Rattle.std.specs.Prelude.{◌≡◌, ℕ, ◌*◌, ◌<◌, ◌≤◌, false, List, length, All, AllPairs}
+-- What holds of the routes of a whole script.
+use Rattle.std.specs.Prelude.{◌≡◌, ◌*◌, ◌<◌, ◌≤◌, List, length}
 use Rattle.aim_grid_read.specs.declared.lines.GridLine.{GridLine}
-use Rattle.aim_routes.specs.declared.routes.PlannedLeg.{PlannedLeg}
 use Rattle.aim_routes.specs.declared.routes.Routes.{Routes}
-use Rattle.aim_routes.specs.Said.{is_leg_at, layouts_of, legs_of, spans_in, until_of, vehicles_of}
-
--- the leg is of one of so many vehicles at one of so many crossings, and its plan's numbers are within their bounds
-pub record FitsRoutes (crossings vehicles : ℕ) (leg : PlannedLeg) : Type 0 where
-  pub vehicle : leg.vehicle < vehicles
-  pub crossing : leg.crossing < crossings
-  pub some_first : 1 ≤ leg.plan.first
-  pub short_first : leg.plan.first ≤ 65536
-  pub some_lead : 1 ≤ leg.plan.lead
-  pub short_lead : leg.plan.lead ≤ 65536
-  pub some_resend : 1 ≤ leg.plan.resend
-  pub short_resend : leg.plan.resend ≤ 255
-
--- so do all of them, and no vehicle has two legs at a crossing
-pub record AreRoutes (crossings vehicles : ℕ) (legs : List PlannedLeg) : Type 0 where
-  pub each : All (FitsRoutes crossings vehicles) legs
-  pub one_each : AllPairs (λ a b. is_leg_at a.vehicle a.crossing b ≡ false) legs
+use Rattle.aim_routes.specs.Said.{layouts_of, legs_of, spans_in, until_of, vehicles_of}
 
 -- the numbers of a script are within their bounds
 pub record AreWithin (r : Routes) : Type 0 where
@@ -30,7 +13,6 @@ pub record AreWithin (r : Routes) : Type 0 where
   pub few_spans : r.vehicles * spans_in r.layouts.items ≤ 16777216
   pub some_steps : 1 ≤ r.until
   pub few_steps : r.until ≤ 65536
-  pub legs : AreRoutes (length r.layouts.items) r.vehicles r.legs.items
 
 -- the routes are what the lines say
 pub record AreRoutesOf (lines : List GridLine) (r : Routes) : Type 0 where

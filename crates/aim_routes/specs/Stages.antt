@@ -1,10 +1,13 @@
 -- What is known of the lines of a script so far, at each stage of it.
-use Rattle.std.specs.Prelude.{◌≡◌, ℕ, ◌<◌, ◌≤◌, false, List, [], ◌∷◌, ◌++◌, length, map, Option, Some, None, Result, Ok, Err}
+use Rattle.std.specs.Prelude.{◌≡◌, ℕ, ◌<◌, ◌≤◌, Bool, true, false, ◌||◌, List, [], ◌∷◌, ◌++◌, length, map, Option, Some, None, Result, Ok, Err, if◌then◌else◌}
+use Rattle.aim_io.specs.Lines.{Line as LineOf}
 use Rattle.aim_msg.specs.declared.script.Line.{Line}
 use Rattle.aim_msg.specs.declared.script.Line.TheVariants as plain
 use Rattle.aim_geometry.specs.Bounded.{find_map, is_outside}
 use Rattle.aim_paths.specs.Intersection.{Intersection}
 use Rattle.aim_plans.specs.Kinds.{vehicles_limit}
+use Rattle.aim_script.specs.declared.decisions.Kind.{Kind}
+use Rattle.aim_script.specs.declared.decisions.Kind.TheVariants as why
 use Rattle.aim_script.specs.declared.headers.Header.{Header}
 use Rattle.aim_script.specs.declared.headers.Refusal.{Refusal as HeaderRefusal}
 use Rattle.aim_script.specs.declared.headers.Refusal.TheVariants as header_refusal
@@ -24,11 +27,11 @@ use Rattle.aim_routes.specs.declared.stages.Refusal.{Refusal}
 use Rattle.aim_routes.specs.declared.stages.Refusal.TheVariants as refusal
 use Rattle.aim_routes.specs.declared.stages.Stage.{Stage}
 use Rattle.aim_routes.specs.declared.stages.Stage.TheVariants as stage
-use Rattle.aim_routes.specs.Fits.{AreRoutes, AreRoutesOf, AreWithin}
+use Rattle.aim_routes.specs.Fits.{AreRoutesOf, AreWithin}
 use Rattle.aim_routes.specs.Kinds.{kind_of_fault, next_kind}
 use Rattle.aim_routes.specs.Order.{part_after, in_blocks, to_begin, to_until, in_legs}
 use Rattle.aim_routes.specs.Said.{Parted, crossings_of, last_of, layouts_of, legs_of, parted, some_block, spans_in, until_in, until_of, vehicles_in, vehicles_of, version_of}
-use Rattle.aim_routes.specs.Verdicts.{at_end, bad, decides, goes_on, of_read}
+use Rattle.aim_routes.specs.Verdicts.{at_end, bad, decides, goes_on, judge, of_read}
 
 -- a name in the line is spelled as one
 abbrev pub HasPlainName : GridLine → Type 0
@@ -73,7 +76,6 @@ pub record IsSettled (before : List GridLine) (r : Routes) : Type 0 where
   pub within : vehicles_limit (spans_in r.layouts.items) r.vehicles ≡ None
   pub until : until_of before ≡ r.until
   pub legs : legs_of before ≡ r.legs.items
-  pub fit : AreRoutes (length r.layouts.items) r.vehicles r.legs.items
 
 -- the stage stands for these lines
 abbrev pub Stands : List GridLine → Stage → Type 0
@@ -91,6 +93,13 @@ Takes before l (Ok next) = (of_read before (Ok l) ≡ goes_on l) × Stands (befo
 Takes before l (Err (refusal.Bad k)) = of_read before (Ok l) ≡ decides (bad before k)
 Takes before l (Err (refusal.Limit which)) = of_read before (Ok l) ≡ decides (decision.Limit which)
 Takes before l (Err refusal.NoMemory) = Unit {0}
+
+-- what a further line's bytes come to
+abbrev pub Judged : List GridLine → List ℕ → Result Stage Refusal → Type 0
+Judged before bytes (Ok next) = (l : GridLine) × (judge before (LineOf bytes) ≡ goes_on l) × Stands (before ++ l ∷ []) next
+Judged before bytes (Err (refusal.Bad k)) = judge before (LineOf bytes) ≡ decides (bad before k)
+Judged before bytes (Err (refusal.Limit which)) = judge before (LineOf bytes) ≡ decides (decision.Limit which)
+Judged before bytes (Err refusal.NoMemory) = Unit {0}
 
 -- what the end of the input comes to
 abbrev pub Ends : List GridLine → Result Routes GridDecision → Type 0
@@ -123,3 +132,12 @@ Settles version layouts n (Ok s) = ⊥
 Settles version layouts n (Err (refusal.Limit which)) = vehicles_limit (spans_in layouts) n ≡ Some which
 Settles version layouts n (Err (refusal.Bad k)) = ⊥
 Settles version layouts n (Err refusal.NoMemory) = Unit {0}
+
+abbrev pub is_order : Kind → Bool
+is_order why.Order = true
+is_order _ = false
+
+-- why an `aim` line of the same version, or of another, doesn't end a block
+abbrev pub ending_of : Bool → HeaderRefusal → HeaderRefusal
+ending_of same (header_refusal.Bad k) = if same || is_order k then header_refusal.Bad k else header_refusal.Bad why.Version
+ending_of same header_refusal.NoMemory = header_refusal.NoMemory

@@ -11,13 +11,13 @@ ghost use Rattle.aim_grid_read.specs.declared.lines.GridLine.TheVariants as line
 ghost use Rattle.aim_routes.specs.declared.stages.Stage.TheVariants as stage;
 ghost use Rattle.aim_routes.specs.Kinds.{leg_kind_of};
 ghost use Rattle.aim_routes.specs.Said.{begins_block, version_of};
-ghost use Rattle.aim_routes.specs.Stages.{AreBlocks, Begins, Ends, EndsBlock, HasPlainName, IsCounted, Settles, Stands, Takes, refusal_of};
+ghost use Rattle.aim_routes.specs.Stages.{AreBlocks, Begins, Ends, EndsBlock, HasPlainName, IsCounted, Judged, Settles, Stands, Takes, ending_of, is_order, refusal_of};
 
 use crate::checks::{LAST_STEP, has_leg, is_bad_plan, is_outside, spans_in, vehicles_limit};
 use crate::decisions::{GridDecision, GridKind};
 use crate::routes::{PlannedLeg, Routes};
 use aim_driver::DrivePlan;
-use aim_grid_read::GridLine;
+use aim_grid_read::{GridLine, read_grid_line};
 use aim_msg::Line;
 use aim_paths::Layout;
 use aim_script::{Headed, Header, Kind, Limit, ScriptVersion, Setting};
@@ -91,17 +91,46 @@ fn begun(alloc: Global, number: u32) -> Result<Header, aim_script::Refusal>
     }
 }
 
+// Whether it is this kind.
+fn is_order(kind: Kind) -> bool
+    ensures { result ≡ is_order kind }
+{
+    matches!(kind, Kind::Order)
+}
+
+// Why an `aim` line of the same version, or of another, doesn't end a block: its place comes before its version.
+fn ending(why: aim_script::Refusal, same: bool) -> aim_script::Refusal
+    ensures { result ≡ ending_of same why }
+{
+    match why {
+        aim_script::Refusal::Bad(kind) => {
+            if same || is_order(kind) {
+                aim_script::Refusal::Bad(kind)
+            } else {
+                aim_script::Refusal::Bad(Kind::Version)
+            }
+        }
+        aim_script::Refusal::NoMemory => aim_script::Refusal::NoMemory,
+    }
+}
+
 // The layout of a block that an `aim` line ends.
 fn ended(header: Header, alloc: Global, number: u32) -> Result<Layout, aim_script::Refusal>
     ensures { (block : List AnyPlain) → StandsAsHeader block header → EndsBlock block number result }
 {
     let version = header.version().number();
+    let same = number == u32::from(version);
     match header.take(alloc, &Line::Vehicles(1)) {
-        Err(aim_script::Refusal::Bad(Kind::Order)) => Err(aim_script::Refusal::Bad(Kind::Order)),
-        _other if number != u32::from(version) => Err(aim_script::Refusal::Bad(Kind::Version)),
-        Ok(Headed::Whole(setting)) => Ok(setting.layout),
+        Ok(Headed::Whole(setting)) => {
+            if same {
+                Ok(setting.layout)
+            } else {
+                drop(setting);
+                Err(aim_script::Refusal::Bad(Kind::Version))
+            }
+        }
         Ok(Headed::More(_header)) => Err(aim_script::Refusal::Bad(Kind::Order)),
-        Err(why) => Err(why),
+        Err(why) => Err(ending(why, same)),
     }
 }
 
@@ -115,19 +144,26 @@ fn told(why: aim_script::Refusal) -> Refusal
     }
 }
 
+// Takes the `aim` line of the first block.
+fn first_block(count: u32, alloc: Global, number: u32) -> Result<Stage, Refusal>
+    ensures { (before : List AnyLine) → IsCounted before count → Takes before (line_of.Plain (plain.Version number)) result }
+{
+    match begun(alloc, number) {
+        Ok(header) => Ok(Stage::Blocks(Blocks {
+            count,
+            whole: Vec::new(alloc),
+            header,
+        })),
+        Err(why) => Err(told(why)),
+    }
+}
+
 // Takes a line where the first block comes next.
 fn opened(count: u32, alloc: Global, line: &GridLine) -> Result<Stage, Refusal>
     ensures { (before : List AnyLine) → IsCounted before count → Takes before line.now result }
 {
     match line {
-        GridLine::Plain(Line::Version(number)) => match begun(alloc, *number) {
-            Ok(header) => Ok(Stage::Blocks(Blocks {
-                count,
-                whole: Vec::new(alloc),
-                header,
-            })),
-            Err(why) => Err(told(why)),
-        },
+        GridLine::Plain(Line::Version(number)) => first_block(count, alloc, *number),
         _ => Err(OUT_OF_ORDER),
     }
 }
@@ -170,14 +206,16 @@ impl Blocks {
         }
         match ended(header, alloc, number) {
             Err(why) => Err(told(why)),
-            Ok(layout) => match (whole.push(layout), begun(alloc, number)) {
-                (Ok(()), Ok(header)) => Ok(Stage::Blocks(Blocks {
-                    count,
-                    whole,
-                    header,
-                })),
-                (_pushed, Err(why)) => Err(told(why)),
-                (Err(_none), _begun) => Err(Refusal::NoMemory),
+            Ok(layout) => match begun(alloc, number) {
+                Err(why) => Err(told(why)),
+                Ok(header) => match whole.push(layout) {
+                    Err(_) => Err(Refusal::NoMemory),
+                    Ok(()) => Ok(Stage::Blocks(Blocks {
+                        count,
+                        whole,
+                        header,
+                    })),
+                },
             },
         }
     }
@@ -248,12 +286,19 @@ impl Blocks {
     }
 }
 
+// Takes `begin`.
+fn after_begin(routes: Routes) -> Result<Stage, Refusal>
+    ensures { (before : List AnyLine) → Stands before (stage.Begin routes) → Takes before (line_of.Plain plain.Begin) result }
+{
+    Ok(Stage::Until(routes))
+}
+
 // Takes the line behind that of the vehicles.
 fn opens(routes: Routes, line: &GridLine) -> Result<Stage, Refusal>
     ensures { (before : List AnyLine) → Stands before (stage.Begin routes) → Takes before line.now result }
 {
     match line {
-        GridLine::Plain(Line::Begin) => Ok(Stage::Until(routes)),
+        GridLine::Plain(Line::Begin) => after_begin(routes),
         _ => {
             drop(routes);
             Err(OUT_OF_ORDER)
@@ -261,24 +306,36 @@ fn opens(routes: Routes, line: &GridLine) -> Result<Stage, Refusal>
     }
 }
 
+// Takes `until`.
+fn after_until(mut routes: Routes, step: u32) -> Result<Stage, Refusal>
+    ensures { (before : List AnyLine) → Stands before (stage.Until routes) → Takes before (line_of.Plain (plain.Until step)) result }
+{
+    if is_outside(step, LAST_STEP) {
+        drop(routes);
+        return Err(Refusal::Bad(GridKind::Plain(Kind::Moment)));
+    }
+    routes.until = step;
+    Ok(Stage::Legs(routes))
+}
+
 // Takes the line behind `begin`.
-fn ends(mut routes: Routes, line: &GridLine) -> Result<Stage, Refusal>
+fn ends(routes: Routes, line: &GridLine) -> Result<Stage, Refusal>
     ensures { (before : List AnyLine) → Stands before (stage.Until routes) → Takes before line.now result }
 {
     match line {
-        GridLine::Plain(Line::Until(step)) if is_outside(*step, LAST_STEP) => {
-            drop(routes);
-            Err(Refusal::Bad(GridKind::Plain(Kind::Moment)))
-        }
-        GridLine::Plain(Line::Until(step)) => {
-            routes.until = *step;
-            Ok(Stage::Legs(routes))
-        }
+        GridLine::Plain(Line::Until(step)) => after_until(routes, *step),
         _ => {
             drop(routes);
             Err(OUT_OF_ORDER)
         }
     }
+}
+
+// Takes `end`.
+fn after_end(routes: Routes) -> Result<Stage, Refusal>
+    ensures { (before : List AnyLine) → Stands before (stage.Legs routes) → Takes before (line_of.Plain plain.End) result }
+{
+    Ok(Stage::Over(routes))
 }
 
 // What is wrong with a leg.
@@ -331,7 +388,7 @@ fn travels(routes: Routes, line: GridLine) -> Result<Stage, Refusal>
                 plan,
             },
         ),
-        GridLine::Plain(Line::End) => Ok(Stage::Over(routes)),
+        GridLine::Plain(Line::End) => after_end(routes),
         _other => {
             drop(routes);
             Err(OUT_OF_ORDER)
@@ -362,8 +419,8 @@ impl Stage {
         }
     }
 
-    /// Takes the next line of a script.
-    pub fn take(self, alloc: Global, line: GridLine) -> Result<Stage, Refusal>
+    // Takes the next line of a script.
+    fn take_line(self, alloc: Global, line: GridLine) -> Result<Stage, Refusal>
         requires { HasPlainName line }
         ensures { (before : List AnyLine) → Stands before self → Takes before line result }
     {
@@ -378,6 +435,17 @@ impl Stage {
                 drop(routes);
                 Err(OUT_OF_ORDER)
             }
+        }
+    }
+
+    /// Takes the next line of a script, without its byte 10.
+    pub fn take(self, alloc: Global, bytes: &[u8]) -> Result<Stage, Refusal>
+        ensures { (before : List AnyLine) → Stands before self → Judged before bytes.now result }
+    {
+        let version = self.version().number();
+        match read_grid_line(bytes, version) {
+            Ok(line) => self.take_line(alloc, line),
+            Err(kind) => Err(Refusal::Bad(GridKind::Plain(Kind::Spelling(kind)))),
         }
     }
 

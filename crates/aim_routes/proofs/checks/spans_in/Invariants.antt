@@ -4,6 +4,6 @@ use Rattle.aim_routes.proofs.checks.spans_in.Given as goal
 
 abbrev pub invariant-loop-layout : goal.invariant-loop-layout
 invariant-loop-layout l = record {
-  spans : l.spans ≡ spans_in (take l.i l.layouts);
-  few : l.spans ≤ l.i * 4294967295;
+  spans : l.spans ≡ spans_in (take l.layout-index l.layouts);
+  few : l.spans ≤ l.layout-index * 4294967295;
 }
