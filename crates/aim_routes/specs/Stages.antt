@@ -118,7 +118,6 @@ EndsBlock block n (Ok i) = (next_kind block n ≡ None) × (layout_of block ≡ 
 EndsBlock block n (Err (header_refusal.Bad k)) = next_kind block n ≡ Some k
 EndsBlock block n (Err header_refusal.NoMemory) = Unit {0}
 
-
 -- why a line of a block isn't taken
 abbrev pub refusal_of : HeaderRefusal → Refusal
 refusal_of (header_refusal.Bad k) = refusal.Bad (kind.Plain k)

@@ -169,7 +169,12 @@ fn opened(count: u32, alloc: Global, line: &GridLine) -> Result<Stage, Refusal>
 }
 
 // What is kept behind the line of the vehicles, where there are not too many.
-fn settled(alloc: Global, layouts: Vec<Layout>, version: ScriptVersion, vehicles: u32) -> Result<Stage, Refusal>
+fn settled(
+    alloc: Global,
+    layouts: Vec<Layout>,
+    version: ScriptVersion,
+    vehicles: u32,
+) -> Result<Stage, Refusal>
     ensures { Settles version layouts.items vehicles result }
 {
     match vehicles_limit(spans_in(&layouts), vehicles) {

@@ -3,3 +3,7 @@
 
 #[cfg(test)]
 mod lines;
+#[cfg(test)]
+mod scripts;
+#[cfg(test)]
+mod stages;
