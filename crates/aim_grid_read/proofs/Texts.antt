@@ -169,20 +169,24 @@ leg_spelled version bytes ws split word i =
     let spelled : grid_line_words version (line.Leg (at ws 1) (at ws 2) (plan_at ws)) ≡ ws =
     rw (sym word, turn_back (from 7 ws) n.1.1.1.1.1.1.1.0, class_back (from 13 ws) n.1.1.1.1.1.1.1.1.1.1.1.1.1.0) (respelled_is leg_places ws n i.count refl) in
     record {
-      ranges = (in32 (from 1 ws) n.1.0, in32 (from 2 ws) n.1.1.0, record {
-        first = in32 (from 3 ws) n.1.1.1.0;
-        lead = in32 (from 4 ws) n.1.1.1.1.0;
-        resend = in32 (from 5 ws) n.1.1.1.1.1.0;
-        params = record {
-          lane = in8 (from 6 ws) n.1.1.1.1.1.1.0;
-          arrive = omega arith;
-          speed = in32 (from 8 ws) n.1.1.1.1.1.1.1.1.0;
-          max_speed = in32 (from 9 ws) n.1.1.1.1.1.1.1.1.1.0;
-          accel = in32 (from 10 ws) n.1.1.1.1.1.1.1.1.1.1.0;
-          len = in32 (from 11 ws) n.1.1.1.1.1.1.1.1.1.1.1.0;
-          width = in32 (from 12 ws) n.1.1.1.1.1.1.1.1.1.1.1.1.0;
-        };
-      });
+      ranges = (
+        in32 (from 1 ws) n.1.0,
+        in32 (from 2 ws) n.1.1.0,
+        record {
+          first = in32 (from 3 ws) n.1.1.1.0;
+          lead = in32 (from 4 ws) n.1.1.1.1.0;
+          resend = in32 (from 5 ws) n.1.1.1.1.1.0;
+          params = record {
+            lane = in8 (from 6 ws) n.1.1.1.1.1.1.0;
+            arrive = omega arith;
+            speed = in32 (from 8 ws) n.1.1.1.1.1.1.1.1.0;
+            max_speed = in32 (from 9 ws) n.1.1.1.1.1.1.1.1.1.0;
+            accel = in32 (from 10 ws) n.1.1.1.1.1.1.1.1.1.1.0;
+            len = in32 (from 11 ws) n.1.1.1.1.1.1.1.1.1.1.1.0;
+            width = in32 (from 12 ws) n.1.1.1.1.1.1.1.1.1.1.1.1.0;
+          };
+        },
+      );
       keeps = record { arrive = refl; changes = refl; cancel = refl; ahead = refl };
       text = text_is bytes (grid_line_words version (line.Leg (at ws 1) (at ws 2) (plan_at ws))) (spelled ∙ split);
     }
