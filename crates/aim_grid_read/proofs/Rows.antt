@@ -1,5 +1,5 @@
 -- Worked lines.
-use Rattle.std.proofs.Common.{◌≡◌, ℕ, List, [], None, Ok, Err, codes, false, refl}
+use Rattle.std.proofs.Common.{◌≡◌, [], None, Ok, Err, codes, false, refl}
 use Rattle.aim_driver.specs.declared.plans.DrivePlan.{DrivePlan}
 use Rattle.aim_msg.specs.declared.messages.Turn.TheVariants.{Straight}
 use Rattle.aim_msg.specs.declared.script.Line.TheVariants as plain

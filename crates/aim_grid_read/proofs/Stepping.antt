@@ -1,10 +1,10 @@
 -- Reading word by word gives what the places say.
-use Rattle.std.proofs.Common.{◌≡◌, ℕ, ◌==◌, true, List, [], ◌∷◌, length, Option, Some, None, Result, Ok, Err, refl, ap, ◌∙◌}
+use Rattle.std.proofs.Common.{◌≡◌, ℕ, ◌==◌, true, List, [], length, Option, None, Result, refl, ◌∙◌}
 use Rattle.aim_msg.specs.Texts.{Words}
 use Rattle.aim_msg.specs.declared.messages.Params.{Params}
 use Rattle.aim_msg.specs.declared.messages.Turn.{Turn}
 use Rattle.aim_msg.specs.declared.script.LineKind.{LineKind}
-use Rattle.aim_read.specs.Faults.{first, first_fault, from, rest, word_at}
+use Rattle.aim_read.specs.Faults.{first_fault, from, rest, word_at}
 use Rattle.aim_read.specs.Forms.{vehicle_places}
 use Rattle.aim_read.specs.Reading.{at, is_emergency, unless}
 use Rattle.aim_read.specs.Steps.{◌>>=◌, numbers_in, vehicle_in}

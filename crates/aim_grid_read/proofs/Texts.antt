@@ -1,5 +1,5 @@
 -- What is spelled is read again, and what is read is spelled so.
-use Rattle.std.proofs.Common.{◌≡◌, ℕ, ◌<◌, ◌==◌, true, false, Bool, List, [], ◌∷◌, ◌++◌, length, Option, Some, None, Result, Ok, Err, codes, decimal, refl, sym, ap, subst, ◌∙◌, arith, inl, inr}
+use Rattle.std.proofs.Common.{◌≡◌, ℕ, ◌==◌, true, false, Bool, List, [], ◌∷◌, length, Option, Some, None, Result, Ok, Err, codes, decimal, refl, sym, ap, subst, ◌∙◌, arith, inl, inr}
 use Rattle.std.specs.Prelude.{bytes_eq, if◌then◌else◌}
 use Rattle.std.proofs.lemmas.Bool.{cases_Bool, eqb-true}
 use Rattle.std.proofs.lemmas.List.Splits.{join_with_byte-slice_split}
@@ -11,25 +11,24 @@ use Rattle.aim_msg.specs.declared.script.Line.{Line}
 use Rattle.aim_msg.specs.declared.script.LineKind.{LineKind}
 use Rattle.aim_msg.specs.declared.script.LineKind.TheVariants as kind
 use Rattle.aim_msg.specs.Texts.{IsOneLine, Words, class_word, spaced, turn_word, vehicle_words}
-use Rattle.aim_msg.specs.Lines.{KeepsRanges, line_text}
-use Rattle.aim_read.specs.Faults.{Place, first, first_fault, from, rest, word_at, words_of}
+use Rattle.aim_msg.specs.Lines.{line_text}
+use Rattle.aim_read.specs.Faults.{Place, first, first_fault, from, rest, words_of}
 use Rattle.aim_read.specs.Forms.{line_form}
-use Rattle.aim_read.specs.Ranges.{AreParams, Is32, IsLine}
+use Rattle.aim_read.specs.Ranges.{AreParams, Is32}
 use Rattle.aim_read.specs.Reading.{at, line_at, line_in, unless}
 use Rattle.aim_read.specs.Steps.{numbers_in, vehicle_in}
 use Rattle.aim_read.proofs.Again.{n32, n8, turn_again, vehicle_again}
 use Rattle.aim_read.proofs.LineAgain.{line_again}
 use Rattle.aim_read.proofs.LineSpelled.{in32, in8, line_was_spelled}
-use Rattle.aim_read.proofs.LineWords.{line_are_words, w32, w8}
+use Rattle.aim_read.proofs.LineWords.{w32, w8}
 use Rattle.aim_read.proofs.NoFaults.{NoFaults, no_faults}
 use Rattle.aim_read.proofs.OneLine.{line_is_one_line, words_end_none}
 use Rattle.aim_read.proofs.Spelled.{class_back, respelled_is, same_word, turn_back}
 use Rattle.aim_read.proofs.WordLaws.{AreWords, IsWord, words_spaced}
-use Rattle.aim_grid_read.specs.declared.lines.GridForm.{GridForm}
 use Rattle.aim_grid_read.specs.declared.lines.GridForm.TheVariants as form
 use Rattle.aim_grid_read.specs.declared.lines.GridLine.{GridLine}
 use Rattle.aim_grid_read.specs.declared.lines.GridLine.TheVariants as line
-use Rattle.aim_grid_read.specs.Legs.{crossings_places, form_of, grid_line_at, leg_places, line_with, places_fault, plain_at, plain_in, plan_at}
+use Rattle.aim_grid_read.specs.Legs.{crossings_places, form_of, grid_line_at, leg_places, line_with, places_fault, plain_in, plan_at}
 use Rattle.aim_grid_read.specs.Spelled.{IsBare, IsGridLine, IsPlan, KeepsGridRanges, grid_line_text, grid_line_words, leg_words}
 use Rattle.aim_grid_read.specs.Steps.{crossings_in, leg_in}
 use Rattle.aim_grid_read.proofs.Stepping.{crossings_read, leg_read}
@@ -169,20 +168,24 @@ leg_spelled version bytes ws split word i =
     let spelled : grid_line_words version (line.Leg (at ws 1) (at ws 2) (plan_at ws)) ≡ ws =
     rw (sym word, turn_back (from 7 ws) n.1.1.1.1.1.1.1.0, class_back (from 13 ws) n.1.1.1.1.1.1.1.1.1.1.1.1.1.0) (respelled_is leg_places ws n i.count refl) in
     record {
-      ranges = (in32 (from 1 ws) n.1.0, in32 (from 2 ws) n.1.1.0, record {
-        first = in32 (from 3 ws) n.1.1.1.0;
-        lead = in32 (from 4 ws) n.1.1.1.1.0;
-        resend = in32 (from 5 ws) n.1.1.1.1.1.0;
-        params = record {
-          lane = in8 (from 6 ws) n.1.1.1.1.1.1.0;
-          arrive = omega arith;
-          speed = in32 (from 8 ws) n.1.1.1.1.1.1.1.1.0;
-          max_speed = in32 (from 9 ws) n.1.1.1.1.1.1.1.1.1.0;
-          accel = in32 (from 10 ws) n.1.1.1.1.1.1.1.1.1.1.0;
-          len = in32 (from 11 ws) n.1.1.1.1.1.1.1.1.1.1.1.0;
-          width = in32 (from 12 ws) n.1.1.1.1.1.1.1.1.1.1.1.1.0;
-        };
-      });
+      ranges = (
+        in32 (from 1 ws) n.1.0,
+        in32 (from 2 ws) n.1.1.0,
+        record {
+          first = in32 (from 3 ws) n.1.1.1.0;
+          lead = in32 (from 4 ws) n.1.1.1.1.0;
+          resend = in32 (from 5 ws) n.1.1.1.1.1.0;
+          params = record {
+            lane = in8 (from 6 ws) n.1.1.1.1.1.1.0;
+            arrive = omega arith;
+            speed = in32 (from 8 ws) n.1.1.1.1.1.1.1.1.0;
+            max_speed = in32 (from 9 ws) n.1.1.1.1.1.1.1.1.1.0;
+            accel = in32 (from 10 ws) n.1.1.1.1.1.1.1.1.1.1.0;
+            len = in32 (from 11 ws) n.1.1.1.1.1.1.1.1.1.1.1.0;
+            width = in32 (from 12 ws) n.1.1.1.1.1.1.1.1.1.1.1.1.0;
+          };
+        },
+      );
       keeps = record { arrive = refl; changes = refl; cancel = refl; ahead = refl };
       text = text_is bytes (grid_line_words version (line.Leg (at ws 1) (at ws 2) (plan_at ws))) (spelled ∙ split);
     }

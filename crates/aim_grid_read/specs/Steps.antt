@@ -1,5 +1,5 @@
 -- Reading word by word. Only contracts of private functions cite it.
-use Rattle.std.specs.Prelude.{ℕ, false, [], None, Result, Ok, Err, get_or}
+use Rattle.std.specs.Prelude.{false, [], None, Result, Ok, get_or}
 use Rattle.aim_msg.specs.Texts.{Words}
 use Rattle.aim_msg.specs.declared.script.LineKind.{LineKind}
 use Rattle.aim_read.specs.Faults.{number8, turns, value_of}

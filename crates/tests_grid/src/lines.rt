@@ -15,12 +15,32 @@ const FAULTS: [(&[u8], u8, &[u8]); 17] = [
     (b"crossings 02", 1, b"number"),
     (b"crossings 4294967296", 1, b"range"),
     (b"leg 0 0 1 10 3 0 straight 500 500 0 1000 700", 1, b"words"),
-    (b"leg x 0 1 10 3 0 straight 500 500 0 1000 700 car start", 3, b"words"),
-    (b"leg 0 00 1 10 3 256 straight 500 500 0 1000 700 car", 1, b"number"),
-    (b"leg 0 0 1 10 3 256 round 500 500 0 1000 700 car", 1, b"range"),
-    (b"leg 0 0 1 10 3 255 round 500 500 0 1000 700 car", 1, b"words"),
+    (
+        b"leg x 0 1 10 3 0 straight 500 500 0 1000 700 car start",
+        3,
+        b"words",
+    ),
+    (
+        b"leg 0 00 1 10 3 256 straight 500 500 0 1000 700 car",
+        1,
+        b"number",
+    ),
+    (
+        b"leg 0 0 1 10 3 256 round 500 500 0 1000 700 car",
+        1,
+        b"range",
+    ),
+    (
+        b"leg 0 0 1 10 3 255 round 500 500 0 1000 700 car",
+        1,
+        b"words",
+    ),
     (b"leg 0 0 1 10 3 0 left 500 500 0 1000 700 bus", 2, b"words"),
-    (b"plan 0 1 10 3 0 straight 500 500 0 1000 700 car", 3, b"words"),
+    (
+        b"plan 0 1 10 3 0 straight 500 500 0 1000 700 car",
+        3,
+        b"words",
+    ),
     (b"times 100 10 2 1 1 1", 1, b"words"),
 ];
 
@@ -38,11 +58,13 @@ fn text_of(kind: LineKind) -> &'static [u8] {
 fn numbers_of(line: &[u8]) -> [u32; 8] {
     match read_grid_line(line, 1) {
         Ok(GridLine::Crossings(n)) => [n, 0, 0, 0, 0, 0, 0, 1],
-        Ok(GridLine::Leg {
-            vehicle,
-            crossing,
-            plan,
-        }) => {
+        Ok(
+            GridLine::Leg {
+                vehicle,
+                crossing,
+                plan,
+            },
+        ) => {
             let params = plan.params;
             [
                 vehicle,
