@@ -1,7 +1,6 @@
 -- Which kinds of fault a line has in a part of a script.
-use Rattle.std.proofs.Common.{◌≡◌, ℕ, ◌+◌, ◌==◌, Bool, true, false, cond, not, nat_le, List, [], ◌∷◌, ◌++◌, length, Option, Some, None, option_map, is_some, Ok, refl, sym, ap, ◌∙◌, inl, inr}
+use Rattle.std.proofs.Common.{◌≡◌, ℕ, Bool, true, false, nat_le, List, [], ◌∷◌, Option, Some, None, option_map, is_some, Ok, refl, ap, ◌∙◌}
 use Rattle.std.specs.Prelude.{if◌then◌else◌}
-use Rattle.std.proofs.lemmas.Bool.{cases_Bool}
 use Rattle.aim_msg.specs.declared.script.Line.{Line}
 use Rattle.aim_msg.specs.declared.script.Line.TheVariants as plain
 use Rattle.aim_paths.specs.Building.{finish_fault}
@@ -13,8 +12,8 @@ use Rattle.aim_script.specs.declared.headers.Place.{Place}
 use Rattle.aim_script.specs.declared.headers.Place.TheVariants as place
 use Rattle.aim_script.specs.Headers.{Stands as StandsAsHeader, part_of}
 use Rattle.aim_script.specs.Kinds.{kind_of_fault as header_kind, kinds as header_kinds}
-use Rattle.aim_script.specs.Order.{belongs, may_follow as may_follow_in_header}
-use Rattle.aim_script.specs.Said.{last_of as last_of_block, layout_of, version_after, vehicles_in as vehicles_in_plain}
+use Rattle.aim_script.specs.Order.{belongs}
+use Rattle.aim_script.specs.Said.{layout_of, vehicles_in as vehicles_in_plain}
 use Rattle.aim_script.proofs.KindLemmas.{first_kind, first_kind_is, out_of_order}
 use Rattle.aim_grid_read.specs.declared.lines.GridLine.{GridLine}
 use Rattle.aim_grid_read.specs.declared.lines.GridLine.TheVariants as line
@@ -24,7 +23,6 @@ use Rattle.aim_routes.specs.declared.decisions.GridKind.TheVariants as kind
 use Rattle.aim_routes.specs.Kinds.{aim_kind, block_kind, has_all, kind_in, kind_of_fault, limit_of, may_end, next_kind, phase_kind}
 use Rattle.aim_routes.specs.Order.{Part, part_after, in_blocks}
 use Rattle.aim_routes.specs.Said.{Parted, begins_block, crossings_of, is_of_layout, last_of, parted, some_block}
-use Rattle.aim_routes.specs.Stages.{AreBlocks, IsCounted}
 use Rattle.aim_routes.specs.Verdicts.{bad, decides, goes_on, of_read}
 
 -- a line without a kind and a limit goes on, and one with a kind decides, and one past a limit

@@ -1,17 +1,16 @@
 -- How the questions about the lines of a script change with one more line.
-use Rattle.std.proofs.Common.{◌≡◌, ℕ, ◌+◌, Bool, true, false, List, [], ◌∷◌, ◌++◌, filter_map, fold, length, map, Option, Some, None, refl, sym, ap, ◌∙◌, append-nil}
-use Rattle.std.specs.Option.{option_or, option_to_list, unwrap_or}
+use Rattle.std.proofs.Common.{◌≡◌, ℕ, true, List, [], ◌∷◌, ◌++◌, Option, Some, None, refl, ◌∙◌, append-nil}
+use Rattle.std.specs.Option.{option_or}
 use Rattle.std.proofs.lemmas.List.{reverse-append}
 use Rattle.std.proofs.lemmas.List.Sums.{fold-append}
 use Rattle.aim_geometry.specs.Bounded.{find_map}
 use Rattle.aim_msg.specs.declared.script.Line.{Line}
 use Rattle.aim_msg.specs.declared.script.Line.TheVariants as plain
 use Rattle.aim_script.proofs.AppendLemmas.{filter_map-one, find_map-one}
-use Rattle.aim_script.specs.Said.{vehicles_in as vehicles_in_plain}
 use Rattle.aim_grid_read.specs.declared.lines.GridLine.{GridLine}
 use Rattle.aim_grid_read.specs.declared.lines.GridLine.TheVariants as line
 use Rattle.aim_routes.specs.Order.{part_after, in_blocks}
-use Rattle.aim_routes.specs.Said.{Parted, begins_block, crossings_in, crossings_of, is_of_layout, last_of, leg_in, legs_of, parted, parted_by, parted_with, some_block, until_in, until_of, vehicles_in, vehicles_of}
+use Rattle.aim_routes.specs.Said.{Parted, crossings_in, crossings_of, is_of_layout, last_of, leg_in, legs_of, parted, parted_by, parted_with, some_block, until_in, until_of, vehicles_in, vehicles_of}
 use Rattle.aim_routes.specs.Stages.{IsQuiet}
 
 pub last_more : (before : List GridLine) (l : GridLine) → last_of (before ++ l ∷ []) ≡ Some l

@@ -1,5 +1,5 @@
 -- Why a line that reads may not stand where it stands in a script of several crossings, and the limits on a script.
-use Rattle.std.specs.Prelude.{ℕ, ◌+◌, ◌*◌, ◌==◌, ◌&&◌, ◌||◌, not, Bool, nat_le, List, [], ◌∷◌, length, Option, Some, None, option_map, is_some, if◌then◌else◌}
+use Rattle.std.specs.Prelude.{ℕ, ◌+◌, ◌==◌, ◌||◌, Bool, nat_le, List, [], ◌∷◌, length, Option, Some, None, option_map, is_some, if◌then◌else◌}
 use Rattle.aim_msg.specs.declared.script.Line.{Line}
 use Rattle.aim_msg.specs.declared.script.Line.TheVariants as plain
 use Rattle.aim_driver.specs.declared.plans.DrivePlan.{DrivePlan}
@@ -17,7 +17,7 @@ use Rattle.aim_grid_read.specs.declared.lines.GridLine.TheVariants as line
 use Rattle.aim_routes.specs.declared.decisions.GridKind.{GridKind}
 use Rattle.aim_routes.specs.declared.decisions.GridKind.TheVariants as kind
 use Rattle.aim_routes.specs.declared.routes.PlannedLeg.{PlannedLeg}
-use Rattle.aim_routes.specs.Order.{Part, part_after, to_crossings, in_blocks, to_begin, to_until, in_legs, nothing}
+use Rattle.aim_routes.specs.Order.{Part, part_after, to_crossings, in_blocks, to_begin, to_until, in_legs}
 use Rattle.aim_routes.specs.Said.{Parted, crossings_of, has_leg, last_of, layouts_of, legs_of, parted, spans_in, vehicles_of}
 
 -- whether the last block is the last of so many

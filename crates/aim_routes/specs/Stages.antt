@@ -1,5 +1,5 @@
 -- What is known of the lines of a script so far, at each stage of it.
-use Rattle.std.specs.Prelude.{◌≡◌, ℕ, ◌<◌, ◌≤◌, Bool, true, false, ◌||◌, List, [], ◌∷◌, ◌++◌, length, map, Option, Some, None, Result, Ok, Err, if◌then◌else◌}
+use Rattle.std.specs.Prelude.{◌≡◌, ℕ, ◌<◌, ◌≤◌, Bool, true, false, ◌||◌, List, [], ◌∷◌, ◌++◌, length, map, Some, None, Result, Ok, Err, if◌then◌else◌}
 use Rattle.aim_io.specs.Lines.{Line as LineOf}
 use Rattle.aim_msg.specs.declared.script.Line.{Line}
 use Rattle.aim_msg.specs.declared.script.Line.TheVariants as plain
@@ -28,9 +28,9 @@ use Rattle.aim_routes.specs.declared.stages.Refusal.TheVariants as refusal
 use Rattle.aim_routes.specs.declared.stages.Stage.{Stage}
 use Rattle.aim_routes.specs.declared.stages.Stage.TheVariants as stage
 use Rattle.aim_routes.specs.Fits.{AreRoutesOf, AreWithin}
-use Rattle.aim_routes.specs.Kinds.{kind_of_fault, next_kind}
+use Rattle.aim_routes.specs.Kinds.{next_kind}
 use Rattle.aim_routes.specs.Order.{part_after, in_blocks, to_begin, to_until, in_legs}
-use Rattle.aim_routes.specs.Said.{Parted, crossings_of, last_of, layouts_of, legs_of, parted, some_block, spans_in, until_in, until_of, vehicles_in, vehicles_of, version_of}
+use Rattle.aim_routes.specs.Said.{crossings_of, last_of, layouts_of, legs_of, parted, some_block, spans_in, until_in, until_of, vehicles_in, vehicles_of, version_of}
 use Rattle.aim_routes.specs.Verdicts.{at_end, bad, decides, goes_on, judge, of_read}
 
 -- a name in the line is spelled as one
