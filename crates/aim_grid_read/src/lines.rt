@@ -1,0 +1,129 @@
+//! The lines of scripts of several crossings.
+
+ghost use Rattle.std.specs.Prelude.{◌≡◌, ◌<◌, ◌≤◌, ◌==◌, count_by, length};
+ghost use Rattle.aim_read.specs.Faults.{words_of};
+ghost use Rattle.aim_grid_read.specs.Legs.{form_of, grid_line_at, plain_at};
+ghost use Rattle.aim_grid_read.specs.Steps.{crossings_in, leg_in};
+
+use crate::fields::{number8, number32, numbers, params, turn};
+use crate::words::Words;
+use aim_driver::{Changes, DrivePlan};
+use aim_msg::{Line, LineKind};
+use aim_read::read_line;
+
+/// A line of a script of several crossings.
+#[derive(Drop)]
+pub enum GridLine {
+    /// How many crossings there are.
+    Crossings(u32),
+    /// The plan of a vehicle at a crossing.
+    Leg {
+        vehicle: u32,
+        crossing: u32,
+        plan: DrivePlan,
+    },
+    /// Any other line, which is one of any script.
+    Plain(Line),
+}
+
+/// The forms of lines.
+#[derive(Clone, Copy)]
+pub enum GridForm {
+    Crossings,
+    Leg,
+    Plain,
+}
+
+// The form of a line that begins with that word.
+fn form_of(word: &[u8]) -> GridForm
+    ensures { result ≡ form_of word.now }
+{
+    if word == b"crossings".as_slice() {
+        GridForm::Crossings
+    } else if word == b"leg".as_slice() {
+        GridForm::Leg
+    } else {
+        GridForm::Plain
+    }
+}
+
+// How many spaces the line has.
+fn spaces(line: &[u8]) -> usize
+    ensures { result ≡ count_by (λ b. b == 32) line.now }
+{
+    line.iter().filter(|b| **b == b' ').count()
+}
+
+// How many words the line has.
+#[tactic(auto, using(aim_read::proofs::Splits::words_counted))]
+fn count(line: &[u8]) -> usize
+    ensures { result ≡ length (words_of line.now) }
+{
+    spaces(line) + 1
+}
+
+// `crossings N`, behind its first word.
+#[tactic(auto, unfolding(crate::specs::Steps::crossings_in))]
+fn crossings(words: &mut Words<'_>) -> Result<GridLine, LineKind>
+    ensures { result ≡ crossings_in words.old }
+{
+    Ok(GridLine::Crossings(number32(words)?))
+}
+
+// `leg V CROSSING FIRST LEAD RESEND LANE TURN SPEED MAX ACCEL LENGTH WIDTH CLASS`, behind its first word.
+#[tactic(auto, unfolding(crate::specs::Steps::leg_in))]
+fn leg(words: &mut Words<'_>) -> Result<GridLine, LineKind>
+    ensures { result ≡ leg_in words.old }
+{
+    let [vehicle, crossing, first, lead, resend] = numbers::<5>(words)?;
+    let lane = number8(words)?;
+    let turn = turn(words)?;
+    let params = params(words, lane, turn)?;
+    let plan = DrivePlan {
+        first,
+        lead,
+        resend,
+        params,
+        changes: Changes::none(),
+        cancel: None,
+        ahead: false,
+    };
+    Ok(GridLine::Leg {
+        vehicle,
+        crossing,
+        plan,
+    })
+}
+
+// A line of any script.
+fn plain(line: &[u8], version: u8) -> Result<GridLine, LineKind>
+    requires { (0 < version) × (version ≤ 3) }
+    ensures { result ≡ plain_at version line.now }
+{
+    match read_line(line, version) {
+        Ok(line) => Ok(GridLine::Plain(line)),
+        Err(kind) => Err(kind),
+    }
+}
+
+/// Reads a line of a script of several crossings in that version, which is 1 to 3: the line for its one spelling, else
+/// the kind of the first rule that the bytes break. A line that begins with neither `crossings` nor `leg` is read by
+/// `read_line`; of the others these are the rules.
+///
+/// 1. `Words`: `crossings` has 2 words, and `leg` has 14. Words are what stands between the spaces.
+/// 2. From the left, each word may stand in its place: else `Words` in the place of a turn or a class, `Number` where
+///    it isn't spelled as a number, and `Range` where the number has more than 32 bits, or a lane more than 8.
+pub fn read_grid_line(line: &[u8], version: u8) -> Result<GridLine, LineKind>
+    requires { (0 < version) × (version ≤ 3) }
+    ensures { result ≡ grid_line_at version line.now }
+{
+    let mut words = Words::new(line);
+    let form = form_of(words.take());
+    let count = count(line);
+    match form {
+        GridForm::Crossings if count == 2 => crossings(&mut words),
+        GridForm::Leg if count == 14 => leg(&mut words),
+        GridForm::Plain => plain(line, version),
+        _ => Err(LineKind::Words),
+    }
+}

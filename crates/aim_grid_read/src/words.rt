@@ -1,0 +1,80 @@
+//! The words of a line, one after the other.
+
+ghost use Rattle.std.specs.Prelude.{◌≡◌, ◌≢◌, ◌<◌, ◌≤◌, ℕ, [], ◌∷◌, length, slice_index, MatchOption, MatchResult};
+ghost use Rattle.aim_msg.specs.declared.script.LineKind.{LineKind};
+ghost use Rattle.aim_read.specs.Faults.{first, rest, words_of};
+
+use aim_msg::LineKind;
+use std::marker::Model;
+
+// The place of the first space, or the length where there is none.
+fn space(bytes: &[u8]) -> usize
+    ensures within { result ≤ length bytes.now }
+    ensures before { (k : ℕ) → k < result → slice_index bytes.now k ≢ 32 }
+    ensures found { result < length bytes.now → slice_index bytes.now result ≡ 32 }
+{
+    for (i, b) in bytes.iter().enumerate() {
+        if *b == b' ' {
+            return i;
+        }
+    }
+    bytes.len()
+}
+
+/// The words that are still to be read. They are split at each space.
+#[derive(Drop)]
+pub struct Words<'a> {
+    // What is left, where a word is left.
+    left: Option<&'a [u8]>,
+}
+
+impl<'a> Model for Words<'a> {
+    ghost use Rattle.std.specs.Prelude.{List, ℕ};
+    ghost use Rattle.aim_read.specs.Steps.{words_left};
+
+    ghost Value = { List (List ℕ) };
+
+    ghost view = { λ w. words_left w.left };
+}
+
+impl<'a> Words<'a> {
+    /// All words of a line.
+    pub fn new(line: &'a [u8]) -> Words<'a>
+        ensures { result ≡ words_of line.now }
+    {
+        Words { left: Some(line) }
+    }
+
+    // The next word, where one is left.
+    fn next(&mut self) -> Option<&'a [u8]>
+        ensures { MatchOption result ((self.old ≡ []) × (self.new ≡ [])) (λ word. self.old ≡ word.now ∷ self.new) }
+    {
+        let bytes = self.left?;
+        let i = space(bytes);
+        if i < bytes.len() {
+            self.left = Some(&bytes[i + 1..]);
+            Some(&bytes[..i])
+        } else {
+            self.left = None;
+            Some(bytes)
+        }
+    }
+
+    /// The next word, which is not to be missing.
+    pub fn word(&mut self) -> Result<&'a [u8], LineKind>
+        ensures { MatchResult result (λ word. self.old ≡ word.now ∷ self.new) (λ kind. (self.old ≡ []) × (kind ≡ LineKind.Words)) }
+    {
+        self.next().ok_or(LineKind::Words)
+    }
+
+    /// The next word, or the empty one where none is left.
+    pub fn take(&mut self) -> &'a [u8]
+        ensures word { result.now ≡ first self.old }
+        ensures left { self.new ≡ rest self.old }
+    {
+        match self.next() {
+            Some(word) => word,
+            None => b"",
+        }
+    }
+}

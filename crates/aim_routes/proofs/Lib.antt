@@ -1,0 +1,3 @@
+pub mod Parting
+pub mod Judging
+pub mod Staging

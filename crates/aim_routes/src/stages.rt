@@ -1,0 +1,470 @@
+//! How far a script has come, line by line.
+
+ghost use Rattle.std.specs.Prelude.{◌≡◌, ◌≤◌, ◌+◌, List, [], length, None, false, nat_le};
+ghost use Rattle.aim_msg.specs.declared.script.Line.{Line as AnyPlain};
+ghost use Rattle.aim_msg.specs.declared.script.Line.TheVariants as plain;
+ghost use Rattle.aim_script.specs.Headers.{HasName, Stands as StandsAsHeader};
+ghost use Rattle.aim_script.specs.Said.{vehicles_in};
+ghost use Rattle.aim_script.specs.Versions.{version_number};
+ghost use Rattle.aim_grid_read.specs.declared.lines.GridLine.{GridLine as AnyLine};
+ghost use Rattle.aim_grid_read.specs.declared.lines.GridLine.TheVariants as line_of;
+ghost use Rattle.aim_routes.specs.declared.stages.Stage.TheVariants as stage;
+ghost use Rattle.aim_routes.specs.Kinds.{leg_kind_of};
+ghost use Rattle.aim_routes.specs.Said.{begins_block, version_of};
+ghost use Rattle.aim_routes.specs.Stages.{AreBlocks, Begins, Ends, EndsBlock, HasPlainName, IsCounted, Judged, Settles, Stands, Takes, ending_of, is_order, refusal_of};
+
+use crate::checks::{LAST_STEP, has_leg, is_bad_plan, is_outside, spans_in, vehicles_limit};
+use crate::decisions::{GridDecision, GridKind};
+use crate::routes::{PlannedLeg, Routes};
+use aim_driver::DrivePlan;
+use aim_grid_read::{GridLine, read_grid_line};
+use aim_msg::Line;
+use aim_paths::Layout;
+use aim_script::{Headed, Header, Kind, Limit, ScriptVersion, Setting};
+use std::alloc::Global;
+
+/// The blocks of a script so far, one for each crossing.
+#[derive(Drop)]
+pub struct Blocks {
+    /// How many there are to be.
+    pub count: u32,
+    /// The layouts of those before the last.
+    pub whole: Vec<Layout>,
+    /// What the last says so far.
+    pub header: Header,
+}
+
+/// How far a script has come, and what is kept of the lines so far.
+#[derive(Drop)]
+pub enum Stage {
+    /// The line of the crossings comes next.
+    Opening,
+    /// The first block comes next, of so many.
+    Counted(u32),
+    /// A block goes on, or the next comes, or the line of the vehicles.
+    Blocks(Blocks),
+    /// `begin` comes next.
+    Begin(Routes),
+    /// `until` comes next.
+    Until(Routes),
+    /// Legs come, or `end`.
+    Legs(Routes),
+    /// Nothing comes any more.
+    Over(Routes),
+}
+
+/// Why a line isn't taken.
+#[derive(Clone, Copy)]
+pub enum Refusal {
+    /// It is at fault.
+    Bad(GridKind),
+    /// It goes past a limit.
+    Limit(Limit),
+    /// Memory has run out.
+    NoMemory,
+}
+
+// A line that may not stand there.
+const OUT_OF_ORDER: Refusal = Refusal::Bad(GridKind::Plain(Kind::Order));
+
+// Takes the first line.
+fn counted(line: &GridLine) -> Result<Stage, Refusal>
+    ensures { Takes [] line.now result }
+{
+    match line {
+        GridLine::Crossings(count) if is_outside(*count, 8) => {
+            Err(Refusal::Bad(GridKind::Crossing))
+        }
+        GridLine::Crossings(count) => Ok(Stage::Counted(*count)),
+        _ => Err(OUT_OF_ORDER),
+    }
+}
+
+// The header that an `aim` line begins.
+fn begun(alloc: Global, number: u32) -> Result<Header, aim_script::Refusal>
+    ensures { Begins number result }
+{
+    match Header::new().take(alloc, &Line::Version(number)) {
+        Ok(Headed::More(header)) => Ok(header),
+        Ok(Headed::Whole(_setting)) => Err(aim_script::Refusal::Bad(Kind::Order)),
+        Err(why) => Err(why),
+    }
+}
+
+// Whether it is this kind.
+fn is_order(kind: Kind) -> bool
+    ensures { result ≡ is_order kind }
+{
+    matches!(kind, Kind::Order)
+}
+
+// Why an `aim` line of the same version, or of another, doesn't end a block: its place comes before its version.
+fn ending(why: aim_script::Refusal, same: bool) -> aim_script::Refusal
+    ensures { result ≡ ending_of same why }
+{
+    match why {
+        aim_script::Refusal::Bad(kind) => {
+            if same || is_order(kind) {
+                aim_script::Refusal::Bad(kind)
+            } else {
+                aim_script::Refusal::Bad(Kind::Version)
+            }
+        }
+        aim_script::Refusal::NoMemory => aim_script::Refusal::NoMemory,
+    }
+}
+
+// The layout of a block that an `aim` line ends.
+fn ended(header: Header, alloc: Global, number: u32) -> Result<Layout, aim_script::Refusal>
+    ensures { (block : List AnyPlain) → StandsAsHeader block header → EndsBlock block number result }
+{
+    let version = header.version().number();
+    let same = number == u32::from(version);
+    match header.take(alloc, &Line::Vehicles(1)) {
+        Ok(Headed::Whole(setting)) => {
+            if same {
+                Ok(setting.layout)
+            } else {
+                drop(setting);
+                Err(aim_script::Refusal::Bad(Kind::Version))
+            }
+        }
+        Ok(Headed::More(_header)) => Err(aim_script::Refusal::Bad(Kind::Order)),
+        Err(why) => Err(ending(why, same)),
+    }
+}
+
+// Why a line of a block isn't taken.
+fn told(why: aim_script::Refusal) -> Refusal
+    ensures { result ≡ refusal_of why }
+{
+    match why {
+        aim_script::Refusal::Bad(kind) => Refusal::Bad(GridKind::Plain(kind)),
+        aim_script::Refusal::NoMemory => Refusal::NoMemory,
+    }
+}
+
+// Takes the `aim` line of the first block.
+fn first_block(count: u32, alloc: Global, number: u32) -> Result<Stage, Refusal>
+    ensures { (before : List AnyLine) → IsCounted before count → Takes before (line_of.Plain (plain.Version number)) result }
+{
+    match begun(alloc, number) {
+        Ok(header) => Ok(Stage::Blocks(Blocks {
+            count,
+            whole: Vec::new(alloc),
+            header,
+        })),
+        Err(why) => Err(told(why)),
+    }
+}
+
+// Takes a line where the first block comes next.
+fn opened(count: u32, alloc: Global, line: &GridLine) -> Result<Stage, Refusal>
+    ensures { (before : List AnyLine) → IsCounted before count → Takes before line.now result }
+{
+    match line {
+        GridLine::Plain(Line::Version(number)) => first_block(count, alloc, *number),
+        _ => Err(OUT_OF_ORDER),
+    }
+}
+
+// What is kept behind the line of the vehicles, where there are not too many.
+fn settled(
+    alloc: Global,
+    layouts: Vec<Layout>,
+    version: ScriptVersion,
+    vehicles: u32,
+) -> Result<Stage, Refusal>
+    ensures { Settles version layouts.items vehicles result }
+{
+    match vehicles_limit(spans_in(&layouts), vehicles) {
+        Some(limit) => Err(Refusal::Limit(limit)),
+        None => Ok(Stage::Begin(Routes {
+            version,
+            layouts,
+            vehicles,
+            until: 0,
+            legs: Vec::new(alloc),
+        })),
+    }
+}
+
+// Whether one block behind these is the last of so many.
+fn has_all(count: u32, whole: &[Layout]) -> bool
+    ensures { result ≡ nat_le count (length whole.now + 1) }
+{
+    whole.len() >= count as usize || count as usize - whole.len() == 1
+}
+
+impl Blocks {
+    // Takes the `aim` line of the next block.
+    fn next(self, alloc: Global, number: u32) -> Result<Stage, Refusal>
+        ensures { (before : List AnyLine) → AreBlocks before self → Takes before (line_of.Plain (plain.Version number)) result }
+    {
+        let Blocks {
+            count,
+            mut whole,
+            header,
+        } = self;
+        if has_all(count, &whole) {
+            return Err(OUT_OF_ORDER);
+        }
+        match ended(header, alloc, number) {
+            Err(why) => Err(told(why)),
+            Ok(layout) => match begun(alloc, number) {
+                Err(why) => Err(told(why)),
+                Ok(header) => match whole.push(layout) {
+                    Err(_) => Err(Refusal::NoMemory),
+                    Ok(()) => Ok(Stage::Blocks(Blocks {
+                        count,
+                        whole,
+                        header,
+                    })),
+                },
+            },
+        }
+    }
+
+    // Takes the line of the vehicles.
+    fn close(self, alloc: Global, vehicles: u32) -> Result<Stage, Refusal>
+        ensures { (before : List AnyLine) → AreBlocks before self → Takes before (line_of.Plain (plain.Vehicles vehicles)) result }
+    {
+        let Blocks {
+            count,
+            mut whole,
+            header,
+        } = self;
+        if !has_all(count, &whole) {
+            return Err(OUT_OF_ORDER);
+        }
+        match header.take(alloc, &Line::Vehicles(vehicles)) {
+            Err(why) => Err(told(why)),
+            Ok(Headed::More(_header)) => Err(OUT_OF_ORDER),
+            Ok(Headed::Whole(setting)) => {
+                let Setting {
+                    version,
+                    layout,
+                    ..
+                } = setting;
+                match whole.push(layout) {
+                    Ok(()) => settled(alloc, whole, version, vehicles),
+                    Err(_) => Err(Refusal::NoMemory),
+                }
+            }
+        }
+    }
+
+    // Takes another line of the last block.
+    fn more(self, alloc: Global, line: &Line) -> Result<Stage, Refusal>
+        requires name { HasName line.now }
+        requires begins { begins_block line.now ≡ false }
+        requires vehicles { vehicles_in line.now ≡ None }
+        ensures { (before : List AnyLine) → AreBlocks before self → Takes before (line_of.Plain line.now) result }
+    {
+        let Blocks {
+            count,
+            whole,
+            header,
+        } = self;
+        match header.take(alloc, line) {
+            Err(why) => Err(told(why)),
+            Ok(Headed::Whole(_setting)) => Err(OUT_OF_ORDER),
+            Ok(Headed::More(header)) => Ok(Stage::Blocks(Blocks {
+                count,
+                whole,
+                header,
+            })),
+        }
+    }
+
+    // Takes the next line.
+    fn take(self, alloc: Global, line: &GridLine) -> Result<Stage, Refusal>
+        requires { HasPlainName line.now }
+        ensures { (before : List AnyLine) → AreBlocks before self → Takes before line.now result }
+    {
+        match line {
+            GridLine::Plain(Line::Version(number)) => self.next(alloc, *number),
+            GridLine::Plain(Line::Vehicles(vehicles)) => self.close(alloc, *vehicles),
+            GridLine::Plain(line) => self.more(alloc, line),
+            _ => Err(OUT_OF_ORDER),
+        }
+    }
+}
+
+// Takes `begin`.
+fn after_begin(routes: Routes) -> Result<Stage, Refusal>
+    ensures { (before : List AnyLine) → Stands before (stage.Begin routes) → Takes before (line_of.Plain plain.Begin) result }
+{
+    Ok(Stage::Until(routes))
+}
+
+// Takes the line behind that of the vehicles.
+fn opens(routes: Routes, line: &GridLine) -> Result<Stage, Refusal>
+    ensures { (before : List AnyLine) → Stands before (stage.Begin routes) → Takes before line.now result }
+{
+    match line {
+        GridLine::Plain(Line::Begin) => after_begin(routes),
+        _ => {
+            drop(routes);
+            Err(OUT_OF_ORDER)
+        }
+    }
+}
+
+// Takes `until`.
+fn after_until(mut routes: Routes, step: u32) -> Result<Stage, Refusal>
+    ensures { (before : List AnyLine) → Stands before (stage.Until routes) → Takes before (line_of.Plain (plain.Until step)) result }
+{
+    if is_outside(step, LAST_STEP) {
+        drop(routes);
+        return Err(Refusal::Bad(GridKind::Plain(Kind::Moment)));
+    }
+    routes.until = step;
+    Ok(Stage::Legs(routes))
+}
+
+// Takes the line behind `begin`.
+fn ends(routes: Routes, line: &GridLine) -> Result<Stage, Refusal>
+    ensures { (before : List AnyLine) → Stands before (stage.Until routes) → Takes before line.now result }
+{
+    match line {
+        GridLine::Plain(Line::Until(step)) => after_until(routes, *step),
+        _ => {
+            drop(routes);
+            Err(OUT_OF_ORDER)
+        }
+    }
+}
+
+// Takes `end`.
+fn after_end(routes: Routes) -> Result<Stage, Refusal>
+    ensures { (before : List AnyLine) → Stands before (stage.Legs routes) → Takes before (line_of.Plain plain.End) result }
+{
+    Ok(Stage::Over(routes))
+}
+
+// What is wrong with a leg.
+fn leg_fault(routes: &Routes, vehicle: u32, crossing: u32, plan: &DrivePlan) -> Option<GridKind>
+    ensures { result ≡ leg_kind_of (length routes.now.layouts.items) routes.now.vehicles routes.now.legs.items vehicle crossing plan.now }
+{
+    let legs = &routes.legs;
+    if vehicle >= routes.vehicles {
+        Some(GridKind::Plain(Kind::Vehicle))
+    } else if crossing as usize >= routes.layouts.len()
+        || (has_leg(vehicle, crossing, legs) || is_bad_plan(plan))
+    {
+        Some(GridKind::Route)
+    } else {
+        None
+    }
+}
+
+// Takes a leg.
+fn routed(mut routes: Routes, leg: PlannedLeg) -> Result<Stage, Refusal>
+    ensures { (before : List AnyLine) → Stands before (stage.Legs routes) → Takes before (line_of.Leg leg.vehicle leg.crossing leg.plan) result }
+{
+    if let Some(kind) = leg_fault(&routes, leg.vehicle, leg.crossing, &leg.plan) {
+        drop(routes);
+        return Err(Refusal::Bad(kind));
+    }
+    match routes.legs.push(leg) {
+        Ok(()) => Ok(Stage::Legs(routes)),
+        Err(_) => {
+            drop(routes);
+            Err(Refusal::NoMemory)
+        }
+    }
+}
+
+// Takes the line behind `until` or a leg.
+fn travels(routes: Routes, line: GridLine) -> Result<Stage, Refusal>
+    ensures { (before : List AnyLine) → Stands before (stage.Legs routes) → Takes before line result }
+{
+    match line {
+        GridLine::Leg {
+            vehicle,
+            crossing,
+            plan,
+        } => routed(
+            routes,
+            PlannedLeg {
+                vehicle,
+                crossing,
+                plan,
+            },
+        ),
+        GridLine::Plain(Line::End) => after_end(routes),
+        _other => {
+            drop(routes);
+            Err(OUT_OF_ORDER)
+        }
+    }
+}
+
+impl Stage {
+    /// A script of which no line was read.
+    pub fn new() -> Stage
+        ensures { Stands [] result }
+    {
+        Stage::Opening
+    }
+
+    /// The version in which the next line is read.
+    pub fn version(&self) -> ScriptVersion
+        ensures { (before : List AnyLine) → Stands before self.now → version_of before ≡ version_number result }
+    {
+        match self {
+            Stage::Opening => ScriptVersion::One,
+            Stage::Counted(_) => ScriptVersion::One,
+            Stage::Blocks(blocks) => blocks.header.version(),
+            Stage::Begin(routes) => routes.version,
+            Stage::Until(routes) => routes.version,
+            Stage::Legs(routes) => routes.version,
+            Stage::Over(routes) => routes.version,
+        }
+    }
+
+    // Takes the next line of a script.
+    fn take_line(self, alloc: Global, line: GridLine) -> Result<Stage, Refusal>
+        requires { HasPlainName line }
+        ensures { (before : List AnyLine) → Stands before self → Takes before line result }
+    {
+        match self {
+            Stage::Opening => counted(&line),
+            Stage::Counted(count) => opened(count, alloc, &line),
+            Stage::Blocks(blocks) => blocks.take(alloc, &line),
+            Stage::Begin(routes) => opens(routes, &line),
+            Stage::Until(routes) => ends(routes, &line),
+            Stage::Legs(routes) => travels(routes, line),
+            Stage::Over(routes) => {
+                drop(routes);
+                Err(OUT_OF_ORDER)
+            }
+        }
+    }
+
+    /// Takes the next line of a script, without its byte 10.
+    pub fn take(self, alloc: Global, bytes: &[u8]) -> Result<Stage, Refusal>
+        ensures { (before : List AnyLine) → Stands before self → Judged before bytes.now result }
+    {
+        let version = self.version().number();
+        match read_grid_line(bytes, version) {
+            Ok(line) => self.take_line(alloc, line),
+            Err(kind) => Err(Refusal::Bad(GridKind::Plain(Kind::Spelling(kind)))),
+        }
+    }
+
+    /// What the script comes to if its input ends here, behind so many lines: its routes, if it is whole.
+    pub fn at_end(self, lines: u32) -> Result<Routes, GridDecision>
+        requires { lines ≤ 262144 }
+        ensures { (before : List AnyLine) → Stands before self → length before ≡ lines → Ends before result }
+    {
+        match self {
+            Stage::Over(routes) => Ok(routes),
+            other => {
+                drop(other);
+                Err(GridDecision::Bad(lines + 1, GridKind::Plain(Kind::End)))
+            }
+        }
+    }
+}

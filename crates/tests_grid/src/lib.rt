@@ -1,0 +1,9 @@
+//! Tests of scripts of several crossings.
+#![tactic(auto)]
+
+#[cfg(test)]
+mod lines;
+#[cfg(test)]
+mod scripts;
+#[cfg(test)]
+mod stages;
