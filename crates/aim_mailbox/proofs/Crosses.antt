@@ -39,13 +39,15 @@ use Rattle.crossbeam_channel.proofs.flavors.array.ruled.Receiving.TheSendSync as
 use Rattle.crossbeam_channel.proofs.flavors.array.ruled.Sending.TheSendSync as sending
 use Rattle.crossbeam_channel.specs.contracts.flavors.array.Key as Key
 use Rattle.aim_mailbox.specs.contracts.letter.Letter as Letter
-use Rattle.aim_mailbox.specs.contracts.letter.Response as Response
 use Rattle.aim_mailbox.specs.contracts.letter.Setting as Setting
 use Rattle.aim_mailbox.specs.contracts.letter.Word as Word
 use Rattle.aim_mailbox.specs.contracts.post.Intake as Intake
 use Rattle.aim_mailbox.specs.contracts.post.Intake.TheInside as IntakeInside
+use Rattle.aim_mailbox.specs.contracts.post.Note as Note
+use Rattle.aim_mailbox.specs.contracts.post.Note.TheInside as NoteInside
 use Rattle.aim_mailbox.specs.contracts.post.Port as Port
 use Rattle.aim_mailbox.specs.contracts.post.Port.TheInside as PortInside
+use Rattle.aim_mailbox.specs.contracts.response.Response as Response
 use Rattle.aim_mailbox.specs.contracts.slip.Inlet as Inlet
 use Rattle.aim_mailbox.specs.contracts.slip.Inlet.TheInside as InletInside
 use Rattle.aim_mailbox.specs.contracts.slip.Slip as Slip
@@ -79,9 +81,6 @@ word_send = search (sendable, crosses, setting_send, prepared_send) depth 30
 letter_send : IsSend Letter.the_row
 letter_send = search (sendable, crosses, word_send) depth 20
 
-response_send : IsSend Response.the_row
-response_send = search (sendable, crosses, reply.the_send, full.the_send, pool_send) depth 30
-
 -- the keys and the slots of the two channels
 letter_slot_send : IsSend (Option.the_row Letter.the_row)
 letter_slot_send = search (sendable, crosses, letter_send) depth 30
@@ -91,6 +90,16 @@ letter_key_send = search (sendable, crosses, key.the_send, letter_send) depth 30
 
 letter_badge_send : IsSend (Badge.the_row (Key.the_row Letter.the_row))
 letter_badge_send = search (sendable, crosses, badge.the_send) depth 30
+
+-- a note is a pass of the requests' channel, and a response brings one
+note_inside : IsSend NoteInside.the_row
+note_inside = declared_send NoteInside.the_type (seat.the_send _ _ letter_badge_send, tt)
+
+note_send : IsSend Note.the_row
+note_send = search (sendable, note_inside)
+
+response_send : IsSend Response.the_row
+response_send = search (sendable, crosses, reply.the_send, full.the_send, pool_send, note_send) depth 30
 
 response_slot_send : IsSend (Option.the_row Response.the_row)
 response_slot_send = search (sendable, crosses, response_send) depth 30

@@ -9,30 +9,27 @@ use Rattle.aim_rules.specs.Legal.{IsLegal}
 use Rattle.aim_book.specs.Sheets.{sheets_kept}
 use Rattle.aim_book.specs.State.{State}
 use Rattle.aim_mailbox.specs.declared.letter.Letter.{Letter}
-use Rattle.aim_mailbox.specs.declared.letter.Response.{Response}
-use Rattle.aim_mailbox.specs.Calls.{Channel, ClientModel, ServerModel, IsOfMail, IsNewClient}
-use Rattle.aim_mailbox.specs.Post.{of, IntakeModel}
-use Rattle.aim_mailbox.specs.Slips.{SlipModel, Lawful, kept_after, room_in}
-use Rattle.aim_mailbox.specs.Mail.{asks, Stands, Owes, IsOpen, channel_of, setting_of}
+use Rattle.aim_mailbox.specs.declared.response.Response.{Response}
+use Rattle.aim_mailbox.specs.Asks.{asks, pairs}
+use Rattle.aim_mailbox.specs.Calls.{Channel, ClientModel, ServerModel, IsKept, IsOfMail, IsNewClient, entries_of}
+use Rattle.aim_mailbox.specs.Post.{of, IntakeModel, PortModel}
+use Rattle.aim_mailbox.specs.Slips.{InletModel, SlipModel, Lawful, kept_after}
+use Rattle.aim_mailbox.specs.Mail.{Stands, Owes, IsNewSlip, IsOpen, channel_of, client_of, letters_of, setting_of}
 use Rattle.aim_mailbox.proofs.Deals.{server_of}
 use Rattle.aim_mailbox.proofs.Views.{Each, each_more}
 
--- a slip of which nothing was sent
-abbrev pub IsNewSlip : ℕ → SlipModel → Type 0
-IsNewSlip spans s = (s.put ≡ []) × (s.ended ≡ false) × (room_in s.first ≡ spans)
-
-owes_nothing : (p spans : ℕ) (s : SlipModel) → sheets_kept p [] ≡ 0 → IsNewSlip spans s → Owes p spans [] [] [] s
-owes_nothing p spans s none new = record {
+owes_nothing : (p : ℕ) (on : Channel Letter) (spans : ℕ) (s : SlipModel) → sheets_kept p [] ≡ 0 → IsNewSlip p on spans s → Owes p on spans [] [] [] s
+owes_nothing p on spans s none new = record {
   put = ap (map (λ r. r.answer)) new.0;
   lawful = subst (Lawful s.first) (sym new.0) tt;
-  room = new.2;
+  told = new.2;
   kept = ap kept_after new.0 ∙ sym none;
   ended = λ e. absurd (true≢false (sym e ∙ new.1));
 }
 
-pub stands_new : (book : State) (got : List Letter) (slips : List SlipModel) → book.journal ≡ [] → IsLegal book.layout book.vehicles book.journal → got ≡ [] → length slips ≡ book.vehicles
-    → ((p : ℕ) → sheets_kept p [] ≡ 0) → ((p : ℕ) (s : SlipModel) → get_elem? slips p ≡ some s → IsNewSlip book.layout.grid.spans s) → Stands book got slips
-stands_new book got slips journal legal none count kept each = record {
+pub stands_new : (book : State) (on : Channel Letter) (got : List Letter) (slips : List SlipModel) → book.journal ≡ [] → IsLegal book.layout book.vehicles book.journal → got ≡ [] → length slips ≡ book.vehicles
+    → ((p : ℕ) → sheets_kept p [] ≡ 0) → ((p : ℕ) (s : SlipModel) → get_elem? slips p ≡ some s → IsNewSlip p on book.layout.grid.spans s) → Stands book on got slips
+stands_new book on got slips journal legal none count kept each = record {
   replied = [];
   refused = [];
   replies = tt;
@@ -40,7 +37,7 @@ stands_new book got slips journal legal none count kept each = record {
   full = inl refl;
   asked = λ p. ap (λ l. asks (of p l)) none;
   count = count;
-  each = λ p s at. subst (λ (y : List Entry × List Letter). Owes p book.layout.grid.spans y.0 [] y.1 s) (λ i. (sym journal i, sym none i)) (owes_nothing p book.layout.grid.spans s (kept p) (each p s at));
+  each = λ p s at. subst (λ (y : List Entry × List Letter). Owes p on book.layout.grid.spans y.0 [] y.1 s) (λ i. (sym journal i, sym none i)) (owes_nothing p on book.layout.grid.spans s (kept p) (each p s at));
   entries = journal;
   known = tt;
   legal = legal;
@@ -50,14 +47,18 @@ stands_new book got slips journal legal none count kept each = record {
 pub open_new : (sent : List Letter) (heard : List Response) → sent ≡ [] → heard ≡ [] → IsOpen sent heard
 open_new sent heard a b = subst (λ (y : List Letter × List Response). IsOpen y.0 y.1) (λ i. (sym a i, sym b i)) record { each = refl; going = refl }
 
+-- the client of a new port and a new inlet keeps no sheet
+pub kept_new : (port : PortModel) (inlet : InletModel) → port.sent ≡ [] → inlet.heard ≡ [] → sheets_kept port.from [] ≡ 0 → IsKept (client_of port inlet)
+kept_new port inlet a b none = ap kept_after b ∙ sym (ap (λ l. sheets_kept port.from (entries_of port.from (pairs (asks l) inlet.heard))) a ∙ none)
+
 -- a slip more
-pub slip_more : (spans : ℕ) (slips : List SlipModel) (s : SlipModel) → IsNewSlip spans s → ((p : ℕ) (z : SlipModel) → get_elem? slips p ≡ some z → IsNewSlip spans z)
-    → (p : ℕ) (z : SlipModel) → get_elem? (slips ++ s ∷ []) p ≡ some z → IsNewSlip spans z
-slip_more spans slips s new old = each_more (λ p z. IsNewSlip spans z) slips s new old
+pub slip_more : (on : Channel Letter) (spans n : ℕ) (slips : List SlipModel) (s : SlipModel) → length slips ≡ n → IsNewSlip n on spans s → ((p : ℕ) (z : SlipModel) → get_elem? slips p ≡ some z → IsNewSlip p on spans z)
+    → (p : ℕ) (z : SlipModel) → get_elem? (slips ++ s ∷ []) p ≡ some z → IsNewSlip p on spans z
+slip_more on spans n slips s count new old = each_more (λ p z. IsNewSlip p on spans z) slips s (subst (λ m. IsNewSlip m on spans s) (sym count) new) old
 
 -- a slip more, with its client
 pub client_more : (book : State) (intake : IntakeModel) (slips : List SlipModel) (clients : List ClientModel) (s : SlipModel) (c : ClientModel) (n : ℕ) → length slips ≡ n → length clients ≡ n
-    → c.vehicle ≡ n → c.setting ≡ Some (setting_of book) → c.calls ≡ [] → c.kept ≡ 0 → c.asks_on ≡ record { table = intake.table; key = intake.key } → c.hears_on ≡ channel_of s
+    → c.vehicle ≡ n → c.setting ≡ Some (setting_of book) → c.calls ≡ [] → c.kept ≡ 0 → c.asks_on ≡ letters_of intake → c.hears_on ≡ channel_of s
     → ((p : ℕ) (d : ClientModel) → get_elem? clients p ≡ some d → IsNewClient (server_of book intake slips) p d)
     → (p : ℕ) (d : ClientModel) → get_elem? (clients ++ c ∷ []) p ≡ some d → IsNewClient (server_of book intake (slips ++ s ∷ [])) p d
 client_more book intake slips clients s c n slips_n clients_n number setting calls kept asks_on hears_on old =

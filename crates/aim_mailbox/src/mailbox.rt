@@ -7,10 +7,12 @@ ghost use Rattle.aim_mailbox.specs.Calls.{ClientModel, IsNewClient};
 use crate::client::Client;
 use crate::letter::Setting;
 use crate::post::Intake;
+use crate::response::Response;
 use crate::server::{Desk, Server, spans_of};
 use crate::slip::Slip;
-use aim_book::{Book, OpenFault};
+use aim_book::{Book, Full, OpenFault};
 use aim_paths::Layout;
+use aim_pool::Pool;
 use aim_tiles::Steps;
 use std::alloc::{AllocError, Global};
 use std::sync::Wait;
@@ -53,7 +55,14 @@ fn staffed<L: Ledger, R: Wait>(
     let mut clients = Vec::with_capacity(alloc, vehicles as usize)?;
     for vehicle in 0..vehicles {
         let port = intake.hire(vehicle)?;
-        let (slip, inlet) = Slip::open(rt, alloc, spans)?;
+        let first = Response {
+            to: vehicle,
+            answer: Err(Full),
+            sheets: Pool::empty(spans),
+            kept: 0,
+            note: intake.note(),
+        };
+        let (slip, inlet) = Slip::open(rt, alloc, first)?;
         slips.push_reserved(slip);
         clients.push_reserved(Client::new(port, inlet));
     }

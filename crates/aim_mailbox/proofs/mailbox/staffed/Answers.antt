@@ -1,6 +1,6 @@
 use Rattle.std.proofs.Common.{ap, sym, ◌∙◌, arith, subst, refl, ◌≡◌, ◌+◌, ◌≤◌, Some}
-use Rattle.aim_mailbox.specs.Mail.{asks, client_of, pairs}
-use Rattle.aim_mailbox.specs.Slips.{kept_after, room_in}
+use Rattle.aim_mailbox.specs.Asks.{asks, pairs}
+use Rattle.aim_mailbox.specs.Slips.{kept_after}
 use Rattle.aim_mailbox.proofs.Deals.{server_of}
 use Rattle.aim_mailbox.proofs.Opens.{by_place, client_more, slip_more, length-snoc, same_len}
 use Rattle.aim_mailbox.proofs.mailbox.staffed.Goals as goal
@@ -8,17 +8,29 @@ use Rattle.aim_mailbox.proofs.mailbox.staffed.Goals as goal
 pub new-requires : goal.new-requires
 new-requires g c =
     let i = c.loop-vehicle.invariant in
+    let h = c.in_ok-port.ensures.hired in
     let p = c.in_ok-port.ensures.port in
     let n = c.in_ok-slip.ensures.inlet in
     record {
       new = (ap (λ z. z.sent) p, ap (λ z. z.heard) n);
-      room = record { terms = _; is = ap (λ z. z.setting) p ∙ i.setting; room = ap (λ z. room_in z.first) n ∙ c.in_ok-slip.ensures.slip.2 ∙ i.spans };
+      told = record {
+        terms = _;
+        is = ap (λ z. z.setting) p ∙ i.setting;
+        told = record {
+          opening = _;
+          is = ap (λ z. z.first) n ∙ c.in_ok-slip.ensures.slip.2;
+          to = sym (ap (λ z. z.from) p ∙ i.made);
+          table = ap (λ z. z.table) c.note.ensures.note ∙ ap (λ z. z.table) h ∙ sym (ap (λ z. z.table) p);
+          key = ap (λ z. z.key) c.note.ensures.note ∙ ap (λ z. z.key) h ∙ sym (ap (λ z. z.key) p);
+          sheets = ap (λ z. z.room) c.empty.ensures ∙ i.spans;
+        };
+      };
     }
 
 pub loop-vehicle-preserved : goal.loop-vehicle-preserved
 loop-vehicle-preserved g c =
     let i = c.loop-vehicle.invariant in
-    let h = c.in_ok-port.ensures.hired in
+    let h = c.note.ensures.same ∙ c.in_ok-port.ensures.hired in
     let p = c.in_ok-port.ensures.port in
     let s = c.in_ok-slip.ensures.slip in
     let n = c.in_ok-slip.ensures.inlet in
@@ -35,7 +47,9 @@ loop-vehicle-preserved g c =
       slip_room = omega (arith, i.slip_room, a.capacity);
       client_room = omega (arith, i.client_room, b.capacity);
       spans = i.spans;
-      blank = rw a.items (slip_more _ _ _ s i.blank);
+      blank = rw (a.items, h)
+          (slip_more _ _ _ _ _ i.slips
+          (s.0, s.1, record { opening = _; is = s.2; to = refl; table = ap (λ z. z.table) c.note.ensures.note ∙ ap (λ z. z.table) c.in_ok-port.ensures.hired; key = ap (λ z. z.key) c.note.ensures.note ∙ ap (λ z. z.key) c.in_ok-port.ensures.hired; sheets = ap (λ z. z.room) c.empty.ensures }) i.blank);
       each = rw (a.items, b.items, h)
           (client_more c.args.desk.book c.loop-vehicle.intake c.loop-vehicle.slips.items c.loop-vehicle.clients.items c.in_ok-slip.slip c.new.result c.loop-vehicle.vehicle i.slips i.clients
           (ap (λ z. z.vehicle) e ∙ ap (λ z. z.from) p ∙ i.made) (ap (λ z. z.setting) e ∙ ap (λ z. z.setting) p ∙ i.setting)
