@@ -114,6 +114,9 @@ pub record ComesBack (port : PortModel) (inlet : InletModel) (letter : Letter) (
 room_if : (setting : Option Setting) (terms : Setting) (n : ℕ) → setting ≡ Some terms → IfSome setting (λ s. n ≡ s.layout.grid.spans) → terms.layout.grid.spans ≡ n
 room_if setting terms n is room = sym (subst (λ o. IfSome o (λ s. n ≡ s.layout.grid.spans)) is room)
 
+pub still_told : (port : PortModel) (first : Option Response) (letter : Letter) → IsTold port first → IsTold (posted port letter) first
+still_told port first letter told = record { terms = told.terms; is = told.is; told = told.told }
+
 -- the note of the last response is of the channel of the port
 pub noted : (port : PortModel) (inlet : InletModel) (r : Response) → IsTold port inlet.first → Lawful inlet.first (inlet.heard ++ r ∷ []) → (r.note.table ≡ port.table) × (r.note.key ≡ port.key)
 noted port inlet r told l =
@@ -122,12 +125,12 @@ noted port inlet r told l =
 
 pub comes_back : (port : PortModel) (inlet : InletModel) (from moment : ℕ) (p : Request) (r : Response) → IsOpen port.sent inlet.heard → IsTold port inlet.first → IsKept (client_of port inlet)
     → Lawful inlet.first (inlet.heard ++ r ∷ []) → Begun (Some port.from) (port.sent ++ call_letter from moment p ∷ []) r.note.got → ComesBack port inlet (call_letter from moment p) r
-comes_back port inlet from moment p r open told kept l begun =
+comes_back port inlet from moment p r going told kept l begun =
     let first = told.told in
     let f = follows first.opening inlet.first inlet.heard r first.is l in
     let same : kept_after (inlet.heard ++ r ∷ []) ≡ r.kept = kept_from-last 0 inlet.heard r in
     let now : r.kept ≡ sheets_kept port.from (entries_of port.from (calls_in (port.sent ++ call_letter from moment p ∷ []) (inlet.heard ++ r ∷ []))) =
-    kept_told first.opening port.from (port.sent ++ call_letter from moment p ∷ []) begun.0 inlet.heard r f first.to begun.1 (asks_more port.sent inlet.heard from moment p open) in
+    kept_told first.opening port.from (port.sent ++ call_letter from moment p ∷ []) begun.0 inlet.heard r f first.to begun.1 (asks_more port.sent inlet.heard from moment p going) in
     let small : kept_after inlet.heard ≤ 1 = subst (λ n. n ≤ 1) (sym kept) (kept_one port.from (entries_of port.from (calls_in port.sent inlet.heard))) in
     let last : r.kept ≤ 1 = subst (λ n. n ≤ 1) (sym now) (kept_one port.from (entries_of port.from (calls_in (port.sent ++ call_letter from moment p ∷ []) (inlet.heard ++ r ∷ [])))) in
     let count = f.count in

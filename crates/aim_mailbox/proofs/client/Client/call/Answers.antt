@@ -2,7 +2,7 @@ use Rattle.std.proofs.Common.{ap, ◌∙◌, subst, arith, sym, Some}
 use Rattle.aim_mailbox.specs.Calls.{IsKept}
 use Rattle.aim_mailbox.specs.Post.{Begun, PortModel}
 use Rattle.aim_mailbox.specs.Slips.{Lawful, InletModel}
-use Rattle.aim_mailbox.proofs.CallLemmas.{called, comes_back, noted, open_more, servable_if}
+use Rattle.aim_mailbox.proofs.CallLemmas.{called, comes_back, noted, open_more, servable_if, still_told}
 use Rattle.aim_mailbox.proofs.client.Client.call.Goals as goal
 
 pub send-requires-clause-word : goal.send-requires-clause-word
@@ -25,7 +25,7 @@ invariant_of-self g c =
     let l = subst (λ (i : InletModel). Lawful i.first i.heard) c.hear-answer.ensures.heard c.hear-answer.ensures.lawful in
     let n = subst (λ (p : PortModel). Begun (Some p.from) p.sent c.hear-answer.result.note.got) c.send.ensures c.heed.ensures.begun in
     let b = comes_back c.self.inside.port c.self.inside.inlet _ _ c.args.prepared c.hear-answer.result c.self.invariant.0 c.self.invariant.1 c.self.invariant.2 l n in
-    rw (c.heed.ensures.same, c.send.ensures, c.hear-answer.ensures.heard) (open_more _ _ _ _ _ _ c.self.invariant.0, c.self.invariant.1, b.kept)
+    rw (c.heed.ensures.same, c.send.ensures, c.hear-answer.ensures.heard) (open_more _ _ _ _ _ _ c.self.invariant.0, still_told _ _ _ c.self.invariant.1, b.kept)
 
 pub returns-clause-call : goal.returns-clause-call
 returns-clause-call g c =
