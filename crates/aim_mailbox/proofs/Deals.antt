@@ -189,9 +189,6 @@ module _ (book book' : State) (on : Channel Letter) (got : List Letter) (slips :
   by_answer (Ok reply) is serves = answered_ok reply is serves.same serves.legal (λ e. ok_not_err reply (serves.full.1 e)) serves.made
   by_answer (Err e) is serves = answered_full e is serves.same serves.legal (serves.full.0 refl) serves.stays
 
-  pub answered : Serves book book' from moment p r.answer → Stands book' on (got ++ call_letter from moment p ∷ []) (set slips from (put_on s r))
-  answered serves = by_answer r.answer refl serves
-
 -- the slip of the client
 pub slip_at : (book : State) (on : Channel Letter) (got : List Letter) (slips : List SlipModel) (from : ℕ) (s : SlipModel) → Stands book on got slips → from < book.vehicles → s ≡ get_or slips from s → get_elem? slips from ≡ some s
 slip_at book on got slips from s h less is = let n = h.count in at_index slips from s (omega (arith, n, less)) is
@@ -250,6 +247,14 @@ lawful_put book book' on got slips from moment p s r law h at is =
       kept = is.kept ∙ sym (law from book'.journal) ∙ ap (sheets_kept from) after
           ∙ sym (λ i. sheets_kept (o.told.to i) (entries_of (o.told.to i) (calls_in (of (o.told.to i) (is.note i)) (s.put ++ r ∷ []))));
     })
+
+-- what the server knows after the response
+pub answered : (book book' : State) (on : Channel Letter) (got : List Letter) (slips : List SlipModel) (from moment : ℕ) (p : Request) (s : SlipModel) (r : Response)
+    → ((v : ℕ) (h : List Entry) → sheets_kept v (own v h) ≡ sheets_kept v h) → ((v : ℕ) (es : List Entry) (e : Entry) → (e.caller ≡ v → ⊥) → sheets_kept v (es ++ e ∷ []) ≡ sheets_kept v es)
+    → Stands book on got slips → from < book.vehicles → get_elem? slips from ≡ some s → IsResponse book book' on got from moment p r → Stands book' on r.note.got (set slips from (put_on s r))
+answered book book' on got slips from moment p s r law others h from_is at is =
+    subst (λ l. Stands book' on l (set slips from (put_on s r))) (sym is.note)
+    (by_answer book book' on got slips from moment p s r h from_is at (lawful_put book book' on got slips from moment p s r law h at is) is.kept others r.answer refl is.serves)
 
 pub same_slips : (xs : List SlipModel) (i : ℕ) (s t : SlipModel) → get_elem? xs i ≡ some s → i < length xs → IsSameSlip s t → AreSameSlips xs (set xs i t)
 same_slips xs i s t at less same = (

@@ -40,10 +40,8 @@ returns-clause-stands g c =
     let sheets = e.sheets in
     let kept = c.kept-kept.ensures in
     let none = ap (λ z. z.count) c.empty-sheets.ensures in
-    let serves = serves_of _ _ c.args.from c.args.moment c.args.prepared _ e.entry e.err e.full e.legal in
-    rw (c.put.ensures, s.1)
-    (answered _ _ _ s.0 _ c.args.from c.args.moment c.args.prepared c.index_mut.result.now _ s.2 c.requires.from at
-    (lawful_put _ c.serve-answer.new.self _ _ _ c.args.from c.args.moment c.args.prepared _ _ c.sheets_are_those_of_own_entries.ensures.own s.2 at record {
+    rw c.put.ensures
+    (answered _ c.serve-answer.new.self _ s.0 _ c.args.from c.args.moment c.args.prepared c.index_mut.result.now _ c.sheets_are_those_of_own_entries.ensures.own c.sheets_are_those_of_own_entries.ensures.other s.2 c.requires.from at record {
       to = refl;
       sheets = e.pool ∙ ap (λ z. z.room) c.empty-sheets.ensures ∙ c.spans_of.ensures ∙ ap (λ i. i.grid.spans) c.layout.ensures;
       count = omega (arith, sheets, kept, none);
@@ -51,6 +49,5 @@ returns-clause-stands g c =
       table = refl;
       key = refl;
       note = s.1;
-      serves = serves;
+      serves = serves_of _ _ c.args.from c.args.moment c.args.prepared _ e.entry e.err e.full e.legal;
     })
-    kept c.sheets_are_those_of_own_entries.ensures.other serves)
