@@ -24,7 +24,7 @@ use Rattle.aim_mailbox.specs.Asks.{Ask, ask, asks, call_of, calls_in, has_last, 
 use Rattle.aim_mailbox.specs.Calls.{Answer, Channel, ServerModel, IsReply, IsFull, entry_of, entries_of}
 use Rattle.aim_mailbox.specs.Post.{Every, of, IntakeModel}
 use Rattle.aim_mailbox.specs.Slips.{IsNext, Lawful, kept_after, SlipModel, put_on}
-use Rattle.aim_mailbox.specs.Mail.{call_letter, last_letter, Deal, deal, deals_of, entries_in, Owes, Stands, IsSameBook, IsSameSlip, IsSameIntake, AreSameSlips, HasEnded, channel_of, letters_of, noted_on, setting_of}
+use Rattle.aim_mailbox.specs.Mail.{call_letter, last_letter, Deal, deal, deals_of, entries_in, Owes, Stands, IsSameBook, IsSameSlip, IsSameIntake, AreSameSlips, HasEnded, channel_of, letters_of, mail_of, noted_on, setting_of}
 use Rattle.aim_mailbox.proofs.Posts.{Every-map, Every-append, of_else, of_own}
 use Rattle.aim_mailbox.proofs.Responses.{kept_from-last, lawful_more}
 use Rattle.aim_mailbox.proofs.CallLemmas.{asks-append, has_last-append, kept_one, pairs-snoc}
@@ -360,11 +360,7 @@ same_intake_trans a b c f g = record { table = g.table ∙ f.table; key = g.key 
 pub still_made : (a b : State) (x y : IntakeModel) → IsSameBook a b → IsSameIntake x y → (x.made ≡ a.vehicles) × (x.setting ≡ Some (setting_of a)) → (y.made ≡ b.vehicles) × (y.setting ≡ Some (setting_of b))
 still_made a b x y same kept is = (kept.made ∙ is.0 ∙ sym same.vehicles, kept.setting ∙ is.1 ∙ ap Some (sym (setting_same a b same)))
 
--- what contracts see of a server with these parts
-abbrev pub server_of : State → IntakeModel → List SlipModel → ServerModel
-server_of book intake slips = record { setting = setting_of book; asked_on = letters_of intake; answers_on = map channel_of slips }
-
-pub run_same : (a b : State) (x y : IntakeModel) (xs ys : List SlipModel) → IsSameBook a b → IsSameIntake x y → AreSameSlips xs ys → server_of b y ys ≡ server_of a x xs
+pub run_same : (a b : State) (x y : IntakeModel) (xs ys : List SlipModel) → IsSameBook a b → IsSameIntake x y → AreSameSlips xs ys → mail_of (setting_of b) y ys ≡ mail_of (setting_of a) x xs
 run_same a b x y xs ys book intake slips =
     let s : setting_of b ≡ setting_of a = setting_same a b book in
     let c : map channel_of ys ≡ map channel_of xs = same_channels xs ys slips in

@@ -1,27 +1,19 @@
 -- The server, the clients and their calls.
 -- No public clause cites it: only the models of clients and servers, and contracts of private functions.
-use Rattle.std.specs.Prelude.{◌≡◌, ℕ, ◌+◌, ◌<◌, ◌≤◌, ◌==◌, ◌||◌, ◌⊎◌, Bool, true, false, List, [], ◌∷◌, ◌++◌, map, filter, length, Option, Some, None, Result, Ok, Err}
+use Rattle.std.specs.Prelude.{◌≡◌, ℕ, ◌+◌, ◌<◌, ◌≤◌, ◌==◌, ◌⊎◌, true, false, List, [], ◌∷◌, ◌++◌, map, filter, length, Option, Some}
 use mathlib.Core.Option.{some}
 use lib.ListN.{get_elem?}
-use Rattle.atomic_table.specs.Seated.{TableId}
-use Rattle.atomic_table.specs.declared.badge.Badge.{Badge}
-use Rattle.crossbeam_channel.specs.declared.flavors.array.Key.{Key}
-use Rattle.aim_msg.specs.declared.entries.Act.TheVariants as act
 use Rattle.aim_msg.specs.declared.entries.Entry.{Entry}
-use Rattle.aim_msg.specs.declared.messages.Message.{Message}
-use Rattle.aim_msg.specs.declared.replies.Reply.{Reply}
 use Rattle.aim_buffers.specs.Requests.{Request}
 use Rattle.aim_rules.specs.Legal.{IsLegal}
-use Rattle.aim_book.specs.declared.book.Full.{Full}
-use Rattle.aim_book.specs.Sheets.{own, sheets_kept}
+use Rattle.aim_book.specs.Sheets.{sheets_kept}
 use Rattle.aim_book.specs.State.{State}
 use Rattle.aim_mailbox.specs.declared.letter.Letter.{Letter}
 use Rattle.aim_mailbox.specs.declared.letter.Setting.{Setting}
-use Rattle.aim_mailbox.specs.declared.letter.Word.{Word}
 use Rattle.aim_mailbox.specs.declared.letter.Word.TheVariants as W
 use Rattle.aim_mailbox.specs.declared.response.Response.{Response}
 use Rattle.aim_mailbox.specs.Asks.{Ask, asks, calls_in, has_last, is_last}
-use Rattle.aim_mailbox.specs.Calls.{Answer, Call, Channel, ClientModel, ServerModel, entry_of, IsReply, IsFull}
+use Rattle.aim_mailbox.specs.Calls.{Answer, Call, Channel, ClientModel, ServerModel, entry_of, IsNewClient, IsReply, IsFull}
 use Rattle.aim_mailbox.specs.Post.{Every, of, PortModel, IntakeModel, NoteModel}
 use Rattle.aim_mailbox.specs.Slips.{IsFirst, Lawful, kept_after, SlipModel, InletModel}
 
@@ -149,6 +141,25 @@ pub record IsSameIntake (a b : IntakeModel) : Type 0 where
 -- the server's end of a client's channel
 abbrev pub channel_of : SlipModel → Channel Response
 channel_of s = record { table = s.table; key = s.key }
+
+-- the setting is known, and its layout has sheets of so many spans
+abbrev pub HasSpans : Option Setting → ℕ → Type 0
+HasSpans setting spans = (terms : Setting) × (setting ≡ Some terms) × (spans ≡ terms.layout.grid.spans)
+
+-- what contracts see of a server with these parts
+abbrev pub mail_of : Setting → IntakeModel → List SlipModel → ServerModel
+mail_of setting intake slips = record { setting = setting; asked_on = letters_of intake; answers_on = map channel_of slips }
+
+-- the ends of a mailbox of the setting that has so many clients, each of them new
+pub record IsStaffed (terms : Setting) (count : ℕ) (intake : IntakeModel) (slips : List SlipModel) (clients : List ClientModel) : Type 0 where
+  pub setting : intake.setting ≡ Some terms
+  pub got : intake.got ≡ []
+  pub known : intake.known ≡ []
+  pub made : intake.made ≡ count
+  pub slip_count : length slips ≡ count
+  pub client_count : length clients ≡ count
+  pub blank : (p : ℕ) (s : SlipModel) → get_elem? slips p ≡ some s → IsNewSlip p (letters_of intake) terms.layout.grid.spans s
+  pub each : (p : ℕ) (c : ClientModel) → get_elem? clients p ≡ some c → IsNewClient (mail_of terms intake slips) p c
 
 -- a client that ended, with all that it sent and heard
 pub record Gone : Type 0 where

@@ -1,5 +1,5 @@
-use Rattle.std.proofs.Common.{ap, sym, ◌∙◌, refl, arith}
-use Rattle.aim_mailbox.proofs.Deals.{IsResponse, answered, lawful_put, same_slips, serves_of, slip_at}
+use Rattle.std.proofs.Common.{ap, ◌∙◌, refl, arith}
+use Rattle.aim_mailbox.proofs.Deals.{answered, lawful_put, same_slips, serves_of, slip_at}
 use Rattle.aim_mailbox.proofs.server.answer.Goals as goal
 
 pub put-requires : goal.put-requires

@@ -1,4 +1,4 @@
-use Rattle.std.proofs.Common.{ap, refl, subst, ◌∙◌, ◌∷◌, ◌++◌, []}
+use Rattle.std.proofs.Common.{ap, subst, ◌∷◌, ◌++◌, []}
 use Rattle.aim_mailbox.specs.Post.{IsFor, IsServable}
 use Rattle.aim_mailbox.proofs.server.serve_one.Goals as goal
 

@@ -1,4 +1,3 @@
-use Rattle.std.proofs.Common.{◌≡◌}
 use Rattle.aim_mailbox.specs.Mail.{Stands, IsSameBook, AreSameSlips, IsSameIntake, letters_of}
 use Rattle.aim_mailbox.proofs.server.serve_until.Given as goal
 

@@ -1,4 +1,4 @@
-use Rattle.std.proofs.Common.{ap, ◌∙◌, subst, arith, sym, Some}
+use Rattle.std.proofs.Common.{ap, subst, arith, Some}
 use Rattle.aim_mailbox.specs.Calls.{IsKept}
 use Rattle.aim_mailbox.specs.Post.{Begun, PortModel}
 use Rattle.aim_mailbox.specs.Slips.{Lawful, InletModel}

@@ -1,4 +1,4 @@
-use Rattle.std.proofs.Common.{◌≡◌, ◌<◌, ℕ}
+use Rattle.std.proofs.Common.{◌<◌, ℕ}
 use Rattle.aim_mailbox.specs.Mail.{Stands, IsSameBook, AreSameSlips, IsSameIntake, HasEnded, letters_of}
 use Rattle.aim_mailbox.proofs.server.Server.run.Given as goal
 

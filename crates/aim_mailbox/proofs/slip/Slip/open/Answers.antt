@@ -1,4 +1,4 @@
-use Rattle.std.proofs.Common.{ap, rules}
+use Rattle.std.proofs.Common.{ap}
 use Rattle.aim_mailbox.proofs.Responses.{starts, parts}
 use Rattle.aim_mailbox.proofs.slip.Slip.open.Goals as goal
 
