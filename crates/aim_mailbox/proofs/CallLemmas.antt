@@ -1,5 +1,5 @@
 -- What a client knows of its calls.
-use Rattle.std.proofs.Common.{◌≡◌, ℕ, suc, ◌+◌, ◌<◌, ◌≤◌, Bool, true, false, List, [], ◌∷◌, ◌++◌, length, sym, refl, ap, ◌∙◌, subst, append_assoc, append-nil, length-append, arith, Option, Some}
+use Rattle.std.proofs.Common.{◌≡◌, ℕ, ◌+◌, ◌≤◌, Bool, true, false, List, [], ◌∷◌, ◌++◌, length, sym, refl, ap, ◌∙◌, subst, append_assoc, append-nil, length-append, arith, Option, Some}
 use Rattle.std.specs.Prelude.{◌||◌, IfSome, if◌then◌else◌, None, option_and_then}
 use Rattle.aim_msg.specs.declared.entries.Entry.{Entry}
 use Rattle.aim_rules.specs.History.{fresh}
@@ -8,17 +8,15 @@ use Rattle.aim_book.specs.Sheets.{id_in, sheets_kept, sheets_with}
 use Rattle.aim_buffers.specs.Requests.{Request}
 use Rattle.aim_mailbox.specs.declared.letter.Letter.{Letter}
 use Rattle.aim_mailbox.specs.declared.response.Response.{Response}
-use Rattle.aim_mailbox.specs.declared.letter.Word.{Word}
-use Rattle.aim_mailbox.specs.declared.letter.Word.TheVariants as W
 use Rattle.aim_msg.specs.declared.entries.TheConstants.{LATEST_MOMENT}
 use Rattle.aim_buffers.specs.Requests.{IsPreparedFor}
 use Rattle.aim_mailbox.specs.declared.letter.Setting.{Setting}
 use Rattle.aim_mailbox.specs.Post.{Begun, of, PortModel, IsServable, posted}
-use Rattle.aim_mailbox.specs.Slips.{Follows, IsFirst, IsNext, LawfulAfter, Lawful, kept_from, kept_after, InletModel, heard_on}
-use Rattle.aim_mailbox.specs.Calls.{Call, Channel, ClientModel, IsKept, entries_of}
+use Rattle.aim_mailbox.specs.Slips.{Follows, IsNext, Lawful, kept_after, InletModel, heard_on}
+use Rattle.aim_mailbox.specs.Calls.{IsKept, entries_of}
 use Rattle.aim_mailbox.specs.Asks.{Ask, ask, asked, is_last, asks, has_last, call_of, pairs, calls_in}
-use Rattle.aim_mailbox.specs.Mail.{client_of, posts_on, IsTold, IsOpen, IsEnded, call_letter, last_letter}
-use Rattle.aim_mailbox.proofs.Responses.{lawful_last, lawful_front, kept_from-last}
+use Rattle.aim_mailbox.specs.Mail.{client_of, IsTold, IsOpen, IsEnded, call_letter, last_letter}
+use Rattle.aim_mailbox.proofs.Responses.{lawful_last, kept_from-last}
 
 pub asks-append : (xs ys : List Letter) → asks (xs ++ ys) ≡ asks xs ++ asks ys
 asks-append [] ys = refl

@@ -1,5 +1,5 @@
 -- What the server knows of what it served.
-use Rattle.std.proofs.Common.{◌≡◌, ◌≢◌, ◌⊎◌, inl, inr, ⊎_elim, ℕ, suc, ◌+◌, ◌<◌, ◌≤◌, Bool, true, false, List, [], ◌∷◌, ◌++◌, map, filter, length, set, sym, refl, ap, ◌∙◌, subst, append_assoc, append-nil, length-append, arith, Result, Ok, Err, zero}
+use Rattle.std.proofs.Common.{◌≡◌, ◌≢◌, inl, inr, ⊎_elim, ℕ, suc, ◌+◌, ◌<◌, ◌≤◌, Bool, true, false, List, [], ◌∷◌, ◌++◌, map, length, set, sym, refl, ap, ◌∙◌, subst, append_assoc, append-nil, length-append, arith, Ok, Err, zero}
 use Rattle.std.specs.Prelude.{◌||◌, ◌==◌, ◌↔◌, IfOk, OnErr, IsErr, Some}
 use Rattle.aim_book.specs.declared.book.Full.{Full}
 use Rattle.std.proofs.lemmas.List.{map-append, length-map}
@@ -20,14 +20,14 @@ use Rattle.aim_book.specs.Sheets.{own, sheets_kept}
 use Rattle.aim_book.specs.State.{State}
 use Rattle.aim_mailbox.specs.declared.letter.Letter.{Letter}
 use Rattle.aim_mailbox.specs.declared.response.Response.{Response}
-use Rattle.aim_mailbox.specs.Asks.{Ask, ask, asks, call_of, calls_in, has_last, pairs}
-use Rattle.aim_mailbox.specs.Calls.{Answer, Channel, ServerModel, IsReply, IsFull, entry_of, entries_of}
+use Rattle.aim_mailbox.specs.Asks.{ask, asks, call_of, calls_in, has_last, pairs}
+use Rattle.aim_mailbox.specs.Calls.{Answer, Channel, IsReply, IsFull, entry_of, entries_of}
 use Rattle.aim_mailbox.specs.Post.{Every, of, IntakeModel}
-use Rattle.aim_mailbox.specs.Slips.{IsNext, Lawful, kept_after, SlipModel, put_on}
-use Rattle.aim_mailbox.specs.Mail.{call_letter, last_letter, Deal, deal, deals_of, entries_in, Owes, Stands, IsSameBook, IsSameSlip, IsSameIntake, AreSameSlips, HasEnded, channel_of, letters_of, mail_of, noted_on, setting_of}
-use Rattle.aim_mailbox.proofs.Posts.{Every-map, Every-append, of_else, of_own}
+use Rattle.aim_mailbox.specs.Slips.{IsNext, Lawful, SlipModel, put_on}
+use Rattle.aim_mailbox.specs.Mail.{call_letter, last_letter, Deal, deal, deals_of, entries_in, Owes, Stands, IsSameBook, IsSameSlip, IsSameIntake, AreSameSlips, HasEnded, channel_of, mail_of, setting_of}
+use Rattle.aim_mailbox.proofs.Posts.{Every-append, of_else, of_own}
 use Rattle.aim_mailbox.proofs.Responses.{kept_from-last, lawful_more}
-use Rattle.aim_mailbox.proofs.CallLemmas.{asks-append, has_last-append, kept_one, pairs-snoc}
+use Rattle.aim_mailbox.proofs.CallLemmas.{asks-append, has_last-append, pairs-snoc}
 use Rattle.aim_mailbox.proofs.OwnEntries.{deals_else, deals_own, entries_in-append, entries_of-append, own_are, own_entry}
 
 -- one call more, as the letters tell it

@@ -1,5 +1,5 @@
 -- A mailbox that is new.
-use Rattle.std.proofs.Common.{◌≡◌, ℕ, ◌+◌, ◌<◌, ◌≤◌, true, false, true≢false, List, [], ◌∷◌, ◌++◌, length, sym, refl, ap, ◌∙◌, subst, arith, inl, map, length-append, Option, Some, get_or}
+use Rattle.std.proofs.Common.{◌≡◌, ℕ, ◌+◌, ◌<◌, true≢false, List, [], ◌∷◌, ◌++◌, length, sym, refl, ap, ◌∙◌, subst, arith, inl, map, length-append, Option, Some, get_or}
 use mathlib.Core.Option.{some}
 use lib.ListN.{get_elem?}
 use Rattle.std.proofs.lemmas.List.{map-append, length-map, get_or_default}
@@ -12,11 +12,11 @@ use Rattle.aim_mailbox.specs.declared.letter.Letter.{Letter}
 use Rattle.aim_mailbox.specs.declared.letter.Setting.{Setting}
 use Rattle.aim_mailbox.specs.declared.response.Response.{Response}
 use Rattle.aim_mailbox.specs.Asks.{asks, pairs}
-use Rattle.aim_mailbox.specs.Calls.{Channel, ClientModel, ServerModel, IsKept, IsOfMail, IsNewClient, entries_of}
+use Rattle.aim_mailbox.specs.Calls.{Channel, ClientModel, IsKept, IsNewClient, entries_of}
 use Rattle.aim_mailbox.specs.Post.{of, IntakeModel, PortModel, hired, new_port}
 use Rattle.aim_mailbox.specs.Slips.{InletModel, SlipModel, Lawful, kept_after}
-use Rattle.aim_mailbox.specs.Mail.{Stands, Owes, HasSpans, IsNewSlip, IsOpen, IsStaffed, channel_of, client_of, mail_of, letters_of, setting_of}
-use Rattle.aim_mailbox.proofs.Views.{Each, each_more}
+use Rattle.aim_mailbox.specs.Mail.{Stands, Owes, HasSpans, IsNewSlip, IsOpen, IsStaffed, channel_of, client_of, mail_of, letters_of}
+use Rattle.aim_mailbox.proofs.Views.{each_more}
 
 owes_nothing : (p : ℕ) (on : Channel Letter) (spans : ℕ) (s : SlipModel) → sheets_kept p [] ≡ 0 → IsNewSlip p on spans s → Owes p on spans [] [] [] s
 owes_nothing p on spans s none new = record {

@@ -1,13 +1,13 @@
 -- Each step keeps the rule of the channel from the server to one client.
-use Rattle.std.proofs.Common.{◌≡◌, ◌≢◌, ℕ, zero, suc, ◌+◌, ◌<◌, ◌≤◌, Bool, true, false, true≢false, List, [], ◌∷◌, ◌++◌, length, set, sym, refl, ap, ◌∙◌, subst, ⊎_elim, inl, inr, append_assoc, append-nil, arith, Option, Some, None}
+use Rattle.std.proofs.Common.{◌≡◌, ◌≢◌, ℕ, zero, suc, true, false, true≢false, List, [], ◌∷◌, ◌++◌, length, set, sym, refl, ap, ◌∙◌, subst, ⊎_elim, inl, inr, append_assoc, append-nil, arith, Option, Some, None}
 use mathlib.Core.Option.{some, some-injective, some-ne-none}
 use lib.ListN.{get_elem?}
 use Rattle.crossbeam_channel.specs.Fifo.{Pushes, Pops, Forks, Merges, Learns}
 use Rattle.atomic_table.proofs.Lists.{at_set}
 use Rattle.aim_mailbox.specs.declared.response.Response.{Response}
 use Rattle.aim_mailbox.specs.declared.slip.Slate.{Slate}
-use Rattle.aim_mailbox.specs.Slips.{IsNext, LawfulAfter, Lawful, kept_from, kept_after, blank_slate, telling_slate, slate, whole_slate, spent_slate, put_more, heard_more, FitsSlate, Going, Answered}
-use Rattle.aim_mailbox.proofs.Views.{Each, each_set, each_more, each_one}
+use Rattle.aim_mailbox.specs.Slips.{IsNext, LawfulAfter, Lawful, kept_from, blank_slate, telling_slate, slate, whole_slate, spent_slate, put_more, heard_more, FitsSlate, Going, Answered}
+use Rattle.aim_mailbox.proofs.Views.{each_set, each_more, each_one}
 
 not_true : false ≡ true → ⊥
 not_true e = true≢false (sym e)

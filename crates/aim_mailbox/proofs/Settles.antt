@@ -1,29 +1,24 @@
 -- The end of a mailbox: what the journal has of each client.
-use Rattle.std.proofs.Common.{◌≡◌, ◌≢◌, ◌⊎◌, inl, inr, ⊎_elim, ℕ, zero, suc, ◌+◌, ◌<◌, ◌≤◌, Bool, true, false, true≢false, List, [], ◌∷◌, ◌++◌, map, filter, length, sym, refl, ap, ◌∙◌, subst, append_assoc, append-nil, length-append, arith, Result, Ok, Err}
-use Rattle.std.specs.Prelude.{◌||◌, ◌==◌, if◌then◌else◌, All}
+use Rattle.std.proofs.Common.{◌≡◌, inl, inr, ⊎_elim, ℕ, zero, suc, ◌<◌, ◌≤◌, Bool, true, false, true≢false, List, [], ◌∷◌, ◌++◌, map, length, sym, refl, ap, ◌∙◌, subst, append_assoc, append-nil, arith}
+use Rattle.std.specs.Prelude.{◌||◌, ◌==◌, All}
 use Rattle.std.proofs.lemmas.List.{map-append, length-map}
 use Rattle.std.proofs.lemmas.List.Elements.{filter-append}
-use Rattle.std.proofs.lemmas.Bool.Decides.{nat_tests}
 use mathlib.Core.Option.{some, some-injective, some-ne-none}
-use mathlib.Core.Logic.{dite}
-use native.Mathlib.Decide.{ℕ_discrete}
 use lib.ListN.{get_elem?}
 use Rattle.std.proofs.Common.{set, get_or}
 use Rattle.atomic_table.proofs.Lists.{at_index, set_again}
 use Rattle.aim_msg.specs.declared.entries.Entry.{Entry}
 use Rattle.aim_msg.specs.declared.entries.TheConstants.{MOST_VEHICLES, OPERATOR}
-use Rattle.aim_msg.specs.declared.messages.Message.{Message}
-use Rattle.aim_rules.specs.Legal.{IsLegal}
 use Rattle.aim_book.specs.Sheets.{own, sheets_kept}
 use Rattle.aim_book.specs.State.{State}
 use Rattle.aim_mailbox.specs.declared.letter.Letter.{Letter}
 use Rattle.aim_mailbox.specs.declared.response.Response.{Response}
 use Rattle.aim_mailbox.specs.Calls.{Channel, ClientModel, ServerModel, IsReply, IsFull, entry_of, entries_of, IsOfMail, IsSettled}
-use Rattle.aim_mailbox.specs.Post.{Every, of, Settled}
+use Rattle.aim_mailbox.specs.Post.{Every, of}
 use Rattle.aim_mailbox.specs.Slips.{SlipModel, kept_after}
 use Rattle.aim_mailbox.specs.Asks.{asks, calls_in, has_last, is_last}
-use Rattle.aim_mailbox.specs.Mail.{IsEnded, Deal, deals_of, entries_in, Owes, Stands, HasEnded, channel_of, Gone, Found}
-use Rattle.aim_mailbox.proofs.Posts.{Every-map, Every-append, of-append}
+use Rattle.aim_mailbox.specs.Mail.{Deal, deals_of, entries_in, Stands, HasEnded, channel_of, Gone, Found}
+use Rattle.aim_mailbox.proofs.Posts.{Every-map, of-append}
 use Rattle.aim_mailbox.proofs.CallLemmas.{no_more}
 use Rattle.aim_mailbox.proofs.OwnEntries.{Every_call, Every_test, call, deals-append, head_or, other_entry, own_are, served_calls}
 

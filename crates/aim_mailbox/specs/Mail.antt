@@ -1,6 +1,6 @@
 -- The server, the clients and their calls.
 -- No public clause cites it: only the models of clients and servers, and contracts of private functions.
-use Rattle.std.specs.Prelude.{◌≡◌, ℕ, ◌+◌, ◌<◌, ◌≤◌, ◌==◌, ◌⊎◌, true, false, List, [], ◌∷◌, ◌++◌, map, filter, length, Option, Some}
+use Rattle.std.specs.Prelude.{◌≡◌, ℕ, ◌<◌, ◌≤◌, ◌==◌, ◌⊎◌, true, false, List, [], ◌∷◌, ◌++◌, map, filter, length, Option, Some}
 use mathlib.Core.Option.{some}
 use lib.ListN.{get_elem?}
 use Rattle.aim_msg.specs.declared.entries.Entry.{Entry}
@@ -13,7 +13,7 @@ use Rattle.aim_mailbox.specs.declared.letter.Setting.{Setting}
 use Rattle.aim_mailbox.specs.declared.letter.Word.TheVariants as W
 use Rattle.aim_mailbox.specs.declared.response.Response.{Response}
 use Rattle.aim_mailbox.specs.Asks.{Ask, asks, calls_in, has_last, is_last}
-use Rattle.aim_mailbox.specs.Calls.{Answer, Call, Channel, ClientModel, ServerModel, entry_of, IsNewClient, IsReply, IsFull}
+use Rattle.aim_mailbox.specs.Calls.{Answer, Channel, ClientModel, ServerModel, entry_of, IsNewClient, IsReply, IsFull}
 use Rattle.aim_mailbox.specs.Post.{Every, of, PortModel, IntakeModel, NoteModel}
 use Rattle.aim_mailbox.specs.Slips.{IsFirst, Lawful, kept_after, SlipModel, InletModel}
 

@@ -119,11 +119,13 @@ impl Mailbox {
         let book = Book::open(alloc, layout, vehicles, room)?;
         let steps = Steps::new(blank);
         match staffed(rt, alloc, &book, room) {
-            Ok(Staff {
-                intake,
-                slips,
-                clients,
-            }) => Ok(OpenedMail {
+            Ok(
+                Staff {
+                    intake,
+                    slips,
+                    clients,
+                },
+            ) => Ok(OpenedMail {
                 server: Server::new(Desk { book, steps }, intake, slips),
                 clients,
             }),

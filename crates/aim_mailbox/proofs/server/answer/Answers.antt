@@ -10,16 +10,18 @@ put-requires g c =
     let sheets = e.sheets in
     let kept = c.kept-kept.ensures in
     let none = ap (λ z. z.count) c.empty-sheets.ensures in
-    record { lawful = lawful_put _ c.serve-answer.new.self _ _ _ c.args.from c.args.moment c.args.prepared _ _ c.sheets_are_those_of_own_entries.ensures.own s.2 at record {
-      to = refl;
-      sheets = e.pool ∙ ap (λ z. z.room) c.empty-sheets.ensures ∙ c.spans_of.ensures ∙ ap (λ i. i.grid.spans) c.layout.ensures;
-      count = omega (arith, sheets, kept, none);
-      kept = kept;
-      table = refl;
-      key = refl;
-      note = s.1;
-      serves = serves_of _ _ c.args.from c.args.moment c.args.prepared _ e.entry e.err e.full e.legal;
-    } }
+    record {
+      lawful = lawful_put _ c.serve-answer.new.self _ _ _ c.args.from c.args.moment c.args.prepared _ _ c.sheets_are_those_of_own_entries.ensures.own s.2 at record {
+        to = refl;
+        sheets = e.pool ∙ ap (λ z. z.room) c.empty-sheets.ensures ∙ c.spans_of.ensures ∙ ap (λ i. i.grid.spans) c.layout.ensures;
+        count = omega (arith, sheets, kept, none);
+        kept = kept;
+        table = refl;
+        key = refl;
+        note = s.1;
+        serves = serves_of _ _ c.args.from c.args.moment c.args.prepared _ e.entry e.err e.full e.legal;
+      };
+    }
 
 pub returns-clause-slips : goal.returns-clause-slips
 returns-clause-slips g c =
