@@ -1,19 +1,22 @@
 -- What a client knows of its calls.
-use Rattle.std.proofs.Common.{◌≡◌, ℕ, suc, ◌+◌, ◌<◌, ◌≤◌, Bool, true, false, List, [], ◌∷◌, ◌++◌, length, sym, refl, ap, ◌∙◌, subst, append_assoc, append-nil, length-append, arith, Option, Some}
-use Rattle.std.specs.Prelude.{◌||◌, IfSome}
+use Rattle.std.proofs.Common.{◌≡◌, ℕ, ◌+◌, ◌≤◌, Bool, true, false, List, [], ◌∷◌, ◌++◌, length, sym, refl, ap, ◌∙◌, subst, append_assoc, append-nil, length-append, arith, Option, Some}
+use Rattle.std.specs.Prelude.{◌||◌, IfSome, if◌then◌else◌, None, option_and_then}
+use Rattle.aim_msg.specs.declared.entries.Entry.{Entry}
+use Rattle.aim_rules.specs.History.{fresh}
+use Rattle.aim_rules.specs.Holds.{is_given_up, last_confirm}
+use Rattle.aim_book.specs.Sheets.{id_in, sheets_kept, sheets_with}
 use Rattle.aim_buffers.specs.Requests.{Request}
 use Rattle.aim_mailbox.specs.declared.letter.Letter.{Letter}
-use Rattle.aim_mailbox.specs.declared.letter.Response.{Response}
-use Rattle.aim_mailbox.specs.declared.letter.Word.{Word}
-use Rattle.aim_mailbox.specs.declared.letter.Word.TheVariants as W
+use Rattle.aim_mailbox.specs.declared.response.Response.{Response}
 use Rattle.aim_msg.specs.declared.entries.TheConstants.{LATEST_MOMENT}
 use Rattle.aim_buffers.specs.Requests.{IsPreparedFor}
 use Rattle.aim_mailbox.specs.declared.letter.Setting.{Setting}
-use Rattle.aim_mailbox.specs.Post.{PortModel, IsServable, posted}
-use Rattle.aim_mailbox.specs.Slips.{LawfulAfter, Lawful, kept_from, kept_after, room_in, InletModel, heard_on}
-use Rattle.aim_mailbox.specs.Calls.{Call, ClientModel}
-use Rattle.aim_mailbox.specs.Mail.{Ask, ask, asked, is_last, asks, has_last, call_of, pairs, calls_in, client_of, HasRoom, IsOpen, IsEnded, call_letter, last_letter}
-use Rattle.aim_mailbox.proofs.Responses.{lawful_last, lawful_front, kept_from-last}
+use Rattle.aim_mailbox.specs.Post.{Begun, of, PortModel, IsServable, posted}
+use Rattle.aim_mailbox.specs.Slips.{Follows, IsNext, Lawful, kept_after, InletModel, heard_on}
+use Rattle.aim_mailbox.specs.Calls.{IsKept, entries_of}
+use Rattle.aim_mailbox.specs.Asks.{Ask, ask, asked, is_last, asks, has_last, call_of, pairs, calls_in}
+use Rattle.aim_mailbox.specs.Mail.{client_of, IsTold, IsOpen, IsEnded, call_letter, last_letter}
+use Rattle.aim_mailbox.proofs.Responses.{lawful_last, kept_from-last}
 
 pub asks-append : (xs ys : List Letter) → asks (xs ++ ys) ≡ asks xs ++ asks ys
 asks-append [] ys = refl
@@ -58,23 +61,84 @@ ends_so sent heard from h = record {
 pub calls_ended : (sent : List Letter) (heard : List Response) (from : ℕ) → calls_in (sent ++ last_letter from ∷ []) heard ≡ calls_in sent heard
 calls_ended sent heard from = ap (λ l. pairs l heard) (asks-append sent (last_letter from ∷ []) ∙ append-nil (asks sent))
 
-kept_small : (first : Option Response) (k : ℕ) (before rs : List Response) → k ≤ 1 → LawfulAfter first before rs → kept_from k rs ≤ 1
-kept_small first k before [] small l = small
-kept_small first k before (r ∷ rs) small l = kept_small first r.kept (before ++ r ∷ []) rs l.0.one l.1
+pub no_more : {A : Type 0} → (xs ys : List A) → length (xs ++ ys) ≡ length xs → ys ≡ []
+no_more xs [] e = refl
+no_more xs (y ∷ ys) e = let n = length-append xs (y ∷ ys) in absurd (omega (arith, n, e))
 
--- the sheets that come with the last response
-pub record ComesBack (room before : ℕ) (heard : List Response) (r : Response) : Type 0 where
-  pub room' : r.sheets.room ≡ room
-  pub count : r.sheets.count + kept_after (heard ++ r ∷ []) ≡ before + 2
+-- a book keeps one sheet at most for a vehicle
+pub kept_one : (v : ℕ) (h : List Entry) → sheets_kept v h ≤ 1
+kept_one v h = by_id (option_and_then (λ x. id_in x.entry.reply) (last_confirm (fresh h) v))
+  where
+    by_test : (b : Bool) → (if b then 0 else 1) ≤ 1
+    by_test true = omega arith
+    by_test false = omega arith
+
+    by_id : (o : Option ℕ) → sheets_with (fresh h) v o ≤ 1
+    by_id None = omega arith
+    by_id (Some id) = by_test (is_given_up (fresh h) v id)
+
+-- the last response follows the first one and those between
+pub follows : (opening : Response) (first : Option Response) (heard : List Response) (r : Response) → first ≡ Some opening → Lawful first (heard ++ r ∷ []) → Follows opening heard r
+follows opening first heard r is l = subst (λ o. IsNext o heard r) is (lawful_last first heard r l)
+
+-- a note that tells as many calls as were made tells all of them
+all_noted : (sent seen rest : List Letter) (n : ℕ) → sent ≡ seen ++ rest → length (asks sent) ≡ n → length (asks seen) ≡ n → asks seen ≡ asks sent
+all_noted sent seen rest n is a b =
+    let split : asks sent ≡ asks seen ++ asks rest = ap asks is ∙ asks-append seen rest in
+    let whole : length (asks sent) ≡ length (asks seen ++ asks rest) = ap length split in
+    let none : asks rest ≡ [] = no_more (asks seen) (asks rest) (omega (arith, whole, a, b)) in
+    sym (split ∙ ap (λ l. asks seen ++ l) none ∙ append-nil (asks seen))
+
+-- the number that comes with the last response is the one of the client's calls
+pub kept_told : (opening : Response) (p : ℕ) (sent rest : List Letter) (heard : List Response) (r : Response) → Follows opening heard r → opening.to ≡ p → sent ≡ of p r.note.got ++ rest
+    → length (asks sent) ≡ length heard + 1 → r.kept ≡ sheets_kept p (entries_of p (calls_in sent (heard ++ r ∷ [])))
+kept_told opening p sent rest heard r f to is each =
+    let calls : length (asks (of p r.note.got)) ≡ length heard + 1 = ap (λ v. length (asks (of v r.note.got))) (sym to) ∙ f.calls in
+    f.kept ∙ ap (λ v. sheets_kept v (entries_of v (calls_in (of v r.note.got) (heard ++ r ∷ [])))) to
+    ∙ ap (λ l. sheets_kept p (entries_of p (pairs l (heard ++ r ∷ [])))) (all_noted sent (of p r.note.got) rest (length heard + 1) is each calls)
+
+-- one call more is one ask more
+asks_more : (sent : List Letter) (heard : List Response) (from moment : ℕ) (p : Request) → IsOpen sent heard → length (asks (sent ++ call_letter from moment p ∷ [])) ≡ length heard + 1
+asks_more sent heard from moment p h = ap length (asks-append sent (call_letter from moment p ∷ [])) ∙ (let e = h.each in omega (arith, e, length-append (asks sent) (ask moment p ∷ [])))
+
+-- what the last response tells a client: of its sheets, and of the number kept
+pub record ComesBack (port : PortModel) (inlet : InletModel) (letter : Letter) (r : Response) : Type 0 where
+  pub room : (n : ℕ) → IfSome port.setting (λ s. n ≡ s.layout.grid.spans) → r.sheets.room ≡ n
+  pub count : r.sheets.count + kept_after (inlet.heard ++ r ∷ []) ≡ kept_after inlet.heard + 2
   pub few : r.sheets.count ≤ 3
-  pub one : kept_after (heard ++ r ∷ []) ≤ 1
+  pub one : kept_after (inlet.heard ++ r ∷ []) ≤ 1
+  pub kept : IsKept (client_of (posted port letter) (heard_on inlet r))
 
-pub comes_back : (first : Option Response) (heard : List Response) (r : Response) → Lawful first (heard ++ r ∷ []) → ComesBack (room_in first) (kept_after heard) heard r
-comes_back first heard r l =
-    let last = lawful_last first heard r l in
-    let same = kept_from-last 0 heard r in
-    let small = kept_small first 0 [] heard (omega arith) (lawful_front first heard (r ∷ []) l) in
-    record { room' = last.room; count = omega (arith, last.count, same); few = omega (arith, last.count, small); one = omega (arith, last.one, same) }
+room_if : (setting : Option Setting) (terms : Setting) (n : ℕ) → setting ≡ Some terms → IfSome setting (λ s. n ≡ s.layout.grid.spans) → terms.layout.grid.spans ≡ n
+room_if setting terms n is room = sym (subst (λ o. IfSome o (λ s. n ≡ s.layout.grid.spans)) is room)
+
+pub still_told : (port : PortModel) (first : Option Response) (letter : Letter) → IsTold port first → IsTold (posted port letter) first
+still_told port first letter told = record { terms = told.terms; is = told.is; told = told.told }
+
+-- the note of the last response is of the channel of the port
+pub noted : (port : PortModel) (inlet : InletModel) (r : Response) → IsTold port inlet.first → Lawful inlet.first (inlet.heard ++ r ∷ []) → (r.note.table ≡ port.table) × (r.note.key ≡ port.key)
+noted port inlet r told l =
+    let f = follows told.told.opening inlet.first inlet.heard r told.told.is l in
+    (f.table ∙ told.told.table, f.key ∙ told.told.key)
+
+pub comes_back : (port : PortModel) (inlet : InletModel) (from moment : ℕ) (p : Request) (r : Response) → IsOpen port.sent inlet.heard → IsTold port inlet.first → IsKept (client_of port inlet)
+    → Lawful inlet.first (inlet.heard ++ r ∷ []) → Begun (Some port.from) (port.sent ++ call_letter from moment p ∷ []) r.note.got → ComesBack port inlet (call_letter from moment p) r
+comes_back port inlet from moment p r going told kept l begun =
+    let first = told.told in
+    let f = follows first.opening inlet.first inlet.heard r first.is l in
+    let same : kept_after (inlet.heard ++ r ∷ []) ≡ r.kept = kept_from-last 0 inlet.heard r in
+    let now : r.kept ≡ sheets_kept port.from (entries_of port.from (calls_in (port.sent ++ call_letter from moment p ∷ []) (inlet.heard ++ r ∷ []))) =
+    kept_told first.opening port.from (port.sent ++ call_letter from moment p ∷ []) begun.0 inlet.heard r f first.to begun.1 (asks_more port.sent inlet.heard from moment p going) in
+    let small : kept_after inlet.heard ≤ 1 = subst (λ n. n ≤ 1) (sym kept) (kept_one port.from (entries_of port.from (calls_in port.sent inlet.heard))) in
+    let last : r.kept ≤ 1 = subst (λ n. n ≤ 1) (sym now) (kept_one port.from (entries_of port.from (calls_in (port.sent ++ call_letter from moment p ∷ []) (inlet.heard ++ r ∷ [])))) in
+    let count = f.count in
+    record {
+      room = λ n is. f.room ∙ first.sheets ∙ room_if port.setting told.terms n told.is is;
+      count = omega (arith, count, same);
+      few = omega (arith, count, small);
+      one = omega (arith, last, same);
+      kept = same ∙ now;
+    }
 
 -- a client after one call more
 pub called : (port : PortModel) (inlet : InletModel) (from moment : ℕ) (p : Request) (r : Response) → IsOpen port.sent inlet.heard
@@ -88,6 +152,3 @@ finished port inlet from = ap (λ l. record (client_of port inlet) { calls = l }
 
 pub servable_if : (setting : Option Setting) (terms : Setting) (moment : ℕ) (p : Request) → setting ≡ Some terms → moment ≤ LATEST_MOMENT → IfSome setting (λ s. IsPreparedFor s.layout p) → IsServable setting moment p
 servable_if setting terms moment p is early prepared = subst (λ o. IsServable o moment p) (sym is) (early, subst (λ o. IfSome o (λ s. IsPreparedFor s.layout p)) is prepared)
-
-pub room_if : (setting : Option Setting) (first : Option Response) (n : ℕ) → HasRoom setting first → IfSome setting (λ s. n ≡ s.layout.grid.spans) → room_in first ≡ n
-room_if setting first n h room = h.room ∙ sym (subst (λ o. IfSome o (λ s. n ≡ s.layout.grid.spans)) h.is room)

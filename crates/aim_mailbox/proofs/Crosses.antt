@@ -31,23 +31,28 @@ use Rattle.atomic_table.proofs.badge.Badge.TheSendSync as badge
 use Rattle.atomic_table.proofs.owned.Table.TheSendSync as table
 use Rattle.atomic_table.proofs.shared.Seat.TheSendSync as seat
 use Rattle.atomic_table.specs.contracts.badge.Badge as Badge
+use Rattle.atomic_table.specs.contracts.shared.Seat as Seat
 use Rattle.crossbeam_channel.proofs.bells.Bell.TheSendSync as bell
 use Rattle.crossbeam_channel.proofs.flavors.array.Key.TheSendSync as key
 use Rattle.crossbeam_channel.proofs.flavors.array.Rows.TheSendSync as rows
 use Rattle.crossbeam_channel.proofs.flavors.array.ruled.Both.TheSendSync as both
 use Rattle.crossbeam_channel.proofs.flavors.array.ruled.Receiving.TheSendSync as receiving
 use Rattle.crossbeam_channel.proofs.flavors.array.ruled.Sending.TheSendSync as sending
+use Rattle.crossbeam_channel.specs.contracts.flavors.array.Doing as Doing
 use Rattle.crossbeam_channel.specs.contracts.flavors.array.Key as Key
 use Rattle.aim_mailbox.specs.contracts.letter.Letter as Letter
-use Rattle.aim_mailbox.specs.contracts.letter.Response as Response
 use Rattle.aim_mailbox.specs.contracts.letter.Setting as Setting
 use Rattle.aim_mailbox.specs.contracts.letter.Word as Word
 use Rattle.aim_mailbox.specs.contracts.post.Intake as Intake
 use Rattle.aim_mailbox.specs.contracts.post.Intake.TheInside as IntakeInside
+use Rattle.aim_mailbox.specs.contracts.post.Note as Note
+use Rattle.aim_mailbox.specs.contracts.post.Note.TheInside as NoteInside
 use Rattle.aim_mailbox.specs.contracts.post.Port as Port
 use Rattle.aim_mailbox.specs.contracts.post.Port.TheInside as PortInside
+use Rattle.aim_mailbox.specs.contracts.response.Response as Response
 use Rattle.aim_mailbox.specs.contracts.slip.Inlet as Inlet
 use Rattle.aim_mailbox.specs.contracts.slip.Inlet.TheInside as InletInside
+use Rattle.aim_mailbox.specs.contracts.slip.Slate as Slate
 use Rattle.aim_mailbox.specs.contracts.slip.Slip as Slip
 use Rattle.aim_mailbox.specs.contracts.slip.Slip.TheInside as SlipInside
 use Rattle.aim_mailbox.specs.contracts.client.Client as Client
@@ -79,9 +84,6 @@ word_send = search (sendable, crosses, setting_send, prepared_send) depth 30
 letter_send : IsSend Letter.the_row
 letter_send = search (sendable, crosses, word_send) depth 20
 
-response_send : IsSend Response.the_row
-response_send = search (sendable, crosses, reply.the_send, full.the_send, pool_send) depth 30
-
 -- the keys and the slots of the two channels
 letter_slot_send : IsSend (Option.the_row Letter.the_row)
 letter_slot_send = search (sendable, crosses, letter_send) depth 30
@@ -92,6 +94,16 @@ letter_key_send = search (sendable, crosses, key.the_send, letter_send) depth 30
 letter_badge_send : IsSend (Badge.the_row (Key.the_row Letter.the_row))
 letter_badge_send = search (sendable, crosses, badge.the_send) depth 30
 
+-- a note is a pass of the requests' channel, and a response brings one
+note_inside : IsSend NoteInside.the_row
+note_inside = declared_send NoteInside.the_type (seat.the_send _ _ letter_badge_send, tt)
+
+note_send : IsSend Note.the_row
+note_send = search (sendable, note_inside)
+
+response_send : IsSend Response.the_row
+response_send = search (sendable, crosses, reply.the_send, full.the_send, pool_send, note_send) depth 30
+
 response_slot_send : IsSend (Option.the_row Response.the_row)
 response_slot_send = search (sendable, crosses, response_send) depth 30
 
@@ -101,10 +113,14 @@ response_key_send = search (sendable, crosses, key.the_send, response_send) dept
 response_badge_send : IsSend (Badge.the_row (Key.the_row Response.the_row))
 response_badge_send = search (sendable, crosses, badge.the_send) depth 30
 
+-- the kinds of what a slot holds are named here: found by comparing, they take too much memory
+response_seat_send : IsSend (Seat.the_field (Badge.the_row (Key.the_row Response.the_row)) (Doing.the_row Response.the_row Slate.the_row)).row
+response_seat_send = seat.the_send (Badge.the_row (Key.the_row Response.the_row)) (Doing.the_row Response.the_row Slate.the_row) response_badge_send
+
 ruleset ends = (sending.the_send, receiving.the_send, both.the_send, both.the_sync, rows.the_send, rows.the_sync, table.the_send, table.the_sync, bell.the_send, bell.the_sync)
 
 port_inside : IsSend PortInside.the_row
-port_inside = declared_send PortInside.the_type (search (sendable, crosses), (search (sendable, crosses, ends, letter_badge_send, letter_key_send, letter_slot_send) depth 40, (seat.the_send _ _ letter_badge_send, tt)))
+port_inside = declared_send PortInside.the_type (search (sendable, crosses), (search (sendable, crosses, ends, letter_badge_send, letter_slot_send) depth 40, (seat.the_send _ _ letter_badge_send, tt)))
 
 port_send : IsSend Port.the_row
 port_send = search (sendable, port_inside)
@@ -112,19 +128,19 @@ port_send = search (sendable, port_inside)
 intake_inside : IsSend IntakeInside.the_row
 intake_inside =
     declared_send IntakeInside.the_type
-    (search (sendable, crosses, ends, letter_badge_send, letter_key_send, letter_slot_send) depth 40, (search (sendable, crosses, ends, letter_badge_send, letter_key_send, letter_slot_send) depth 40, (seat.the_send _ _ letter_badge_send, tt)))
+    (search (sendable, crosses, ends, letter_badge_send, letter_slot_send) depth 40, (search (sendable, crosses, ends, letter_badge_send, letter_slot_send) depth 40, (seat.the_send _ _ letter_badge_send, tt)))
 
 intake_send : IsSend Intake.the_row
 intake_send = search (sendable, intake_inside)
 
 inlet_inside : IsSend InletInside.the_row
-inlet_inside = declared_send InletInside.the_type (search (sendable, crosses, ends, response_badge_send, response_key_send, response_slot_send) depth 40, (seat.the_send _ _ response_badge_send, tt))
+inlet_inside = declared_send InletInside.the_type (search (sendable, crosses, ends, response_badge_send, response_key_send, response_slot_send) depth 40, (response_seat_send, tt))
 
 inlet_send : IsSend Inlet.the_row
 inlet_send = search (sendable, inlet_inside)
 
 slip_inside : IsSend SlipInside.the_row
-slip_inside = declared_send SlipInside.the_type (search (sendable, crosses, ends, response_badge_send, response_key_send, response_slot_send) depth 40, (seat.the_send _ _ response_badge_send, (search (sendable, crosses), tt)))
+slip_inside = declared_send SlipInside.the_type (search (sendable, crosses, ends, response_badge_send, response_key_send, response_slot_send) depth 40, (response_seat_send, (search (sendable, crosses), tt)))
 
 slip_send : IsSend Slip.the_row
 slip_send = search (sendable, slip_inside)

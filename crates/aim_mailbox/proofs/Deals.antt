@@ -1,10 +1,9 @@
 -- What the server knows of what it served.
-use Rattle.std.proofs.Common.{◌≡◌, ◌≢◌, ◌⊎◌, inl, inr, ⊎_elim, ℕ, suc, ◌+◌, ◌<◌, ◌≤◌, Bool, true, false, List, [], ◌∷◌, ◌++◌, map, filter, length, set, sym, refl, ap, ◌∙◌, subst, append_assoc, append-nil, length-append, arith, Result, Ok, Err, zero}
-use Rattle.std.specs.Prelude.{◌||◌, ◌==◌, ◌↔◌, if◌then◌else◌, IfOk, OnErr, IsErr, option_and_then, Option, Some, None}
+use Rattle.std.proofs.Common.{◌≡◌, ◌≢◌, inl, inr, ⊎_elim, ℕ, suc, ◌+◌, ◌<◌, ◌≤◌, Bool, true, false, List, [], ◌∷◌, ◌++◌, map, length, set, sym, refl, ap, ◌∙◌, subst, append_assoc, append-nil, length-append, arith, Ok, Err, zero}
+use Rattle.std.specs.Prelude.{◌||◌, ◌==◌, ◌↔◌, IfOk, OnErr, IsErr, Some}
 use Rattle.aim_book.specs.declared.book.Full.{Full}
-use Rattle.std.proofs.lemmas.List.{map-append}
+use Rattle.std.proofs.lemmas.List.{map-append, length-map}
 use Rattle.std.proofs.lemmas.List.Elements.{filter-append}
-use Rattle.std.proofs.lemmas.Bool.Decides.{nat_tests}
 use mathlib.Core.Option.{some}
 use mathlib.Core.Logic.{dite}
 use native.Mathlib.Decide.{ℕ_discrete}
@@ -17,39 +16,19 @@ use Rattle.aim_msg.specs.declared.entries.Entry.{Entry}
 use Rattle.aim_msg.specs.declared.replies.Reply.{Reply}
 use Rattle.aim_buffers.specs.Requests.{Request}
 use Rattle.aim_rules.specs.Legal.{IsLegal}
-use Rattle.aim_rules.specs.History.{fresh}
-use Rattle.aim_rules.specs.Holds.{is_given_up, last_confirm}
-use Rattle.aim_book.specs.Sheets.{id_in, own, sheets_kept, sheets_with}
+use Rattle.aim_book.specs.Sheets.{own, sheets_kept}
 use Rattle.aim_book.specs.State.{State}
 use Rattle.aim_mailbox.specs.declared.letter.Letter.{Letter}
-use Rattle.aim_mailbox.specs.declared.letter.Response.{Response}
-use Rattle.aim_mailbox.specs.Calls.{Answer, ServerModel, IsReply, IsFull, entry_of}
+use Rattle.aim_mailbox.specs.declared.response.Response.{Response}
+use Rattle.aim_mailbox.specs.Asks.{ask, asks, call_of, calls_in, has_last, pairs}
+use Rattle.aim_mailbox.specs.Calls.{Answer, Channel, IsReply, IsFull, entry_of, entries_of}
 use Rattle.aim_mailbox.specs.Post.{Every, of, IntakeModel}
-use Rattle.aim_mailbox.specs.Slips.{IsNext, Lawful, kept_from, kept_after, room_in, SlipModel, put_on}
-use Rattle.aim_mailbox.specs.Mail.{Ask, ask, asks, has_last, call_letter, last_letter, Deal, deal, deals_of, entries_in, Owes, Stands, IsSameBook, IsSameSlip, IsSameIntake, AreSameSlips, HasEnded, channel_of, setting_of}
-use Rattle.aim_mailbox.proofs.Posts.{Every-map, Every-append, of_else, of_own}
+use Rattle.aim_mailbox.specs.Slips.{IsNext, Lawful, SlipModel, put_on}
+use Rattle.aim_mailbox.specs.Mail.{call_letter, last_letter, Deal, deal, deals_of, entries_in, Owes, Stands, IsSameBook, IsSameSlip, IsSameIntake, AreSameSlips, HasEnded, channel_of, mail_of, setting_of}
+use Rattle.aim_mailbox.proofs.Posts.{Every-append, of_else, of_own}
 use Rattle.aim_mailbox.proofs.Responses.{kept_from-last, lawful_more}
-use Rattle.aim_mailbox.proofs.CallLemmas.{asks-append, has_last-append}
-
-module _ {A : Type 0} where
-  pick : (b : Bool) (x : A) → b ≡ false → (if b then x ∷ [] else []) ≡ []
-  pick b x is = ap (λ c. if c then x ∷ [] else []) is
-
-  pick' : (b : Bool) (x : A) → b ≡ true → (if b then x ∷ [] else []) ≡ x ∷ []
-  pick' b x is = ap (λ c. if c then x ∷ [] else []) is
-
-pub deals-append : (p : ℕ) (xs ys : List Deal) → deals_of p (xs ++ ys) ≡ deals_of p xs ++ deals_of p ys
-deals-append p xs ys = filter-append (λ d. d.vehicle == p) xs ys
-
-deals_own : (p : ℕ) (ds : List Deal) (d : Deal) → d.vehicle ≡ p → deals_of p (ds ++ d ∷ []) ≡ deals_of p ds ++ d ∷ []
-deals_own p ds d is = let test : (d.vehicle == p) ≡ true = grind (arith, nat_tests, is) in deals-append p ds (d ∷ []) ∙ ap (λ l. deals_of p ds ++ l) (pick' (d.vehicle == p) d test)
-
-deals_else : (p : ℕ) (ds : List Deal) (d : Deal) → p ≢ d.vehicle → deals_of p (ds ++ d ∷ []) ≡ deals_of p ds
-deals_else p ds d other = let test : (d.vehicle == p) ≡ false = grind (arith, nat_tests, other) in deals-append p ds (d ∷ []) ∙ ap (λ l. deals_of p ds ++ l) (pick (d.vehicle == p) d test) ∙ append-nil (deals_of p ds)
-
-pub entries_in-append : (xs ys : List Deal) → entries_in (xs ++ ys) ≡ entries_in xs ++ entries_in ys
-entries_in-append [] ys = refl
-entries_in-append (d ∷ xs) ys = ap (λ l. entry_of d.vehicle d.ask.moment d.ask.message d.answer ++ l) (entries_in-append xs ys) ∙ sym (append_assoc (entry_of d.vehicle d.ask.moment d.ask.message d.answer) (entries_in xs) (entries_in ys))
+use Rattle.aim_mailbox.proofs.CallLemmas.{asks-append, has_last-append, pairs-snoc}
+use Rattle.aim_mailbox.proofs.OwnEntries.{deals_else, deals_own, entries_in-append, entries_of-append, own_are, own_entry}
 
 -- one call more, as the letters tell it
 asked_more : (got : List Letter) (log log' : List Deal) (from moment : ℕ) (p : Request) (a : Answer) → log' ≡ log ++ deal from (ask moment p) a ∷ []
@@ -64,12 +43,12 @@ asked_more got log log' from moment p a is old q =
     (λ other. ap asks (of_else q got x other) ∙ old q ∙ ap (map (λ e. e.ask)) (sym (ap (deals_of q) is ∙ deals_else q log d other)))
 
 -- what the server knows of a client stays, where another's letter came
-owes_else : (q spans : ℕ) (journal journal' : List Entry) (log log' : List Deal) (got got' : List Letter) (s : SlipModel)
-    → sheets_kept q journal' ≡ sheets_kept q journal → deals_of q log' ≡ deals_of q log → of q got' ≡ of q got → Owes q spans journal log got s → Owes q spans journal' log' got' s
-owes_else q spans journal journal' log log' got got' s je de ge h = record {
+owes_else : (q : ℕ) (on : Channel Letter) (spans : ℕ) (journal journal' : List Entry) (log log' : List Deal) (got got' : List Letter) (s : SlipModel)
+    → sheets_kept q journal' ≡ sheets_kept q journal → deals_of q log' ≡ deals_of q log → of q got' ≡ of q got → Owes q on spans journal log got s → Owes q on spans journal' log' got' s
+owes_else q on spans journal journal' log log' got got' s je de ge h = record {
   put = h.put ∙ ap (map (λ d. d.answer)) (sym de);
   lawful = h.lawful;
-  room = h.room;
+  told = h.told;
   kept = h.kept ∙ sym je;
   ended = λ e. ap has_last ge ∙ h.ended e;
 }
@@ -81,34 +60,34 @@ or_second : (a b : Bool) → b ≡ true → (a || b) ≡ true
 or_second true b is = refl
 or_second false b is = is
 
-owes_own : (from moment spans : ℕ) (journal journal' : List Entry) (log log' : List Deal) (got : List Letter) (s : SlipModel) (p : Request) (r : Response)
+owes_own : (on : Channel Letter) (from moment spans : ℕ) (journal journal' : List Entry) (log log' : List Deal) (got : List Letter) (s : SlipModel) (p : Request) (r : Response)
     → log' ≡ log ++ deal from (ask moment p) r.answer ∷ [] → Lawful s.first (s.put ++ r ∷ []) → r.kept ≡ sheets_kept from journal'
-    → Owes from spans journal log got s → Owes from spans journal' log' (got ++ call_letter from moment p ∷ []) (put_on s r)
-owes_own from moment spans journal journal' log log' got s p r is lawful kept h =
+    → Owes from on spans journal log got s → Owes from on spans journal' log' (got ++ call_letter from moment p ∷ []) (put_on s r)
+owes_own on from moment spans journal journal' log log' got s p r is lawful kept h =
     let d : Deal = deal from (ask moment p) r.answer in
     let x : Letter = call_letter from moment p in
     record {
       put = map-append (λ z. z.answer) s.put (r ∷ []) ∙ ap (λ l. l ++ r.answer ∷ []) h.put ∙ sym (map-append (λ z. z.answer) (deals_of from log) (d ∷ []))
           ∙ ap (map (λ z. z.answer)) (sym (ap (deals_of from) is ∙ deals_own from log d refl));
       lawful = lawful;
-      room = h.room;
+      told = h.told;
       kept = kept_from-last 0 s.put r ∙ kept;
       ended = λ e. ap has_last (of_own from got x refl) ∙ has_last-append (of from got) (x ∷ []) ∙ or_true (has_last (of from got)) _ (h.ended e);
     }
 
-each_slip : (from moment spans : ℕ) (journal journal' : List Entry) (log log' : List Deal) (got : List Letter) (slips : List SlipModel) (s : SlipModel) (p : Request) (r : Response)
+each_slip : (on : Channel Letter) (from moment spans : ℕ) (journal journal' : List Entry) (log log' : List Deal) (got : List Letter) (slips : List SlipModel) (s : SlipModel) (p : Request) (r : Response)
     → log' ≡ log ++ deal from (ask moment p) r.answer ∷ [] → Lawful s.first (s.put ++ r ∷ []) → r.kept ≡ sheets_kept from journal'
     → ((q : ℕ) → q ≢ from → sheets_kept q journal' ≡ sheets_kept q journal)
     → get_elem? slips from ≡ some s
-    → ((q : ℕ) (z : SlipModel) → get_elem? slips q ≡ some z → Owes q spans journal log got z)
-    → (q : ℕ) (z : SlipModel) → get_elem? (set slips from (put_on s r)) q ≡ some z → Owes q spans journal' log' (got ++ call_letter from moment p ∷ []) z
-each_slip from moment spans journal journal' log log' got slips s p r is lawful kept others at old q z at' =
+    → ((q : ℕ) (z : SlipModel) → get_elem? slips q ≡ some z → Owes q on spans journal log got z)
+    → (q : ℕ) (z : SlipModel) → get_elem? (set slips from (put_on s r)) q ≡ some z → Owes q on spans journal' log' (got ++ call_letter from moment p ∷ []) z
+each_slip on from moment spans journal journal' log log' got slips s p r is lawful kept others at old q z at' =
     let d : Deal = deal from (ask moment p) r.answer in
     let x : Letter = call_letter from moment p in
     ⊎_elim
-    (λ (e : (q ≡ from) × (put_on s r ≡ z)). subst (λ (y : ℕ × SlipModel). Owes y.0 spans journal' log' (got ++ x ∷ []) y.1) (λ i. (sym e.0 i, e.1 i))
-    (owes_own from moment spans journal journal' log log' got s p r is lawful kept (old from s at)))
-    (λ (e : (q ≢ from) × (get_elem? slips q ≡ some z)). owes_else q spans journal journal' log log' got (got ++ x ∷ []) z (others q e.0) (ap (deals_of q) is ∙ deals_else q log d e.0) (of_else q got x e.0) (old q z e.1))
+    (λ (e : (q ≡ from) × (put_on s r ≡ z)). subst (λ (y : ℕ × SlipModel). Owes y.0 on spans journal' log' (got ++ x ∷ []) y.1) (λ i. (sym e.0 i, e.1 i))
+    (owes_own on from moment spans journal journal' log log' got s p r is lawful kept (old from s at)))
+    (λ (e : (q ≢ from) × (get_elem? slips q ≡ some z)). owes_else q on spans journal journal' log log' got (got ++ x ∷ []) z (others q e.0) (ap (deals_of q) is ∙ deals_else q log d e.0) (of_else q got x e.0) (old q z e.1))
     (at_set slips from q (put_on s r) z at')
 
 pub length-set : {A : Type 0} → (xs : List A) (i : ℕ) (x : A) → length (set xs i x) ≡ length xs
@@ -146,33 +125,21 @@ serves_of book book' from moment p (Err e) made stays full legal = record {
   full = full;
 }
 
--- a book keeps one sheet at most for a vehicle
-pub kept_one : (v : ℕ) (h : List Entry) → sheets_kept v h ≤ 1
-kept_one v h = by_id (option_and_then (λ x. id_in x.entry.reply) (last_confirm (fresh h) v))
-  where
-    by_test : (b : Bool) → (if b then 0 else 1) ≤ 1
-    by_test true = omega arith
-    by_test false = omega arith
-
-    by_id : (o : Option ℕ) → sheets_with (fresh h) v o ≤ 1
-    by_id None = omega arith
-    by_id (Some id) = by_test (is_given_up (fresh h) v id)
-
 below_room : (a b : ℕ) → a ≤ b → ¬ (a ≡ b) → a < b
 below_room a b le ne = grind (arith, le, ne)
 
 ok_not_err : (reply : Reply) → IsErr {T = Reply} {E = Full} (Ok reply) → ⊥
 ok_not_err reply e = cc
 
-module _ (book book' : State) (got : List Letter) (slips : List SlipModel) (from moment : ℕ) (p : Request) (s : SlipModel) (r : Response)
-    (h : Stands book got slips) (from_is : from < book.vehicles) (at : get_elem? slips from ≡ some s)
+module _ (book book' : State) (on : Channel Letter) (got : List Letter) (slips : List SlipModel) (from moment : ℕ) (p : Request) (s : SlipModel) (r : Response)
+    (h : Stands book on got slips) (from_is : from < book.vehicles) (at : get_elem? slips from ≡ some s)
     (lawful : Lawful s.first (s.put ++ r ∷ [])) (kept : r.kept ≡ sheets_kept from book'.journal)
     (others : (v : ℕ) (es : List Entry) (e : Entry) → (e.caller ≡ v → ⊥) → sheets_kept v (es ++ e ∷ []) ≡ sheets_kept v es) where
   spans_same : IsSameBook book book' → book.layout.grid.spans ≡ book'.layout.grid.spans
   spans_same same = ap (λ i. i.grid.spans) (sym same.layout)
 
   answered_ok : (reply : Reply) → r.answer ≡ Ok reply → IsSameBook book book' → IsLegal book'.layout book'.vehicles book'.journal → ¬ (length book.journal ≡ book.room)
-      → book'.journal ≡ book.journal ++ entry from moment p reply ∷ [] → Stands book' (got ++ call_letter from moment p ∷ []) (set slips from (put_on s r))
+      → book'.journal ≡ book.journal ++ entry from moment p reply ∷ [] → Stands book' on (got ++ call_letter from moment p ∷ []) (set slips from (put_on s r))
   answered_ok reply is same legal room more =
       let d : Deal = deal from (ask moment p) r.answer in
       let longer : length book'.journal ≡ length book.journal + 1 = ap length more ∙ length-append book.journal _ in
@@ -187,8 +154,8 @@ module _ (book book' : State) (got : List Letter) (slips : List SlipModel) (from
         full = inl refl;
         asked = asked_more got (h.replied ++ h.refused) _ from moment p r.answer log_is h.asked;
         count = length-set slips from _ ∙ h.count ∙ sym same.vehicles;
-        each = subst (λ n. (q : ℕ) (z : SlipModel) → get_elem? (set slips from (put_on s r)) q ≡ some z → Owes q n book'.journal ((h.replied ++ d ∷ []) ++ []) (got ++ call_letter from moment p ∷ []) z) (spans_same same)
-            (each_slip from moment book.layout.grid.spans book.journal book'.journal (h.replied ++ h.refused) _ got slips s p r log_is lawful kept
+        each = subst (λ n. (q : ℕ) (z : SlipModel) → get_elem? (set slips from (put_on s r)) q ≡ some z → Owes q on n book'.journal ((h.replied ++ d ∷ []) ++ []) (got ++ call_letter from moment p ∷ []) z) (spans_same same)
+            (each_slip on from moment book.layout.grid.spans book.journal book'.journal (h.replied ++ h.refused) _ got slips s p r log_is lawful kept
             (λ q other. ap (sheets_kept q) more ∙ others q book.journal (entry from moment p reply) (λ e. other (sym e))) at h.each);
         entries = more ∙ ap (λ l. l ++ entry from moment p reply ∷ []) h.entries ∙ sym (entries_in-append h.replied (d ∷ []) ∙ ap (λ a. entries_in h.replied ++ (entry_of from moment p.message a ++ [])) is);
         known = Every-append _ h.replied (d ∷ []) (subst (λ n. Every (λ z. z.vehicle < n) h.replied) (sym same.vehicles) h.known) (subst (λ n. from < n) (sym same.vehicles) from_is, tt);
@@ -197,7 +164,7 @@ module _ (book book' : State) (got : List Letter) (slips : List SlipModel) (from
       }
 
   answered_full : (e : Full) → r.answer ≡ Err e → IsSameBook book book' → IsLegal book'.layout book'.vehicles book'.journal → length book.journal ≡ book.room
-      → book'.journal ≡ book.journal → Stands book' (got ++ call_letter from moment p ∷ []) (set slips from (put_on s r))
+      → book'.journal ≡ book.journal → Stands book' on (got ++ call_letter from moment p ∷ []) (set slips from (put_on s r))
   answered_full e is same legal room keeps =
       let d : Deal = deal from (ask moment p) r.answer in
       let log_is : h.replied ++ (h.refused ++ d ∷ []) ≡ (h.replied ++ h.refused) ++ d ∷ [] = sym (append_assoc h.replied h.refused (d ∷ [])) in
@@ -210,31 +177,84 @@ module _ (book book' : State) (got : List Letter) (slips : List SlipModel) (from
         full = inr (n ∙ room ∙ sym same.room);
         asked = asked_more got (h.replied ++ h.refused) _ from moment p r.answer log_is h.asked;
         count = length-set slips from _ ∙ h.count ∙ sym same.vehicles;
-        each = subst (λ n. (q : ℕ) (z : SlipModel) → get_elem? (set slips from (put_on s r)) q ≡ some z → Owes q n book'.journal (h.replied ++ (h.refused ++ d ∷ [])) (got ++ call_letter from moment p ∷ []) z) (spans_same same)
-            (each_slip from moment book.layout.grid.spans book.journal book'.journal (h.replied ++ h.refused) _ got slips s p r log_is lawful kept (λ q other. ap (sheets_kept q) keeps) at h.each);
+        each = subst (λ n. (q : ℕ) (z : SlipModel) → get_elem? (set slips from (put_on s r)) q ≡ some z → Owes q on n book'.journal (h.replied ++ (h.refused ++ d ∷ [])) (got ++ call_letter from moment p ∷ []) z) (spans_same same)
+            (each_slip on from moment book.layout.grid.spans book.journal book'.journal (h.replied ++ h.refused) _ got slips s p r log_is lawful kept (λ q other. ap (sheets_kept q) keeps) at h.each);
         entries = keeps ∙ h.entries;
         known = subst (λ n. Every (λ z. z.vehicle < n) h.replied) (sym same.vehicles) h.known;
         legal = legal;
         within = let w = h.within in let r' = same.room in omega (arith, n, w, r');
       }
 
-  by_answer : (a : Answer) → r.answer ≡ a → Serves book book' from moment p a → Stands book' (got ++ call_letter from moment p ∷ []) (set slips from (put_on s r))
+  by_answer : (a : Answer) → r.answer ≡ a → Serves book book' from moment p a → Stands book' on (got ++ call_letter from moment p ∷ []) (set slips from (put_on s r))
   by_answer (Ok reply) is serves = answered_ok reply is serves.same serves.legal (λ e. ok_not_err reply (serves.full.1 e)) serves.made
   by_answer (Err e) is serves = answered_full e is serves.same serves.legal (serves.full.0 refl) serves.stays
 
-  pub answered : Serves book book' from moment p r.answer → Stands book' (got ++ call_letter from moment p ∷ []) (set slips from (put_on s r))
-  answered serves = by_answer r.answer refl serves
-
 -- the slip of the client
-pub slip_at : (book : State) (got : List Letter) (slips : List SlipModel) (from : ℕ) (s : SlipModel) → Stands book got slips → from < book.vehicles → s ≡ get_or slips from s → get_elem? slips from ≡ some s
-slip_at book got slips from s h less is = let n = h.count in at_index slips from s (omega (arith, n, less)) is
+pub slip_at : (book : State) (on : Channel Letter) (got : List Letter) (slips : List SlipModel) (from : ℕ) (s : SlipModel) → Stands book on got slips → from < book.vehicles → s ≡ get_or slips from s → get_elem? slips from ≡ some s
+slip_at book on got slips from s h less is = let n = h.count in at_index slips from s (omega (arith, n, less)) is
 
-pub lawful_put : (book : State) (got : List Letter) (slips : List SlipModel) (from : ℕ) (s : SlipModel) (r : Response) → Stands book got slips → get_elem? slips from ≡ some s
-    → r.sheets.room ≡ book.layout.grid.spans → r.sheets.count + r.kept ≡ sheets_kept from book.journal + 2 → r.kept ≤ 1 → Lawful s.first (s.put ++ r ∷ [])
-lawful_put book got slips from s r h at room e one =
+-- the entry of a call comes behind the journal, where it makes one
+grows : (book book' : State) (from moment : ℕ) (p : Request) (a : Answer) → Serves book book' from moment p a → book'.journal ≡ book.journal ++ entry_of from moment p.message a
+grows book book' from moment p (Ok reply) serves = serves.made
+grows book book' from moment p (Err e) serves = serves.stays ∙ sym (append-nil book.journal)
+
+-- the letters with a call more ask one thing more
+asks_of_more : (got : List Letter) (from moment : ℕ) (p : Request) → asks (of from (got ++ call_letter from moment p ∷ [])) ≡ asks (of from got) ++ ask moment p ∷ []
+asks_of_more got from moment p = ap asks (of_own from got (call_letter from moment p) refl) ∙ asks-append (of from got) (call_letter from moment p ∷ [])
+
+-- what a response says of the call that was served
+pub record IsResponse (book book' : State) (on : Channel Letter) (got : List Letter) (from moment : ℕ) (p : Request) (r : Response) : Type 0 where
+  pub to : r.to ≡ from
+  pub sheets : r.sheets.room ≡ book.layout.grid.spans
+  pub count : r.sheets.count + r.kept ≡ sheets_kept from book.journal + 2
+  pub kept : r.kept ≡ sheets_kept from book'.journal
+  pub table : r.note.table ≡ on.table
+  pub key : r.note.key ≡ on.key
+  pub note : r.note.got ≡ got ++ call_letter from moment p ∷ []
+  pub serves : Serves book book' from moment p r.answer
+
+-- such a response is lawful
+pub lawful_put : (book book' : State) (on : Channel Letter) (got : List Letter) (slips : List SlipModel) (from moment : ℕ) (p : Request) (s : SlipModel) (r : Response)
+    → ((v : ℕ) (h : List Entry) → sheets_kept v (own v h) ≡ sheets_kept v h) → Stands book on got slips → get_elem? slips from ≡ some s → IsResponse book book' on got from moment p r → Lawful s.first (s.put ++ r ∷ [])
+lawful_put book book' on got slips from moment p s r law h at is =
     let o = h.each from s at in
+    let first = o.told.opening in
     let kept = o.kept in
-    lawful_more s.first s.put r o.lawful record { room = room ∙ sym o.room; count = omega (arith, e, kept); one = one }
+    let count = is.count in
+    let now : List Letter = got ++ call_letter from moment p ∷ [] in
+    let more = asks_of_more got from moment p in
+    let n1 : length (asks (of from now)) ≡ length (asks (of from got) ++ ask moment p ∷ []) = ap length more in
+    let n2 : length (asks (of from got)) ≡ length (map (λ (d : Deal). d.ask) (deals_of from (h.replied ++ h.refused))) = ap length (h.asked from) in
+    let n3 : length (map (λ (r : Response). r.answer) s.put) ≡ length (map (λ (d : Deal). d.answer) (deals_of from (h.replied ++ h.refused))) = ap length o.put in
+    let each : length (asks (of from got)) ≡ length s.put =
+    omega (arith, n2, n3, length-map (deals_of from (h.replied ++ h.refused)) (λ (d : Deal). d.ask), length-map (deals_of from (h.replied ++ h.refused)) (λ (d : Deal). d.answer), length-map s.put (λ (r : Response). r.answer)) in
+    let calls : length (asks (of from now)) ≡ length s.put + 1 = omega (arith, n1, each, length-append (asks (of from got)) (ask moment p ∷ [])) in
+    let before : own from book.journal ≡ entries_of from (calls_in (of from got) s.put) = own_are from book.journal h.replied h.refused got s.put h.entries h.refusals (h.asked from) o.put in
+    let same : calls_in (of from now) (s.put ++ r ∷ []) ≡ calls_in (of from got) s.put ++ call_of (ask moment p) r.answer ∷ [] = ap (λ l. pairs l (s.put ++ r ∷ [])) more ∙ pairs-snoc (asks (of from got)) s.put (ask moment p) r each in
+    let after : own from book'.journal ≡ entries_of from (calls_in (of from now) (s.put ++ r ∷ [])) =
+    ap (own from) (grows book book' from moment p r.answer is.serves) ∙ filter-append (λ e. e.caller == from) book.journal (entry_of from moment p.message r.answer)
+    ∙ (λ i. before i ++ own_entry from from moment p.message r.answer refl i)
+    ∙ ap (λ l. entries_of from (calls_in (of from got) s.put) ++ l) (sym (append-nil (entry_of from moment p.message r.answer)))
+    ∙ sym (ap (entries_of from) same ∙ entries_of-append from (calls_in (of from got) s.put) (call_of (ask moment p) r.answer ∷ [])) in
+    lawful_more s.first s.put r o.lawful
+    (subst (λ x. IsNext x s.put r) (sym o.told.is) record {
+      to = is.to ∙ sym o.told.to;
+      room = is.sheets ∙ sym o.told.sheets;
+      count = omega (arith, count, kept);
+      table = is.table ∙ sym o.told.table;
+      key = is.key ∙ sym o.told.key;
+      calls = (λ i. length (asks (of (o.told.to i) (is.note i)))) ∙ calls;
+      kept = is.kept ∙ sym (law from book'.journal) ∙ ap (sheets_kept from) after
+          ∙ sym (λ i. sheets_kept (o.told.to i) (entries_of (o.told.to i) (calls_in (of (o.told.to i) (is.note i)) (s.put ++ r ∷ []))));
+    })
+
+-- what the server knows after the response
+pub answered : (book book' : State) (on : Channel Letter) (got : List Letter) (slips : List SlipModel) (from moment : ℕ) (p : Request) (s : SlipModel) (r : Response)
+    → ((v : ℕ) (h : List Entry) → sheets_kept v (own v h) ≡ sheets_kept v h) → ((v : ℕ) (es : List Entry) (e : Entry) → (e.caller ≡ v → ⊥) → sheets_kept v (es ++ e ∷ []) ≡ sheets_kept v es)
+    → Stands book on got slips → from < book.vehicles → get_elem? slips from ≡ some s → IsResponse book book' on got from moment p r → Stands book' on r.note.got (set slips from (put_on s r))
+answered book book' on got slips from moment p s r law others h from_is at is =
+    subst (λ l. Stands book' on l (set slips from (put_on s r))) (sym is.note)
+    (by_answer book book' on got slips from moment p s r h from_is at (lawful_put book book' on got slips from moment p s r law h at is) is.kept others r.answer refl is.serves)
 
 pub same_slips : (xs : List SlipModel) (i : ℕ) (s t : SlipModel) → get_elem? xs i ≡ some s → i < length xs → IsSameSlip s t → AreSameSlips xs (set xs i t)
 same_slips xs i s t at less same = (
@@ -257,8 +277,8 @@ same_slips_trans xs ys zs f g = (
 )
 
 pub ended_ends : (slips : List SlipModel) (from : ℕ) (s t : SlipModel) → get_elem? slips from ≡ some s → t ≡ record { table = s.table; key = s.key; first = s.first; put = s.put; ended = true }
-    → (book : State) (got : List Letter) → Stands book got slips → Stands book (got ++ last_letter from ∷ []) (set slips from t)
-ended_ends slips from s t at is book got h =
+    → (book : State) (on : Channel Letter) (got : List Letter) → Stands book on got slips → Stands book on (got ++ last_letter from ∷ []) (set slips from t)
+ended_ends slips from s t at is book on got h =
     let x : Letter = last_letter from in
     record {
       replied = h.replied;
@@ -272,9 +292,9 @@ ended_ends slips from s t at is book got h =
       count = length-set slips from t ∙ h.count;
       each = λ q z at'. ⊎_elim
           (λ (e : (q ≡ from) × (t ≡ z)). let o = h.each from s at in
-          subst (λ (y : ℕ × SlipModel). Owes y.0 book.layout.grid.spans book.journal (h.replied ++ h.refused) (got ++ x ∷ []) y.1) (λ i. (sym e.0 i, (sym is ∙ e.1) i))
-          (end_own from book.layout.grid.spans book.journal (h.replied ++ h.refused) got s o))
-          (λ (e : (q ≢ from) × (get_elem? slips q ≡ some z)). owes_else q book.layout.grid.spans book.journal book.journal (h.replied ++ h.refused) (h.replied ++ h.refused) got (got ++ x ∷ []) z refl refl (of_else q got x e.0) (h.each q z e.1))
+          subst (λ (y : ℕ × SlipModel). Owes y.0 on book.layout.grid.spans book.journal (h.replied ++ h.refused) (got ++ x ∷ []) y.1) (λ i. (sym e.0 i, (sym is ∙ e.1) i))
+          (end_own from on book.layout.grid.spans book.journal (h.replied ++ h.refused) got s o))
+          (λ (e : (q ≢ from) × (get_elem? slips q ≡ some z)). owes_else q on book.layout.grid.spans book.journal book.journal (h.replied ++ h.refused) (h.replied ++ h.refused) got (got ++ x ∷ []) z refl refl (of_else q got x e.0) (h.each q z e.1))
           (at_set slips from q t z at');
       entries = h.entries;
       known = h.known;
@@ -282,12 +302,12 @@ ended_ends slips from s t at is book got h =
       within = h.within;
     }
   where
-    end_own : (from spans : ℕ) (journal : List Entry) (log : List Deal) (got : List Letter) (s : SlipModel) → Owes from spans journal log got s
-        → Owes from spans journal log (got ++ last_letter from ∷ []) record { table = s.table; key = s.key; first = s.first; put = s.put; ended = true }
-    end_own from spans journal log got s o = record {
+    end_own : (from : ℕ) (on : Channel Letter) (spans : ℕ) (journal : List Entry) (log : List Deal) (got : List Letter) (s : SlipModel) → Owes from on spans journal log got s
+        → Owes from on spans journal log (got ++ last_letter from ∷ []) record { table = s.table; key = s.key; first = s.first; put = s.put; ended = true }
+    end_own from on spans journal log got s o = record {
       put = o.put;
       lawful = o.lawful;
-      room = o.room;
+      told = o.told;
       kept = o.kept;
       ended = λ _. ap has_last (of_own from got (last_letter from) refl) ∙ has_last-append (of from got) (last_letter from ∷ []) ∙ or_second (has_last (of from got)) true refl;
     }
@@ -340,11 +360,7 @@ same_intake_trans a b c f g = record { table = g.table ∙ f.table; key = g.key 
 pub still_made : (a b : State) (x y : IntakeModel) → IsSameBook a b → IsSameIntake x y → (x.made ≡ a.vehicles) × (x.setting ≡ Some (setting_of a)) → (y.made ≡ b.vehicles) × (y.setting ≡ Some (setting_of b))
 still_made a b x y same kept is = (kept.made ∙ is.0 ∙ sym same.vehicles, kept.setting ∙ is.1 ∙ ap Some (sym (setting_same a b same)))
 
--- what contracts see of a server with these parts
-abbrev pub server_of : State → IntakeModel → List SlipModel → ServerModel
-server_of book intake slips = record { setting = setting_of book; asked_on = record { table = intake.table; key = intake.key }; answers_on = map channel_of slips }
-
-pub run_same : (a b : State) (x y : IntakeModel) (xs ys : List SlipModel) → IsSameBook a b → IsSameIntake x y → AreSameSlips xs ys → server_of b y ys ≡ server_of a x xs
+pub run_same : (a b : State) (x y : IntakeModel) (xs ys : List SlipModel) → IsSameBook a b → IsSameIntake x y → AreSameSlips xs ys → mail_of (setting_of b) y ys ≡ mail_of (setting_of a) x xs
 run_same a b x y xs ys book intake slips =
     let s : setting_of b ≡ setting_of a = setting_same a b book in
     let c : map channel_of ys ≡ map channel_of xs = same_channels xs ys slips in

@@ -3,6 +3,7 @@ pub mod Clients
 pub mod Crosses
 pub mod Deals
 pub mod Opens
+pub mod OwnEntries
 pub mod Posts
 pub mod Responses
 pub mod Settles

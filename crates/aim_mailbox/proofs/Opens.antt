@@ -1,5 +1,5 @@
 -- A mailbox that is new.
-use Rattle.std.proofs.Common.{◌≡◌, ℕ, ◌+◌, ◌<◌, ◌≤◌, true, false, true≢false, List, [], ◌∷◌, ◌++◌, length, sym, refl, ap, ◌∙◌, subst, arith, inl, map, length-append, Some, get_or}
+use Rattle.std.proofs.Common.{◌≡◌, ℕ, ◌+◌, ◌<◌, true≢false, List, [], ◌∷◌, ◌++◌, length, sym, refl, ap, ◌∙◌, subst, arith, inl, map, length-append, Option, Some, get_or}
 use mathlib.Core.Option.{some}
 use lib.ListN.{get_elem?}
 use Rattle.std.proofs.lemmas.List.{map-append, length-map, get_or_default}
@@ -9,30 +9,27 @@ use Rattle.aim_rules.specs.Legal.{IsLegal}
 use Rattle.aim_book.specs.Sheets.{sheets_kept}
 use Rattle.aim_book.specs.State.{State}
 use Rattle.aim_mailbox.specs.declared.letter.Letter.{Letter}
-use Rattle.aim_mailbox.specs.declared.letter.Response.{Response}
-use Rattle.aim_mailbox.specs.Calls.{Channel, ClientModel, ServerModel, IsOfMail, IsNewClient}
-use Rattle.aim_mailbox.specs.Post.{of, IntakeModel}
-use Rattle.aim_mailbox.specs.Slips.{SlipModel, Lawful, kept_after, room_in}
-use Rattle.aim_mailbox.specs.Mail.{asks, Stands, Owes, IsOpen, channel_of, setting_of}
-use Rattle.aim_mailbox.proofs.Deals.{server_of}
-use Rattle.aim_mailbox.proofs.Views.{Each, each_more}
+use Rattle.aim_mailbox.specs.declared.letter.Setting.{Setting}
+use Rattle.aim_mailbox.specs.declared.response.Response.{Response}
+use Rattle.aim_mailbox.specs.Asks.{asks, pairs}
+use Rattle.aim_mailbox.specs.Calls.{Channel, ClientModel, IsKept, IsNewClient, entries_of}
+use Rattle.aim_mailbox.specs.Post.{of, IntakeModel, PortModel, hired, new_port}
+use Rattle.aim_mailbox.specs.Slips.{InletModel, SlipModel, Lawful, kept_after}
+use Rattle.aim_mailbox.specs.Mail.{Stands, Owes, HasSpans, IsNewSlip, IsOpen, IsStaffed, channel_of, client_of, mail_of, letters_of}
+use Rattle.aim_mailbox.proofs.Views.{each_more}
 
--- a slip of which nothing was sent
-abbrev pub IsNewSlip : ℕ → SlipModel → Type 0
-IsNewSlip spans s = (s.put ≡ []) × (s.ended ≡ false) × (room_in s.first ≡ spans)
-
-owes_nothing : (p spans : ℕ) (s : SlipModel) → sheets_kept p [] ≡ 0 → IsNewSlip spans s → Owes p spans [] [] [] s
-owes_nothing p spans s none new = record {
+owes_nothing : (p : ℕ) (on : Channel Letter) (spans : ℕ) (s : SlipModel) → sheets_kept p [] ≡ 0 → IsNewSlip p on spans s → Owes p on spans [] [] [] s
+owes_nothing p on spans s none new = record {
   put = ap (map (λ r. r.answer)) new.0;
   lawful = subst (Lawful s.first) (sym new.0) tt;
-  room = new.2;
+  told = new.2;
   kept = ap kept_after new.0 ∙ sym none;
   ended = λ e. absurd (true≢false (sym e ∙ new.1));
 }
 
-pub stands_new : (book : State) (got : List Letter) (slips : List SlipModel) → book.journal ≡ [] → IsLegal book.layout book.vehicles book.journal → got ≡ [] → length slips ≡ book.vehicles
-    → ((p : ℕ) → sheets_kept p [] ≡ 0) → ((p : ℕ) (s : SlipModel) → get_elem? slips p ≡ some s → IsNewSlip book.layout.grid.spans s) → Stands book got slips
-stands_new book got slips journal legal none count kept each = record {
+pub stands_new : (book : State) (on : Channel Letter) (got : List Letter) (slips : List SlipModel) → book.journal ≡ [] → IsLegal book.layout book.vehicles book.journal → got ≡ [] → length slips ≡ book.vehicles
+    → ((p : ℕ) → sheets_kept p [] ≡ 0) → ((p : ℕ) (s : SlipModel) → get_elem? slips p ≡ some s → IsNewSlip p on book.layout.grid.spans s) → Stands book on got slips
+stands_new book on got slips journal legal none count kept each = record {
   replied = [];
   refused = [];
   replies = tt;
@@ -40,7 +37,7 @@ stands_new book got slips journal legal none count kept each = record {
   full = inl refl;
   asked = λ p. ap (λ l. asks (of p l)) none;
   count = count;
-  each = λ p s at. subst (λ (y : List Entry × List Letter). Owes p book.layout.grid.spans y.0 [] y.1 s) (λ i. (sym journal i, sym none i)) (owes_nothing p book.layout.grid.spans s (kept p) (each p s at));
+  each = λ p s at. subst (λ (y : List Entry × List Letter). Owes p on book.layout.grid.spans y.0 [] y.1 s) (λ i. (sym journal i, sym none i)) (owes_nothing p on book.layout.grid.spans s (kept p) (each p s at));
   entries = journal;
   known = tt;
   legal = legal;
@@ -50,28 +47,43 @@ stands_new book got slips journal legal none count kept each = record {
 pub open_new : (sent : List Letter) (heard : List Response) → sent ≡ [] → heard ≡ [] → IsOpen sent heard
 open_new sent heard a b = subst (λ (y : List Letter × List Response). IsOpen y.0 y.1) (λ i. (sym a i, sym b i)) record { each = refl; going = refl }
 
+-- the client of a new port and a new inlet keeps no sheet
+pub kept_new : (port : PortModel) (inlet : InletModel) → port.sent ≡ [] → inlet.heard ≡ [] → sheets_kept port.from [] ≡ 0 → IsKept (client_of port inlet)
+kept_new port inlet a b none = ap kept_after b ∙ sym (ap (λ l. sheets_kept port.from (entries_of port.from (pairs (asks l) inlet.heard))) a ∙ none)
+
 -- a slip more
-pub slip_more : (spans : ℕ) (slips : List SlipModel) (s : SlipModel) → IsNewSlip spans s → ((p : ℕ) (z : SlipModel) → get_elem? slips p ≡ some z → IsNewSlip spans z)
-    → (p : ℕ) (z : SlipModel) → get_elem? (slips ++ s ∷ []) p ≡ some z → IsNewSlip spans z
-slip_more spans slips s new old = each_more (λ p z. IsNewSlip spans z) slips s new old
+pub slip_more : (on : Channel Letter) (spans n : ℕ) (slips : List SlipModel) (s : SlipModel) → length slips ≡ n → IsNewSlip n on spans s → ((p : ℕ) (z : SlipModel) → get_elem? slips p ≡ some z → IsNewSlip p on spans z)
+    → (p : ℕ) (z : SlipModel) → get_elem? (slips ++ s ∷ []) p ≡ some z → IsNewSlip p on spans z
+slip_more on spans n slips s count new old = each_more (λ p z. IsNewSlip p on spans z) slips s (subst (λ m. IsNewSlip m on spans s) (sym count) new) old
+
+-- a new client
+abbrev fresh_client : IntakeModel → SlipModel → ℕ → ClientModel
+fresh_client intake slip n = record { asks_on = letters_of intake; hears_on = channel_of slip; setting = intake.setting; vehicle = n; calls = []; kept = 0 }
+
+pub new_client : (port : PortModel) (inlet : InletModel) (intake : IntakeModel) (slip : SlipModel) (n : ℕ) → port ≡ new_port intake → inlet ≡ record { table = slip.table; key = slip.key; first = slip.first; heard = [] }
+    → n ≡ intake.made → client_of port inlet ≡ fresh_client intake slip n
+new_client port inlet intake slip n p q next = (λ i. client_of (p i) (q i)) ∙ ap (fresh_client intake slip) (sym next)
+
+pub has_spans : (o : Option Setting) (terms : Setting) (spans : ℕ) → o ≡ Some terms → spans ≡ terms.layout.grid.spans → HasSpans o spans
+has_spans o terms spans is same = (terms, is, same)
 
 -- a slip more, with its client
-pub client_more : (book : State) (intake : IntakeModel) (slips : List SlipModel) (clients : List ClientModel) (s : SlipModel) (c : ClientModel) (n : ℕ) → length slips ≡ n → length clients ≡ n
-    → c.vehicle ≡ n → c.setting ≡ Some (setting_of book) → c.calls ≡ [] → c.kept ≡ 0 → c.asks_on ≡ record { table = intake.table; key = intake.key } → c.hears_on ≡ channel_of s
-    → ((p : ℕ) (d : ClientModel) → get_elem? clients p ≡ some d → IsNewClient (server_of book intake slips) p d)
-    → (p : ℕ) (d : ClientModel) → get_elem? (clients ++ c ∷ []) p ≡ some d → IsNewClient (server_of book intake (slips ++ s ∷ [])) p d
-client_more book intake slips clients s c n slips_n clients_n number setting calls kept asks_on hears_on old =
+client_more : (terms : Setting) (intake : IntakeModel) (slips : List SlipModel) (clients : List ClientModel) (s : SlipModel) (c : ClientModel) (n : ℕ) → length slips ≡ n → length clients ≡ n
+    → intake.setting ≡ Some terms → c ≡ fresh_client intake s n → ((p : ℕ) (d : ClientModel) → get_elem? clients p ≡ some d → IsNewClient (mail_of terms intake slips) p d)
+    → (p : ℕ) (d : ClientModel) → get_elem? (clients ++ c ∷ []) p ≡ some d → IsNewClient (mail_of terms intake (slips ++ s ∷ [])) p d
+client_more terms intake slips clients s c n slips_n clients_n setting is old =
     let longer : map channel_of (slips ++ s ∷ []) ≡ map channel_of slips ++ channel_of s ∷ [] = map-append channel_of slips (s ∷ []) in
-    each_more (IsNewClient (server_of book intake (slips ++ s ∷ []))) clients c
+    let number : c.vehicle ≡ n = ap (λ z. z.vehicle) is in
+    each_more (IsNewClient (mail_of terms intake (slips ++ s ∷ []))) clients c
     record {
       own = record {
-        asks_on = asks_on;
-        hears_on = ap (λ l. get_elem? l c.vehicle) longer ∙ at_last (map channel_of slips) (channel_of s) c.vehicle (length-map slips channel_of ∙ slips_n ∙ sym number) ∙ ap some (sym hears_on);
-        setting = setting;
+        asks_on = ap (λ z. z.asks_on) is;
+        hears_on = ap (λ l. get_elem? l c.vehicle) longer ∙ at_last (map channel_of slips) (channel_of s) c.vehicle (length-map slips channel_of ∙ slips_n ∙ sym number) ∙ ap some (sym (ap (λ z. z.hears_on) is));
+        setting = ap (λ z. z.setting) is ∙ setting;
       };
       number = number ∙ sym clients_n;
-      calls = calls;
-      kept = kept;
+      calls = ap (λ z. z.calls) is;
+      kept = ap (λ z. z.kept) is;
     }
     (λ p d at. let o = old p d at in record {
       own = record {
@@ -88,8 +100,22 @@ module _ {A : Type 0} where
   pub length-snoc : (new old : List A) (x : A) (n : ℕ) → new ≡ old ++ x ∷ [] → length old ≡ n → length new ≡ n + 1
   length-snoc new old x n is len = let e = ap length is in omega (arith, e, length-append old (x ∷ []), len)
 
-  pub same_len : (xs : List A) (n m : ℕ) → length xs ≡ n → m ≤ n → n ≤ m → length xs ≡ m
-  same_len xs n m is a b = omega (arith, is, a, b)
+-- one client more
+pub staffed_more : (terms : Setting) (n spans : ℕ) (intake intake' : IntakeModel) (slips slips' : List SlipModel) (clients clients' : List ClientModel) (s : SlipModel) (c : ClientModel)
+    → IsStaffed terms n intake slips clients → spans ≡ terms.layout.grid.spans → IsNewSlip n (letters_of intake) spans s → c ≡ fresh_client intake s n → intake' ≡ hired intake → slips' ≡ slips ++ s ∷ [] → clients' ≡ clients ++ c ∷ []
+    → IsStaffed terms (n + 1) intake' slips' clients'
+staffed_more terms n spans intake intake' slips slips' clients clients' s c old same new is h a b = record {
+  setting = ap (λ z. z.setting) h ∙ old.setting;
+  got = ap (λ z. z.got) h ∙ old.got;
+  known = ap (λ z. z.known) h ∙ old.known;
+  made = ap (λ z. z.made) h ∙ ap (λ k. k + 1) old.made;
+  slip_count = length-snoc _ _ _ _ a old.slip_count;
+  client_count = length-snoc _ _ _ _ b old.client_count;
+  blank = subst (λ (y : IntakeModel × List SlipModel). (p : ℕ) (z : SlipModel) → get_elem? y.1 p ≡ some z → IsNewSlip p (letters_of y.0) terms.layout.grid.spans z) (λ i. (sym h i, sym a i))
+      (slip_more (letters_of intake) terms.layout.grid.spans n slips s old.slip_count (subst (λ m. IsNewSlip n (letters_of intake) m s) same new) old.blank);
+  each = subst (λ (y : IntakeModel × List SlipModel × List ClientModel). (p : ℕ) (d : ClientModel) → get_elem? y.2 p ≡ some d → IsNewClient (mail_of terms y.0 y.1) p d) (λ i. (sym h i, sym a i, sym b i))
+      (client_more terms intake slips clients s c n old.slip_count old.client_count old.setting is old.each);
+}
 
 -- what is known of each by get_elem? is known of each by its place
 pub by_place : (P : ℕ → ClientModel → Type 0) (cs : List ClientModel) (n : ℕ) → length cs ≡ n → ((p : ℕ) (c : ClientModel) → get_elem? cs p ≡ some c → P p c) → (k : ℕ) (d : ClientModel) → k < n → P k (get_or cs k d)

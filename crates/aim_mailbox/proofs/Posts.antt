@@ -1,5 +1,5 @@
 -- Each step keeps the rule of the channel from the clients to the server.
-use Rattle.std.proofs.Common.{◌≡◌, ◌≢◌, ℕ, zero, suc, ◌+◌, ◌<◌, ◌≤◌, Bool, true, false, true≢false, List, [], ◌∷◌, ◌++◌, length, set, sym, refl, ap, ◌∙◌, subst, ⊎_elim, inl, inr, append_assoc, arith, Option, Some, None, filter, append-nil, length-append, lt_of_not-le}
+use Rattle.std.proofs.Common.{◌≡◌, ◌≢◌, ℕ, zero, suc, ◌+◌, ◌<◌, Bool, true, false, true≢false, List, [], ◌∷◌, ◌++◌, length, set, sym, refl, ap, ◌∙◌, subst, ⊎_elim, inl, inr, append_assoc, arith, Option, Some, None, append-nil, lt_of_not-le}
 use Rattle.std.specs.Prelude.{◌==◌, if◌then◌else◌}
 use Rattle.std.proofs.lemmas.List.Elements.{filter-append}
 use Rattle.std.proofs.lemmas.Bool.Decides.{nat_tests}
@@ -10,8 +10,8 @@ use Rattle.atomic_table.proofs.Lists.{at_set}
 use Rattle.aim_mailbox.specs.declared.letter.Letter.{Letter}
 use Rattle.aim_mailbox.specs.declared.letter.Setting.{Setting}
 use Rattle.aim_mailbox.specs.declared.post.Hand.{Hand}
-use Rattle.aim_mailbox.specs.Post.{Every, of, client, reader, nobody, sent_more, got_more, own, taken_in, Settled, Reads, Fits, Running, Posted, IsFor, told, blank, telling, client_at, note, heeded, Begun}
-use Rattle.aim_mailbox.proofs.Views.{Each, each_set, each_more, each_one}
+use Rattle.aim_mailbox.specs.Post.{Every, of, client, reader, nobody, sent_more, got_more, taken_in, Settled, Fits, Running, Posted, IsFor, told, blank, telling, client_at, note, heeded, Begun}
+use Rattle.aim_mailbox.proofs.Views.{each_set, each_more, each_one}
 
 module _ {A : Type 0} where
   pub Every-map : (P Q : A → Type 0) (xs : List A) → ((x : A) → P x → Q x) → Every P xs → Every Q xs

@@ -1,13 +1,13 @@
 -- Each step keeps the rule of the channel from the server to one client.
-use Rattle.std.proofs.Common.{◌≡◌, ◌≢◌, ℕ, zero, suc, ◌+◌, ◌<◌, ◌≤◌, Bool, true, false, true≢false, List, [], ◌∷◌, ◌++◌, length, set, sym, refl, ap, ◌∙◌, subst, ⊎_elim, inl, inr, append_assoc, append-nil, arith, Option, Some, None}
+use Rattle.std.proofs.Common.{◌≡◌, ◌≢◌, ℕ, zero, suc, true, false, true≢false, List, [], ◌∷◌, ◌++◌, length, set, sym, refl, ap, ◌∙◌, subst, ⊎_elim, inl, inr, append_assoc, append-nil, arith, Option, Some, None}
 use mathlib.Core.Option.{some, some-injective, some-ne-none}
 use lib.ListN.{get_elem?}
 use Rattle.crossbeam_channel.specs.Fifo.{Pushes, Pops, Forks, Merges, Learns}
 use Rattle.atomic_table.proofs.Lists.{at_set}
-use Rattle.aim_mailbox.specs.declared.letter.Response.{Response}
+use Rattle.aim_mailbox.specs.declared.response.Response.{Response}
 use Rattle.aim_mailbox.specs.declared.slip.Slate.{Slate}
-use Rattle.aim_mailbox.specs.Slips.{IsNext, LawfulAfter, Lawful, kept_from, kept_after, blank_slate, telling_slate, slate, whole_slate, spent_slate, put_more, heard_more, FitsSlate, Going, Answered}
-use Rattle.aim_mailbox.proofs.Views.{Each, each_set, each_more, each_one}
+use Rattle.aim_mailbox.specs.Slips.{IsNext, LawfulAfter, Lawful, kept_from, blank_slate, telling_slate, slate, whole_slate, spent_slate, put_more, heard_more, FitsSlate, Going, Answered}
+use Rattle.aim_mailbox.proofs.Views.{each_set, each_more, each_one}
 
 not_true : false ≡ true → ⊥
 not_true e = true≢false (sym e)
@@ -75,8 +75,8 @@ abbrev rest_of : List Response → List Response
 rest_of [] = []
 rest_of (x ∷ xs) = xs
 
-hears_room : (pass : ℕ) (first : Option Response) → Pops Answered pass (telling_slate first) (λ x w. w ≡ whole_slate first)
-hears_room pass first x items views h at =
+hears_first : (pass : ℕ) (first : Option Response) → Pops Answered pass (telling_slate first) (λ x w. w ≡ whole_slate first)
+hears_first pass first x items views h at =
     let w : Slate = whole_slate first in
     ⊎_elim (λ (z : ((x ∷ items) ≡ []) × (views ≡ blank_slate ∷ [])). absurd (no_items x items z.0))
     (λ y. ⊎_elim
@@ -98,8 +98,8 @@ hears_room pass first x items views h at =
       each = each_one (FitsSlate first 0 0 [] []) (whole_slate first) record { readied = λ _. refl; firsts = λ _. refl; puts = λ _. (refl, refl); hears = λ _. (refl, refl) };
     }
 
-pub hears_room_as : (pass : ℕ) (v : Slate) → v ≡ telling_slate v.first → Pops Answered pass v (λ x w. w ≡ whole_slate v.first)
-hears_room_as pass v is = subst (λ y. Pops Answered pass y (λ x w. w ≡ whole_slate v.first)) (sym is) (hears_room pass v.first)
+pub hears_first_as : (pass : ℕ) (v : Slate) → v ≡ telling_slate v.first → Pops Answered pass v (λ x w. w ≡ whole_slate v.first)
+hears_first_as pass v is = subst (λ y. Pops Answered pass y (λ x w. w ≡ whole_slate v.first)) (sym is) (hears_first pass v.first)
 
 pub puts : (n pass : ℕ) (v : Slate) (x : Response) → v.puts ≡ true → v.ready ≡ true → Lawful v.first (v.put ++ x ∷ []) → Pushes Answered n pass v x (λ w. w ≡ put_more v x)
 puts n pass v x may ready lawful items views room posted at =

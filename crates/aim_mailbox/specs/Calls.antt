@@ -12,8 +12,8 @@ use Rattle.aim_msg.specs.declared.replies.Reply.{Reply}
 use Rattle.aim_book.specs.declared.book.Full.{Full}
 use Rattle.aim_book.specs.Sheets.{own, sheets_kept}
 use Rattle.aim_mailbox.specs.declared.letter.Letter.{Letter}
-use Rattle.aim_mailbox.specs.declared.letter.Response.{Response}
 use Rattle.aim_mailbox.specs.declared.letter.Setting.{Setting}
+use Rattle.aim_mailbox.specs.declared.response.Response.{Response}
 
 abbrev pub Answer : Type 0
 Answer = Result Reply Full
@@ -77,6 +77,11 @@ entry_of vehicle moment message (Err full) = []
 abbrev pub entries_of : ℕ → List Call → List Entry
 entries_of vehicle [] = []
 entries_of vehicle (c ∷ cs) = entry_of vehicle c.moment c.message c.answer ++ entries_of vehicle cs
+
+-- The number kept is 1 where the client's calls with a reply have a fresh Confirm and no later fresh CANCEL or DONE among
+-- them names the last one, else 0.
+abbrev pub IsKept : ClientModel → Type 0
+IsKept c = c.kept ≡ sheets_kept c.vehicle (entries_of c.vehicle c.calls)
 
 -- What a journal of so much room has of a client. Its calls with a reply come before those that found the journal full,
 -- and its vehicle's entries are those calls, in that order, whole and once, each with the reply that it got. Where a call

@@ -1,3 +1,4 @@
+pub mod Asks
 pub mod Calls
 pub mod Mail
 pub mod Post

@@ -1,74 +1,36 @@
 -- The server, the clients and their calls.
 -- No public clause cites it: only the models of clients and servers, and contracts of private functions.
-use Rattle.std.specs.Prelude.{◌≡◌, ℕ, ◌+◌, ◌<◌, ◌≤◌, ◌==◌, ◌||◌, ◌⊎◌, Bool, true, false, List, [], ◌∷◌, ◌++◌, map, filter, length, Option, Some, None, Result, Ok, Err}
+use Rattle.std.specs.Prelude.{◌≡◌, ℕ, ◌<◌, ◌≤◌, ◌==◌, ◌⊎◌, true, false, List, [], ◌∷◌, ◌++◌, map, filter, length, Option, Some}
 use mathlib.Core.Option.{some}
 use lib.ListN.{get_elem?}
-use Rattle.atomic_table.specs.Seated.{TableId}
-use Rattle.atomic_table.specs.declared.badge.Badge.{Badge}
-use Rattle.crossbeam_channel.specs.declared.flavors.array.Key.{Key}
-use Rattle.aim_msg.specs.declared.entries.Act.TheVariants as act
 use Rattle.aim_msg.specs.declared.entries.Entry.{Entry}
-use Rattle.aim_msg.specs.declared.messages.Message.{Message}
-use Rattle.aim_msg.specs.declared.replies.Reply.{Reply}
 use Rattle.aim_buffers.specs.Requests.{Request}
 use Rattle.aim_rules.specs.Legal.{IsLegal}
-use Rattle.aim_book.specs.declared.book.Full.{Full}
-use Rattle.aim_book.specs.Sheets.{own, sheets_kept}
+use Rattle.aim_book.specs.Sheets.{sheets_kept}
 use Rattle.aim_book.specs.State.{State}
 use Rattle.aim_mailbox.specs.declared.letter.Letter.{Letter}
-use Rattle.aim_mailbox.specs.declared.letter.Response.{Response}
 use Rattle.aim_mailbox.specs.declared.letter.Setting.{Setting}
-use Rattle.aim_mailbox.specs.declared.letter.Word.{Word}
 use Rattle.aim_mailbox.specs.declared.letter.Word.TheVariants as W
-use Rattle.aim_mailbox.specs.Calls.{Answer, Call, Channel, ClientModel, ServerModel, entry_of, IsReply, IsFull}
-use Rattle.aim_mailbox.specs.Post.{Every, of, PortModel, IntakeModel}
-use Rattle.aim_mailbox.specs.Slips.{Lawful, kept_after, room_in, SlipModel, InletModel}
+use Rattle.aim_mailbox.specs.declared.response.Response.{Response}
+use Rattle.aim_mailbox.specs.Asks.{Ask, asks, calls_in, has_last, is_last}
+use Rattle.aim_mailbox.specs.Calls.{Answer, Channel, ClientModel, ServerModel, entry_of, IsNewClient, IsReply, IsFull}
+use Rattle.aim_mailbox.specs.Post.{Every, of, PortModel, IntakeModel, NoteModel}
+use Rattle.aim_mailbox.specs.Slips.{IsFirst, Lawful, kept_after, SlipModel, InletModel}
 
--- what is asked by a call
-pub record Ask : Type 0 where
-  pub moment : ℕ
-  pub message : Message
+-- the channel of a port, of the server's end, and of a note
+abbrev pub posts_on : PortModel → Channel Letter
+posts_on p = record { table = p.table; key = p.key }
 
-abbrev pub ask : ℕ → Request → Ask
-ask moment p = record { moment = moment; message = p.message }
+abbrev pub letters_of : IntakeModel → Channel Letter
+letters_of i = record { table = i.table; key = i.key }
 
-abbrev pub asked : Word → List Ask
-asked (W.Opening s) = []
-asked (W.Call moment p) = ask moment p ∷ []
-asked W.Last = []
-
-abbrev pub is_last : Word → Bool
-is_last (W.Opening s) = false
-is_last (W.Call moment p) = false
-is_last W.Last = true
-
--- what the calls among the letters ask
-abbrev pub asks : List Letter → List Ask
-asks [] = []
-asks (l ∷ ls) = asked l.word ++ asks ls
-
--- whether a last word is among the letters
-abbrev pub has_last : List Letter → Bool
-has_last [] = false
-has_last (l ∷ ls) = is_last l.word || has_last ls
-
-abbrev pub call_of : Ask → Answer → Call
-call_of a answer = record { moment = a.moment; message = a.message; answer = answer }
-
--- each ask with the response in its place
-abbrev pub pairs : List Ask → List Response → List Call
-pairs [] rs = []
-pairs (a ∷ as') [] = []
-pairs (a ∷ as') (r ∷ rs) = call_of a r.answer ∷ pairs as' rs
-
--- the calls of a client that sent and heard so
-abbrev pub calls_in : List Letter → List Response → List Call
-calls_in sent heard = pairs (asks sent) heard
+abbrev pub noted_on : NoteModel → Channel Letter
+noted_on n = record { table = n.table; key = n.key }
 
 -- what contracts see of a client with these ends
 abbrev pub client_of : PortModel → InletModel → ClientModel
 client_of port inlet = record {
-  asks_on = record { table = port.table; key = port.key };
+  asks_on = posts_on port;
   hears_on = record { table = inlet.table; key = inlet.key };
   setting = port.setting;
   vehicle = port.from;
@@ -90,11 +52,11 @@ pub record IsEnded (sent : List Letter) (heard : List Response) : Type 0 where
   pub each : length (asks sent) ≡ length heard
   pub going : has_last calls ≡ false
 
--- the sheets that come to a client of the setting have the room of its layout's spans
-pub record HasRoom (setting : Option Setting) (first : Option Response) : Type 0 where
+-- what the first response told a client
+pub record IsTold (port : PortModel) (first : Option Response) : Type 0 where
   pub terms : Setting
-  pub is : setting ≡ Some terms
-  pub room : room_in first ≡ terms.layout.grid.spans
+  pub is : port.setting ≡ Some terms
+  pub told : IsFirst port.from (posts_on port) terms.layout.grid.spans first
 
 abbrev pub call_letter : ℕ → ℕ → Request → Letter
 call_letter from moment p = record { from = from; word = W.Call moment p }
@@ -120,15 +82,15 @@ entries_in [] = []
 entries_in (d ∷ ds) = entry_of d.vehicle d.ask.moment d.ask.message d.answer ++ entries_in ds
 
 -- what the server knows of one client
-pub record Owes (p spans : ℕ) (journal : List Entry) (log : List Deal) (got : List Letter) (s : SlipModel) : Type 0 where
+pub record Owes (p : ℕ) (on : Channel Letter) (spans : ℕ) (journal : List Entry) (log : List Deal) (got : List Letter) (s : SlipModel) : Type 0 where
   pub put : map (λ r. r.answer) s.put ≡ map (λ d. d.answer) (deals_of p log)
   pub lawful : Lawful s.first s.put
-  pub room : room_in s.first ≡ spans
+  pub told : IsFirst p on spans s.first
   pub kept : kept_after s.put ≡ sheets_kept p journal
   pub ended : s.ended ≡ true → has_last (of p got) ≡ true
 
--- What the server knows: all that it served, first what had room and then what had not.
-pub record Stands (book : State) (got : List Letter) (slips : List SlipModel) : Type 0 where
+-- What the server knows, with the channel of the requests: all that it served, first what had room and then what had not.
+pub record Stands (book : State) (on : Channel Letter) (got : List Letter) (slips : List SlipModel) : Type 0 where
   pub replied : List Deal
   pub refused : List Deal
   pub replies : Every (λ d. IsReply d.answer) replied
@@ -136,11 +98,15 @@ pub record Stands (book : State) (got : List Letter) (slips : List SlipModel) : 
   pub full : (refused ≡ []) ⊎ (length book.journal ≡ book.room)
   pub asked : (p : ℕ) → asks (of p got) ≡ map (λ d. d.ask) (deals_of p (replied ++ refused))
   pub count : length slips ≡ book.vehicles
-  pub each : (p : ℕ) (s : SlipModel) → get_elem? slips p ≡ some s → Owes p book.layout.grid.spans book.journal (replied ++ refused) got s
+  pub each : (p : ℕ) (s : SlipModel) → get_elem? slips p ≡ some s → Owes p on book.layout.grid.spans book.journal (replied ++ refused) got s
   pub entries : book.journal ≡ entries_in replied
   pub known : Every (λ d. d.vehicle < book.vehicles) replied
   pub legal : IsLegal book.layout book.vehicles book.journal
   pub within : length book.journal ≤ book.room
+
+-- a slip of which nothing was sent but the first response
+abbrev pub IsNewSlip : ℕ → Channel Letter → ℕ → SlipModel → Type 0
+IsNewSlip p on spans s = (s.put ≡ []) × (s.ended ≡ false) × IsFirst p on spans s.first
 
 -- the same book, maybe with another journal
 pub record IsSameBook (a b : State) : Type 0 where
@@ -175,6 +141,25 @@ pub record IsSameIntake (a b : IntakeModel) : Type 0 where
 -- the server's end of a client's channel
 abbrev pub channel_of : SlipModel → Channel Response
 channel_of s = record { table = s.table; key = s.key }
+
+-- the setting is known, and its layout has sheets of so many spans
+abbrev pub HasSpans : Option Setting → ℕ → Type 0
+HasSpans setting spans = (terms : Setting) × (setting ≡ Some terms) × (spans ≡ terms.layout.grid.spans)
+
+-- what contracts see of a server with these parts
+abbrev pub mail_of : Setting → IntakeModel → List SlipModel → ServerModel
+mail_of setting intake slips = record { setting = setting; asked_on = letters_of intake; answers_on = map channel_of slips }
+
+-- the ends of a mailbox of the setting that has so many clients, each of them new
+pub record IsStaffed (terms : Setting) (count : ℕ) (intake : IntakeModel) (slips : List SlipModel) (clients : List ClientModel) : Type 0 where
+  pub setting : intake.setting ≡ Some terms
+  pub got : intake.got ≡ []
+  pub known : intake.known ≡ []
+  pub made : intake.made ≡ count
+  pub slip_count : length slips ≡ count
+  pub client_count : length clients ≡ count
+  pub blank : (p : ℕ) (s : SlipModel) → get_elem? slips p ≡ some s → IsNewSlip p (letters_of intake) terms.layout.grid.spans s
+  pub each : (p : ℕ) (c : ClientModel) → get_elem? clients p ≡ some c → IsNewClient (mail_of terms intake slips) p c
 
 -- a client that ended, with all that it sent and heard
 pub record Gone : Type 0 where

@@ -1,18 +1,27 @@
 -- The channel from the server to one client: what its passes know, its rule, and what contracts see of its ends.
 -- No public clause cites it: only the models of the ends, and contracts of private functions.
-use Rattle.std.specs.Prelude.{◌≡◌, ◌⊎◌, ℕ, ◌+◌, ◌≤◌, Bool, true, false, List, [], ◌∷◌, ◌++◌, Option, Some, None}
+use Rattle.std.specs.Prelude.{◌≡◌, ◌⊎◌, ℕ, ◌+◌, Bool, true, false, List, [], ◌∷◌, ◌++◌, length, Option, Some, None}
 use mathlib.Core.Option.{some}
 use lib.ListN.{get_elem?}
 use Rattle.atomic_table.specs.Seated.{TableId}
 use Rattle.atomic_table.specs.declared.badge.Badge.{Badge}
 use Rattle.crossbeam_channel.specs.declared.flavors.array.Key.{Key}
-use Rattle.aim_mailbox.specs.declared.letter.Response.{Response}
+use Rattle.aim_book.specs.Sheets.{sheets_kept}
+use Rattle.aim_mailbox.specs.declared.letter.Letter.{Letter}
+use Rattle.aim_mailbox.specs.declared.response.Response.{Response}
 use Rattle.aim_mailbox.specs.declared.slip.Slate.{Slate}
+use Rattle.aim_mailbox.specs.Asks.{asks, calls_in}
+use Rattle.aim_mailbox.specs.Calls.{Channel, entries_of}
+use Rattle.aim_mailbox.specs.Post.{of}
 
--- the room of the sheets that the first response tells
-abbrev pub room_in : Option Response → ℕ
-room_in (Some r) = r.sheets.room
-room_in None = 0
+-- what the first response tells: the client's number, the channel of its requests, and the room of its sheets
+pub record IsFirst (number : ℕ) (requests : Channel Letter) (room : ℕ) (first : Option Response) : Type 0 where
+  pub opening : Response
+  pub is : first ≡ Some opening
+  pub to : opening.to ≡ number
+  pub table : opening.note.table ≡ requests.table
+  pub key : opening.note.key ≡ requests.key
+  pub sheets : opening.sheets.room ≡ room
 
 -- how many sheets the book keeps after the responses
 abbrev pub kept_from : ℕ → List Response → ℕ
@@ -22,12 +31,21 @@ kept_from k (r ∷ rs) = kept_from r.kept rs
 abbrev pub kept_after : List Response → ℕ
 kept_after rs = kept_from 0 rs
 
--- The response may come after `before`: its sheets have the room that the first response told, and with those that the book
--- keeps they are those that it kept before and the two of the call.
-pub record IsNext (first : Option Response) (before : List Response) (r : Response) : Type 0 where
-  pub room : r.sheets.room ≡ room_in first
+-- The response may come after the first one and those of `before`. It is to the same client, and its sheets have the same
+-- room. With those that the book keeps they are those that it kept before and the two of the call. Its note is of the same
+-- channel, and tells one call of the client for each response. The number kept is the one of these calls with the answers.
+pub record Follows (first : Response) (before : List Response) (r : Response) : Type 0 where
+  pub to : r.to ≡ first.to
+  pub room : r.sheets.room ≡ first.sheets.room
   pub count : r.sheets.count + r.kept ≡ kept_after before + 2
-  pub one : r.kept ≤ 1
+  pub table : r.note.table ≡ first.note.table
+  pub key : r.note.key ≡ first.note.key
+  pub calls : length (asks (of first.to r.note.got)) ≡ length before + 1
+  pub kept : r.kept ≡ sheets_kept first.to (entries_of first.to (calls_in (of first.to r.note.got) (before ++ r ∷ [])))
+
+abbrev pub IsNext : Option Response → List Response → Response → Type 0
+IsNext (Some first) before r = Follows first before r
+IsNext None before r = ⊥
 
 abbrev pub LawfulAfter : Option Response → List Response → List Response → Type 0
 LawfulAfter first before [] = Unit {0}

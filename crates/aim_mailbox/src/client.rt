@@ -2,10 +2,12 @@
 ghost use Rattle.std.specs.Prelude.{◌≡◌, ◌+◌, ◌≤◌, ◌++◌, [], ◌∷◌, IfSome};
 ghost use Rattle.aim_msg.specs.declared.entries.TheConstants.{LATEST_MOMENT};
 ghost use Rattle.aim_buffers.specs.Requests.{IsPreparedFor};
-ghost use Rattle.aim_mailbox.specs.Mail.{client_of, HasRoom};
+ghost use Rattle.aim_mailbox.specs.Calls.{IsKept};
+ghost use Rattle.aim_mailbox.specs.Mail.{client_of, IsTold};
 
-use crate::letter::{Letter, Response, Word};
+use crate::letter::{Letter, Word};
 use crate::post::Port;
+use crate::response::Response;
 use crate::slip::Inlet;
 use aim_book::Full;
 use aim_buffers::Prepared;
@@ -23,14 +25,14 @@ pub struct Client {
 }
 
 impl Model for Client {
-    ghost use Rattle.aim_mailbox.specs.Calls.{ClientModel};
-    ghost use Rattle.aim_mailbox.specs.Mail.{client_of, HasRoom, IsOpen};
+    ghost use Rattle.aim_mailbox.specs.Calls.{ClientModel, IsKept};
+    ghost use Rattle.aim_mailbox.specs.Mail.{client_of, IsOpen, IsTold};
 
     ghost Value = { ClientModel };
 
     ghost view = { λ c. client_of c.port c.inlet };
 
-    ghost invariant = { λ c. IsOpen c.port.sent c.inlet.heard × HasRoom c.port.setting c.inlet.first };
+    ghost invariant = { λ c. IsOpen c.port.sent c.inlet.heard × IsTold c.port c.inlet.first × IsKept (client_of c.port c.inlet) };
 }
 
 /// A client that sent its last word.
@@ -68,13 +70,14 @@ fn move_over(mut sheets: Pool, back: &mut Pool)
 impl Client {
     pub(crate) fn new(port: Port, inlet: Inlet) -> Client
         requires new { (port.sent ≡ []) × (inlet.heard ≡ []) }
-        requires room { HasRoom port.setting inlet.first }
+        requires told { IsTold port inlet.first }
         ensures { result ≡ client_of port inlet }
     {
         Client { port, inlet }
     }
 
-    /// Makes one call, and waits for its answer. The sheets that the book gives back come into `back`.
+    /// Makes one call, and waits for its answer. The sheets that the book gives back come into `back`, all but the one that
+    /// it keeps where the calls with a reply say so.
     pub fn call<R: Wait>(
         &mut self,
         rt: &R,
@@ -89,6 +92,7 @@ impl Client {
         ensures call { self.new ≡ record self.old { calls = self.old.calls ++ (record { moment = moment; message = prepared.message; answer = result }) ∷ []; kept = self.new.kept } }
         ensures sheets { back.new.count + self.new.kept ≡ back.old.count + self.old.kept + 2 }
         ensures kept { self.new.kept ≤ 1 }
+        ensures number { IsKept self.old × IsKept self.new }
         ensures pool { back.new.room ≡ back.old.room }
     {
         let from = self.port.from();
@@ -98,10 +102,13 @@ impl Client {
         };
         self.port.send(rt, letter);
         let Response {
+            to: _,
             answer,
             sheets,
             kept: _,
+            note,
         } = self.inlet.hear(rt);
+        self.port.heed(note);
         move_over(sheets, back);
         answer
     }

@@ -1,9 +1,6 @@
-//! What goes over the channels.
-use aim_book::Full;
+//! What is said to the server.
 use aim_buffers::Prepared;
-use aim_msg::Reply;
 use aim_paths::Layout;
-use aim_pool::Pool;
 
 /// What no call changes of a mailbox.
 #[derive(Drop)]
@@ -29,12 +26,4 @@ pub enum Word {
 pub struct Letter {
     pub from: u32,
     pub word: Word,
-}
-
-/// What comes back of a call: the answer, the sheets that the book gave back, and how many it now keeps for the vehicle.
-#[derive(Drop)]
-pub struct Response {
-    pub answer: Result<Reply, Full>,
-    pub sheets: Pool,
-    pub kept: u32,
 }

@@ -1,16 +1,19 @@
 //! A mailbox is opened.
 ghost use Rattle.std.specs.Prelude.{◌≡◌, ◌↔◌, ◌⊎◌, ℕ, ◌<◌, ◌≤◌, [], length, slice_index_or, IfOk, Err};
 ghost use Rattle.aim_msg.specs.declared.entries.TheConstants.{MOST_ENTRIES, MOST_VEHICLES};
-ghost use Rattle.aim_rules.specs.Legal.{IsLegal};
 ghost use Rattle.aim_mailbox.specs.Calls.{ClientModel, IsNewClient};
+ghost use Rattle.aim_mailbox.specs.Post.{hired};
+ghost use Rattle.aim_mailbox.specs.Mail.{HasSpans, IsNewSlip, IsStaffed, channel_of, letters_of, setting_of};
 
 use crate::client::Client;
 use crate::letter::Setting;
 use crate::post::Intake;
+use crate::response::Response;
 use crate::server::{Desk, Server, spans_of};
 use crate::slip::Slip;
-use aim_book::{Book, OpenFault};
+use aim_book::{Book, Full, OpenFault};
 use aim_paths::Layout;
+use aim_pool::Pool;
 use aim_tiles::Steps;
 use std::alloc::{AllocError, Global};
 use std::sync::Wait;
@@ -26,25 +29,55 @@ pub struct OpenedMail<L: Ledger> {
 /// Where mailboxes are opened.
 pub struct Mailbox;
 
-// A server for the book, with its clients.
+// The ends of the channels of a mailbox, but for those that the clients have.
+#[derive(Drop)]
+struct Staff {
+    intake: Intake,
+    slips: Vec<Slip>,
+    clients: Vec<Client>,
+}
+
+// The client of the next vehicle, with the slip on which it is answered.
+fn hire<R: Wait>(
+    rt: &R,
+    alloc: Global,
+    intake: &mut Intake,
+    vehicle: u32,
+    spans: u32,
+) -> Result<(Slip, Client), AllocError>
+    requires next { vehicle ≡ intake.old.made }
+    requires spans { HasSpans intake.old.setting spans }
+    ensures intake { IfOk result (λ _. intake.new ≡ hired intake.old) }
+    ensures slip { IfOk result (λ r. IsNewSlip vehicle (letters_of intake.old) spans r.0) }
+    ensures client { IfOk result (λ r. r.1 ≡ record { asks_on = letters_of intake.old; hears_on = channel_of r.0; setting = intake.old.setting; vehicle = vehicle; calls = []; kept = 0 }) }
+{
+    let port = intake.hire(vehicle)?;
+    let first = Response {
+        to: vehicle,
+        answer: Err(Full),
+        sheets: Pool::empty(spans),
+        kept: 0,
+        note: intake.note(),
+    };
+    let (slip, inlet) = Slip::open(rt, alloc, first)?;
+    Ok((slip, Client::new(port, inlet)))
+}
+
+// The channels of a mailbox for the book, with a client for each vehicle.
 fn staffed<L: Ledger, R: Wait>(
     rt: &R,
     alloc: Global,
-    desk: Desk<L>,
+    book: &Book<L>,
     room: u32,
-) -> Result<OpenedMail<L>, AllocError>
-    requires empty { desk.book.journal ≡ [] }
-    requires legal { IsLegal desk.book.layout desk.book.vehicles desk.book.journal }
-    requires vehicles { (0 < desk.book.vehicles) × (desk.book.vehicles ≤ MOST_VEHICLES) }
-    requires room { room ≡ desk.book.room }
-    ensures server { IfOk result (λ m. m.server.setting ≡ record { layout = desk.book.layout; vehicles = desk.book.vehicles; room = desk.book.room }) }
-    ensures count { IfOk result (λ m. length m.clients.items ≡ desk.book.vehicles) }
-    ensures clients { IfOk result (λ m. (k : ℕ) (d : ClientModel) → k < desk.book.vehicles → IsNewClient m.server k (slice_index_or m.clients.items k d)) }
+) -> Result<Staff, AllocError>
+    requires vehicles { 0 < book.now.vehicles }
+    requires room { room ≡ book.now.room }
+    ensures { IfOk result (λ m. IsStaffed (setting_of book.now) book.now.vehicles m.intake m.slips.items m.clients.items) }
 {
-    let vehicles = desk.book.vehicles();
-    let spans = spans_of(desk.book.layout());
+    let vehicles = book.vehicles();
+    let spans = spans_of(book.layout());
     let setting = Setting {
-        layout: desk.book.layout().copy()?,
+        layout: book.layout().copy()?,
         vehicles,
         room,
     };
@@ -52,13 +85,15 @@ fn staffed<L: Ledger, R: Wait>(
     let mut slips = Vec::with_capacity(alloc, vehicles as usize)?;
     let mut clients = Vec::with_capacity(alloc, vehicles as usize)?;
     for vehicle in 0..vehicles {
-        let port = intake.hire(vehicle)?;
-        let (slip, inlet) = Slip::open(rt, alloc, spans)?;
+        let (slip, client) = hire(rt, alloc, &mut intake, vehicle, spans)?;
         slips.push_reserved(slip);
-        clients.push_reserved(Client::new(port, inlet));
+        clients.push_reserved(client);
     }
-    let server = Server::new(desk, intake, slips);
-    Ok(OpenedMail { server, clients })
+    Ok(Staff {
+        intake,
+        slips,
+        clients,
+    })
 }
 
 impl Mailbox {
@@ -83,8 +118,17 @@ impl Mailbox {
     {
         let book = Book::open(alloc, layout, vehicles, room)?;
         let steps = Steps::new(blank);
-        match staffed(rt, alloc, Desk { book, steps }, room) {
-            Ok(opened) => Ok(opened),
+        match staffed(rt, alloc, &book, room) {
+            Ok(
+                Staff {
+                    intake,
+                    slips,
+                    clients,
+                },
+            ) => Ok(OpenedMail {
+                server: Server::new(Desk { book, steps }, intake, slips),
+                clients,
+            }),
             Err(AllocError) => Err(OpenFault::NoMemory),
         }
     }

@@ -8,13 +8,15 @@ ghost use Rattle.aim_rules.specs.Legal.{IsLegal};
 ghost use Rattle.aim_book.specs.Sheets.{own};
 ghost use Rattle.aim_book.specs.State.{State};
 ghost use Rattle.aim_mailbox.specs.Calls.{IsOfMail, IsSettled};
-ghost use Rattle.aim_mailbox.specs.Slips.{SlipModel, room_in};
+ghost use Rattle.aim_mailbox.specs.Calls.{Channel};
+ghost use Rattle.aim_mailbox.specs.Slips.{SlipModel};
 ghost use Rattle.aim_mailbox.specs.declared.letter.Letter.{Letter};
-ghost use Rattle.aim_mailbox.specs.Mail.{Stands, IsSameBook, AreSameSlips, IsSameIntake, HasEnded, call_letter, last_letter, channel_of, setting_of};
+ghost use Rattle.aim_mailbox.specs.Mail.{Stands, IsSameBook, AreSameSlips, IsSameIntake, HasEnded, IsNewSlip, call_letter, last_letter, channel_of, letters_of, noted_on, setting_of};
 
 use crate::client::Ended;
-use crate::letter::{Letter, Response, Word};
-use crate::post::Intake;
+use crate::letter::{Letter, Word};
+use crate::post::{Intake, Note};
+use crate::response::Response;
 use crate::slip::Slip;
 use aim_book::Book;
 use aim_book::laws::sheets_are_those_of_own_entries;
@@ -41,22 +43,23 @@ pub(crate) fn spans_of(layout: &Layout) -> u32
     layout.ground().grid().spans
 }
 
-// Serves one call, and sends the response.
+// Serves the call that was received last, of which there is a note, and sends the response.
 fn answer<L: Ledger, R: Wait>(
     rt: &R,
     desk: &mut Desk<L>,
     slips: &mut Vec<Slip>,
+    note: Note,
     from: u32,
     moment: u32,
     prepared: Prepared,
 )
-    requires stands { (got : List Letter) × Stands desk.old.book got slips.old.items }
+    requires stands { (got : List Letter) × (note.got ≡ got ++ call_letter from moment prepared ∷ []) × Stands desk.old.book (noted_on note) got slips.old.items }
     requires from { from < desk.old.book.vehicles }
     requires moment { moment ≤ LATEST_MOMENT }
     requires prepared { IsPreparedFor desk.old.book.layout prepared }
     ensures book { IsSameBook desk.old.book desk.new.book }
     ensures slips { AreSameSlips slips.old.items slips.new.items }
-    ensures stands { (got : List Letter) → Stands desk.old.book got slips.old.items → Stands desk.new.book (got ++ call_letter from moment prepared ∷ []) slips.new.items }
+    ensures stands { Stands desk.new.book (noted_on note) note.got slips.new.items }
 {
     let mut sheets = Pool::empty(spans_of(desk.book.layout()));
     let answer = desk
@@ -67,9 +70,11 @@ fn answer<L: Ledger, R: Wait>(
     slips[from as usize].put(
         rt,
         Response {
+            to: from,
             answer,
             sheets,
             kept,
+            note,
         },
     );
 }
@@ -78,7 +83,7 @@ fn answer<L: Ledger, R: Wait>(
 fn note_end(slips: &mut Vec<Slip>, from: u32)
     requires from { from < length slips.old.items }
     ensures slips { AreSameSlips slips.old.items slips.new.items }
-    ensures stands { (book : State) (got : List Letter) → Stands book got slips.old.items → Stands book (got ++ last_letter from ∷ []) slips.new.items }
+    ensures stands { (book : State) (on : Channel Letter) (got : List Letter) → Stands book on got slips.old.items → Stands book on (got ++ last_letter from ∷ []) slips.new.items }
 {
     slips[from as usize].end();
 }
@@ -90,16 +95,18 @@ fn serve_one<L: Ledger, R: Wait>(
     intake: &mut Intake,
     slips: &mut Vec<Slip>,
 )
-    requires stands { Stands desk.old.book intake.old.got slips.old.items }
+    requires stands { Stands desk.old.book (letters_of intake.old) intake.old.got slips.old.items }
     requires made { (intake.old.made ≡ desk.old.book.vehicles) × (intake.old.setting ≡ Some (setting_of desk.old.book)) }
     ensures book { IsSameBook desk.old.book desk.new.book }
     ensures intake { IsSameIntake intake.old intake.new }
     ensures slips { AreSameSlips slips.old.items slips.new.items }
-    ensures stands { Stands desk.new.book intake.new.got slips.new.items }
+    ensures stands { Stands desk.new.book (letters_of intake.new) intake.new.got slips.new.items }
 {
     let Letter { from, word } = intake.receive(rt);
     match word {
-        Word::Call { moment, prepared } => answer(rt, desk, slips, from, moment, prepared),
+        Word::Call { moment, prepared } => {
+            answer(rt, desk, slips, intake.note(), from, moment, prepared)
+        }
         Word::Last => note_end(slips, from),
         Word::Opening(_) => unreachable!(),
     }
@@ -114,12 +121,12 @@ fn serve_until<L: Ledger, R: Wait>(
     client: usize,
 )
     requires client { client < length slips.old.items }
-    requires stands { Stands desk.old.book intake.old.got slips.old.items }
+    requires stands { Stands desk.old.book (letters_of intake.old) intake.old.got slips.old.items }
     requires made { (intake.old.made ≡ desk.old.book.vehicles) × (intake.old.setting ≡ Some (setting_of desk.old.book)) }
     ensures book { IsSameBook desk.old.book desk.new.book }
     ensures intake { IsSameIntake intake.old intake.new }
     ensures slips { AreSameSlips slips.old.items slips.new.items }
-    ensures stands { Stands desk.new.book intake.new.got slips.new.items }
+    ensures stands { Stands desk.new.book (letters_of intake.new) intake.new.got slips.new.items }
     ensures ended { HasEnded slips.new.items client }
 {
     for _ in rt.forever() {
@@ -143,13 +150,13 @@ impl<L: Ledger> Model for Server<L> {
     ghost use Rattle.std.specs.Prelude.{◌≡◌, ◌≤◌, [], map, Some};
     ghost use Rattle.aim_msg.specs.declared.entries.TheConstants.{MOST_VEHICLES};
     ghost use Rattle.aim_mailbox.specs.Calls.{ServerModel};
-    ghost use Rattle.aim_mailbox.specs.Mail.{Stands, channel_of, setting_of};
+    ghost use Rattle.aim_mailbox.specs.Mail.{Stands, channel_of, letters_of, setting_of};
 
     ghost Value = { ServerModel };
 
-    ghost view = { λ s. record { setting = setting_of s.desk.book; asked_on = record { table = s.intake.table; key = s.intake.key }; answers_on = map channel_of s.slips.items } };
+    ghost view = { λ s. record { setting = setting_of s.desk.book; asked_on = letters_of s.intake; answers_on = map channel_of s.slips.items } };
 
-    ghost invariant = { λ s. Stands s.desk.book s.intake.got s.slips.items × (s.intake.made ≡ s.desk.book.vehicles) × (s.intake.setting ≡ Some (setting_of s.desk.book)) × (s.intake.known ≡ []) × (s.desk.book.vehicles ≤ MOST_VEHICLES) };
+    ghost invariant = { λ s. Stands s.desk.book (letters_of s.intake) s.intake.got s.slips.items × (s.intake.made ≡ s.desk.book.vehicles) × (s.intake.setting ≡ Some (setting_of s.desk.book)) × (s.intake.known ≡ []) × (s.desk.book.vehicles ≤ MOST_VEHICLES) };
 }
 
 /// A server that has received the last word of every client.
@@ -164,13 +171,13 @@ impl<L: Ledger> Model for Served<L> {
     ghost use Rattle.std.specs.Prelude.{◌≡◌, ◌<◌, ◌≤◌, [], ℕ, length, map};
     ghost use Rattle.aim_msg.specs.declared.entries.TheConstants.{MOST_VEHICLES};
     ghost use Rattle.aim_mailbox.specs.Calls.{ServerModel};
-    ghost use Rattle.aim_mailbox.specs.Mail.{Stands, HasEnded, channel_of, setting_of};
+    ghost use Rattle.aim_mailbox.specs.Mail.{Stands, HasEnded, channel_of, letters_of, setting_of};
 
     ghost Value = { ServerModel };
 
-    ghost view = { λ s. record { setting = setting_of s.desk.book; asked_on = record { table = s.intake.table; key = s.intake.key }; answers_on = map channel_of s.slips.items } };
+    ghost view = { λ s. record { setting = setting_of s.desk.book; asked_on = letters_of s.intake; answers_on = map channel_of s.slips.items } };
 
-    ghost invariant = { λ s. Stands s.desk.book s.intake.got s.slips.items × (s.intake.made ≡ s.desk.book.vehicles) × (s.intake.known ≡ []) × (s.desk.book.vehicles ≤ MOST_VEHICLES) × ((p : ℕ) → p < length s.slips.items → HasEnded s.slips.items p) };
+    ghost invariant = { λ s. Stands s.desk.book (letters_of s.intake) s.intake.got s.slips.items × (s.intake.made ≡ s.desk.book.vehicles) × (s.intake.known ≡ []) × (s.desk.book.vehicles ≤ MOST_VEHICLES) × ((p : ℕ) → p < length s.slips.items → HasEnded s.slips.items p) };
 }
 
 impl<L: Ledger> Server<L> {
@@ -178,8 +185,8 @@ impl<L: Ledger> Server<L> {
         requires book { (desk.book.journal ≡ []) × (length slips.items ≡ desk.book.vehicles) × (desk.book.vehicles ≤ MOST_VEHICLES) }
         requires legal { IsLegal desk.book.layout desk.book.vehicles desk.book.journal }
         requires intake { (intake.got ≡ []) × (intake.made ≡ desk.book.vehicles) × (intake.setting ≡ Some (setting_of desk.book)) × (intake.known ≡ []) }
-        requires slips { (p : ℕ) (s : SlipModel) → get_elem? slips.items p ≡ some s → (s.put ≡ []) × (s.ended ≡ false) × (room_in s.first ≡ desk.book.layout.grid.spans) }
-        ensures { result ≡ record { setting = setting_of desk.book; asked_on = record { table = intake.table; key = intake.key }; answers_on = map channel_of slips.items } }
+        requires slips { (p : ℕ) (s : SlipModel) → get_elem? slips.items p ≡ some s → IsNewSlip p (letters_of intake) desk.book.layout.grid.spans s }
+        ensures { result ≡ record { setting = setting_of desk.book; asked_on = letters_of intake; answers_on = map channel_of slips.items } }
     {
         sheets_are_those_of_own_entries();
         Server {

@@ -2,12 +2,10 @@
 ghost use Rattle.std.specs.Prelude.{◌≡◌, ◌++◌, [], ◌∷◌, true, false, IfOk, List, Some};
 ghost use Rattle.crossbeam_channel.specs.Claims.{view, IsSeatAt};
 ghost use Rattle.crossbeam_channel.specs.Ends.{sends_on, receives_on};
-ghost use Rattle.aim_mailbox.specs.Slips.{blank_slate, telling_slate, slate, whole_slate, put_more, heard_more, room_in, Lawful, SlipModel, InletModel, put_on, heard_on};
-ghost use Rattle.aim_mailbox.specs.declared.letter.Response.{Response};
+ghost use Rattle.aim_mailbox.specs.Slips.{blank_slate, telling_slate, slate, whole_slate, put_more, heard_more, Lawful, SlipModel, InletModel, put_on, heard_on};
+ghost use Rattle.aim_mailbox.specs.declared.response.Response.{Response};
 
-use crate::letter::Response;
-use aim_book::Full;
-use aim_pool::Pool;
+use crate::response::Response;
 use crossbeam_channel::protocol::{Join, Lesson, Outcome, Protocol, Split};
 use crossbeam_channel::{Pass, RuledReceiver, RuledSender, bounded_with};
 use std::alloc::{AllocError, Global};
@@ -17,7 +15,7 @@ use std::sync::Wait;
 
 /// What a pass of the channel knows. It stands in contracts alone, and no value of it is made.
 pub struct Slate {
-    /// The first response, which tells the room of the sheets, and whether it was heard.
+    /// The first response, which tells what no call changes, and whether it was heard.
     pub first: Option<Response>,
     pub ready: bool,
     /// Whether it may send.
@@ -63,26 +61,26 @@ impl Join<Slate> for Ends {
 }
 
 /// The first response was sent.
-pub struct TellsRoom;
+pub struct TellsFirst;
 
-impl Outcome<Response, Slate> for TellsRoom {
+impl Outcome<Response, Slate> for TellsFirst {
     ghost then = { λ v x w. w ≡ telling_slate (Some x) };
 }
 
-impl Lesson<Response, Slate> for TellsRoom {
+impl Lesson<Response, Slate> for TellsFirst {
     ghost use Rattle.std.specs.Prelude.{⊤};
 
     ghost fact = { λ v items. ⊤ };
 }
 
 /// The first response was received.
-pub struct HearsRoom;
+pub struct HearsFirst;
 
-impl Outcome<Response, Slate> for HearsRoom {
+impl Outcome<Response, Slate> for HearsFirst {
     ghost then = { λ v x w. w ≡ whole_slate v.first };
 }
 
-impl Lesson<Response, Slate> for HearsRoom {
+impl Lesson<Response, Slate> for HearsFirst {
     ghost use Rattle.std.specs.Prelude.{⊤};
 
     ghost fact = { λ v items. ⊤ };
@@ -127,7 +125,7 @@ type SlipReceiver = RuledReceiver<Response, Slate, Answering>;
 
 type SlipPass = Pass<Response, Slate>;
 
-// Tells the room of the sheets.
+// Sends the first response.
 fn tell<R: Wait>(rt: &R, sender: &SlipSender, pass: &mut SlipPass, mut response: Response)
     requires seat { IsSeatAt (sends_on sender.now) pass.old }
     requires blank { view pass.old ≡ blank_slate }
@@ -135,7 +133,7 @@ fn tell<R: Wait>(rt: &R, sender: &SlipSender, pass: &mut SlipPass, mut response:
     ensures told { view pass.new ≡ telling_slate (Some response) }
 {
     for _ in rt.forever() {
-        match sender.send_as::<TellsRoom, R>(rt, pass, response) {
+        match sender.send_as::<TellsFirst, R>(rt, pass, response) {
             Ok(()) => return,
             Err(e) => response = e.into_inner(),
         }
@@ -143,15 +141,15 @@ fn tell<R: Wait>(rt: &R, sender: &SlipSender, pass: &mut SlipPass, mut response:
     unreachable!()
 }
 
-// Hears the room of the sheets.
-fn hear_room<R: Wait>(rt: &R, receiver: &SlipReceiver, pass: &mut SlipPass)
+// Receives the first response.
+fn hear_first<R: Wait>(rt: &R, receiver: &SlipReceiver, pass: &mut SlipPass)
     requires seat { IsSeatAt (receives_on receiver.now) pass.old }
     requires told { view pass.old ≡ telling_slate (view pass.old).first }
     ensures seat { IsSeatAt (receives_on receiver.now) pass.new }
     ensures heard { view pass.new ≡ whole_slate (view pass.old).first }
 {
     for _ in rt.forever() {
-        if receiver.recv_as::<HearsRoom, R>(rt, pass).is_ok() {
+        if receiver.recv_as::<HearsFirst, R>(rt, pass).is_ok() {
             return;
         }
     }
@@ -245,21 +243,21 @@ impl Model for Slip {
 }
 
 impl Slip {
-    /// A channel for one response at a time, of sheets with that room.
-    pub fn open<R: Wait>(rt: &R, alloc: Global, spans: u32) -> Result<(Slip, Inlet), AllocError>
-        ensures slip { IfOk result (λ r. (r.0.put ≡ []) × (r.0.ended ≡ false) × (room_in r.0.first ≡ spans)) }
+    /// A channel for one response at a time. The first one tells the client's number, the channel of its requests and the
+    /// room of its sheets.
+    pub fn open<R: Wait>(
+        rt: &R,
+        alloc: Global,
+        first: Response,
+    ) -> Result<(Slip, Inlet), AllocError>
+        ensures slip { IfOk result (λ r. (r.0.put ≡ []) × (r.0.ended ≡ false) × (r.0.first ≡ Some first)) }
         ensures inlet { IfOk result (λ r. r.1 ≡ record { table = r.0.table; key = r.0.key; first = r.0.first; heard = [] }) }
     {
         let (sender, receiver, mut pass) = bounded_with::<Response, Slate, Answering, Global>(
             alloc, 1,
         )?;
-        let first = Response {
-            answer: Err(Full),
-            sheets: Pool::empty(spans),
-            kept: 0,
-        };
         tell(rt, &sender, &mut pass, first);
-        hear_room(rt, &receiver, &mut pass);
+        hear_first(rt, &receiver, &mut pass);
         let other = sender.another::<Ends>(&mut pass);
         let inlet = Inlet {
             receiver,

@@ -1,5 +1,4 @@
-use Rattle.std.proofs.Common.{ap, ◌∙◌, sym, subst, ◌≡◌, []}
-use Rattle.crossbeam_channel.specs.Claims.{view}
+use Rattle.std.proofs.Common.{ap, ◌∙◌, sym}
 use Rattle.aim_mailbox.specs.Post.{telling}
 use Rattle.aim_mailbox.proofs.Posts.{hears_opening_as}
 use Rattle.aim_mailbox.proofs.post.hear_opening.Goals as goal

@@ -1,4 +1,4 @@
-use Rattle.std.proofs.Common.{ap, ◌∙◌, sym}
+use Rattle.std.proofs.Common.{◌∙◌}
 use Rattle.aim_mailbox.proofs.Posts.{tells}
 use Rattle.aim_mailbox.proofs.post.tell.Goals as goal
 

@@ -1,4 +1,4 @@
-use Rattle.std.proofs.Common.{ap, sym, ◌∙◌, refl, arith}
+use Rattle.std.proofs.Common.{refl}
 use Rattle.atomic_table.proofs.Lists.{at_index}
 use Rattle.aim_mailbox.proofs.Deals.{same_slips, ended_ends}
 use Rattle.aim_mailbox.proofs.server.note_end.Goals as goal

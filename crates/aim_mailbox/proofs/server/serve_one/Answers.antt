@@ -1,4 +1,4 @@
-use Rattle.std.proofs.Common.{subst}
+use Rattle.std.proofs.Common.{ap, subst, ◌∷◌, ◌++◌, []}
 use Rattle.aim_mailbox.specs.Post.{IsFor, IsServable}
 use Rattle.aim_mailbox.proofs.server.serve_one.Goals as goal
 
@@ -9,3 +9,7 @@ answer-requires-clause-moment g c =
 pub answer-requires-clause-prepared : goal.answer-requires-clause-prepared
 answer-requires-clause-prepared g c =
     (subst (λ o. IsServable o c.in-Call.moment c.in-Call.prepared) c.requires.made.1 (subst (IsFor c.args.intake.now.setting) c.in-Call.is c.receive-from.ensures.word)).1
+
+pub answer-requires-clause-stands : goal.answer-requires-clause-stands
+answer-requires-clause-stands g c =
+    rw (c.note.ensures.note, c.receive-from.ensures.got) (c.args.intake.now.got, ap (λ w. c.args.intake.now.got ++ record { from = c.receive-from.result.from; word = w } ∷ []) c.in-Call.is, c.requires.stands)

@@ -1,5 +1,5 @@
-use Rattle.std.proofs.Common.{ap, sym, ◌∙◌, arith}
-use Rattle.aim_mailbox.proofs.Deals.{ended_at, same_book_trans, same_intake_trans, same_slips_trans, still_made}
+use Rattle.std.proofs.Common.{sym, ◌∙◌, arith}
+use Rattle.aim_mailbox.proofs.Deals.{ended_at, still_made}
 use Rattle.aim_mailbox.proofs.server.serve_until.Goals as goal
 
 pub serve_one-requires-clause-made : goal.serve_one-requires-clause-made

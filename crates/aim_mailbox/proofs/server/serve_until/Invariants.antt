@@ -1,10 +1,9 @@
-use Rattle.std.proofs.Common.{◌≡◌}
-use Rattle.aim_mailbox.specs.Mail.{Stands, IsSameBook, AreSameSlips, IsSameIntake}
+use Rattle.aim_mailbox.specs.Mail.{Stands, IsSameBook, AreSameSlips, IsSameIntake, letters_of}
 use Rattle.aim_mailbox.proofs.server.serve_until.Given as goal
 
 abbrev pub invariant-loop : goal.invariant-loop
 invariant-loop g l = record {
-  stands : Stands l.desk.book l.intake.got l.slips.items;
+  stands : Stands l.desk.book (letters_of l.intake) l.intake.got l.slips.items;
   book : IsSameBook l.initial.desk.book l.desk.book;
   intake : IsSameIntake l.initial.intake l.intake;
   slips : AreSameSlips l.initial.slips.items l.slips.items;

@@ -1,9 +1,7 @@
-use Rattle.std.proofs.Common.{ap, sym, ◌∙◌, subst, arith, ◌≡◌, List, [], ◌∷◌, ◌++◌, length, map, ℕ, refl}
-use mathlib.Core.Option.{some}
+use Rattle.std.proofs.Common.{ap, sym, ◌∙◌, subst, arith, ◌≡◌, List, [], ◌∷◌, ◌++◌, map, ℕ, refl}
 use lib.ListN.{get_elem?}
 use Rattle.aim_mailbox.specs.declared.letter.Letter.{Letter}
-use Rattle.aim_mailbox.specs.Calls.{ClientModel, IsOfMail, IsSettled}
-use Rattle.aim_mailbox.specs.Post.{Every, of, Settled}
+use Rattle.aim_mailbox.specs.Post.{Every, of}
 use Rattle.aim_mailbox.specs.Mail.{Gone, Found, channel_of, client_of}
 use Rattle.aim_mailbox.proofs.Settles.{settled_all, own_of, here, put_back, popped, below, nothing_left, slip_of, no_operator, All-from_Every}
 use Rattle.aim_mailbox.proofs.server.settle.Goals as goal
@@ -68,7 +66,7 @@ returns-clause-clients g c =
     let all : Every (λ (k : ℕ × List Letter). of k.0 (c.served.inside.intake.got ++ s.0) ≡ k.1) (map (λ x. (x.client.vehicle, x.sent)) i.gone.0) =
     subst (λ (y : List Letter × List (ℕ × List Letter)). Every (λ (k : ℕ × List Letter). of k.0 (y.0 ++ s.0) ≡ k.1) y.1) (λ k. (i.got k, i.gone.2 k)) s.1.0 in
     rw (c.into_journal.ensures.journal, ← c.served.view_is, i.gone.1, none)
-    (All-from_Every _ _ (settled_all c.served.inside.desk.book c.served.inside.intake.got s.0 c.served.inside.slips.items i.gone.0 c.sheets_are_those_of_own_entries.ensures.own c.served.invariant.0 c.served.invariant.4 i.gone.3 all))
+    (All-from_Every _ _ (settled_all c.served.inside.desk.book _ c.served.inside.intake.got s.0 c.served.inside.slips.items i.gone.0 c.sheets_are_those_of_own_entries.ensures.own c.served.invariant.0 c.served.invariant.4 i.gone.3 all))
 
 pub returns-clause-operator : goal.returns-clause-operator
 returns-clause-operator g c =

@@ -1,4 +1,4 @@
-use Rattle.std.proofs.Common.{ap, sym, ◌∙◌, arith}
+use Rattle.std.proofs.Common.{sym, ◌∙◌, arith}
 use Rattle.aim_mailbox.proofs.Deals.{ended_more, run_same, same_book_trans, same_intake_trans, same_slips_trans, still_made}
 use Rattle.aim_mailbox.proofs.server.Server.run.Goals as goal
 
