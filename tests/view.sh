@@ -35,9 +35,9 @@ if ! has_browser; then
   install_browser
 fi
 if has_browser; then
-  timeout 110 python3 tests/view/check.py
+  timeout 400 python3 tests/view/check.py
   status=$?
-  [ "$status" -ne 124 ] || tell 'not all is tested: stopped after 110 seconds'
+  [ "$status" -ne 124 ] || tell 'not all is tested: stopped after 400 seconds'
   exit "$status"
 fi
 tell 'not tested: the page, since no Chromium is here and none could be installed; only the stored outputs are'
