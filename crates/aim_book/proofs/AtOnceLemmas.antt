@@ -1,38 +1,33 @@
 -- What is known of a message before the cells of its crossing are.
-use Rattle.std.proofs.Common.{◌≡◌, ℕ, zero, suc, ◌+◌, ◌*◌, ◌<◌, ◌≤◌, Bool, true, false, ◌&&◌, ◌||◌, not, nat_le, nat_lt, List, [], ◌∷◌, ◌++◌, map, filter, length, Option, Some, None, refl, sym, ◌∙◌, ap, arith, le-ltb, length-append}
-use Rattle.std.specs.Prelude.{◌-◌, flat_map, is_none, option_and_then, option_map, slice_index_or, if◌then◌else◌}
+use Rattle.std.proofs.Common.{◌≡◌, ℕ, zero, suc, ◌+◌, ◌*◌, ◌/◌, ◌<◌, ◌≤◌, Bool, true, false, ◌&&◌, ◌||◌, not, nat_le, List, [], ◌∷◌, ◌++◌, map, length, Option, Some, None, Result, Ok, Err, refl, sym, ◌∙◌, ap, arith, subst, le-ltb, length-append}
+use Rattle.std.specs.Prelude.{◌-◌, flat_map, is_none, option_and_then, if◌then◌else◌, IfOk}
 use Rattle.std.specs.List.{list_any, range_with_len}
 use Rattle.std.specs.Option.{option_or}
-use Rattle.std.proofs.Math.Nat.{mul-le-mul_left}
+use Rattle.std.proofs.Math.Nat.{div-mul-le_self, mul-le-mul_left}
 use Rattle.std.proofs.lemmas.Bool.{false_from_ne_true, leb-true}
 use Rattle.std.proofs.lemmas.List.Filters.{length-filter_both}
 use Rattle.std.proofs.lemmas.List.FromFn.{length-map-range_with_len}
 use Rattle.aim_geometry.specs.Bounded.{some_below}
 use Rattle.aim_geometry.specs.Cells.{Cell}
 use Rattle.aim_msg.specs.declared.messages.Body.{Body}
+use Rattle.aim_msg.specs.declared.messages.Body.TheVariants as body
 use Rattle.aim_msg.specs.declared.messages.Params.{Params}
 use Rattle.aim_msg.specs.declared.replies.Field.{Field}
-use Rattle.aim_msg.specs.declared.replies.Field.TheVariants as field
 use Rattle.aim_msg.specs.declared.replies.Reason.{Reason}
-use Rattle.aim_msg.specs.declared.replies.Reason.TheVariants as reason
+use Rattle.aim_msg.specs.declared.replies.Reply.{Reply}
 use Rattle.aim_paths.specs.Intersection.{Intersection}
 use Rattle.aim_buffers.specs.Requests.{IsPreparedFor, Request}
 use Rattle.aim_buffers.proofs.SpanLemmas.{cells_near}
-use Rattle.aim_rules.specs.Answer.{where_so}
 use Rattle.aim_rules.specs.Bad.{bad, is_fast_made, needs_too_many_spans, span_count}
 use Rattle.aim_rules.specs.Cells.{cells, in_cells, steps_of}
 use Rattle.aim_rules.specs.Footprint.{crossing_steps}
 use Rattle.aim_rules.specs.History.{params_of}
-use Rattle.aim_rules.specs.Known.{Known, first_reason_by}
+use Rattle.aim_rules.specs.Known.{Known, answer_asking_by, answer_free_by, answer_fresh_by, first_reason_by, own_refusal_by, refusal_by, refused_or_by}
 use Rattle.aim_rules.proofs.CellLemmas.{cells_needed}
-use Rattle.aim_session.specs.Kept.{no_session}
-use Rattle.aim_simulate.specs.Fields.{bad_crossing}
-use Rattle.aim_simulate.proofs.FieldLemmas.{fields, steps_fewer}
+use Rattle.aim_simulate.proofs.FieldLemmas.{steps_fewer}
 use Rattle.aim_book.specs.Costs.{asked_spans}
-use Rattle.aim_book.specs.Desk.{Tells}
 use Rattle.aim_book.specs.Keeping.{is_named, row_count}
 use Rattle.aim_book.specs.Reserved.{rows_exchanged, spans_in}
-use Rattle.aim_book.specs.declared.desks.Desk.{Desk}
 use Rattle.aim_book.specs.declared.reservations.Reservation.{Reservation}
 use Rattle.aim_book.proofs.HeldLemmas.{some_passes}
 
@@ -49,32 +44,26 @@ rows_many n row each a (suc k) =
 span_count_most : (i : Intersection) (p : Params) (fast : Bool) → span_count i p fast ≤ i.grid.n * (crossing_steps i p fast + 2 * i.times.edge)
 span_count_most i p fast =
     let all = rows_many i.grid.n (λ s. map (λ r. record { row = r; col = 0; step = s }) (range_with_len 0 i.grid.n)) (λ s. length-map-range_with_len (λ r. record { row = r; col = 0; step = s }) 0 i.grid.n)
-        (p.arrive - i.times.edge) (crossing_steps i p fast + 2 * i.times.edge) in
+    (p.arrive - i.times.edge) (crossing_steps i p fast + 2 * i.times.edge) in
     let both = length-filter_both (λ (c : Cell). some_below i.grid.n (λ col. in_cells i p fast (record c { col = col }))) (λ (c : Cell). not (some_below i.grid.n (λ col. in_cells i p fast (record c { col = col })))) (λ c. refl)
-        (flat_map (λ s. map (λ r. record { row = r; col = 0; step = s }) (range_with_len 0 i.grid.n)) (steps_of i p fast)) in
+    (flat_map (λ s. map (λ r. record { row = r; col = 0; step = s }) (range_with_len 0 i.grid.n)) (steps_of i p fast)) in
     omega arith
 
 -- so a sheet that has room for that many has room for both trials
-pub fits_sheet : (i : Intersection) (p : Params) (steps : ℕ) → 0 < p.speed → p.speed ≤ p.max_speed → steps ≡ crossing_steps i p false + 2 * i.times.edge → i.grid.n * steps ≤ i.grid.spans → needs_too_many_spans i p ≡ false
+pub fits_sheet : (i : Intersection) (p : Params) (steps : ℕ) → 0 < p.speed → p.speed ≤ p.max_speed → steps ≡ crossing_steps i p false + 2 * i.times.edge → steps ≤ i.grid.spans / i.grid.n → needs_too_many_spans i p ≡ false
 fits_sheet i p steps moves most is fits = go (is_fast_made p) (le-ltb _ _ (fit false)) (le-ltb _ _ (fit true))
   where
     fit : (fast : Bool) → span_count i p fast ≤ i.grid.spans
     fit fast =
         let c = span_count_most i p fast in
         let f = steps_fewer i p fast moves most in
-        let r : i.grid.n * (crossing_steps i p fast + 2 * i.times.edge) ≤ i.grid.n * steps = mul-le-mul_left i.grid.n (omega arith) in
+        let r : i.grid.n * (crossing_steps i p fast + 2 * i.times.edge) ≤ i.grid.n * (i.grid.spans / i.grid.n) = mul-le-mul_left i.grid.n (omega arith) in
+        let w = div-mul-le_self i.grid.spans i.grid.n in
         omega arith
 
     go : (b : Bool) {x y : Bool} → x ≡ false → y ≡ false → (x || (b && y)) ≡ false
     go true e f = rw (e, f) refl
     go false e f = rw e refl
-
--- the wrong field of a crossing is that of the request, and without one only the spans are left
-pub bad_some : (i : Intersection) (p : Params) (f : Field) → bad_crossing i p ≡ Some f → bad i p ≡ Some f
-bad_some i p f e = fields i p ∙ ap (λ o. option_or o (if needs_too_many_spans i p then Some field.Spans else None)) e
-
-pub bad_none : (i : Intersection) (p : Params) → bad_crossing i p ≡ None → needs_too_many_spans i p ≡ false → bad i p ≡ None
-bad_none i p e f = fields i p ∙ ap (λ o. option_or o (if needs_too_many_spans i p then Some field.Spans else None)) e ∙ ap (λ b. if b then Some field.Spans else None) f
 
 -- no cell is that late
 pub none_far : (i : Intersection) (p : Params) (step : ℕ) → i.times.early ≤ i.times.edge → i.times.late ≤ i.times.edge → p.arrive + crossing_steps i p false + i.times.edge ≤ step → list_any (λ c. nat_le step c.step) (cells i p false) ≡ false
@@ -85,17 +74,24 @@ none_far i p step early late past =
     let near = (cells_near i p false s.0 early late (cells_needed i p false s.0 s.1)).1 in
     absurd (omega arith)))
 
--- the first tests that give a reason
-pub soon_first : {L : Type 0} (i : Intersection) (v place : ℕ) (k : Known) (p : Params) (d : Desk L) (now next : ℕ) → Tells i v place k d → now ≡ d.reservations.table.current → next ≡ (slice_index_or d.sessions v no_session).next → nat_lt now next ≡ true → first_reason_by i k p ≡ Some (reason.TooSoon next)
-soon_first i v place k p d now next tells now_is next_is soon =
-    let e : k.next ≡ next = tells.next ∙ sym next_is in
-    let t : nat_lt k.now k.next ≡ true = (λ j. nat_lt ((tells.now ∙ sym now_is) j) (e j)) ∙ soon in
-    rw (t, e) refl
+-- what is known of a result's value
+pub if_ok : {A E : Type 0} {P Q : A → Type 0} (r : Result A E) → ((a : A) → P a → Q a) → IfOk r P → IfOk r Q
+if_ok (Ok a) f p = f a p
+if_ok (Err e) f p = p
 
-pub bad_first : {L : Type 0} (i : Intersection) (v place : ℕ) (k : Known) (p : Params) (d : Desk L) (now next : ℕ) (f : Field) → Tells i v place k d → now ≡ d.reservations.table.current → next ≡ (slice_index_or d.sessions v no_session).next → nat_lt now next ≡ false → bad i p ≡ Some f → first_reason_by i k p ≡ Some (reason.Bad f)
-bad_first i v place k p d now next f tells now_is next_is may wrong =
-    let t : nat_lt k.now k.next ≡ false = (λ j. nat_lt ((tells.now ∙ sym now_is) j) ((tells.next ∙ sym next_is) j)) ∙ may in
-    rw (t, wrong) refl
+-- a refusal for a reason that comes before the cells
+refused_asking : (i : Intersection) (k : Known) (b : Body) (p : Params) (why : Reason) (r : Reply) → option_or (own_refusal_by i k b) (first_reason_by i k p) ≡ Some why → r ≡ refusal_by i k p.arrive why → r ≡ answer_asking_by i k b p
+refused_asking i k b p why r first is = is ∙ sym (ap (λ o. refused_or_by i k p o (answer_free_by i k p)) first)
+
+pub refused_fresh : (i : Intersection) (k : Known) (b : Body) (p : Params) (why : Reason) (r : Reply) → k.stopped ≡ false → params_of b ≡ Some p → option_or (own_refusal_by i k b) (first_reason_by i k p) ≡ Some why → r ≡ refusal_by i k p.arrive why → r ≡ answer_fresh_by i k b
+refused_fresh i k (body.Cancel id) p why r going asks first is = absurd (cc)
+refused_fresh i k (body.Done id) p why r going asks first is = absurd (cc)
+refused_fresh i k (body.Request q) p why r going asks first is =
+    let s : q ≡ p = cc in
+    rw going (subst (λ u. r ≡ answer_asking_by i k (body.Request q) u) (sym s) (refused_asking i k (body.Request q) p why r first is))
+refused_fresh i k (body.Change id q) p why r going asks first is =
+    let s : q ≡ p = cc in
+    rw going (subst (λ u. r ≡ answer_asking_by i k (body.Change id q) u) (sym s) (refused_asking i k (body.Change id q) p why r first is))
 
 -- a reservation that is given up, as it is named
 pub given_count : (id : Option ℕ) (row : Option Reservation) → (if is_named id row then 1 else 0) + row_count (if is_named id row then None else row) ≡ row_count row

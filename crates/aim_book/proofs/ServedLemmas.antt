@@ -152,11 +152,11 @@ pub managed_without : {L : Type 0} (i : Intersection) (n : ℕ) (h : List Entry)
     next.reservations.table ≡ record d.reservations.table { cells = next.reservations.table.cells } →
     ((c : Cell) → has_taken next.reservations.table c ≡ is_taken_then d.reservations.table (row_of d.reservations.rows.items v) None (is_named (given_up message.body) (row_of d.reservations.rows.items v)) c) →
     IsManaged i n (h ++ record { caller = v; moment = moment; act = act.Message message; reply = reply } ∷ []) (now_of h moment) next noted
-managed_without i n h v moment d calls message m l is_new reply is late no next noted calls_is sessions_is distances_is timeline_is lights_is stopped_is rows_is table_is cells_is =
+managed_without i n h v moment d calls message m l is_new reply is late other next noted calls_is sessions_is distances_is timeline_is lights_is stopped_is rows_is table_is cells_is =
     managed_with i n h v moment (length h) d calls (bare i message) m l is_new reply is refl late
-    (λ t. absurd (both_ways (is_confirm reply) no t)) (λ t. absurd (both_ways (is_confirm reply) no t)) (λ t. absurd (both_ways (is_confirm reply) no t)) (room_bare i message (is_fast reply))
-    next noted calls_is sessions_is distances_is timeline_is lights_is stopped_is (rw no rows_is) table_is
-    (λ c. cells_is c ∙ cells_kept d.reservations.table (row_of d.reservations.rows.items v) (length h) (bare i message) reply c no)
+    (λ t. absurd (both_ways (is_confirm reply) other t)) (λ t. absurd (both_ways (is_confirm reply) other t)) (λ t. absurd (both_ways (is_confirm reply) other t)) (room_bare i message (is_fast reply))
+    next noted calls_is sessions_is distances_is timeline_is lights_is stopped_is (rw other rows_is) table_is
+    (λ c. cells_is c ∙ cells_kept d.reservations.table (row_of d.reservations.rows.items v) (length h) (bare i message) reply c other)
 
 module _ {L : Type 0} (i : Intersection) (n : ℕ) (h : List Entry) (v moment place : ℕ) (d : Desk L) (calls : List (Option (ℕ × ℕ))) (r : Request) (m : IsManaged i n h (now_of h moment) d calls) (l : v < n)
     (is_new : look_of (slice_index_or d.sessions v no_session).last r.message ≡ look.Fresh) (prepared : IsPreparedFor i r) where

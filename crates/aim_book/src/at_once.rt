@@ -65,7 +65,7 @@ fn has_room(layout: &Layout, params: &Params) -> bool
 {
     let grid = layout.ground().grid();
     let steps = steady_steps(layout, params) + 2 * layout.ground().times().edge;
-    grid.n * steps <= grid.spans
+    steps <= grid.spans / grid.n
 }
 
 // The field of the params that is wrong, if one is.
@@ -82,13 +82,14 @@ fn bad_field(layout: &Layout, params: &Params) -> Result<Option<Field>, NeedsCel
     }
 }
 
-// Whether the steady trial has no cell at the step or at a later one.
-fn ends_before(layout: &Layout, params: &Params, step: u32) -> bool
-    requires good { bad layout.now params.now ≡ None }
-    ensures { result ≡ true → list_any (λ c. nat_le step c.step) (cells layout.now params.now false) ≡ false }
+// Whether the steady trial might have a cell at the step or at a later one. Where it says no, it has none.
+fn may_reach(layout: &Layout, params: &Params, step: u32) -> bool
+    requires good { bad_crossing_of layout.now params.now ≡ None }
+    requires arrive { params.now.arrive ≤ LATEST_MOMENT }
+    ensures { result ≡ false → list_any (λ c. nat_le step c.step) (cells layout.now params.now false) ≡ false }
 {
     let edge = layout.ground().times().edge;
-    params.arrive + steady_steps(layout, params) + edge <= step
+    params.arrive + steady_steps(layout, params) + edge > step
 }
 
 // The lane and the arrival of an emergency that asks, where no field of its params is bad.
@@ -119,7 +120,7 @@ impl<L: Ledger> Desk<L> {
         if params.arrive <= now + times.edge {
             return Ok(Reason::Late(now));
         }
-        if !ends_before(layout, params, now + times.horizon) {
+        if may_reach(layout, params, now + times.horizon) {
             return Err(NeedsCells);
         }
         match self.distances.test(params.lane, asked_from(now, params)) {
@@ -170,6 +171,25 @@ impl<L: Ledger> Desk<L> {
         }
     }
 
+    // The refusal of a request or a change, where no Stop stands.
+    fn refuse_at_once(
+        &self,
+        layout: &Layout,
+        vehicle: u32,
+        body: &Body,
+        params: &Params,
+    ) -> Result<Reply, NeedsCells>
+        requires caller { vehicle < length self.now.sessions }
+        requires row { vehicle < length self.now.reservations.rows.items }
+        requires asks { params_of body.now ≡ Some params.now }
+        requires going { self.now.stopped ≡ false }
+        ensures reply { IfOk result (λ reply. (k : Known) (place : ℕ) → Tells layout.now vehicle place k self.now → reply ≡ answer_fresh_by layout.now k body.now) }
+        ensures refused { IfOk result (λ reply. (k : Known) (place : ℕ) → Tells layout.now vehicle place k self.now → is_confirm reply ≡ false) }
+    {
+        let reason = self.reason_at_once(layout, vehicle, body, params)?;
+        Ok(self.refuse(layout, vehicle, params.arrive, reason))
+    }
+
     // The answer to a fresh message, which is no Confirm.
     fn answer_at_once(
         &self,
@@ -186,8 +206,7 @@ impl<L: Ledger> Desk<L> {
             Body::Cancel(id) | Body::Done(id) => Ok(Reply::Ack { id: *id }),
             Body::Request(_) | Body::Change(_, _) if self.stopped => Ok(Reply::EmergencyStop),
             Body::Request(params) | Body::Change(_, params) => {
-                let reason = self.reason_at_once(layout, vehicle, body, params)?;
-                Ok(self.refuse(layout, vehicle, params.arrive, reason))
+                self.refuse_at_once(layout, vehicle, body, params)
             }
         }
     }

@@ -206,9 +206,7 @@ impl<L: Ledger> Desk<L> {
             Ok(reply) => reply,
             Err(NeedsCells) => {
                 let prepared = prepare_from(layout, message, pool);
-                self.serve_fresh(
-                    layout, approaches, vehicle, place, prepared, pool, steps,
-                )
+                self.serve_fresh(layout, approaches, vehicle, place, prepared, pool, steps)
             }
         }
     }
@@ -247,9 +245,7 @@ impl<L: Ledger> Desk<L> {
         // This call only tells the ranges of the times.
         let _ground = layout.ground();
         match self.sessions.look(vehicle, message) {
-            Look::Fresh => self.serve_new(
-                layout, approaches, vehicle, place, message, pool, steps,
-            ),
+            Look::Fresh => self.serve_new(layout, approaches, vehicle, place, message, pool, steps),
             look => self.answer_known(layout, vehicle, message, look),
         }
     }
