@@ -3,7 +3,7 @@
 ghost use Rattle.std.specs.Prelude.{◌≡◌, ◌<◌};
 
 use crate::crossing::{Site, crossing};
-use crate::serving::{Way, Lines, VEHICLES, entry, give, kept};
+use crate::serving::{Lines, VEHICLES, Way, entry, give, kept};
 use aim_book::{Book, Full, OpenFault};
 use aim_pool::Pool;
 use aim_tiles::Steps;
