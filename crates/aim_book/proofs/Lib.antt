@@ -17,3 +17,4 @@ mod NewLemmas
 mod ChartLemmas
 mod OwnLemmas
 mod CostLemmas
+mod AtOnceLemmas

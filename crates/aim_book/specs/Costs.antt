@@ -1,9 +1,9 @@
--- How many spans a message lets go of and takes.
-use Rattle.std.specs.Prelude.{ℕ, ◌+◌, ◌==◌, Bool, List, Option, Some, None, if◌then◌else◌}
+-- How many spans a message has looked at, lets go of and takes.
+use Rattle.std.specs.Prelude.{ℕ, ◌+◌, ◌==◌, Bool, true, false, List, Option, Some, None, is_none, if◌then◌else◌}
 use Rattle.aim_msg.specs.declared.entries.Entry.{Entry}
 use Rattle.aim_msg.specs.declared.messages.Params.{Params}
 use Rattle.aim_paths.specs.Intersection.{Intersection}
-use Rattle.aim_rules.specs.Bad.{span_count}
+use Rattle.aim_rules.specs.Bad.{bad, is_fast_made, span_count}
 use Rattle.aim_rules.specs.History.{Fresh, fresh, params_at}
 use Rattle.aim_rules.specs.Holds.{is_fast}
 use Rattle.aim_rules.specs.Kept.{kept}
@@ -11,6 +11,12 @@ use Rattle.aim_rules.specs.Kept.{kept}
 abbrev pub trial_spans : Intersection → Bool → Option Params → ℕ
 trial_spans i fast None = 0
 trial_spans i fast (Some p) = span_count i p fast
+
+-- the spans of both trials of a message that asks with these params: none where a field is wrong, and none of a fast trial
+-- that isn't made
+abbrev pub asked_spans : Intersection → Option Params → ℕ
+asked_spans i None = 0
+asked_spans i (Some p) = if is_none (bad i p) then span_count i p false + (if is_fast_made p then span_count i p true else 0) else 0
 
 -- the spans of the granted trial: one for each pair of a step and a row in which it needs a cell
 abbrev pub granted_spans : Intersection → Fresh → ℕ

@@ -5,7 +5,7 @@ use crate::reservations::Reservations;
 use aim_buffers::Prepared;
 use aim_emerg::Approaches;
 use aim_fcfs::Distances;
-use aim_msg::{Act, Entry, MOST_ENTRIES, MOST_VEHICLES, OPERATOR, Order, Reply};
+use aim_msg::{Act, Entry, MOST_ENTRIES, MOST_VEHICLES, Message, OPERATOR, Order, Reply};
 use aim_paths::Layout;
 use aim_pool::Pool;
 use aim_session::Sessions;
@@ -62,10 +62,10 @@ impl<L: Ledger> Book<L> {
     ghost use Rattle.aim_msg.specs.declared.entries.TheConstants.{LATEST_MOMENT, MOST_ENTRIES, MOST_VEHICLES, OPERATOR};
     ghost use Rattle.aim_buffers.specs.Requests.{IsPreparedFor};
     ghost use Rattle.aim_rules.specs.Answer.{answer};
-    ghost use Rattle.aim_rules.specs.History.{now_of};
+    ghost use Rattle.aim_rules.specs.History.{now_of, params_of};
     ghost use Rattle.aim_rules.specs.Legal.{IsLegal, IsOfLayout};
     ghost use Rattle.aim_book.specs.Charted.{is_claimed_by_some, is_held};
-    ghost use Rattle.aim_book.specs.Costs.{spans_exchanged};
+    ghost use Rattle.aim_book.specs.Costs.{asked_spans, spans_exchanged};
     ghost use Rattle.aim_book.specs.Sheets.{sheets_kept};
 
     /// A book with an empty journal, for that many vehicles and that many entries. It takes all its memory here.
@@ -139,6 +139,57 @@ impl<L: Ledger> Book<L> {
             caller: vehicle,
             moment,
             act: Act::Message(message),
+            reply,
+        });
+        Ok(reply)
+    }
+
+    /// Answers a message of a vehicle at a moment, and keeps both in the journal. Only where the answer depends on the cells of
+    /// a crossing they are prepared, in two sheets of the pool: the sheet of the trial that a fresh Confirm grants is kept,
+    /// and each sheet that isn't kept comes into the pool.
+    pub fn serve_message(
+        &mut self,
+        vehicle: u32,
+        moment: u32,
+        message: &Message,
+        pool: &mut Pool,
+        steps: &mut Steps<L>,
+    ) -> Result<Reply, Full>
+        requires vehicle { vehicle < self.old.vehicles }
+        requires moment { moment ≤ LATEST_MOMENT }
+        requires two { 2 ≤ pool.old.count }
+        requires count { pool.old.count ≤ 1000000 }
+        requires room { pool.old.room ≡ self.old.layout.grid.spans }
+        ensures reply { IfOk result (λ r. r ≡ answer self.old.layout self.old.journal vehicle moment (Act.Message message.now)) }
+        ensures entry { IfOk result (λ r. self.new
+            ≡ record self.old { journal = self.old.journal ++ (record { caller = vehicle; moment = moment; act = Act.Message message.now; reply = r }) ∷ [] }) }
+        ensures full { IsErr result ↔ (length self.old.journal ≡ self.old.room) }
+        ensures err { OnErr result (self.new ≡ self.old) }
+        ensures legal { IsLegal self.new.layout self.new.vehicles self.new.journal }
+        ensures sheets { pool.new.count + sheets_kept vehicle self.new.journal ≡ pool.old.count + sheets_kept vehicle self.old.journal }
+        ensures pool { pool.new.room ≡ pool.old.room }
+        ensures cost { steps.new ≤ steps.old + asked_spans self.old.layout (params_of message.now.body)
+            + spans_exchanged self.old.layout vehicle self.old.journal self.new.journal
+            + self.old.layout.grid.n * min (now_of self.new.journal 0 - now_of self.old.journal 0) self.old.layout.times.horizon }
+    {
+        let place = self.journal.len();
+        if place == self.room as usize {
+            return Err(Full);
+        }
+        let reply = self.desk.serve_message(
+            &self.layout,
+            &mut self.approaches,
+            vehicle,
+            place as u32,
+            moment,
+            message,
+            pool,
+            steps,
+        );
+        self.journal.push_reserved(Entry {
+            caller: vehicle,
+            moment,
+            act: Act::Message(*message),
             reply,
         });
         Ok(reply)

@@ -20,8 +20,8 @@ use aim_pool::{Pool, Sheet};
 use aim_tiles::Steps;
 use std::sync::ledger::Ledger;
 
-// The reservation that a CANCEL or a DONE names.
-fn given_up(body: &Body) -> Option<u32>
+/// The reservation that a CANCEL or a DONE names.
+pub(crate) fn given_up(body: &Body) -> Option<u32>
     ensures { result ≡ given_up_of body.now }
 {
     match body {
@@ -118,8 +118,14 @@ impl<L: Ledger> Reservations<L> {
         give(back, old);
     }
 
-    // Takes the vehicle's reservation from it, if it has the id, and gives its sheet to the pool.
-    fn give_up(&mut self, vehicle: u32, id: Option<u32>, back: &mut Pool, steps: &mut Steps<L>)
+    /// Takes the vehicle's reservation from it, if it has the id, and gives its sheet to the pool.
+    pub(crate) fn give_up(
+        &mut self,
+        vehicle: u32,
+        id: Option<u32>,
+        back: &mut Pool,
+        steps: &mut Steps<L>,
+    )
         requires there { vehicle < length self.old.rows.items }
         requires own { AreTiles self.old.table.size (spans_in (row_of self.old.rows.items vehicle)) }
         requires count { back.old.count ≤ 1000002 }

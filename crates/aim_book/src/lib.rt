@@ -2,6 +2,7 @@
 #![tactic(auto)]
 
 mod answers;
+mod at_once;
 mod book;
 mod conflicts;
 mod desks;

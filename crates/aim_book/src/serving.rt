@@ -14,12 +14,14 @@ ghost use Rattle.aim_rules.specs.Legal.{IsOfLayout};
 ghost use Rattle.aim_session.specs.declared.sessions.Look.{Look};
 ghost use Rattle.aim_session.specs.Kept.{no_session};
 ghost use Rattle.aim_session.specs.Looks.{is_fresh_look, look_of};
+ghost use Rattle.aim_book.specs.Costs.{asked_spans};
 ghost use Rattle.aim_book.specs.Keeping.{IsManaged, row_count};
 ghost use Rattle.aim_book.specs.Reserved.{row_of, rows_exchanged};
 
+use crate::at_once::NeedsCells;
 use crate::desks::Desk;
 use crate::keeping::params_in;
-use aim_buffers::Prepared;
+use aim_buffers::{Prepared, prepare};
 use aim_emerg::Approaches;
 use aim_msg::{Message, Order, Reason, Reply};
 use aim_paths::Layout;
@@ -42,6 +44,23 @@ fn call_in(layout: &Layout, prepared: &Prepared) -> Option<(u8, u32)>
         }
         _ => None,
     }
+}
+
+// Prepares a message with two sheets of the pool.
+fn prepare_from(layout: &Layout, message: &Message, pool: &mut Pool) -> Prepared
+    requires two { 2 ≤ pool.old.count }
+    requires room { pool.old.room ≡ layout.now.grid.spans }
+    ensures message { result.message ≡ message.now }
+    ensures prepared { IsPreparedFor layout.now result }
+    ensures pool { pool.new ≡ record pool.old { count = pool.old.count - 2 } }
+{
+    let Ok(first) = pool.take() else {
+        unreachable!()
+    };
+    let Ok(second) = pool.take() else {
+        unreachable!()
+    };
+    prepare(layout, message, first, second)
 }
 
 impl<L: Ledger> Desk<L> {
@@ -153,6 +172,81 @@ impl<L: Ledger> Desk<L> {
                 prepared.give_back(back);
                 reply
             }
+        }
+    }
+
+    // Answers a fresh message, and keeps what it and its answer change. Its cells are prepared only where the answer isn't
+    // known without them.
+    fn serve_new(
+        &mut self,
+        layout: &Layout,
+        approaches: &mut Approaches,
+        vehicle: u32,
+        place: u32,
+        message: &Message,
+        pool: &mut Pool,
+        steps: &mut Steps<L>,
+    ) -> Reply
+        requires vehicle { vehicle < length self.old.sessions }
+        requires managed { (h : List Entry) × (moment : ℕ) × IsManaged layout.now (length self.old.sessions) h (now_of h moment) self.old approaches.old × (place ≡ length h) }
+        requires fresh { look_of (slice_index_or self.old.sessions vehicle no_session).last message.now ≡ Look.Fresh }
+        requires two { 2 ≤ pool.old.count }
+        requires count { pool.old.count ≤ 1000000 }
+        requires room { pool.old.room ≡ layout.now.grid.spans }
+        ensures reply { (h : List Entry) (moment : ℕ) → IsManaged layout.now (length self.old.sessions) h (now_of h moment) self.old approaches.old → place ≡ length h → result ≡ answer layout.now h vehicle moment (Act.Message message.now) }
+        ensures managed { (h : List Entry) (moment : ℕ) → IsManaged layout.now (length self.old.sessions) h (now_of h moment) self.old approaches.old → place ≡ length h → moment ≤ LATEST_MOMENT →
+            IsManaged layout.now (length self.old.sessions) (h ++ (record { caller = vehicle; moment = moment; act = Act.Message message.now; reply = result }) ∷ []) (now_of h moment) self.new approaches.new }
+        ensures sheets { pool.new.count + row_count (row_of self.new.reservations.rows.items vehicle) ≡ pool.old.count + row_count (row_of self.old.reservations.rows.items vehicle) }
+        ensures timeline { self.new.timeline ≡ self.old.timeline }
+        ensures pool { pool.new.room ≡ pool.old.room }
+        ensures cost { steps.new ≤ steps.old + asked_spans layout.now (params_of message.now.body)
+            + rows_exchanged (row_of self.old.reservations.rows.items vehicle) (row_of self.new.reservations.rows.items vehicle) }
+    {
+        match self.serve_at_once(layout, approaches, vehicle, message, pool, steps) {
+            Ok(reply) => reply,
+            Err(NeedsCells) => {
+                let prepared = prepare_from(layout, message, pool);
+                self.serve_fresh(layout, approaches, vehicle, place, prepared, pool, steps)
+            }
+        }
+    }
+
+    /// Answers a message of the vehicle at a moment, with sheets of the pool, and keeps what it and its answer change. The
+    /// answer gets the place in the journal.
+    pub(crate) fn serve_message(
+        &mut self,
+        layout: &Layout,
+        approaches: &mut Approaches,
+        vehicle: u32,
+        place: u32,
+        moment: u32,
+        message: &Message,
+        pool: &mut Pool,
+        steps: &mut Steps<L>,
+    ) -> Reply
+        requires vehicle { vehicle < length self.old.sessions }
+        requires managed { (h : List Entry) × IsManaged layout.now (length self.old.sessions) h (now_of h 0) self.old approaches.old × (place ≡ length h) }
+        requires moment { moment ≤ LATEST_MOMENT }
+        requires two { 2 ≤ pool.old.count }
+        requires count { pool.old.count ≤ 1000000 }
+        requires room { pool.old.room ≡ layout.now.grid.spans }
+        ensures reply { (h : List Entry) → IsManaged layout.now (length self.old.sessions) h (now_of h 0) self.old approaches.old → place ≡ length h → result ≡ answer layout.now h vehicle moment (Act.Message message.now) }
+        ensures managed { (h : List Entry) → IsManaged layout.now (length self.old.sessions) h (now_of h 0) self.old approaches.old → place ≡ length h →
+            IsManaged layout.now (length self.old.sessions) (h ++ (record { caller = vehicle; moment = moment; act = Act.Message message.now; reply = result }) ∷ [])
+            (now_of (h ++ (record { caller = vehicle; moment = moment; act = Act.Message message.now; reply = result }) ∷ []) 0) self.new approaches.new }
+        ensures timeline { self.new.timeline ≡ self.old.timeline }
+        ensures sheets { pool.new.count + row_count (row_of self.new.reservations.rows.items vehicle) ≡ pool.old.count + row_count (row_of self.old.reservations.rows.items vehicle) }
+        ensures pool { pool.new.room ≡ pool.old.room }
+        ensures cost { steps.new ≤ steps.old + asked_spans layout.now (params_of message.now.body)
+            + rows_exchanged (row_of self.old.reservations.rows.items vehicle) (row_of self.new.reservations.rows.items vehicle)
+            + self.old.reservations.table.size * min (max self.old.reservations.table.current moment - self.old.reservations.table.current) self.old.reservations.table.horizon }
+    {
+        self.go_on(moment, steps);
+        // This call only tells the ranges of the times.
+        let _ground = layout.ground();
+        match self.sessions.look(vehicle, message) {
+            Look::Fresh => self.serve_new(layout, approaches, vehicle, place, message, pool, steps),
+            look => self.answer_known(layout, vehicle, message, look),
         }
     }
 

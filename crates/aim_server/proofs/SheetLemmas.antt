@@ -96,17 +96,15 @@ pub two_left : (s : State) (pool : Stock) → IsServed s pool → 2 ≤ pool.cou
 two_left s pool w = let all = w.sheets in omega (arith, few_kept s.vehicles s.journal)
 
 -- a message was served
-pub served_more : (s new : State) (pool taken back : Stock) (e : Entry) → IsServed s pool → taken ≡ record pool { count = pool.count - 1 - 1 } → e.caller < s.vehicles → length s.journal < MOST_ENTRIES
-    → new ≡ record s { journal = s.journal ++ e ∷ [] } → back.count + sheets_kept e.caller new.journal ≡ taken.count + sheets_kept e.caller s.journal + 2 → back.room ≡ taken.room → IsServed new back
-served_more s new pool taken back e w two below room same sheets spans =
-    let least = two_left s pool w in
+pub served_more : (s new : State) (pool back : Stock) (e : Entry) → IsServed s pool → e.caller < s.vehicles → length s.journal < MOST_ENTRIES
+    → new ≡ record s { journal = s.journal ++ e ∷ [] } → back.count + sheets_kept e.caller new.journal ≡ pool.count + sheets_kept e.caller s.journal → back.room ≡ pool.room → IsServed new back
+served_more s new pool back e w below room same sheets spans =
     let all = w.sheets in
     let moved = kept_by_one s.vehicles s.journal e below in
     let sheets = rw same at sheets in
-    let left : taken.count + 2 ≡ pool.count = let is = ap (λ (p : Stock). p.count) two in omega arith in
     rw same (record {
       room = w.room;
-      spans = spans ∙ ap (λ (p : Stock). p.room) two ∙ w.spans;
+      spans = spans ∙ w.spans;
       few = omega (arith, length-append s.journal (e ∷ []));
       vehicles = w.vehicles;
       sheets = omega arith;

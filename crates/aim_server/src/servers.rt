@@ -1,7 +1,6 @@
 //! The manager of a script, and the sheets with which it is asked.
 
 use aim_book::{Book, Full};
-use aim_buffers::prepare;
 use aim_msg::{Act, MOST_ENTRIES, Message, Order, Reply};
 use aim_paths::Layout;
 use aim_pool::Pool;
@@ -86,16 +85,9 @@ impl<L: Ledger> Server<L> {
         ensures reply { result ≡ answer self.old.layout self.old.journal vehicle moment (Act.Message message.now) }
         ensures entry { self.new ≡ record self.old { journal = self.old.journal ++ (record { caller = vehicle; moment = moment; act = Act.Message message.now; reply = result }) ∷ [] } }
     {
-        let Ok(first) = self.pool.take() else {
-            unreachable!()
-        };
-        let Ok(second) = self.pool.take() else {
-            unreachable!()
-        };
-        let prepared = prepare(self.book.layout(), message, first, second);
         match self
             .book
-            .serve(vehicle, moment, prepared, &mut self.pool, steps)
+            .serve_message(vehicle, moment, message, &mut self.pool, steps)
         {
             Ok(reply) => reply,
             Err(Full) => unreachable!(),

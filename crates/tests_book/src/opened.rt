@@ -3,7 +3,7 @@
 ghost use Rattle.std.specs.Prelude.{◌≡◌, ◌<◌};
 
 use crate::crossing::{Site, crossing};
-use crate::serving::{Lines, VEHICLES, entry, give, kept};
+use crate::serving::{Lines, VEHICLES, Way, entry, give, kept};
 use aim_book::{Book, Full, OpenFault};
 use aim_pool::Pool;
 use aim_tiles::Steps;
@@ -79,7 +79,7 @@ fn is_served<L: Ledger>(
     sheets: u32,
 ) -> Result<(), Fail> {
     let (_, entry) = entry(line)?;
-    let reply = give(rt, book, &entry, pool, steps)?;
+    let reply = give(rt, book, Way::Prepared, &entry, pool, steps)?;
     assert!(rt; reply == Ok(entry.reply), "{line}");
     assert_eq!(rt; kept(book), sheets);
     Ok(())
@@ -94,7 +94,7 @@ fn is_full<L: Ledger>(
     line: &str,
 ) -> Result<bool, Fail> {
     let (_, entry) = entry(line)?;
-    Ok(give(rt, book, &entry, pool, steps)? == Err(Full))
+    Ok(give(rt, book, Way::Prepared, &entry, pool, steps)? == Err(Full))
 }
 
 // Serves the lines, and one call of each kind more, for which the journal has no room.
@@ -165,7 +165,7 @@ fn draw<L: Ledger>(rt: &impl Abort, alloc: Global, blank: Blank) -> Result<(), F
     let mut book = Book::<L>::open(alloc, layout, VEHICLES, 2)?;
     for line in CHARTED {
         let (_, entry) = entry(line)?;
-        let _ = give(rt, &mut book, &entry, &mut pool, &mut steps)?;
+        let _ = give(rt, &mut book, Way::Prepared, &entry, &mut pool, &mut steps)?;
     }
     for (row, step, held, claimed) in MARKS {
         assert!(rt; is_marked(rt, &book, row, step, (held, claimed)));

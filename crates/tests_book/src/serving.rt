@@ -29,10 +29,20 @@ pub fn entry(line: &str) -> Result<(u32, Entry), Fail> {
     Ok(read_entry(line.as_bytes()).ok().ok_or("no entry")?)
 }
 
+/// How a message is served.
+#[derive(Clone, Copy)]
+pub enum Way {
+    /// Its cells are prepared before the book is asked.
+    Prepared,
+    /// The book prepares its cells, where it has to.
+    FromPool,
+}
+
 /// Makes the call of an entry, with two sheets of the pool.
 pub fn give<L: Ledger>(
     rt: &impl Abort,
     book: &mut Book<L>,
+    way: Way,
     entry: &Entry,
     pool: &mut Pool,
     steps: &mut Steps<L>,
@@ -48,11 +58,19 @@ pub fn give<L: Ledger>(
         Act::Message(message) => {
             assert!(rt; entry.caller < book.vehicles());
             assert!(rt; pool.room() == book.layout().ground().grid().spans);
+            assert!(rt; pool.count() >= 2);
             assert!(rt; pool.count() <= 1_000_000);
-            let first = pool.take()?;
-            let second = pool.take()?;
-            let prepared = prepare(book.layout(), &message, first, second);
-            Ok(book.serve(entry.caller, entry.moment, prepared, pool, steps))
+            match way {
+                Way::Prepared => {
+                    let first = pool.take()?;
+                    let second = pool.take()?;
+                    let prepared = prepare(book.layout(), &message, first, second);
+                    Ok(book.serve(entry.caller, entry.moment, prepared, pool, steps))
+                }
+                Way::FromPool => {
+                    Ok(book.serve_message(entry.caller, entry.moment, &message, pool, steps))
+                }
+            }
         }
     }
 }
@@ -84,6 +102,7 @@ fn serve<L: Ledger>(
     rt: &impl Abort,
     alloc: Global,
     blank: Blank,
+    way: Way,
     site: Site,
     lines: Lines,
 ) -> Result<(), Fail>
@@ -98,7 +117,7 @@ fn serve<L: Ledger>(
     for line in lines {
         let (place, entry) = entry(line)?;
         assert_eq!(rt; place as usize, book.journal().len());
-        let reply = give(rt, &mut book, &entry, &mut pool, &mut steps)?;
+        let reply = give(rt, &mut book, way, &entry, &mut pool, &mut steps)?;
         assert!(rt; reply == Ok(entry.reply), "{line}");
         assert_eq!(rt; pool.count().saturating_add(kept(&book)), VEHICLES + 2);
     }
@@ -106,10 +125,12 @@ fn serve<L: Ledger>(
     Ok(())
 }
 
-/// Asserts that the calls of each of these journals get the replies that stand in it.
+/// Asserts that the calls of each of these journals get the replies that stand in it, in both ways.
 pub fn serve_all(rt: &impl Abort, alloc: Global, cases: &[Case]) -> Result<(), Fail> {
     for (_, site, lines) in cases {
-        serve::<Brand>(rt, alloc, Blank::new(1), *site, *lines)?;
+        for way in [Way::Prepared, Way::FromPool] {
+            serve::<Brand>(rt, alloc, Blank::new(1), way, *site, *lines)?;
+        }
     }
     Ok(())
 }

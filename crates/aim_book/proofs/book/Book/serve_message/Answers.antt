@@ -1,0 +1,50 @@
+use Rattle.std.proofs.Common.{◌≡◌, ◌<◌, ◌≤◌, ◌+◌, [], ◌∷◌, ◌++◌, length, sym, ◌∙◌, ap, arith, subst}
+use Rattle.aim_msg.specs.declared.entries.Act.TheVariants as act
+use Rattle.aim_msg.specs.declared.entries.Entry.{Entry}
+use Rattle.std.specs.Prelude.{max, min, ◌-◌, ◌*◌}
+use Rattle.aim_rules.specs.History.{fresh, now_of, params_of}
+use Rattle.aim_rules.specs.Kept.{kept}
+use Rattle.aim_rules.proofs.HistoryLaws.{now_of-max}
+use Rattle.aim_book.specs.Keeping.{IsManaged, row_count}
+use Rattle.aim_book.specs.Reserved.{row_of, rows_exchanged}
+use Rattle.aim_book.specs.Costs.{asked_spans, spans_exchanged}
+use Rattle.aim_book.specs.Sheets.{sheets_kept}
+use Rattle.aim_book.proofs.CostLemmas.{exchanged_is}
+use Rattle.aim_book.proofs.SheetLemmas.{count_is}
+use Rattle.aim_book.proofs.SameLemmas.{now_next}
+use Rattle.aim_book.proofs.book.Book.serve_message.Goals as goal
+
+pub returns-clause-sheets : goal.returns-clause-sheets
+returns-clause-sheets g c =
+    let b = c.self.inside in
+    let v = c.args.vehicle in
+    let n = length b.desk.sessions in
+    let managed = c.self.invariant.managed in
+    let m : IsManaged b.layout n b.journal.items (now_of b.journal.items 0) b.desk b.approaches = subst (λ k. IsManaged b.layout k b.journal.items (now_of b.journal.items 0) b.desk b.approaches) (sym managed.desk.callers) managed in
+    let l : v < n = (let q : v < b.vehicles = rw (← c.self.view_is) at c.requires.vehicle in let e = managed.desk.callers in omega arith) in
+    let before : row_count (row_of b.desk.reservations.rows.items v) ≡ sheets_kept v b.journal.items = count_is b.layout n b.journal.items v (row_of b.desk.reservations.rows.items v) m.legal (m.desk.reserved.rows v l) in
+    let e : Entry = record { caller = v; moment = c.args.moment; act = act.Message c.args.message.now; reply = c.serve_message-reply.result } in
+    let next = c.serve_message-reply.ensures.managed b.journal.items m (let q : c.len-place.result ≡ length b.journal.items = omega (arith, c.len-place.ensures) in q) in
+    let after : row_count (row_of c.serve_message-reply.new.self.reservations.rows.items v) ≡ sheets_kept v (b.journal.items ++ e ∷ []) = count_is b.layout n (b.journal.items ++ e ∷ []) v (row_of c.serve_message-reply.new.self.reservations.rows.items v) next.legal (next.desk.reserved.rows v l) in
+    let items : sheets_kept v c.push_reserved.new.self.items ≡ sheets_kept v (b.journal.items ++ e ∷ []) = ap (sheets_kept v) c.push_reserved.ensures.items in
+    let journal : sheets_kept v b.journal.items ≡ sheets_kept v c.args.self.now.journal = (λ j. sheets_kept v (c.self.view_is j).journal) in
+    omega (arith, c.serve_message-reply.ensures.sheets, before, after, items, journal)
+
+pub returns-clause-cost : goal.returns-clause-cost
+returns-clause-cost g c =
+    let b = c.self.inside in
+    let v = c.args.vehicle in
+    let n = length b.desk.sessions in
+    let h = b.journal.items in
+    let managed = c.self.invariant.managed in
+    let m : IsManaged b.layout n h (now_of h 0) b.desk b.approaches = subst (λ k. IsManaged b.layout k h (now_of h 0) b.desk b.approaches) (sym managed.desk.callers) managed in
+    let l : v < n = (let q : v < b.vehicles = rw (← c.self.view_is) at c.requires.vehicle in let e = managed.desk.callers in omega arith) in
+    let e : Entry = record { caller = v; moment = c.args.moment; act = act.Message c.args.message.now; reply = c.serve_message-reply.result } in
+    let next = c.serve_message-reply.ensures.managed h m (let q : c.len-place.result ≡ length h = omega (arith, c.len-place.ensures) in q) in
+    let rows : rows_exchanged (row_of b.desk.reservations.rows.items v) (row_of c.serve_message-reply.new.self.reservations.rows.items v) ≡ spans_exchanged b.layout v h (h ++ e ∷ [])
+    = exchanged_is b.layout (kept (fresh h) v) (kept (fresh (h ++ e ∷ [])) v) (row_of b.desk.reservations.rows.items v) (row_of c.serve_message-reply.new.self.reservations.rows.items v) (m.desk.reserved.rows v l) (next.desk.reserved.rows v l) in
+    let items : c.push_reserved.new.self.items ≡ h ++ e ∷ [] = c.push_reserved.ensures.items in
+    let later : now_of (h ++ e ∷ []) 0 ≡ max (now_of h 0) c.args.moment = now_next h e ∙ now_of-max h c.args.moment in
+    let cost : c.serve_message-reply.new.steps ≤ c.args.steps.now + asked_spans b.layout (params_of c.args.message.now.body) + rows_exchanged (row_of b.desk.reservations.rows.items v) (row_of c.serve_message-reply.new.self.reservations.rows.items v)
+    + b.layout.grid.n * min (max (now_of h 0) c.args.moment - now_of h 0) b.layout.times.horizon = rw (managed.desk.reserved.size, managed.desk.reserved.current, managed.desk.reserved.horizon) at c.serve_message-reply.ensures.cost in
+    rw (← c.self.view_is) (rw (items, later, ← rows) cost)

@@ -1,0 +1,40 @@
+use Rattle.std.proofs.Common.{◌≡◌, [], ◌∷◌, ◌++◌, length, refl, sym, ◌∙◌, ap, arith, subst, false}
+use Rattle.std.specs.Prelude.{slice_index_or}
+use Rattle.aim_msg.specs.declared.entries.Act.TheVariants as act
+use Rattle.aim_msg.specs.declared.entries.Entry.{Entry}
+use Rattle.aim_rules.specs.Answer.{answer}
+use Rattle.aim_rules.specs.History.{is_fresh, now_of}
+use Rattle.aim_rules.specs.Legal.{IsLegal}
+use Rattle.aim_rules.proofs.LegalLemmas.{IsLegal-append}
+use Rattle.aim_session.specs.Looks.{is_fresh_look}
+use Rattle.aim_session.proofs.SessionLaws.{session_fresh}
+use Rattle.aim_book.specs.Keeping.{IsManaged}
+use Rattle.aim_book.proofs.SameLemmas.{managed_same, not_fresh, now_next}
+use Rattle.aim_book.proofs.desks.Desk.serve_message.Goals as goal
+
+pub returns-in-Fresh-clause-managed : goal.returns-in-Fresh-clause-managed
+returns-in-Fresh-clause-managed g c = λ h m place.
+    let i = c.args.layout.now in
+    let n = length c.args.self.now.sessions in
+    let many : length c.go_on.new.self.sessions ≡ n = (λ j. length (c.go_on.ensures.rest j).sessions) in
+    let e : Entry = record { caller = c.args.vehicle; moment = c.args.moment; act = act.Message c.args.message.now; reply = c.serve_new.result } in
+    let before : IsManaged i (length c.go_on.new.self.sessions) h (now_of h c.args.moment) c.go_on.new.self c.args.approaches.now = subst (λ k. IsManaged i k h (now_of h c.args.moment) c.go_on.new.self c.args.approaches.now) (sym many) (c.go_on.ensures.managed i n h c.args.approaches.now m) in
+    let after : IsManaged i (length c.go_on.new.self.sessions) (h ++ e ∷ []) (now_of h c.args.moment) c.serve_new.new.self c.serve_new.new.approaches = c.serve_new.ensures.managed h c.args.moment before place c.requires.moment in
+    subst (λ k. IsManaged i k (h ++ e ∷ []) (now_of (h ++ e ∷ []) 0) c.serve_new.new.self c.serve_new.new.approaches) many
+    (subst (λ t. IsManaged i (length c.go_on.new.self.sessions) (h ++ e ∷ []) t c.serve_new.new.self c.serve_new.new.approaches) (sym (now_next h e)) after)
+
+pub returns-in_default-clause-reply : goal.returns-in_default-clause-reply
+returns-in_default-clause-reply g c = λ h m place.
+    c.answer_known.ensures (length c.args.self.now.sessions) c.args.moment h c.args.approaches.now (c.go_on.ensures.managed c.args.layout.now (length c.args.self.now.sessions) h c.args.approaches.now m) c.requires.vehicle
+
+pub returns-in_default-clause-managed : goal.returns-in_default-clause-managed
+returns-in_default-clause-managed g c = λ h m place.
+    let i = c.args.layout.now in
+    let n = length c.args.self.now.sessions in
+    let e : Entry = record { caller = c.args.vehicle; moment = c.args.moment; act = act.Message c.args.message.now; reply = c.answer_known.result } in
+    let before = c.go_on.ensures.managed i n h c.args.approaches.now m in
+    let said : c.answer_known.result ≡ answer i h c.args.vehicle c.args.moment (act.Message c.args.message.now)
+    = c.answer_known.ensures n c.args.moment h c.args.approaches.now before c.requires.vehicle in
+    let legal : IsLegal i n (h ++ e ∷ []) = IsLegal-append i n h e m.legal (record { moment = c.requires.moment; caller = ((let f = m.few in let l = c.requires.vehicle in omega arith), c.requires.vehicle) }) said in
+    let old : is_fresh h e ≡ false = session_fresh c.go_on.new.self.sessions h e c.args.message.now before.desk.sessions (let q = before.desk.callers in let l = c.requires.vehicle in omega arith) refl ∙ ap is_fresh_look (sym c.look.ensures) ∙ not_fresh c.look.result c.in_default.not-Fresh in
+    managed_same i n h e c.go_on.new.self c.args.approaches.now before legal old refl refl
