@@ -1,0 +1,4 @@
+pub mod Kinding
+pub mod Staging
+pub mod Deciding
+pub mod Rows
