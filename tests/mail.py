@@ -81,52 +81,60 @@ def mail(what, head, vehicles, events, workers):
 
 # ---- Scripts that are made.
 
-def some_params(lots, lane, turn, arrive, speed, kind="car"):
-    most = speed + lots.choice([0, 0, 100])
-    return f"{lane} {turn} {arrive} {speed} {most} {lots.choice([0, 2])} {lots.randint(600, 4500)} 700 {kind}"
+class Vehicle:
+    """A vehicle of a way, a speed and a class, which asks for arrivals within some reach of steps."""
+
+    def __init__(self, lots, number, way, speed, reach, kind):
+        self.lots, self.number, self.way, self.speed, self.reach, self.kind = lots, number, way, speed, reach, kind
+
+    def params(self, moment):
+        lane, turn = self.way
+        arrive, speed = moment + self.lots.randint(1, self.reach), self.lots.randint(self.speed // 2, self.speed)
+        gain, length = self.lots.choice([0, 2]), self.lots.randint(600, 4500)
+        return f"{lane} {turn} {arrive} {speed} {speed + 50} {gain} {length} 700 {self.kind}"
+
+    def asks_first(self):
+        """Requests with rising numbers, and among them old and repeated numbers."""
+        moment, number, events = self.lots.randint(0, 40), self.lots.randint(1, 3), []
+        for _ in range(self.lots.randint(1, 5)):
+            events.append((self.number, moment, f"request {number} {self.params(moment)}"))
+            if self.lots.random() < 0.3:
+                again = [events[-1][2], f"cancel {number} 0", f"cancel {number - 1} 0"]
+                events.append((self.number, moment + 1, self.lots.choice(again)))
+            moment, number = max(0, moment + self.lots.randint(-2, 60)), number + self.lots.randint(1, 2)
+        return events
+
+    def does_then(self, ids):
+        """What it does with reservations of these ids, whether they are its own or not."""
+        moment, events = self.lots.randint(100, 200), []
+        for number, of in enumerate(ids, 20):
+            message = self.lots.choice(["change", "change", "cancel", "done"])
+            rest = f" {self.params(moment)}" if message == "change" else ""
+            events.append((self.number, moment, f"{message} {number} {of}{rest}"))
+            moment += self.lots.randint(0, 30)
+        return events
 
 
-def asked_first(lots, vehicle, lane, turn, speed, kind):
-    """The first messages of a vehicle: requests with rising numbers, among them repeats and numbers used again."""
-    moment, number, events = lots.randint(0, 40), lots.randint(1, 3), []
-    for _ in range(lots.randint(1, 5)):
-        params = some_params(lots, lane, turn, moment + lots.randint(1, 300), lots.randint(speed // 2, speed), kind)
-        events.append((vehicle, moment, f"request {number} {params}"))
-        if lots.random() < 0.2:
-            events.append((vehicle, moment + 1, events[-1][2] if lots.random() < 0.7 else f"cancel {number} 0"))
-        moment, number = max(0, moment + lots.randint(-2, 30)), number + lots.randint(1, 2)
-    return events
-
-
-def asked_then(lots, vehicle, lane, turn, speed, ids):
-    """What a vehicle does with reservations of these ids, whether they are its own or not."""
-    moment, events = lots.randint(40, 90), []
-    for number, of in enumerate(ids, 20):
-        message = lots.choice(["change", "change", "cancel", "done"])
-        params = some_params(lots, lane, turn, moment + lots.randint(1, 300), lots.randint(speed // 2, speed))
-        rest = f" {params}" if message == "change" else ""
-        events.append((vehicle, moment, f"{message} {number} {of}{rest}"))
-        moment += lots.randint(0, 30)
-    return events
-
-
-def made_events(lots, head, vehicles, lanes, turn_of, speed):
-    """Events of all vehicles, mixed: what they ask first, and then what they do with the ids that they get in a replay."""
-    ways = [(lane, turn_of(lane)) for lane in (lots.randrange(lanes) for _ in range(vehicles))]
-    kinds = ["emergency" if lots.random() < 0.1 else "car" for _ in ways]
-    firsts = [asked_first(lots, vehicle, *ways[vehicle], speed, kinds[vehicle]) for vehicle in range(vehicles)]
-    calls = rounds_of([event for first in firsts for event in first], range(vehicles))
-    ids = {vehicle: [] for vehicle in range(vehicles)}
+def confirmed(head, calls):
+    """The ids that each vehicle gets where these calls are made in this order."""
+    ids = {}
     for line in printed(["replay"], script_of(head, calls))[1].split("\n"):
         if " -> confirm " in line:
-            ids[int(line.split(" ")[1])].append(line.split(" -> confirm ")[1].split(" ")[0])
-    queues = [
-        firsts[vehicle] + asked_then(lots, vehicle, *ways[vehicle], speed, [*ids[vehicle][-2:], lots.randrange(9)])
-        for vehicle in range(vehicles)
-    ]
-    order = [vehicle for vehicle, queue in enumerate(queues) for _ in queue]
+            ids.setdefault(int(line.split(" ")[1]), []).append(line.split(" -> confirm ")[1].split(" ")[0])
+    return ids
+
+
+def made_events(lots, head, count, ways, speed, reach):
+    """Events of all vehicles, mixed: what they ask first, and then what they do with what they get for it."""
+    kinds = ["emergency" if lots.random() < 4 / (count + 40) else "car" for _ in range(count)]
+    vehicles = [Vehicle(lots, number, lots.choice(ways), speed, reach, kind) for number, kind in enumerate(kinds)]
+    queues = [vehicle.asks_first() for vehicle in vehicles]
+    ids = confirmed(head, rounds_of([event for queue in queues for event in queue], range(count)))
+    for vehicle, queue in zip(vehicles, queues):
+        queue += vehicle.does_then([*ids.get(vehicle.number, [])[-2:], lots.randrange(9)])
+    order = [number for number, queue in enumerate(queues) for _ in queue]
     lots.shuffle(order)
-    return [queues[vehicle].pop(0) for vehicle in order]
+    return [queues[number].pop(0) for number in order]
 
 
 def small_script(seed):
@@ -136,7 +144,7 @@ def small_script(seed):
     vehicles = lots.randint(1, 9)
     buffers = "1 2" if version == 1 else "1 3 4"
     head = CROSSING.format(version=version, times=f"1500 25 20 {buffers}", policies=policies, vehicles=vehicles)
-    return head, vehicles, made_events(lots, head, vehicles, 2, lambda lane: "straight", 500)
+    return head, vehicles, made_events(lots, head, vehicles, [(0, "straight"), (1, "straight")], 500, 300)
 
 
 def great_script(seed):
@@ -144,7 +152,8 @@ def great_script(seed):
     lots = random.Random(seed)
     policies = ("policy plain fcfs", f"policy lights light-emerg\n{FOUR_PHASES}", "policy siren emerg")[seed % 3]
     head = TWELVE_LANES.format(version=3, times="3000 100 100 2 2 5", policies=policies, vehicles=256)
-    return head, 256, made_events(lots, head, 256, 12, lambda lane: TURNS[lane % 3], 260)
+    ways = [(lane, TURNS[lane % 3]) for lane in range(12)]
+    return head, 256, made_events(lots, head, 256, ways, 260, 2500)
 
 
 # ---- Texts that the judge has to refuse.

@@ -93,10 +93,10 @@ refused_line all then now old new s i number (refusal.Limit which) count j answe
 refused_line all then now old new s i number refusal.NoMemory count j answers = tt
 
 -- a refusal is no fault of the source
-pub no_read : (number : ℕ) (r : Refusal) → refused number r ≡ ending.Read → ⊥
-no_read number (refusal.Bad why) e = cc
-no_read number (refusal.Limit which) e = cc
-no_read number refusal.NoMemory e = cc
+pub no_read : (number : ℕ) (r : Refusal) (end : EventEnding) → end ≡ refused number r → ◌≡◌ {A = Result EventScript EventEnding} (Err end) (Err ending.Read) → ⊥
+no_read number (refusal.Bad why) end is e = cc
+no_read number (refusal.Limit which) end is e = cc
+no_read number refusal.NoMemory end is e = cc
 
 -- ---- a fault of the input
 
@@ -121,12 +121,15 @@ fault_line all then now old new s i (Long number) answers = fault_decides all th
 fault_line all then now old new s i Bytes answers = fault_decides all then now old new s i Bytes (λ e. cc) answers
 fault_line all then now old new s i Lines answers = fault_decides all then now old new s i Lines (λ e. cc) answers
 
--- only a failing source comes to `Read`
-pub is_read : (fault : LineFault) → at_fault fault ≡ ending.Read → fault ≡ Read
+is_read : (fault : LineFault) → at_fault fault ≡ ending.Read → fault ≡ Read
 is_read Read e = refl
 is_read (Long number) e = absurd (cc)
 is_read Bytes e = absurd (cc)
 is_read Lines e = absurd (cc)
+
+-- only a failing source comes to `Read`
+pub fault_is_read : (fault : LineFault) (end : EventEnding) → end ≡ at_fault fault → ◌≡◌ {A = Result EventScript EventEnding} (Err end) (Err ending.Read) → fault ≡ Read
+fault_is_read fault end is e = is_read fault (sym is ∙ cc)
 
 -- ---- the end of the input
 

@@ -25,10 +25,10 @@ kind_is before l = first_kind_is kinds before l
 
 -- a line that is no order
 pub other_kind : (before : List Line) (l : Line) → is_order before l ≡ false → kind_of_fault before l ≡ kind_of_any before l
-other_kind before l no = kind_is before l ∙ rw no (sym (first_kind_is kinds_of_any before l))
+other_kind before l other = kind_is before l ∙ rw other (sym (first_kind_is kinds_of_any before l))
 
 order_kind : (before : List Line) (l : Line) → is_order before l ≡ true → kind_of_fault before l ≡ Some why.Order
-order_kind before l yes = kind_is before l ∙ rw yes refl
+order_kind before l is = kind_is before l ∙ rw is refl
 
 -- a line that doesn't belong to the part that goes on
 pub kind_out : (before : List Line) (l : Line) (p : Part) → part_after (last_of before) ≡ p → belongs p l ≡ false → kind_of_fault before l ≡ Some why.Order
@@ -55,9 +55,9 @@ stop_nowhere (place.Policies b names) moment = refl
 
 -- no order stands in a header
 order_nowhere : (before : List Line) (l : Line) (p : Place) → is_order before l ≡ true → belongs (part_of p) l ≡ false
-order_nowhere before (line.SwitchTo moment name) p yes = switch_nowhere p moment name
-order_nowhere before (line.StopAt moment) p yes = stop_nowhere p moment
-order_nowhere before l p yes = absurd (cc)
+order_nowhere before (line.SwitchTo moment name) p is = switch_nowhere p moment name
+order_nowhere before (line.StopAt moment) p is = stop_nowhere p moment
+order_nowhere before l p is = absurd (cc)
 
 -- the kind of a line of the header
 pub same_kind : (before : List Line) (h : Header) (l : Line) → StandsAsHeader before h → kind_of_fault before l ≡ kind_of_any before l

@@ -120,7 +120,7 @@ unfolding digits outcomes_from layout_of
 lights_that_give_way_in_version_two = refl
 
 -- what the first of them says
-pub events_in_order : (let v = event_verdict (small ++ codes "0 0 request 1 0 straight 10 500 500 0 1000 700 car\n2 5 done 1 0\n0 1 cancel 2 0\nend\n") in map (λ (e : Event). (e.vehicle, e.moment, e.message.seq)) (events_of v.before)) ≡ (0, 0, 1) ∷ (2, 5, 1) ∷ (0, 1, 2) ∷ []
+pub events_in_order : (let v = event_verdict (small ++ codes "0 0 request 1 0 straight 10 500 500 0 1000 700 car\n2 5 done 1 0\n0 1 cancel 2 0\nend\n") in map {B = ℕ × ℕ × ℕ} (λ (e : Event). (e.vehicle, e.moment, e.message.seq)) (events_of v.before)) ≡ (0, 0, 1) ∷ (2, 5, 1) ∷ (0, 1, 2) ∷ []
 unfolding digits outcomes_from layout_of
 events_in_order = refl
 
