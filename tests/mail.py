@@ -126,7 +126,7 @@ def confirmed(head, calls):
 
 def made_events(lots, head, count, ways, speed, reach):
     """Events of all vehicles, mixed: what they ask first, and then what they do with what they get for it."""
-    kinds = ["emergency" if lots.random() < 4 / (count + 40) else "car" for _ in range(count)]
+    kinds = ["emergency" if lots.random() < 8 / (count + 40) else "car" for _ in range(count)]
     vehicles = [Vehicle(lots, number, lots.choice(ways), speed, reach, kind) for number, kind in enumerate(kinds)]
     queues = [vehicle.asks_first() for vehicle in vehicles]
     ids = confirmed(head, rounds_of([event for queue in queues for event in queue], range(count)))
@@ -165,7 +165,8 @@ def changed_texts(head, events, text):
     for at, call in enumerate(calls):
         later = next((k for k in range(at + 1, len(calls)) if calls[k][0] == call[0] and calls[k] != call), None)
         if later is not None:
-            yield "two calls of a vehicle swapped", again(calls[:at] + [calls[later], *calls[at + 1 : later], call] + calls[later + 1 :])
+            swapped = calls[:at] + [calls[later], *calls[at + 1 : later], call] + calls[later + 1 :]
+            yield "two calls of a vehicle swapped", again(swapped)
         yield "a call left out", again(calls[:at] + calls[at + 1 :])
         yield "a call made twice", again(calls[: at + 1] + calls[at:])
     lines = text.split("\n")[:-1]
@@ -189,7 +190,8 @@ def refusals():
     text = mail("a small script", head, vehicles, events, 1)
     texts = list(changed_texts(head, events, text))
     for what in dict(texts):
-        passed = [changed for kind, changed in texts if kind == what and not fault_of(head, vehicles, events, 1, changed)]
+        some = [changed for change, changed in texts if change == what]
+        passed = [changed for changed in some if not fault_of(head, vehicles, events, 1, changed)]
         judge(what, f"{len(passed)} are let through, the first is {passed[0]}" if passed else None)
 
 
