@@ -27,7 +27,7 @@ kind_is before l = first_kind_is kinds before l
 pub other_kind : (before : List Line) (l : Line) → is_order before l ≡ false → kind_of_fault before l ≡ kind_of_any before l
 other_kind before l other = kind_is before l ∙ rw other (sym (first_kind_is kinds_of_any before l))
 
-order_kind : (before : List Line) (l : Line) → is_order before l ≡ true → kind_of_fault before l ≡ Some why.Order
+pub order_kind : (before : List Line) (l : Line) → is_order before l ≡ true → kind_of_fault before l ≡ Some why.Order
 order_kind before l is = kind_is before l ∙ rw is refl
 
 -- a line that doesn't belong to the part that goes on
