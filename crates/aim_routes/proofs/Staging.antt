@@ -1,5 +1,5 @@
 -- What a line comes to at the stage where it belongs.
-use Rattle.std.proofs.Common.{◌≡◌, ℕ, zero, suc, ◌+◌, ◌*◌, ◌<◌, ◌≤◌, ◌==◌, Bool, true, false, ◌||◌, nat_le, nat_lt, List, [], ◌∷◌, ◌++◌, length, map, Option, Some, None, is_some, Result, Ok, Err, refl, sym, ap, subst, ◌∙◌, arith, length-append}
+use Rattle.std.proofs.Common.{◌≡◌, ℕ, ◌+◌, ◌*◌, ◌<◌, ◌≤◌, ◌==◌, Bool, true, false, ◌||◌, nat_le, nat_lt, List, [], ◌∷◌, ◌++◌, length, map, Option, Some, None, is_some, Result, Ok, Err, refl, sym, ap, subst, ◌∙◌, arith, length-append}
 use Rattle.std.specs.Prelude.{if◌then◌else◌}
 use Rattle.std.specs.Option.{unwrap_or}
 use Rattle.std.proofs.lemmas.Bool.{eqb-true, leb-true, ltb-false}
@@ -32,6 +32,7 @@ use Rattle.aim_script.proofs.AppendLemmas.{IsSilent, filter_map-one, layout_same
 use Rattle.aim_grid_read.specs.declared.lines.GridLine.{GridLine}
 use Rattle.aim_grid_read.specs.declared.lines.GridLine.TheVariants as line
 use Rattle.aim_grid_read.specs.Legs.{grid_line_at}
+use Rattle.aim_grid_read.specs.Spelled.{IsBare}
 use Rattle.aim_grid_read.proofs.Texts.{grid_was_spelled}
 use Rattle.aim_routes.specs.declared.decisions.GridKind.{GridKind}
 use Rattle.aim_routes.specs.declared.decisions.GridKind.TheVariants as kind
@@ -42,11 +43,13 @@ use Rattle.aim_routes.specs.declared.stages.Refusal.{Refusal}
 use Rattle.aim_routes.specs.declared.stages.Refusal.TheVariants as refusal
 use Rattle.aim_routes.specs.declared.stages.Stage.{Stage}
 use Rattle.aim_routes.specs.declared.stages.Stage.TheVariants as stage
+use Rattle.aim_routes.specs.Fits.{AreLegs}
 use Rattle.aim_routes.specs.Kinds.{has_all, kind_of_fault, leg_kind_of, limit_of, may_end, next_kind, phase_kind}
 use Rattle.aim_routes.specs.Order.{Part, part_after, in_blocks, in_legs, nothing, to_begin, to_until}
 use Rattle.aim_routes.specs.Said.{Parted, begins_block, blocks_in, last_of, layouts_of, leg_in, legs_of, parted, parted_by, parted_with, some_block, spans_in, vehicles_of, version_of}
-use Rattle.aim_routes.specs.Stages.{AreBlocks, Begins, Ends, EndsBlock, HasPlainName, IsCounted, IsSettled, Judged, Settles, Stands, Takes, ending_of, is_order, refusal_of}
+use Rattle.aim_routes.specs.Stages.{AreBlocks, Begins, Ends, EndsBlock, IsCounted, IsSettled, Judged, Settles, Stands, Takes, WasRead, ending_of, is_order, refusal_of}
 use Rattle.aim_routes.specs.Verdicts.{at_end, bad, decides, end_after, judge, of_read}
+use Rattle.aim_routes.proofs.Fitting.{bounds_of, legs_more, no_legs}
 use Rattle.aim_routes.proofs.Judging.{as_plain, block_at, empty_kind, end_kind, falls, further_kind, goes, kind_at, other, passes, taken_form}
 use Rattle.aim_routes.proofs.Parting.{SaysNone, crossings_same, inside, last_more, legs_same, no_until, parted_more, quiet_more, some_more, until_first, until_same, vehicles_first, vehicles_same}
 
@@ -234,6 +237,7 @@ close_settles before b n s v layouts (Ok (stage.Begin r)) a all heeds same whole
           within = ap (λ js. vehicles_limit (spans_in js) r.vehicles) settles.2 ∙ ap (vehicles_limit (spans_in layouts)) settles.3 ∙ settles.0;
           until = until_same before l refl ∙ ap (λ o. unwrap_or o 0) a.quiet.until ∙ sym settles.4;
           legs = legs_same before l refl ∙ a.quiet.legs ∙ sym settles.5;
+          fit = subst (AreLegs r.vehicles (length r.layouts.items)) (sym settles.5) (no_legs r.vehicles (length r.layouts.items));
         },
       ),
     )
@@ -273,6 +277,7 @@ settled_same before r l k s =
       within = s.within;
       until = until_same before l k.none.until ∙ s.until;
       legs = legs_same before l k.none.leg ∙ s.legs;
+      fit = s.fit;
     }
 
 -- `begin`
@@ -314,6 +319,7 @@ until_taken before r t n within is st =
           within = s.within;
           until = until_first before n st.1;
           legs = legs_same before l refl ∙ s.legs;
+          fit = s.fit;
         },
       ),
     )
@@ -333,9 +339,9 @@ pub leg_falls : (before : List GridLine) (r : Routes) (leg : PlannedLeg) (k : Gr
 leg_falls before r leg k is st = falls before (line.Leg leg.vehicle leg.crossing leg.plan) k (leg_at before r leg st ∙ is)
 
 pub leg_taken : (before : List GridLine) (r t : Routes) (leg : PlannedLeg) → leg_kind_of (length r.layouts.items) r.vehicles r.legs.items leg.vehicle leg.crossing leg.plan ≡ None
-    → t.version ≡ r.version → t.layouts.items ≡ r.layouts.items → t.vehicles ≡ r.vehicles → t.until ≡ r.until → t.legs.items ≡ r.legs.items ++ leg ∷ [] → Stands before (stage.Legs r)
+    → IsBare leg.plan → t.version ≡ r.version → t.layouts.items ≡ r.layouts.items → t.vehicles ≡ r.vehicles → t.until ≡ r.until → t.legs.items ≡ r.legs.items ++ leg ∷ [] → Stands before (stage.Legs r)
     → Takes before (line.Leg leg.vehicle leg.crossing leg.plan) (Ok (stage.Legs t))
-leg_taken before r t leg none version layouts vehicles until legs st =
+leg_taken before r t leg none bare version layouts vehicles until legs st =
     let l = line.Leg leg.vehicle leg.crossing leg.plan in
     let s = st.2 in
     let parts : parted (before ++ l ∷ []) ≡ parted before = parted_more before l in (
@@ -354,6 +360,7 @@ leg_taken before r t leg none version layouts vehicles until legs st =
           within = rw (layouts, vehicles) s.within;
           until = until_same before l refl ∙ s.until ∙ sym until;
           legs = filter_map-one leg_in before l ∙ ap (λ ls. ls ++ leg ∷ []) s.legs ∙ sym legs;
+          fit = rw (vehicles, layouts, legs) (legs_more r.vehicles (length r.layouts.items) r.legs.items leg none bare s.fit);
         },
       ),
     )
@@ -381,25 +388,13 @@ within_limit spans n none = go (nat_lt 256 n) refl
     go true e = absurd (cc (rw e at none))
     go false e = (ltb-false 256 n e, least (ltb-false 256 n e) e (nat_lt 16777216 (n * spans)) refl)
 
-positive : (n : ℕ) → (n == 0) ≡ false → 1 ≤ n
-positive zero e = absurd (cc)
-positive (suc n) e = omega arith
-
-inside_of : (n : ℕ) → is_outside n 65536 ≡ false → (1 ≤ n) × (n ≤ 65536)
-inside_of n h = go (n == 0) refl (nat_lt 65536 n) refl
-  where
-    go : (a : Bool) → (n == 0) ≡ a → (b : Bool) → nat_lt 65536 n ≡ b → (1 ≤ n) × (n ≤ 65536)
-    go true e b f = absurd (cc (rw e at h))
-    go false e true f = absurd (cc (rw (e, f) at h))
-    go false e false f = (positive n e, ltb-false 65536 n f)
-
-pub ends_whole : (before : List GridLine) (r : Routes) → Stands before (stage.Over r) → Ends before (Ok r)
+pub ends_whole : (before : List GridLine) (r : Routes) → Stands before (stage.Over r) → Ends before (Some r)
 ends_whole before r st =
     let s = st.2 in
     let limit = within_limit (spans_in r.layouts.items) r.vehicles s.within in
-    let steps = inside_of r.until st.1 in (
+    let steps = bounds_of r.until 65536 st.1 in (
       ap (end_after before) st.0,
-      record { layouts = s.layouts; vehicles = s.vehicles; until = s.until; legs = s.legs },
+      record { version = s.version; crossings = s.crossings; layouts = s.layouts; vehicles = s.vehicles; until = s.until; legs = s.legs },
       record {
         some_crossings = s.some;
         few_crossings = s.few;
@@ -408,6 +403,7 @@ ends_whole before r st =
         few_spans = limit.1;
         some_steps = steps.0;
         few_steps = steps.1;
+        legs = s.fit;
       },
     )
 
@@ -538,10 +534,10 @@ next_begun before b n i (header_refusal.Bad k) a ends begins =
     absurd (no_some k (sym none ∙ begins))
 
 -- a line that was read, in the version of the stage
-pub read_name : (bytes : List ℕ) (n : ℕ) (l : GridLine) → Ok l ≡ grid_line_at n bytes → HasPlainName l
-read_name bytes n (line.Crossings c) is = tt
-read_name bytes n (line.Leg v c p) is = tt
-read_name bytes n (line.Plain l) is = named n l (grid_was_spelled n bytes (line.Plain l) (sym is)).1
+pub was_read : (bytes : List ℕ) (n : ℕ) (l : GridLine) → Ok l ≡ grid_line_at n bytes → WasRead l
+was_read bytes n (line.Crossings c) is = tt
+was_read bytes n (line.Leg v c p) is = (grid_was_spelled n bytes (line.Leg v c p) (sym is)).1
+was_read bytes n (line.Plain l) is = named n l (grid_was_spelled n bytes (line.Plain l) (sym is)).1
   where
     named : (n : ℕ) (l : Line) → KeepsRanges n l → HasName l
     named n (plain.Policy name k) keeps = keeps.0

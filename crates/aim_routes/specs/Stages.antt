@@ -1,5 +1,5 @@
 -- What is known of the lines of a script so far, at each stage of it.
-use Rattle.std.specs.Prelude.{◌≡◌, ℕ, ◌<◌, ◌≤◌, Bool, true, false, ◌||◌, List, [], ◌∷◌, ◌++◌, length, map, Some, None, Result, Ok, Err, if◌then◌else◌}
+use Rattle.std.specs.Prelude.{◌≡◌, ℕ, ◌<◌, ◌≤◌, Bool, true, false, ◌||◌, List, [], ◌∷◌, ◌++◌, length, map, Option, Some, None, Result, Ok, Err, if◌then◌else◌}
 use Rattle.aim_io.specs.Lines.{Line as LineOf}
 use Rattle.aim_msg.specs.declared.script.Line.{Line}
 use Rattle.aim_msg.specs.declared.script.Line.TheVariants as plain
@@ -18,7 +18,7 @@ use Rattle.aim_script.specs.Versions.{version_number}
 use Rattle.aim_script.specs.declared.versions.ScriptVersion.{ScriptVersion}
 use Rattle.aim_grid_read.specs.declared.lines.GridLine.{GridLine}
 use Rattle.aim_grid_read.specs.declared.lines.GridLine.TheVariants as line
-use Rattle.aim_routes.specs.declared.decisions.GridDecision.{GridDecision}
+use Rattle.aim_grid_read.specs.Spelled.{IsBare}
 use Rattle.aim_routes.specs.declared.decisions.GridDecision.TheVariants as decision
 use Rattle.aim_routes.specs.declared.decisions.GridKind.TheVariants as kind
 use Rattle.aim_routes.specs.declared.routes.Routes.{Routes}
@@ -27,16 +27,17 @@ use Rattle.aim_routes.specs.declared.stages.Refusal.{Refusal}
 use Rattle.aim_routes.specs.declared.stages.Refusal.TheVariants as refusal
 use Rattle.aim_routes.specs.declared.stages.Stage.{Stage}
 use Rattle.aim_routes.specs.declared.stages.Stage.TheVariants as stage
-use Rattle.aim_routes.specs.Fits.{AreRoutesOf, AreWithin}
+use Rattle.aim_routes.specs.Fits.{AreLegs, AreRoutesOf, AreWithin}
 use Rattle.aim_routes.specs.Kinds.{next_kind}
 use Rattle.aim_routes.specs.Order.{part_after, in_blocks, to_begin, to_until, in_legs}
 use Rattle.aim_routes.specs.Said.{crossings_of, last_of, layouts_of, legs_of, parted, some_block, spans_in, until_in, until_of, vehicles_in, vehicles_of, version_of}
 use Rattle.aim_routes.specs.Verdicts.{at_end, bad, decides, goes_on, judge, of_read}
 
--- a name in the line is spelled as one
-abbrev pub HasPlainName : GridLine → Type 0
-HasPlainName (line.Plain l) = HasName l
-HasPlainName _ = Unit {0}
+-- what holds of a line that was read: a name in it is spelled as one, and a leg's plan is bare
+abbrev pub WasRead : GridLine → Type 0
+WasRead (line.Crossings n) = Unit {0}
+WasRead (line.Leg v c p) = IsBare p
+WasRead (line.Plain l) = HasName l
 
 -- nothing is said of vehicles, of the end and of legs
 pub record IsQuiet (before : List GridLine) : Type 0 where
@@ -76,6 +77,7 @@ pub record IsSettled (before : List GridLine) (r : Routes) : Type 0 where
   pub within : vehicles_limit (spans_in r.layouts.items) r.vehicles ≡ None
   pub until : until_of before ≡ r.until
   pub legs : legs_of before ≡ r.legs.items
+  pub fit : AreLegs r.vehicles (length r.layouts.items) r.legs.items
 
 -- the stage stands for these lines
 abbrev pub Stands : List GridLine → Stage → Type 0
@@ -102,9 +104,9 @@ Judged before bytes (Err (refusal.Limit which)) = judge before (LineOf bytes) �
 Judged before bytes (Err refusal.NoMemory) = Unit {0}
 
 -- what the end of the input comes to
-abbrev pub Ends : List GridLine → Result Routes GridDecision → Type 0
-Ends before (Ok r) = (at_end before ≡ decision.Whole) × AreRoutesOf before r × AreWithin r
-Ends before (Err d) = at_end before ≡ d
+abbrev pub Ends : List GridLine → Option Routes → Type 0
+Ends before (Some r) = (at_end before ≡ decision.Whole) × AreRoutesOf before r × AreWithin r
+Ends before None = at_end before ≡ bad before (kind.Plain why.End)
 
 -- an `aim` line begins a block, as it begins a script
 abbrev pub Begins : ℕ → Result Header HeaderRefusal → Type 0

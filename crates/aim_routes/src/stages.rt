@@ -8,13 +8,14 @@ ghost use Rattle.aim_script.specs.Said.{vehicles_in};
 ghost use Rattle.aim_script.specs.Versions.{version_number};
 ghost use Rattle.aim_grid_read.specs.declared.lines.GridLine.{GridLine as AnyLine};
 ghost use Rattle.aim_grid_read.specs.declared.lines.GridLine.TheVariants as line_of;
+ghost use Rattle.aim_grid_read.specs.Spelled.{IsBare};
 ghost use Rattle.aim_routes.specs.declared.stages.Stage.TheVariants as stage;
 ghost use Rattle.aim_routes.specs.Kinds.{leg_kind_of};
 ghost use Rattle.aim_routes.specs.Said.{begins_block, version_of};
-ghost use Rattle.aim_routes.specs.Stages.{AreBlocks, Begins, Ends, EndsBlock, HasPlainName, IsCounted, Judged, Settles, Stands, Takes, ending_of, is_order, refusal_of};
+ghost use Rattle.aim_routes.specs.Stages.{AreBlocks, Begins, Ends, EndsBlock, IsCounted, Judged, Settles, Stands, Takes, WasRead, ending_of, is_order, refusal_of};
 
 use crate::checks::{LAST_STEP, has_leg, is_bad_plan, is_outside, spans_in, vehicles_limit};
-use crate::decisions::{GridDecision, GridKind};
+use crate::decisions::GridKind;
 use crate::routes::{PlannedLeg, Routes};
 use aim_driver::DrivePlan;
 use aim_grid_read::{GridLine, read_grid_line};
@@ -279,7 +280,7 @@ impl Blocks {
 
     // Takes the next line.
     fn take(self, alloc: Global, line: &GridLine) -> Result<Stage, Refusal>
-        requires { HasPlainName line.now }
+        requires { WasRead line.now }
         ensures { (before : List AnyLine) → AreBlocks before self → Takes before line.now result }
     {
         match line {
@@ -361,6 +362,7 @@ fn leg_fault(routes: &Routes, vehicle: u32, crossing: u32, plan: &DrivePlan) -> 
 
 // Takes a leg.
 fn routed(mut routes: Routes, leg: PlannedLeg) -> Result<Stage, Refusal>
+    requires { IsBare leg.plan }
     ensures { (before : List AnyLine) → Stands before (stage.Legs routes) → Takes before (line_of.Leg leg.vehicle leg.crossing leg.plan) result }
 {
     if let Some(kind) = leg_fault(&routes, leg.vehicle, leg.crossing, &leg.plan) {
@@ -378,6 +380,7 @@ fn routed(mut routes: Routes, leg: PlannedLeg) -> Result<Stage, Refusal>
 
 // Takes the line behind `until` or a leg.
 fn travels(routes: Routes, line: GridLine) -> Result<Stage, Refusal>
+    requires { WasRead line }
     ensures { (before : List AnyLine) → Stands before (stage.Legs routes) → Takes before line result }
 {
     match line {
@@ -426,7 +429,7 @@ impl Stage {
 
     // Takes the next line of a script.
     fn take_line(self, alloc: Global, line: GridLine) -> Result<Stage, Refusal>
-        requires { HasPlainName line }
+        requires { WasRead line }
         ensures { (before : List AnyLine) → Stands before self → Takes before line result }
     {
         match self {
@@ -454,16 +457,15 @@ impl Stage {
         }
     }
 
-    /// What the script comes to if its input ends here, behind so many lines: its routes, if it is whole.
-    pub fn at_end(self, lines: u32) -> Result<Routes, GridDecision>
-        requires { lines ≤ 262144 }
-        ensures { (before : List AnyLine) → Stands before self → length before ≡ lines → Ends before result }
+    /// The routes of the script, if it is whole where its input ends here.
+    pub fn at_end(self) -> Option<Routes>
+        ensures { (before : List AnyLine) → Stands before self → Ends before result }
     {
         match self {
-            Stage::Over(routes) => Ok(routes),
+            Stage::Over(routes) => Some(routes),
             other => {
                 drop(other);
-                Err(GridDecision::Bad(lines + 1, GridKind::Plain(Kind::End)))
+                None
             }
         }
     }

@@ -4,6 +4,10 @@
 #[cfg(test)]
 mod lines;
 #[cfg(test)]
+mod reading;
+#[cfg(test)]
 mod scripts;
 #[cfg(test)]
 mod stages;
+#[cfg(test)]
+mod words;

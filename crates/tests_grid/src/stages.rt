@@ -1,43 +1,16 @@
 //! Scripts taken line by line, where memory is ample.
 
 use crate::scripts::SCRIPTS;
-use aim_routes::{GridDecision, GridKind, Refusal, Stage};
-use aim_script::{Kind, Limit};
+use crate::words::{kind_word, limit_word};
+use aim_routes::{Refusal, Stage};
 use std::alloc::{AllocError, Global};
 use std::test::Fail;
 
-// The word for a kind, of those that the scripts have.
-fn kind_word(kind: GridKind) -> &'static [u8] {
-    match kind {
-        GridKind::Crossing => b"crossing",
-        GridKind::Route => b"route",
-        GridKind::Plain(Kind::End) => b"end",
-        GridKind::Plain(Kind::Order) => b"order",
-        GridKind::Plain(Kind::Version) => b"version",
-        GridKind::Plain(Kind::Policy) => b"policy",
-        GridKind::Plain(Kind::Phase) => b"phase",
-        GridKind::Plain(Kind::Vehicle) => b"vehicle",
-        GridKind::Plain(Kind::Moment) => b"moment",
-        GridKind::Plain(_) => b"another",
-    }
-}
-
-// The word for a limit, of those that the scripts have.
-fn limit_word(limit: Limit) -> &'static [u8] {
-    match limit {
-        Limit::Vehicles => b"vehicles",
-        Limit::Sheets => b"sheets",
-        _ => b"another",
-    }
-}
-
 // What the end of a script comes to, behind so many lines.
 fn ending(stage: Stage, lines: u32) -> (u32, &'static [u8]) {
-    match stage.at_end(lines.min(262_144)) {
-        Ok(_) => (0, b"whole"),
-        Err(GridDecision::Bad(number, kind)) => (number, kind_word(kind)),
-        Err(GridDecision::Limit(limit)) => (0, limit_word(limit)),
-        Err(GridDecision::Whole) => (0, b"another"),
+    match stage.at_end() {
+        Some(_) => (0, b"whole"),
+        None => (lines.saturating_add(1), b"end"),
     }
 }
 

@@ -1,9 +1,9 @@
 use Rattle.std.proofs.Common.{◌∙◌, sym}
-use Rattle.aim_routes.proofs.Staging.{judged, read_name, unread}
+use Rattle.aim_routes.proofs.Staging.{judged, unread, was_read}
 use Rattle.aim_routes.proofs.stages.Stage.take.Goals as goal
 
 pub take_line-requires : goal.take_line-requires
-take_line-requires c = read_name c.args.bytes.now c.number-version.result c.in-Ok.line c.in-Ok.ensures
+take_line-requires c = was_read c.args.bytes.now c.number-version.result c.in-Ok.line c.in-Ok.ensures
 
 pub returns-in-Ok : goal.returns-in-Ok
 returns-in-Ok c before st =

@@ -1,0 +1,256 @@
+-- What a script of several crossings comes to, line after line.
+use Rattle.std.proofs.Common.{◌≡◌, ◌⊎◌, inl, inr, ℕ, zero, suc, ◌+◌, ◌<◌, ◌≤◌, List, [], ◌∷◌, ◌++◌, length, take, Option, Some, None, Result, Ok, Err, IfSome, IfOk, refl, sym, ap, ◌∙◌, subst, length-append, true, false, arith, slice_get}
+use Rattle.std.specs.Option.{unwrap_or}
+use Rattle.std.specs.Io.KnownBytes.{Consumes, Keeps}
+use Rattle.std.proofs.lemmas.List.{take-append-le}
+use Rattle.std.proofs.Math.Seq.{take-append_seam}
+use Rattle.aim_io.specs.declared.lines.LineFault.{LineFault}
+use Rattle.aim_io.specs.declared.lines.LineFault.TheVariants.{Read, Long, Bytes, Lines}
+use Rattle.aim_io.specs.Causes.{Rose}
+use Rattle.aim_io.specs.Known.{WhereKnown}
+use Rattle.aim_io.specs.Lines.{InputFault, LongLine, TooManyBytes, TooManyLines, fault_of, Outcome, Line, Stop, HasNoEnd, IsOpen}
+use Rattle.aim_io.specs.Reader.{Reader, input, coming, Answers, taken_by, after_call}
+use Rattle.aim_io.proofs.LoopLemmas.{decides_line, decided_line, decided_end, decided_fault, took_line, took_none, took_kept, took_part}
+use Rattle.aim_script.specs.declared.decisions.Kind.TheVariants as why
+use Rattle.aim_script.specs.declared.decisions.Limit.{Limit}
+use Rattle.aim_script.specs.declared.decisions.Limit.TheVariants as limit
+use Rattle.aim_msg.specs.declared.script.LineKind.{LineKind}
+use Rattle.aim_grid_read.specs.declared.lines.GridLine.{GridLine}
+use Rattle.aim_grid_read.specs.Legs.{grid_line_at}
+use Rattle.aim_routes.specs.Said.{version_of}
+use Rattle.aim_routes.specs.declared.decisions.GridDecision.{GridDecision}
+use Rattle.aim_routes.specs.declared.decisions.GridDecision.TheVariants as decision
+use Rattle.aim_routes.specs.declared.decisions.GridKind.{GridKind}
+use Rattle.aim_routes.specs.declared.decisions.GridKind.TheVariants as kind
+use Rattle.aim_routes.specs.declared.routes.Routes.{Routes}
+use Rattle.aim_routes.specs.declared.stages.Refusal.{Refusal}
+use Rattle.aim_routes.specs.declared.stages.Refusal.TheVariants as refusal
+use Rattle.aim_routes.specs.declared.stages.Stage.{Stage}
+use Rattle.aim_routes.specs.Fits.{AreWithin}
+use Rattle.aim_routes.specs.Kinds.{kind_of_fault, limit_of}
+use Rattle.aim_routes.specs.Stages.{Judged, Stands}
+use Rattle.aim_routes.specs.Verdicts.{Judgement, Verdict, at_end, decides, goes_on, grid_verdict, judge, number_after, of_read, unless_bad, unless_limited, verdict_from}
+use Rattle.aim_grid_script.specs.declared.endings.GridEnding.{GridEnding}
+use Rattle.aim_grid_script.specs.declared.endings.GridEnding.TheVariants as ending
+use Rattle.aim_grid_script.specs.Endings.{Ended, of_fault as ending_of_fault, of_refusal}
+use Rattle.aim_grid_script.specs.Scripts.{Decides, IsGrid, Reads}
+use Rattle.aim_grid_script.specs.Short.{StopsShort, TookScript, script_after}
+
+-- the verdict of bytes that begin with the lines so far is that of what is to come
+abbrev pub Leaves : Option (List ℕ) → Option (List ℕ) → Reader → List GridLine → Type 0
+Leaves all now reader before = WhereKnown all now (λ bytes rest. verdict_from before (coming reader rest) ≡ grid_verdict bytes)
+
+-- What is known of a script, of which so many lines were read: the stage stands for them.
+pub record Reached (all now : Option (List ℕ)) (reader : Reader) (stage : Stage) : Type 0 where
+  pub before : List GridLine
+  pub stands : Stands before stage
+  pub grid : IsGrid before
+  pub count : length before ≡ reader.given
+  pub leaves : Leaves all now reader before
+  pub took : reader.ended ≡ false → TookScript all now before
+
+some_is : {A : Type 0} (x y : A) → Some x ≡ Some y → x ≡ y
+some_is x y e = ap (λ o. unwrap_or o x) e
+
+abbrev decided : List GridLine → GridDecision → Verdict
+decided before d = record { before = before; decision = d }
+
+-- what is decided, where the bytes' verdict is known
+decides_all : (before : List GridLine) (d : GridDecision) (all : Option (List ℕ)) → IfSome all (λ bytes. decided before d ≡ grid_verdict bytes) → Decides all d
+decides_all before d None told = tt
+decides_all before d (Some bytes) told = ap (λ (v : Verdict). v.decision) (sym told)
+
+-- ---- a line that goes on
+
+-- it has no fault and goes past no limit
+unlimited : (l m : GridLine) (o : Option Limit) → unless_limited l o ≡ goes_on m → (o ≡ None) × (l ≡ m)
+unlimited l m None e = (refl, cc)
+unlimited l m (Some which) e = absurd (cc)
+
+faultless : (before : List GridLine) (l m : GridLine) (o : Option GridKind) → unless_bad before l o ≡ goes_on m → (o ≡ None) × (limit_of before l ≡ None) × (l ≡ m)
+faultless before l m None e = let u = unlimited l m (limit_of before l) e in (refl, u.0, u.1)
+faultless before l m (Some k) e = absurd (cc)
+
+goes_as : (before : List GridLine) (r : Result GridLine LineKind) (m : GridLine) → of_read before r ≡ goes_on m → (kind_of_fault before m ≡ None) × (limit_of before m ≡ None)
+goes_as before (Ok l) m e =
+    let f = faultless before l m (kind_of_fault before l) e in
+    subst (λ x. (kind_of_fault before x ≡ None) × (limit_of before x ≡ None)) f.2 (f.0, f.1)
+goes_as before (Err k) m e = absurd (cc)
+
+-- an element of the longer list is one of the shorter, or the last
+get_more : {A : Type 0} (xs : List A) (x : A) (k : ℕ) (m : A) → slice_get (xs ++ x ∷ []) k ≡ Some m → ((k < length xs) × (slice_get xs k ≡ Some m)) ⊎ ((k ≡ length xs) × (m ≡ x))
+get_more [] x zero m e = inr (refl, sym (some_is x m e))
+get_more [] x (suc k) m e = absurd (cc)
+get_more (y ∷ xs) x zero m e = inl (omega arith, e)
+get_more (y ∷ xs) x (suc k) m e = at (get_more xs x k m e)
+  where
+    at : ((k < length xs) × (slice_get xs k ≡ Some m)) ⊎ ((k ≡ length xs) × (m ≡ x)) → ((suc k < length (y ∷ xs)) × (slice_get (y ∷ xs) (suc k) ≡ Some m)) ⊎ ((suc k ≡ length (y ∷ xs)) × (m ≡ x))
+    at (inl p) = inl (omega (arith, p.0), p.1)
+    at (inr p) = inr (ap suc p.0, p.1)
+
+-- what holds of each line behind those before it
+each_more : (P : List GridLine → GridLine → Type 0) (lines : List GridLine) (l : GridLine) → ((k : ℕ) (m : GridLine) → slice_get lines k ≡ Some m → P (take k lines) m) → P lines l
+    → (k : ℕ) (m : GridLine) → slice_get (lines ++ l ∷ []) k ≡ Some m → P (take k (lines ++ l ∷ [])) m
+each_more P lines l each last k m e = at (get_more lines l k m e)
+  where
+    at : ((k < length lines) × (slice_get lines k ≡ Some m)) ⊎ ((k ≡ length lines) × (m ≡ l)) → P (take k (lines ++ l ∷ [])) m
+    at (inl p) =
+        let lt : k < length lines = p.0 in
+        let within : k ≤ length lines = omega arith in
+        subst (λ ls. P ls m) (sym (take-append-le k lines (l ∷ []) within)) (each k m p.1)
+    at (inr p) = subst (λ ls. P ls m) (sym (ap (λ n. take n (lines ++ l ∷ [])) p.0 ∙ take-append_seam lines (l ∷ []))) (subst (λ x. P lines x) (sym p.1) last)
+
+no_lines : IsGrid []
+no_lines = record { no_fault = λ k l e. absurd (cc); no_limit = λ k l e. absurd (cc) }
+
+grid_more : (lines : List GridLine) (l : GridLine) → IsGrid lines → kind_of_fault lines l ≡ None → limit_of lines l ≡ None → IsGrid (lines ++ l ∷ [])
+grid_more lines l g kind limit = record {
+  no_fault = each_more (λ ls m. kind_of_fault ls m ≡ None) lines l g.no_fault kind;
+  no_limit = each_more (λ ls m. limit_of ls m ≡ None) lines l g.no_limit limit;
+}
+
+goes_line : (before : List GridLine) (l : GridLine) (bytes : List ℕ) → judge before (Line bytes) ≡ goes_on l → (more : List Outcome) → verdict_from before (Line bytes ∷ more) ≡ verdict_from (before ++ l ∷ []) more
+goes_line before l bytes j more = rw j refl
+
+script_more : (start : List GridLine) (lines : List (List ℕ)) (line : List ℕ) (before : List GridLine) → script_after start lines ≡ Some before → script_after start (lines ++ line ∷ []) ≡ script_after before (line ∷ [])
+script_more start [] line before e = ap (λ s. script_after s (line ∷ [])) (some_is start before e)
+script_more start (x ∷ lines) line before e = at (judge start (Line x)) refl (λ s h. script_more s lines line before h) e
+  where
+    at : (j : Judgement) → judge start (Line x) ≡ j → ((s : List GridLine) → script_after s lines ≡ Some before → script_after s (lines ++ line ∷ []) ≡ script_after before (line ∷ [])) → script_after start (x ∷ lines) ≡ Some before
+        → script_after start (x ∷ (lines ++ line ∷ [])) ≡ script_after before (line ∷ [])
+    at (decides d) j next e = absurd (cc (rw j at e))
+    at (goes_on l) j next e = rw j (next (start ++ l ∷ []) (rw j at e))
+
+-- a script with one line more
+script_push : (lines : List (List ℕ)) (line : List ℕ) (before : List GridLine) (l : GridLine) → script_after [] lines ≡ Some before → judge before (Line line) ≡ goes_on l → script_after [] (lines ++ line ∷ []) ≡ Some (before ++ l ∷ [])
+script_push lines line before l e j = script_more [] lines line before e ∙ rw j refl
+
+pub goes_further : (all then now : Option (List ℕ)) (old new : Reader) (stage next : Stage) → Reached all then old stage → ((before : List GridLine) → Stands before stage → Judged before new.line (Ok next)) → Answers old new then now (Ok true)
+    → Consumes then now (taken_by new true) → new ≡ after_call old new true → old.ended ≡ false → IsOpen new.line → Reached all now new next
+goes_further all then now old new stage next r judged answers taken after going line =
+    let j = judged r.before r.stands in
+    let told = goes_as r.before (grid_line_at (version_of r.before) new.line) j.0 j.1 in
+    let given : new.given ≡ old.given + 1 = ap (λ (x : Reader). x.given) after in record {
+      before = r.before ++ j.0 ∷ [];
+      stands = j.2;
+      grid = grid_more r.before j.0 r.grid told.0 told.1;
+      count = omega (arith, r.count, given, length-append r.before (j.0 ∷ []));
+      leaves = decides_line (verdict_from r.before) (verdict_from (r.before ++ j.0 ∷ [])) grid_verdict old new all then now (goes_line r.before j.0 new.line j.1) r.leaves answers;
+      took = λ still.
+          let before = r.took going in
+          let whole = rw still at taken in record {
+            lines = before.lines ++ new.line ∷ [];
+            took = took_line all then now before.lines new.line before.took line.no_end whole;
+            is = script_push before.lines new.line r.before j.0 before.is j.1;
+          };
+    }
+
+-- no line was read
+pub starts : (left : Option (List ℕ)) (reader : Reader) (stage : Stage) → Stands [] stage → reader.given ≡ 0 → Leaves left left reader [] → Reached left left reader stage
+starts left reader stage stands given leaves = record {
+  before = [];
+  stands = stands;
+  grid = no_lines;
+  count = sym given;
+  leaves = leaves;
+  took = λ still. record { lines = []; took = took_none left; is = refl };
+}
+
+-- ---- a line that decides
+
+line_decides : (before : List GridLine) (d : GridDecision) (old new : Reader) (all then now : Option (List ℕ)) → judge before (Line new.line) ≡ decides d → Leaves all then old before → Answers old new then now (Ok true) → Decides all d
+line_decides before d old new all then now j known answers =
+    decides_all before d all (decided_line (verdict_from before) grid_verdict (decided before d) old new all then now (λ more. rw j refl) known answers)
+
+pub is_refused : (all then now : Option (List ℕ)) (old new : Reader) (stage : Stage) (number : ℕ) (refused : Refusal) → Reached all then old stage → ((before : List GridLine) → Stands before stage → Judged before new.line (Err refused)) → number ≡ old.given + 1
+    → Answers old new then now (Ok true) → Reads all (Err (of_refusal number refused))
+is_refused all then now old new stage number (refusal.Bad k) r judged count answers =
+    let same : number_after r.before ≡ number = omega (arith, r.count, count) in
+    line_decides r.before (decision.Bad number k) old new all then now (judged r.before r.stands ∙ ap (λ n. decides (decision.Bad n k)) same) r.leaves answers
+is_refused all then now old new stage number (refusal.Limit which) r judged count answers = line_decides r.before (decision.Limit which) old new all then now (judged r.before r.stands) r.leaves answers
+is_refused all then now old new stage number refusal.NoMemory r judged count answers = tt
+
+-- a refused line is no failing source
+pub refused_not_read : (number : ℕ) (refused : Refusal) → ◌≡◌ {A = Result Routes GridEnding} (Err (of_refusal number refused)) (Err ending.Read) → ⊥
+refused_not_read number (refusal.Bad k) e = cc
+refused_not_read number (refusal.Limit which) e = cc
+refused_not_read number refusal.NoMemory e = cc
+
+-- ---- a fault of the input
+
+abbrev fault_decision : LineFault → GridDecision
+fault_decision Read = decision.Limit limit.Bytes
+fault_decision (Long number) = decision.Bad number (kind.Plain why.Long)
+fault_decision Bytes = decision.Limit limit.Bytes
+fault_decision Lines = decision.Limit limit.Lines
+
+fault_told : (before : List GridLine) (f : InputFault) → verdict_from before (Stop f ∷ []) ≡ decided before (fault_decision (fault_of f))
+fault_told before (LongLine number) = refl
+fault_told before TooManyBytes = refl
+fault_told before TooManyLines = refl
+
+fault_decides : (all then now : Option (List ℕ)) (old new : Reader) (before : List GridLine) (fault : LineFault) → (fault ≡ Read → ⊥) → Leaves all then old before → Answers old new then now (Err fault) → Decides all (fault_decision fault)
+fault_decides all then now old new before fault other known answers =
+    decides_all before (fault_decision fault) all (decided_fault (verdict_from before) grid_verdict (λ f. decided before (fault_decision f)) old new all then now fault other (fault_told before) known answers)
+
+pub is_faulty : (all then now : Option (List ℕ)) (old new : Reader) (stage : Stage) (fault : LineFault) → Reached all then old stage → Answers old new then now (Err fault) → Reads all (Err (ending_of_fault fault))
+is_faulty all then now old new stage Read r answers = tt
+is_faulty all then now old new stage (Long number) r answers = fault_decides all then now old new r.before (Long number) (λ e. cc) r.leaves answers
+is_faulty all then now old new stage Bytes r answers = fault_decides all then now old new r.before Bytes (λ e. cc) r.leaves answers
+is_faulty all then now old new stage Lines r answers = fault_decides all then now old new r.before Lines (λ e. cc) r.leaves answers
+
+-- the source has failed
+pub fault_is_read : (fault : LineFault) → ◌≡◌ {A = Result Routes GridEnding} (Err (ending_of_fault fault)) (Err ending.Read) → fault ≡ Read
+fault_is_read Read e = refl
+fault_is_read (Long number) e = absurd (cc)
+fault_is_read Bytes e = absurd (cc)
+fault_is_read Lines e = absurd (cc)
+
+-- the count rose since it was first asked for
+pub rose_later : (first before now : ℕ) → first ≤ before → Rose before now → Rose first now
+rose_later first before now later rose = grind arith
+
+pub stops_short : (all then left : Option (List ℕ)) (old new : Reader) (stage : Stage) → Reached all then old stage → Keeps then (input new left) → old.ended ≡ false → HasNoEnd new.held → StopsShort all left
+stops_short all then left old new stage r keeps going none =
+    let before = r.took going in record {
+      lines = before.lines;
+      took = took_part all left new.held before.lines (took_kept all then (input new left) before.lines before.took keeps) none;
+      before = r.before;
+      script = before.is;
+    }
+
+-- ---- the end of the input
+
+end_known : (before : List GridLine) (all : Option (List ℕ)) → at_end before ≡ decision.Whole → IfSome all (λ bytes. decided before (at_end before) ≡ grid_verdict bytes) → IfSome all (λ bytes. grid_verdict bytes ≡ decided before decision.Whole)
+end_known before None is told = tt
+end_known before (Some bytes) is told = sym told ∙ ap (decided before) is
+
+end_decides : (before : List GridLine) (d : GridDecision) (all : Option (List ℕ)) → at_end before ≡ d → IfSome all (λ bytes. decided before (at_end before) ≡ grid_verdict bytes) → Decides all d
+end_decides before d None is told = tt
+end_decides before d (Some bytes) is told = ap (λ (v : Verdict). v.decision) (sym told) ∙ is
+
+pub ends : (all then now : Option (List ℕ)) (old new : Reader) (stage : Stage) (number : ℕ) (result : Result Routes GridEnding) → Reached all then old stage → number ≡ old.given → ((before : List GridLine) → Stands before stage → length before ≡ number → Ended before result)
+    → Answers old new then now (Ok false) → Reads all result
+ends all then now old new stage number result r count ended answers =
+    at result (ended r.before r.stands (r.count ∙ sym count)) (decided_end (verdict_from r.before) grid_verdict old new all then now r.leaves answers)
+  where
+    at : (result : Result Routes GridEnding) → Ended r.before result → IfSome all (λ bytes. decided r.before (at_end r.before) ≡ grid_verdict bytes) → Reads all result
+    at (Ok routes) e told = record { lines = r.before; grid = r.grid; whole = e.0; is = e.1; verdict = end_known r.before all e.0 told }
+    at (Err (ending.Bad number k)) e told = end_decides r.before (decision.Bad number k) all e told
+    at (Err (ending.Limit which)) e told = absurd e
+    at (Err ending.Read) e told = absurd e
+    at (Err ending.NoMemory) e told = absurd e
+
+ended_fits : (before : List GridLine) (result : Result Routes GridEnding) → Ended before result → IfOk result AreWithin
+ended_fits before (Ok routes) e = e.2
+ended_fits before (Err ending) e = tt
+
+pub ends_fit : (all then : Option (List ℕ)) (old : Reader) (stage : Stage) (number : ℕ) (result : Result Routes GridEnding) → Reached all then old stage → number ≡ old.given → ((before : List GridLine) → Stands before stage → length before ≡ number → Ended before result) → IfOk result AreWithin
+ends_fit all then old stage number result r count ended = ended_fits r.before result (ended r.before r.stands (r.count ∙ sym count))
+
+ended_not_read : (before : List GridLine) (result : Result Routes GridEnding) → Ended before result → result ≡ Err ending.Read → ⊥
+ended_not_read before result e is = subst (Ended before) is e
+
+pub ends_not_read : (all then : Option (List ℕ)) (old : Reader) (stage : Stage) (number : ℕ) (result : Result Routes GridEnding) → Reached all then old stage → number ≡ old.given → ((before : List GridLine) → Stands before stage → length before ≡ number → Ended before result)
+    → result ≡ Err ending.Read → ⊥
+ends_not_read all then old stage number result r count ended = ended_not_read r.before result (ended r.before r.stands (r.count ∙ sym count))

@@ -1,0 +1,66 @@
+//! Reads a script of several crossings.
+
+ghost use Rattle.std.specs.Prelude.{◌≡◌, ◌≤◌, Err, IfOk, List, length};
+ghost use Rattle.std.specs.Io.KnownBytes.{IsAtEnd};
+ghost use Rattle.aim_io.specs.Causes.{Rose};
+ghost use Rattle.aim_plans.specs.Scripts.{TakesAtMost};
+ghost use Rattle.aim_grid_read.specs.declared.lines.GridLine.{GridLine};
+ghost use Rattle.aim_routes.specs.Fits.{AreWithin};
+ghost use Rattle.aim_routes.specs.Stages.{Stands};
+ghost use Rattle.aim_grid_script.specs.Endings.{Ended};
+ghost use Rattle.aim_grid_script.specs.Scripts.{Reads};
+ghost use Rattle.aim_grid_script.specs.Short.{StopsShort};
+
+use crate::endings::{GridEnding, of_fault, of_refusal};
+use aim_io::{LineReader, Source};
+use aim_routes::{GridKind, Routes, Stage};
+use aim_script::Kind;
+use std::alloc::Global;
+
+// What the script comes to where its input ends behind so many lines.
+fn ended(stage: Stage, lines: u32) -> Result<Routes, GridEnding>
+    requires { lines ≤ 262144 }
+    ensures { (before : List GridLine) → Stands before stage → length before ≡ lines → Ended before result }
+{
+    match stage.at_end() {
+        Some(routes) => Ok(routes),
+        None => Err(GridEnding::Bad(lines + 1, GridKind::Plain(Kind::End))),
+    }
+}
+
+/// Reads a script of several crossings to its end, or to the line that decides. Nothing is read behind a line that
+/// decides.
+pub fn read_grid<S: Source>(alloc: Global, source: &mut S) -> Result<Routes, GridEnding>
+    // The routes exactly where the bytes are a whole script, and else what decides them.
+    ensures reads { Reads (S.left source.old) result }
+    ensures fits { IfOk result AreWithin }
+    ensures ended { IfOk result (λ _. IsAtEnd (S.left source.new)) }
+
+    // A failing source, before a line decides.
+    ensures short { result ≡ Err GridEnding.Read → StopsShort (S.left source.old) (S.left source.new) }
+    ensures read { result ≡ Err GridEnding.Read → Rose (S.faults source.old) (S.faults source.new) }
+    ensures source { S.faults source.old ≤ S.faults source.new }
+
+    // No more than one byte past the greatest input is taken.
+    ensures most { TakesAtMost 67108865 (S.left source.old) (S.left source.new) }
+{
+    let mut reader = LineReader::new();
+    let mut stage = Stage::new();
+    let mut number = 0u32;
+    'lines: loop {
+        match reader.advance(source) {
+            Err(fault) => {
+                drop(stage);
+                return Err(of_fault(fault));
+            }
+            Ok(false) => return ended(stage, number),
+            Ok(true) => {
+                number += 1;
+                match stage.take(alloc, reader.line()) {
+                    Ok(next) => stage = next,
+                    Err(why) => return Err(of_refusal(number, why)),
+                }
+            }
+        }
+    }
+}
