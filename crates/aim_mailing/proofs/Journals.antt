@@ -55,11 +55,11 @@ few_entries v (c ∷ cs) = at c.answer (few_entries v cs)
 -- where there are as many entries as calls, they are these calls
 all_entries : (v : ℕ) (cs : List ClientCall) → length (entries_of v cs) ≡ length cs → map call_of (entries_of v cs) ≡ map (call_by v) cs
 all_entries v [] same = refl
-all_entries v (c ∷ cs) same = at c.answer same
+all_entries v (c ∷ cs) same = at c.answer (all_entries v cs) same
   where
-    at : (a : Answer) → length (entry_of v c.moment c.message a ++ entries_of v cs) ≡ suc (length cs) → map call_of (entry_of v c.moment c.message a ++ entries_of v cs) ≡ call_by v c ∷ map (call_by v) cs
-    at (Ok reply) same = ap (λ l. call_by v c ∷ l) (all_entries v cs (omega (arith, same)))
-    at (Err full) same = absurd (omega (arith, same, few_entries v cs))
+    at : (a : Answer) → (length (entries_of v cs) ≡ length cs → map call_of (entries_of v cs) ≡ map (call_by v) cs) → length (entry_of v c.moment c.message a ++ entries_of v cs) ≡ suc (length cs) → map call_of (entry_of v c.moment c.message a ++ entries_of v cs) ≡ call_by v c ∷ map (call_by v) cs
+    at (Ok reply) rest same = ap (λ l. call_by v c ∷ l) (rest (omega (arith, same)))
+    at (Err full) rest same = absurd (omega (arith, same, few_entries v cs))
 
 replied_entries : (v : ℕ) (cs : List ClientCall) → All (λ c. IsReply c.answer) cs → length (entries_of v cs) ≡ length cs
 replied_entries v [] all = refl

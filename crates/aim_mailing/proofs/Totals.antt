@@ -2,7 +2,7 @@
 use Rattle.std.proofs.Common.{◌≡◌, ◌≢◌, ℕ, zero, suc, ◌+◌, ◌<◌, ◌≤◌, Bool, true, false, if◌then◌else◌, List, [], ◌∷◌, length, filter, refl, sym, ap, ◌∙◌, arith}
 use Rattle.std.specs.Prelude.{◌==◌, All}
 use Rattle.std.proofs.lemmas.Bool.{eq-eqb, ne_eqb}
-use Rattle.std.proofs.lemmas.List.Elements.{All-head, All-tail}
+use Rattle.std.proofs.lemmas.List.Elements.{All-cons, All-head, All-tail}
 use mathlib.Core.Logic.{dite}
 use native.Mathlib.Decide.{ℕ_discrete}
 
@@ -47,9 +47,6 @@ module _ {A : Type 0} (key : A → ℕ) where
   abbrev pub count_of : List A → ℕ → ℕ
   count_of xs v = length (filter (λ x. key x == v) xs)
 
-  add : (b : Bool) (x : A) (xs : List A) → ℕ
-  add b x xs = length (if b then x ∷ xs else xs)
-
   -- a list has as many elements as there are of all keys
   pub count_all : (xs : List A) (n : ℕ) → All (λ x. key x < n) xs → sum_below (count_of xs) n ≡ length xs
   count_all [] n all = sum_none (count_of []) n (λ v. refl)
@@ -64,10 +61,9 @@ module _ {A : Type 0} (key : A → ℕ) where
 
   -- where a test keeps nothing, it holds of nothing
   pub none_kept : (p : A → Bool) (xs : List A) → filter p xs ≡ [] → All (λ x. p x ≡ false) xs
-  none_kept p [] none k d lt = absurd (omega (arith, lt))
-  none_kept p (x ∷ xs) none = at (p x) refl none
+  none_kept p [] none = λ k d lt. absurd (omega (arith, lt))
+  none_kept p (x ∷ xs) none = at (p x) refl (none_kept p xs) none
     where
-      at : (b : Bool) → p x ≡ b → (if b then x ∷ filter p xs else filter p xs) ≡ [] → All (λ x. p x ≡ false) (x ∷ xs)
-      at true is none = absurd (cc none)
-      at false is none zero d lt = is
-      at false is none (suc k) d lt = none_kept p xs none k d (omega (arith, lt))
+      at : (b : Bool) → p x ≡ b → (filter p xs ≡ [] → All (λ y. p y ≡ false) xs) → (if b then x ∷ filter p xs else filter p xs) ≡ [] → All (λ y. p y ≡ false) (x ∷ xs)
+      at true is rest none = absurd (cc none)
+      at false is rest none = All-cons (λ y. p y ≡ false) x xs is (rest none)
