@@ -13,11 +13,21 @@ SCRIPT = (CASE / "input").read_bytes()
 TEXT = (CASE / "output").read_bytes()
 CONFIRMED = TEXT.split(b"\n")[0] + b"\n"
 HEADER = SCRIPT[: SCRIPT.index(b"begin\n") + 6]
-LOSSY_CASE = TOP / "tests/cases/drive-lost-late-and-repeated-letters"
-LOSSY = (LOSSY_CASE / "input").read_bytes()
-LOSSY_TEXT = (LOSSY_CASE / "output").read_bytes()
 FAILURES = []
 COUNT = 0
+
+
+class Command:
+    """A command whose script is read whole before anything is printed, with a case of it."""
+
+    def __init__(self, words, what, case, call):
+        self.words, self.what, self.call = words, what, call
+        self.script = (TOP / "tests/cases" / case / "input").read_bytes()
+        self.text = (TOP / "tests/cases" / case / "output").read_bytes()
+
+
+DRIVE = Command(["drive", "1"], "a drive", "drive-lost-late-and-repeated-letters", b"plan ")
+MAIL = Command(["mail", "1"], "a mail", "mail-two-clients", b" request ")
 
 
 def judge(what, wanted, got):
@@ -133,56 +143,64 @@ def cut_line(rest, line, number):
     return f"bad line {number} words\n"
 
 
-def drives_cut_everywhere():
-    """The lossy drive cut behind each of its bytes: where the script isn't whole, the verdict alone is printed."""
-    script = LOSSY.decode()
+def whole_cut_everywhere(command):
+    """The command's script cut behind each of its bytes: where it isn't whole, the verdict alone is printed."""
+    script = command.script.decode()
     for place in range(len(script) + 1):
         before, rest = script[:place].split("\n")[:-1], script[:place].split("\n")[-1]
-        wanted = 0, LOSSY_TEXT
+        wanted = 0, command.text
         if script[:place].rstrip("\n") != script.rstrip("\n"):
             wanted = 3, cut_line(rest, script.split("\n")[len(before)], len(before) + 1).encode()
-        judge(f"a drive cut behind byte {place}", wanted, run(LOSSY[:place], "drive", "1"))
+        judge(f"{command.what} cut behind byte {place}", wanted, run(command.script[:place], *command.words))
 
 
-def drives_with_other_bytes():
-    """A byte that no text has in the place of each byte of two plans, and lines that are filled up to a length."""
-    lines = LOSSY.split(b"\n")[:-1]
+def whole_with_other_bytes(command):
+    """A byte that no text has in the place of each byte of two calls, and lines that are filled up to a length."""
+    lines = command.script.split(b"\n")[:-1]
     for number, line in enumerate(lines, 1):
         around = [b"\n".join(lines[: number - 1] + [b""]), b"\n".join([b"", *lines[number:], b""])]
-        for place in range(len(line)) if line.startswith(b"plan ") else []:
+        for place in range(len(line)) if command.call in line else []:
             for byte in (b"\0", b"\t", b"\xff", b"\r"):
-                status, text = run((line[:place] + byte + line[place + 1 :]).join(around), "drive", "1")
+                status, text = run((line[:place] + byte + line[place + 1 :]).join(around), *command.words)
                 texts = [b"bad line %d %s\n" % (number, kind) for kind in (b"unknown", b"words", b"number")]
-                judge(f"byte {byte!r} at {place} of line {number} of a drive", True, status == 3 and text in texts)
+                what = f"byte {byte!r} at {place} of line {number} of {command.what}"
+                judge(what, True, status == 3 and text in texts)
         for length, kind in ((400, b"words"), (401, b"long")):
             wanted = 3, b"bad line %d %s\n" % (number, kind)
-            got = run(line.ljust(length).join(around), "drive", "1")
-            judge(f"line {number} of a drive filled up to {length} bytes", wanted, got)
+            got = run(line.ljust(length).join(around), *command.words)
+            judge(f"line {number} of {command.what} filled up to {length} bytes", wanted, got)
 
 
-def drives_in_pieces():
-    """The lossy drive byte by byte; an input and an output that fail; an input without an end, and one of 64 MiB."""
-    program = subprocess.Popen([PROGRAM, "drive", "1"], stdin=subprocess.PIPE, stdout=subprocess.PIPE, bufsize=0)
-    for place in range(len(LOSSY)):
-        program.stdin.write(LOSSY[place : place + 1])
+def whole_in_pieces(command):
+    """The script byte by byte; an input and an output that fail; an input without an end, and one of 64 MiB."""
+    what, words = command.what, [PROGRAM, *command.words]
+    program = subprocess.Popen(words, stdin=subprocess.PIPE, stdout=subprocess.PIPE, bufsize=0)
+    for place in range(len(command.script)):
+        program.stdin.write(command.script[place : place + 1])
     text, _ = program.communicate(timeout=60)
-    judge("a drive byte by byte", (0, LOSSY_TEXT), (program.returncode, text))
+    judge(f"{what} byte by byte", (0, command.text), (program.returncode, text))
     folder = os.open(TOP, os.O_RDONLY)
-    done = subprocess.run([PROGRAM, "drive", "1"], stdin=folder, stdout=subprocess.PIPE, timeout=60, check=False)
+    done = subprocess.run(words, stdin=folder, stdout=subprocess.PIPE, timeout=60, check=False)
     os.close(folder)
-    judge("a drive from a folder", (4, b""), (done.returncode, done.stdout))
+    judge(f"{what} from a folder", (4, b""), (done.returncode, done.stdout))
     with open("/dev/full", "wb") as full:
-        done = subprocess.run([PROGRAM, "drive", "1"], input=LOSSY, stdout=full, timeout=60, check=False)
-    judge("a drive to a full output", 5, done.returncode)
+        done = subprocess.run(words, input=command.script, stdout=full, timeout=60, check=False)
+    judge(f"{what} to a full output", 5, done.returncode)
     with open("/dev/zero", "rb") as endless:
-        done = subprocess.run([PROGRAM, "drive", "1"], stdin=endless, stdout=subprocess.PIPE, timeout=60, check=False)
-    judge("a drive from /dev/zero", (3, b"bad line 1 long\n"), (done.returncode, done.stdout))
-    judge("a drive of 64 MiB in one line", (3, b"bad line 1 long\n"), run(b"a" * 67_108_864, "drive", "1"))
+        done = subprocess.run(words, stdin=endless, stdout=subprocess.PIPE, timeout=60, check=False)
+    judge(f"{what} from /dev/zero", (3, b"bad line 1 long\n"), (done.returncode, done.stdout))
+    judge(f"{what} of 64 MiB in one line", (3, b"bad line 1 long\n"), run(b"a" * 67_108_864, *command.words))
+
+
+def many_events():
+    """More lines than a script of events may have, of which none is answered."""
+    calls = b"".join(b"0 0 cancel %d 0\n" % (k + 1) for k in range(262_144 - 13))
+    judge("262,145 lines of a mail", (6, b"limit lines\n"), run(HEADER + calls + b"end\n", *MAIL.words))
 
 
 def reader_of_a_drive_goes_away():
     """The reader of a drive's output closes it, at once or behind some bytes of a text of some MiB."""
-    head = LOSSY[: LOSSY.index(b"vehicles ")] + b"vehicles 256\nbegin\nuntil 400\n"
+    head = DRIVE.script[: DRIVE.script.index(b"vehicles ")] + b"vehicles 256\nbegin\nuntil 400\n"
     plans = b"".join(b"plan %d 0 10 3 9 straight 500 500 0 1000 700 car\n" % vehicle for vehicle in range(256))
     for what, count in (("at once", 0), ("behind some bytes", 10)):
         read, write = os.pipe()
@@ -212,7 +230,7 @@ def scarce_memory():
     """Ever more memory: first the words alone are answered, then memory is wanting, at last the whole text comes."""
     pages = 16 * resource.getpagesize()
     least = next(k for k in range(1, 4000) if run_within(k * pages, b"", [])[0] == 2)
-    for words, script, text in ((["replay"], SCRIPT, TEXT), (["drive", "1"], LOSSY, LOSSY_TEXT)):
+    for words, script, text in ((["replay"], SCRIPT, TEXT), (DRIVE.words, DRIVE.script, DRIVE.text)):
         refused, whole, limit = 0, 0, least
         while whole < 3 and limit < 4000:
             status, got = run_within(limit * pages, script, words)
@@ -229,9 +247,11 @@ def main():
     great_inputs()
     endless_input()
     reader_goes_away()
-    drives_cut_everywhere()
-    drives_with_other_bytes()
-    drives_in_pieces()
+    for command in (DRIVE, MAIL):
+        whole_cut_everywhere(command)
+        whole_with_other_bytes(command)
+        whole_in_pieces(command)
+    many_events()
     reader_of_a_drive_goes_away()
     scarce_memory()
     print(f"surroundings: {COUNT - len(FAILURES)} passed, {len(FAILURES)} failed")

@@ -4,4 +4,5 @@ pub mod Verdicts
 pub mod Fits
 pub mod Scripts
 pub mod Short
+pub mod Replayed
 pub mod Stages

@@ -39,10 +39,7 @@ fn after_refusal(number: u32, refusal: Refusal) -> EventEnding
 }
 
 /// Reads a script of events to its end, or to the line that decides. Nothing is read behind a line that decides.
-pub fn read_events<S: Source>(
-    alloc: Global,
-    source: &mut S,
-) -> Result<EventScript, EventEnding>
+pub fn read_events<S: Source>(alloc: Global, source: &mut S) -> Result<EventScript, EventEnding>
     // The script exactly where the bytes are a whole one, and else what decides them.
     ensures reads { Reads (S.left source.old) result }
     ensures fits { IfOk result IsFit }
