@@ -1,11 +1,11 @@
-use Rattle.std.proofs.Common.{◌≡◌, length, arith}
-use Rattle.aim_mailing.specs.Calling.{Finished, Reached, Stepped, Works}
+use Rattle.std.proofs.Common.{◌≡◌, ◌+◌, length, subst, arith}
+use Rattle.aim_mailing.specs.Calling.{AllByPlace, Reached, Stepped, Works}
 use Rattle.aim_mailing.proofs.Places.{all_second, by_place_self, by_place_then}
-use Rattle.aim_mailing.proofs.Steps.{reached_as, reached_first, reached_more}
+use Rattle.aim_mailing.proofs.Steps.{reached_first, reached_more}
 use Rattle.aim_mailing.proofs.callers.make_all.Goals as goal
 
 pub one_round-requires-clause-works : goal.one_round-requires-clause-works
-one_round-requires-clause-works g c κs within =
+one_round-requires-clause-works g c =
     let i = c.args.layout.now in
     let es = c.args.events.now in
     all_second (Reached i es c.loop-round.round) (Works i es) c.args.callers.now c.loop-round.callers c.loop-round.invariant (λ a b r. r.works)
@@ -28,4 +28,4 @@ returns g c =
     let i = c.args.layout.now in
     let es = c.args.events.now in
     let e : c.loop-round.round ≡ length c.args.events.now = omega arith in
-    rw (← e) c.loop-round.invariant
+    subst (λ n. AllByPlace (Reached i es n) c.args.callers.now c.loop-round.callers) e c.loop-round.invariant

@@ -1,4 +1,5 @@
-use Rattle.std.proofs.Common.{length, ap, ◌∙◌, arith}
+use Rattle.std.proofs.Common.{ap, ◌∙◌}
+use Rattle.aim_mailing.specs.Commands.{report}
 use Rattle.aim_mailing.proofs.Reports.{if_ok, is_report}
 use Rattle.aim_mailing.proofs.commands.text_of_run.Goals as goal
 

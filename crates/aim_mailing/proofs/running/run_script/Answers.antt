@@ -1,20 +1,15 @@
-use Rattle.std.proofs.Common.{◌≡◌, ◌<◌, ◌≤◌, List, length, sym, ap, ◌∙◌, subst, arith}
+use Rattle.std.proofs.Common.{List, sym, ap, ◌∙◌, subst}
 use Rattle.std.specs.Prelude.{All}
 use Rattle.aim_geometry.specs.declared.ground.Grid.{Grid}
-use Rattle.aim_msg.specs.declared.entries.TheConstants.{LATEST_MOMENT}
 use Rattle.aim_events.specs.declared.scripts.Event.{Event}
 use Rattle.aim_mailbox.specs.declared.letter.Setting.{Setting}
 use Rattle.aim_mailing.specs.Calling.{AllByPlace, HasMade, Works}
-use Rattle.aim_mailing.proofs.Journals.{moments_of, own_of, run_of}
+use Rattle.aim_mailing.proofs.Journals.{own_of, run_of}
 use Rattle.aim_mailing.proofs.Steps.{works_new}
 use Rattle.aim_mailing.proofs.running.run_script.Goals as goal
 
-pub beside-requires-clause-moments : goal.beside-requires-clause-moments
-beside-requires-clause-moments g c κs within =
-    subst (λ (es : List Event). All (λ e. e.moment ≤ LATEST_MOMENT) es) (sym c.deref.ensures.value) (moments_of c.args.script.now c.requires.script)
-
-pub beside-requires-clause-works : goal.beside-requires-clause-works
-beside-requires-clause-works g c κs within =
+pub beside-served-requires-clause-works : goal.beside-served-requires-clause-works
+beside-served-requires-clause-works g c =
     let s = c.args.script.now in
     let o = c.in_ok-opened.ensures in
     let k = c.in_ok-callers.ensures in
