@@ -27,7 +27,7 @@ class Command:
 
 
 DRIVE = Command(["drive", "1"], "a drive", "drive-lost-late-and-repeated-letters", b"plan ")
-MAIL = Command(["mail", "1"], "a mail", "mail-two-clients", b" request ")
+MAIL = Command(["mail", "1"], "a script of events", "mail-two-clients", b" request ")
 
 
 def judge(what, wanted, got):
@@ -195,7 +195,7 @@ def whole_in_pieces(command):
 def many_events():
     """More lines than a script of events may have, of which none is answered."""
     calls = b"".join(b"0 0 cancel %d 0\n" % (k + 1) for k in range(262_144 - 13))
-    judge("262,145 lines of a mail", (6, b"limit lines\n"), run(HEADER + calls + b"end\n", *MAIL.words))
+    judge("262,145 lines of a script of events", (6, b"limit lines\n"), run(HEADER + calls + b"end\n", *MAIL.words))
 
 
 def reader_of_a_drive_goes_away():

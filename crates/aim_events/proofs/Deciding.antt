@@ -5,7 +5,7 @@ use Rattle.std.specs.Io.KnownBytes.{Consumes}
 use Rattle.aim_io.specs.declared.lines.LineFault.{LineFault}
 use Rattle.aim_io.specs.declared.lines.LineFault.TheVariants.{Read, Long, Bytes, Lines}
 use Rattle.aim_io.specs.Known.{WhereKnown}
-use Rattle.aim_io.specs.Lines.{InputFault, LongLine, TooManyBytes, TooManyLines, fault_of, HasNoEnd, Outcome, Line, Stop}
+use Rattle.aim_io.specs.Lines.{InputFault, LongLine, TooManyBytes, TooManyLines, fault_of, HasNoEnd, Line, Stop}
 use Rattle.aim_io.specs.Reader.{Reader, coming, Answers, taken_by, after_call}
 use Rattle.aim_io.proofs.LoopLemmas.{decides_line, decided_line, decided_end, decided_fault, took_line}
 use Rattle.aim_msg.specs.declared.script.Line.{Line as ScriptLine}

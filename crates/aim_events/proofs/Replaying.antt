@@ -2,7 +2,7 @@
 use Rattle.std.proofs.Common.{◌≡◌, ℕ, Bool, true, false, nat_lt, List, take, Option, Some, None, refl, sym, ◌∙◌}
 use Rattle.std.specs.Prelude.{option_and_then}
 use Rattle.aim_msg.specs.declared.script.Line.{Line}
-use Rattle.aim_script.specs.Kinds.{kind_of_fault as kind_of_any, limit_of as limit_of_any, vehicles_limit as vehicles_limit_of_any}
+use Rattle.aim_script.specs.Kinds.{limit_of as limit_of_any, vehicles_limit as vehicles_limit_of_any}
 use Rattle.aim_script.specs.Said.{layout_of, vehicles_in}
 use Rattle.aim_plans.specs.Kinds.{vehicles_limit}
 use Rattle.aim_events.specs.Kinds.{is_order, kind_of_fault, limit_of}

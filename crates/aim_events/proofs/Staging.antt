@@ -1,5 +1,5 @@
 -- What a line comes to at the stage where it belongs.
-use Rattle.std.proofs.Common.{◌≡◌, ◌⊎◌, inl, inr, ℕ, zero, suc, ◌+◌, ◌*◌, ◌<◌, ◌≤◌, Bool, true, false, nat_lt, nat_le, List, [], ◌∷◌, ◌++◌, length, filter_map, take, Option, Some, None, Result, Ok, Err, refl, sym, ap, ◌∙◌, subst, arith, length-append, append-nil, slice_get, cond}
+use Rattle.std.proofs.Common.{◌≡◌, ◌⊎◌, inl, inr, ℕ, zero, suc, ◌+◌, ◌*◌, ◌<◌, ◌≤◌, Bool, true, false, nat_lt, nat_le, List, [], ◌∷◌, ◌++◌, length, filter_map, take, Option, Some, None, Result, Ok, Err, refl, sym, ap, ◌∙◌, subst, arith, length-append, append-nil, slice_get}
 use Rattle.std.specs.Prelude.{if◌then◌else◌, IfOk}
 use Rattle.std.specs.Option.{unwrap_or}
 use Rattle.std.proofs.lemmas.Bool.{leb-false, ltb-false}
@@ -19,11 +19,11 @@ use Rattle.aim_script.specs.declared.decisions.Limit.{Limit}
 use Rattle.aim_script.specs.declared.headers.Header.{Header}
 use Rattle.aim_script.specs.declared.headers.Headed.TheVariants as headed
 use Rattle.aim_script.specs.declared.settings.Setting.{Setting}
-use Rattle.aim_script.specs.Headers.{IsSet, Heeds, Stands as StandsAsHeader}
+use Rattle.aim_script.specs.Headers.{IsSet, Heeds}
 use Rattle.aim_script.specs.Kinds.{kind_of_fault as kind_of_any, vehicles_limit as vehicles_limit_of_any}
-use Rattle.aim_script.specs.Order.{part_after, is_end, in_body, nothing, to_begin}
-use Rattle.aim_script.specs.Said.{version_in, version_after, name_in, names_of, layout_of, vehicles_in, vehicles_of, call_in, calls_of, last_of}
-use Rattle.aim_script.specs.Verdicts.{decides, goes_on, number_after, at_end}
+use Rattle.aim_script.specs.Order.{part_after, is_end}
+use Rattle.aim_script.specs.Said.{version_in, version_after, name_in, names_of, layout_of, vehicles_in, call_in, calls_of, last_of}
+use Rattle.aim_script.specs.Verdicts.{decides, number_after, at_end}
 use Rattle.aim_script.specs.Versions.{version_number}
 use Rattle.aim_script.proofs.AppendLemmas.{IsSilent, filter_map-one, last_of_more, version_same, layout_same, vehicles_same, calls_more, calls_same}
 use Rattle.aim_script.proofs.KindLemmas.{event_kind as event_kind_of, begin_kind, end_kind}
@@ -39,10 +39,10 @@ use Rattle.aim_events.specs.declared.stages.Refusal.TheVariants as refusal
 use Rattle.aim_events.specs.Said.{event_in, events_of}
 use Rattle.aim_events.specs.Kinds.{kind_of_fault, limit_of}
 use Rattle.aim_events.specs.Fits.{FitsEvent, IsFit}
-use Rattle.aim_events.specs.Scripts.{AreEvents, IsScriptOf}
-use Rattle.aim_events.specs.Stages.{IsDraft, IsOpen, Stands, Takes, Judged, Ends, event_kind, version_at}
+use Rattle.aim_events.specs.Scripts.{AreEvents}
+use Rattle.aim_events.specs.Stages.{IsDraft, Stands, Takes, Judged, Ends, event_kind, version_at}
 use Rattle.aim_events.specs.Verdicts.{judge, of_read}
-use Rattle.aim_events.proofs.Kinding.{other_kind, same_kind, goes, falls, passes, kind_out}
+use Rattle.aim_events.proofs.Kinding.{other_kind, same_kind, goes, falls, passes}
 
 some_is : {A : Type 0} (x y : A) → Some x ≡ Some y → x ≡ y
 some_is x y e = ap (λ o. unwrap_or o x) e

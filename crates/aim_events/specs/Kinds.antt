@@ -1,6 +1,6 @@
 -- Why a line that reads may not stand where it stands in a script of events, and the limits on such a script. The
 -- operator's orders stand nowhere; all other lines are judged as in a script that is replayed.
-use Rattle.std.specs.Prelude.{Bool, true, false, List, ◌∷◌, Option, Some, None, option_map, option_and_then, find}
+use Rattle.std.specs.Prelude.{Bool, true, false, List, ◌∷◌, Option, option_map, option_and_then, find}
 use Rattle.aim_msg.specs.declared.script.Line.{Line}
 use Rattle.aim_msg.specs.declared.script.Line.TheVariants as line
 use Rattle.aim_script.specs.declared.decisions.Kind.{Kind}

@@ -5,7 +5,6 @@ use Rattle.aim_script.specs.declared.decisions.Decision.{Decision}
 use Rattle.aim_script.specs.declared.decisions.Decision.TheVariants as decision
 use Rattle.aim_script.specs.Order.{is_end}
 use Rattle.aim_script.specs.Said.{last_of, layout_of, vehicles_of}
-use Rattle.aim_script.specs.Verdicts.{Verdict}
 use Rattle.aim_events.specs.declared.scripts.EventScript.{EventScript}
 use Rattle.aim_events.specs.declared.scripts.EventEnding.{EventEnding}
 use Rattle.aim_events.specs.declared.scripts.EventEnding.TheVariants as ending

@@ -9,10 +9,7 @@ use std::alloc::{AllocError, Global};
 use std::test::Fail;
 
 // Reads a script.
-fn read(
-    alloc: Global,
-    script: &[u8],
-) -> Result<Result<EventScript, EventEnding>, AllocError> {
+fn read(alloc: Global, script: &[u8]) -> Result<Result<EventScript, EventEnding>, AllocError> {
     let mut source = MemSource::new(script.to_vec(alloc)?, Vec::new(alloc));
     Ok(read_events(alloc, &mut source))
 }
@@ -54,7 +51,9 @@ fn events_in_the_order_of_the_script(rt: HostRuntime) -> Result<(), Fail> {
     assert_eq!(rt; numbers_of(&script.events[0]), (2, 5, 1));
     assert_eq!(rt; numbers_of(&script.events[1]), (0, 7, 4));
     assert_eq!(rt; numbers_of(&script.events[2]), (2, 5, 2));
-    assert!(rt; matches!(script.events[0].message.body, Body::Request(params) if params.arrive == 10));
+    assert!(rt;
+        matches!(script.events[0].message.body, Body::Request(params) if params.arrive == 10)
+    );
     assert!(rt; matches!(script.events[1].message.body, Body::Done(3)));
     assert!(rt; matches!(script.events[2].message.body, Body::Cancel(0)));
     Ok(())

@@ -1,7 +1,8 @@
 //! Scripts, and what they come to.
 
 /// Three events of two vehicles.
-pub(crate) const THREE: &[u8] = b"aim 1\ngrid 4000 4 100 0 450 4096\ntimes 1500 25 20 0 0\nlanes 1\nmove 0 straight line 0 1500 4000 1500 40\npolicy plain fcfs\npolicy lights light\nphase 20 80 0\nvehicles 3\nbegin\n2 5 request 1 0 straight 10 500 500 0 1000 700 car\n0 7 done 4 3\n2 5 cancel 2 0\nend\n";
+pub(crate) const THREE: &[u8] =
+    b"aim 1\ngrid 4000 4 100 0 450 4096\ntimes 1500 25 20 0 0\nlanes 1\nmove 0 straight line 0 1500 4000 1500 40\npolicy plain fcfs\npolicy lights light\nphase 20 80 0\nvehicles 3\nbegin\n2 5 request 1 0 straight 10 500 500 0 1000 700 car\n0 7 done 4 3\n2 5 cancel 2 0\nend\n";
 
 /// A script, and its last line: why it isn't whole, or how many events it has.
 pub(crate) const SCRIPTS: [(&[u8], &[u8]); 21] = [
@@ -29,10 +30,7 @@ pub(crate) const SCRIPTS: [(&[u8], &[u8]); 21] = [
         b"aim 1\ngrid 4000 4 100 0 450 4096\ntimes 1500 25 20 0 0\nlanes 1\nmove 0 straight line 0 1500 4000 1500 40\npolicy plain fcfs\npolicy lights light\nphase 20 80 0\nvehicles 3\nbegin\noperator 0 halt\nend\n",
         b"bad line 11 words\n",
     ),
-    (
-        b"operator 0 stop\n",
-        b"bad line 1 order\n",
-    ),
+    (b"operator 0 stop\n", b"bad line 1 order\n"),
     (
         b"aim 1\ngrid 4000 4 100 0 450 4096\ntimes 1500 25 20 0 0\nlanes 1\nmove 0 straight line 0 1500 4000 1500 40\npolicy plain fcfs\npolicy lights light\nphase 20 80 0\nvehicles 3\nbegin\nuntil 40\n",
         b"bad line 11 order\n",
@@ -65,10 +63,7 @@ pub(crate) const SCRIPTS: [(&[u8], &[u8]); 21] = [
         b"aim 1\ngrid 4000 4 100 0 450 4096\ntimes 1500 25 20 0 0\nlanes 1\nmove 0 straight line 0 1500 4000 1500 40\npolicy plain fcfs\npolicy lights light\nphase 20 80 0\nvehicles 3\nbegin\n0 0 cancel 1 0\n",
         b"bad line 12 end\n",
     ),
-    (
-        b"",
-        b"bad line 1 end\n",
-    ),
+    (b"", b"bad line 1 end\n"),
     (
         b"aim 1\ngrid 4000 4 100 0 450 4096\ntimes 1500 25 20 0 0\nlanes 1\nmove 0 straight line 0 1500 4000 1500 40\npolicy plain fcfs\npolicy lights light\nphase 20 80 0\nvehicles 256\nbegin\nend\n",
         b"end 0\n",

@@ -1,9 +1,9 @@
 use Rattle.std.proofs.Common.{ℕ, List, Err, arith, ◌≡◌, ◌+◌, true, false, sym, ap, subst, ◌∙◌}
 use Rattle.aim_io.proofs.LoopLemmas.{took_kept, took_part}
 use Rattle.aim_io.specs.Reader.{Reader, after_call}
-use Rattle.aim_plans.proofs.Deciding.{most, placed_kept, placed_more, placed_start}
+use Rattle.aim_plans.proofs.Deciding.{most, placed_kept, placed_more}
 use Rattle.aim_events.specs.Stages.{Judged}
-use Rattle.aim_events.proofs.Deciding.{end_line, fault_is_read, fault_line, no_read, no_read_at_end, reached_more, refused_line}
+use Rattle.aim_events.proofs.Deciding.{end_line, fault_is_read, fault_line, reached_more, refused_line}
 use Rattle.aim_events.proofs.Staging.{fits_of}
 use Rattle.aim_events.proofs.reading.read_events.Goals as goal
 

@@ -1,6 +1,6 @@
 use Rattle.std.proofs.Common.{◌∙◌, sym}
 use Rattle.aim_plans.proofs.Drafting.{read_name}
-use Rattle.aim_events.proofs.Staging.{judged, unread, version_is}
+use Rattle.aim_events.proofs.Staging.{judged, version_is}
 use Rattle.aim_events.proofs.stages.Stage.take.Goals as goal
 
 pub take_line-requires : goal.take_line-requires
