@@ -9,7 +9,7 @@ use Rattle.aim_mailing.proofs.Steps.{works_new}
 use Rattle.aim_mailing.proofs.running.run_script.Goals as goal
 
 pub beside-served-requires-clause-works : goal.beside-served-requires-clause-works
-beside-served-requires-clause-works g c =
+beside-served-requires-clause-works g c κs within =
     let s = c.args.script.now in
     let o = c.in_ok-opened.ensures in
     let k = c.in_ok-callers.ensures in
