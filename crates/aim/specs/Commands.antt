@@ -5,7 +5,7 @@ use Rattle.aim_read.specs.Faults.{is_number, value_of}
 use Rattle.aim_script.specs.Spellings.{Spelled, by_words}
 use Rattle.aim_json_replay.specs.Spelling.{by_json}
 use Rattle.aim.specs.declared.words.Command.{Command}
-use Rattle.aim.specs.declared.words.Command.TheVariants.{Replay, Chart, ReplayJson, Drive, Generate, Shards}
+use Rattle.aim.specs.declared.words.Command.TheVariants.{Replay, Chart, ReplayJson, Drive, Generate, Shards, Mail}
 
 -- the number that the word spells, if it is one from the least to the most
 abbrev pub number_in : ℕ → ℕ → List ℕ → Option ℕ
@@ -18,6 +18,7 @@ command_with word number =
     if bytes_eq word (codes "chart") then option_map Chart (number_in 0 LATEST_MOMENT number)
     else if bytes_eq word (codes "drive") then option_map Drive (number_in 1 64 number)
     else if bytes_eq word (codes "shards") then option_map Shards (number_in 1 64 number)
+    else if bytes_eq word (codes "mail") then option_map Mail (number_in 1 64 number)
     else None
 
 -- the command of one word
@@ -52,6 +53,7 @@ IsWithin ReplayJson = Unit {0}
 IsWithin (Drive workers) = (0 < workers) × (workers ≤ 64)
 IsWithin (Generate number count) = (0 < count) × (count ≤ 256)
 IsWithin (Shards workers) = (0 < workers) × (workers ≤ 64)
+IsWithin (Mail workers) = (0 < workers) × (workers ≤ 64)
 
 -- whether the command replays a script
 abbrev pub is_replay : Command → Bool
@@ -61,6 +63,7 @@ is_replay ReplayJson = true
 is_replay (Drive workers) = false
 is_replay (Generate number count) = false
 is_replay (Shards workers) = false
+is_replay (Mail workers) = false
 
 -- whether the command reads its input
 abbrev pub reads_input : Command → Bool
@@ -75,6 +78,7 @@ asked_in ReplayJson = None
 asked_in (Drive workers) = None
 asked_in (Generate number count) = None
 asked_in (Shards workers) = None
+asked_in (Mail workers) = None
 
 -- how the lines of the script are spelled, and those that are printed
 abbrev pub spelled_in : Command → Spelled

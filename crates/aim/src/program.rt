@@ -15,6 +15,8 @@ ghost use Rattle.aim_driving.specs.Commands.{Completes as CompletesDrive, Shows 
 ghost use Rattle.aim_driving.specs.Generated.{Counts, CountsFront};
 ghost use Rattle.aim_claims.specs.Short.{StopsShort as StopsShortClaims};
 ghost use Rattle.aim_callers.specs.Commands.{Completes as CompletesShards, Shows, ShowsFront};
+ghost use Rattle.aim_events.specs.Short.{StopsShort as StopsShortMail};
+ghost use Rattle.aim_mailing.specs.Commands.{Completes as CompletesMail, Shows as ShowsMail, ShowsFront as ShowsFrontOfMail};
 ghost use Rattle.aim.specs.Runs.{Completes, TellsUsage};
 
 use crate::words::{Command, command_of};
@@ -23,6 +25,7 @@ use aim_callers::shards;
 use aim_driving::{drive, generate};
 use aim_io::{Sink, Source, put_all};
 use aim_json_replay::replay_json;
+use aim_mailing::mail;
 use aim_replay::replay;
 use aim_shards::Hold;
 use std::alloc::Global;
@@ -96,6 +99,15 @@ fn obey<R: Threads + Wait + Sync, S: Source, K: Sink, G: Gate>(
         → StopsShortClaims (S.left source.old) (S.left source.new) }
     ensures shards_complete { (workers : ℕ) → command ≡ Command.Shards workers → IfSome (S.left source.old)
         (λ bytes. CompletesShards bytes (S.faults source.old) (S.faults source.new) (K.faults sink.old) (K.faults sink.new) result) }
+    ensures mail { (workers : ℕ) → command ≡ Command.Mail workers → (result ≡ 0) ⊎ ((result ≡ 3) ⊎ (result ≡ 6))
+        → IfSome (S.left source.old) (λ bytes. ShowsMail bytes (K.held sink.old) (K.held sink.new) result) }
+    ensures mail_front { (workers : ℕ) → command ≡ Command.Mail workers → result ≡ 5
+        → IfSome (S.left source.old) (λ bytes. ShowsFrontOfMail bytes (K.held sink.old) (K.held sink.new)) }
+    ensures mail_nothing { (workers : ℕ) → command ≡ Command.Mail workers → (result ≡ 4) ⊎ (result ≡ 7) → Appends (K.held sink.old) (K.held sink.new) [] }
+    ensures mail_short { (workers : ℕ) → command ≡ Command.Mail workers → result ≡ 4 → StopsShortMail (S.left source.old) (S.left source.new) }
+    ensures mail_most { (workers : ℕ) → command ≡ Command.Mail workers → TakesAtMostOfDrive 67108865 (S.left source.old) (S.left source.new) }
+    ensures mail_complete { (workers : ℕ) → command ≡ Command.Mail workers → IfSome (S.left source.old)
+        (λ bytes. CompletesMail bytes (S.faults source.old) (S.faults source.new) (K.faults sink.old) (K.faults sink.new) result) }
     ensures read { result ≡ 4 → Rose (S.faults source.old) (S.faults source.new) }
     ensures write { result ≡ 5 → Rose (K.faults sink.old) (K.faults sink.new) }
     ensures source { S.faults source.old ≤ S.faults source.new }
@@ -111,6 +123,7 @@ fn obey<R: Threads + Wait + Sync, S: Source, K: Sink, G: Gate>(
         Command::Drive(workers) => drive(rt, alloc, workers, source, sink, gate),
         Command::Generate(number, count) => generate(rt, alloc, number, count, sink),
         Command::Shards(workers) => shards(rt, alloc, workers, source, sink, &NoHold),
+        Command::Mail(workers) => mail(rt, alloc, workers, source, sink),
     }
 }
 
@@ -118,8 +131,8 @@ fn obey<R: Threads + Wait + Sync, S: Source, K: Sink, G: Gate>(
 /// 0 where a script was whole, 2 for words outside the table, 3 for a line at fault, 4 where the
 /// source fails, 5 where the sink fails, 6 for a limit, and 7 where memory runs out.
 ///
-/// With the words `drive`, `generate` and `shards` it waits for turns, and returns where these come. Before each call of a
-/// vehicle in `drive` it tells the gate.
+/// With the words `drive`, `generate` and `shards` it waits for turns, with `mail` for messages, and returns where these
+/// come. Before each call of a vehicle in `drive` it tells the gate.
 pub fn run<R: Threads + Wait + Sync, S: Source, K: Sink, G: Gate>(
     rt: &R,
     alloc: Global,
@@ -188,6 +201,19 @@ pub fn run<R: Threads + Wait + Sync, S: Source, K: Sink, G: Gate>(
         → StopsShortClaims (S.left source.old) (S.left source.new) }
     ensures shards_complete { (workers : ℕ) → command_in (map string_bytes words.now) ≡ Some (Command.Shards workers) → IfSome (S.left source.old)
         (λ bytes. CompletesShards bytes (S.faults source.old) (S.faults source.new) (K.faults sink.old) (K.faults sink.new) result) }
+
+    // A run of a script of events over a mailbox. With status 0, 3 or 6 the whole text of the source's bytes is written, and the
+    // status is theirs: of a whole script the entries of one legal journal without an order, in which each vehicle's entries
+    // are its events in the script's order. With status 5 a front of one is, with status 4 or 7 nothing.
+    ensures mail { (workers : ℕ) → command_in (map string_bytes words.now) ≡ Some (Command.Mail workers) → (result ≡ 0) ⊎ ((result ≡ 3) ⊎ (result ≡ 6))
+        → IfSome (S.left source.old) (λ bytes. ShowsMail bytes (K.held sink.old) (K.held sink.new) result) }
+    ensures mail_front { (workers : ℕ) → command_in (map string_bytes words.now) ≡ Some (Command.Mail workers) → result ≡ 5
+        → IfSome (S.left source.old) (λ bytes. ShowsFrontOfMail bytes (K.held sink.old) (K.held sink.new)) }
+    ensures mail_nothing { (workers : ℕ) → command_in (map string_bytes words.now) ≡ Some (Command.Mail workers) → (result ≡ 4) ⊎ (result ≡ 7) → Appends (K.held sink.old) (K.held sink.new) [] }
+    ensures mail_short { (workers : ℕ) → command_in (map string_bytes words.now) ≡ Some (Command.Mail workers) → result ≡ 4 → StopsShortMail (S.left source.old) (S.left source.new) }
+    ensures mail_most { (workers : ℕ) → command_in (map string_bytes words.now) ≡ Some (Command.Mail workers) → TakesAtMostOfDrive 67108865 (S.left source.old) (S.left source.new) }
+    ensures mail_complete { (workers : ℕ) → command_in (map string_bytes words.now) ≡ Some (Command.Mail workers) → IfSome (S.left source.old)
+        (λ bytes. CompletesMail bytes (S.faults source.old) (S.faults source.new) (K.faults sink.old) (K.faults sink.new) result) }
 
     // Each status has its cause.
     ensures read { result ≡ 4 → Rose (S.faults source.old) (S.faults source.new) }

@@ -64,6 +64,12 @@ const CHART_FAULTS: [(&[u64], u8, &[u8]); 7] = [
 const DRIVE: &[u8] =
     b"aim 1\ngrid 4000 4 100 0 450 4096\ntimes 1500 25 20 0 0\nlanes 2\nmove 0 straight line 0 1500 4000 1500 40\nmove 1 straight line 2500 0 2500 4000 40\npolicy plain fcfs\nvehicles 2\nbegin\nuntil 3\nplan 0 1 10 3 0 straight 500 500 0 1000 700 car\nplan 1 0 10 1 1 straight 500 500 0 1000 700 car\nup 1 1\nend\n";
 
+// A second vehicle's request, behind the first one, and what `mail 1` prints of both.
+const SECOND: &[u8] = b"1 0 request 1 1 straight 18 500 500 0 1000 700 car\n";
+
+const ANSWERED: &[u8] =
+    b"0 0 0 request 1 0 straight 10 500 500 0 1000 700 car -> confirm 0 10 0 0 steady 20\n1 1 0 request 1 1 straight 18 500 500 0 1000 700 car -> confirm 1 18 0 0 steady 28\nend 2\n";
+
 // How often a caller looks whether the other has come.
 const LOOKS: u32 = 100_000_000;
 
@@ -71,7 +77,7 @@ const LOOKS: u32 = 100_000_000;
 const GENERATED: &[u8] = b"steps 4033\nentries 2\nconfirms 1\nrejects 0\nentered 1\nend 2\n";
 
 // Words that are outside the table.
-const OUTSIDE: [&[&str]; 18] = [
+const OUTSIDE: [&[&str]; 22] = [
     &["replay", "now"],
     &[],
     &["Replay"],
@@ -90,6 +96,10 @@ const OUTSIDE: [&[&str]; 18] = [
     &["shards", "65"],
     &["shards", "01"],
     &["shards", "1", "1"],
+    &["mail"],
+    &["mail", "0"],
+    &["mail", "65"],
+    &["mail", "1", "1"],
 ];
 
 /// A gate at which nobody waits.
@@ -213,6 +223,18 @@ fn two_drivers_call_at_once(rt: HostRuntime) -> Result<(), Fail> {
         "the runs didn't go side by side"
     );
     assert!(rt; sink.bytes().ends_with(b"end 3\n"));
+    Ok(())
+}
+
+#[test]
+fn clients_of_a_run_are_answered_in_turn(rt: HostRuntime) -> Result<(), Fail> {
+    let alloc = rt.alloc();
+    let mut script = behind(alloc, HEADER, FIRST)?;
+    script.extend_from_slice(SECOND)?;
+    script.extend_from_slice(b"end\n")?;
+    let (status, sink) = answer(&rt, alloc, &["mail", "1"], script, &[], &[], &Open)?;
+    assert_eq!(rt; status, 0);
+    assert_eq!(rt; sink.bytes(), ANSWERED);
     Ok(())
 }
 

@@ -22,6 +22,8 @@ pub enum Command {
     Generate(u32, u32),
     /// `shards WORKERS`: run the script of claims of the input with so many workers, 1 to 64.
     Shards(u32),
+    /// `mail WORKERS`: run the script of events of the input over a mailbox with so many workers, 1 to 64.
+    Mail(u32),
 }
 
 // The number that the word spells, if it is one from `low` to `most`.
@@ -62,6 +64,9 @@ fn command_with(word: &[u8], number: &[u8]) -> Option<Command>
     }
     if word == b"shards".as_slice() {
         return Some(Command::Shards(number_in(number, 1, 64)?));
+    }
+    if word == b"mail".as_slice() {
+        return Some(Command::Mail(number_in(number, 1, 64)?));
     }
     None
 }

@@ -1,0 +1,144 @@
+//! A caller: the client of a vehicle, which makes the calls of the vehicle's events.
+
+ghost use Rattle.std.specs.Prelude.{◌≡◌, ◌≤◌, ◌<◌, ◌+◌, length, take, slice_index_or, All, IfOk};
+ghost use Rattle.aim_msg.specs.declared.entries.TheConstants.{LATEST_MOMENT};
+ghost use Rattle.aim_buffers.specs.Requests.{IsPreparedFor};
+ghost use Rattle.aim_events.specs.declared.scripts.Event.{Event};
+ghost use Rattle.aim_mailing.specs.Runs.{calls_by};
+ghost use Rattle.aim_mailing.specs.Calling.{AllByPlace, Called, Finished, HasSheets, Stepped, Works};
+
+use aim_buffers::{Prepared, prepare};
+use aim_events::Event;
+use aim_mailbox::Client;
+use aim_msg::Message;
+use aim_paths::Layout;
+use aim_pool::Pool;
+use std::alloc::{AllocError, Global};
+use std::sync::Wait;
+
+// How many sheets a caller has: two for a call, and one that the book may keep.
+const SHEETS: u32 = 3;
+
+/// The client of a vehicle, with its sheets, and how far it has come: the vehicle's events before that place in the list
+/// of all events are called.
+#[derive(Drop)]
+pub(crate) struct Caller {
+    pub(crate) vehicle: u32,
+    pub(crate) client: Client,
+    pub(crate) sheets: Pool,
+    pub(crate) place: usize,
+}
+
+impl Caller {
+    /// The caller of a client that has made no call, with sheets of so many spans.
+    pub(crate) fn new(
+        alloc: Global,
+        vehicle: u32,
+        client: Client,
+        spans: u32,
+    ) -> Result<Caller, AllocError>
+        ensures { IfOk result (λ c. c ≡ record { vehicle = vehicle; client = client; sheets = record { count = 3; room = spans }; place = 0 }) }
+    {
+        let sheets = Pool::new(alloc, SHEETS, spans)?;
+        Ok(Caller {
+            vehicle,
+            client,
+            sheets,
+            place: 0,
+        })
+    }
+}
+
+// The place of the vehicle's first event from that place on, or the number of all events where there is none.
+fn next_place(events: &[Event], vehicle: u32, from: usize) -> usize
+    requires from { from ≤ length events.now }
+    ensures later { from ≤ result }
+    ensures within { result ≤ length events.now }
+    ensures passed { calls_by vehicle (take result events.now) ≡ calls_by vehicle (take from events.now) }
+    ensures own { (d : Event) → result < length events.now → (slice_index_or events.now result d).vehicle ≡ vehicle }
+{
+    for place in from..events.len() {
+        if events[place].vehicle == vehicle {
+            return place;
+        }
+    }
+    events.len()
+}
+
+// Prepares a message with two sheets of the pool.
+fn prepared_with(layout: &Layout, sheets: &mut Pool, message: &Message) -> Prepared
+    requires count { 2 ≤ sheets.old.count }
+    requires room { sheets.old.room ≡ layout.now.grid.spans }
+    ensures room { sheets.new.room ≡ sheets.old.room }
+    ensures count { sheets.new.count + 2 ≡ sheets.old.count }
+    ensures message { result.message ≡ message.now }
+    ensures prepared { IsPreparedFor layout.now result }
+{
+    let (Ok(first), Ok(second)) = (sheets.take(), sheets.take()) else {
+        unreachable!()
+    };
+    prepare(layout, message, first, second)
+}
+
+// Makes the call of an event.
+fn call<R: Wait>(
+    rt: &R,
+    layout: &Layout,
+    client: &mut Client,
+    sheets: &mut Pool,
+    event: &Event,
+)
+    requires moment { event.now.moment ≤ LATEST_MOMENT }
+    requires sheets { HasSheets layout.now client.old sheets.old }
+    ensures sheets { HasSheets layout.now client.new sheets.new }
+    ensures called { Called event.now client.old client.new }
+{
+    let prepared = prepared_with(layout, sheets, &event.message);
+    let _answer = client.call(rt, event.moment, prepared, sheets);
+}
+
+// Makes the call of the vehicle's next event, if there is one.
+fn step<R: Wait>(rt: &R, layout: &Layout, events: &[Event], caller: &mut Caller)
+    requires moments { All (λ e. e.moment ≤ LATEST_MOMENT) events.now }
+    requires works { Works layout.now events.now caller.old }
+    ensures { Stepped layout.now events.now caller.old caller.new }
+{
+    caller.place = next_place(events, caller.vehicle, caller.place);
+    if caller.place < events.len() {
+        call(
+            rt,
+            layout,
+            &mut caller.client,
+            &mut caller.sheets,
+            &events[caller.place],
+        );
+        caller.place += 1;
+    }
+}
+
+// Lets each caller in its turn make one call, if it has one left.
+fn one_round<R: Wait>(rt: &R, layout: &Layout, events: &[Event], callers: &mut [Caller])
+    requires moments { All (λ e. e.moment ≤ LATEST_MOMENT) events.now }
+    requires works { All (Works layout.now events.now) callers.old }
+    ensures { AllByPlace (Stepped layout.now events.now) callers.old callers.new }
+{
+    for caller in callers.iter_mut() {
+        step(rt, layout, events, caller);
+    }
+}
+
+/// Lets the callers make all their calls, in rounds in which each in its turn makes one.
+pub(crate) fn make_all<R: Wait>(
+    rt: &R,
+    layout: &Layout,
+    events: &[Event],
+    callers: &mut [Caller],
+)
+    requires moments { All (λ e. e.moment ≤ LATEST_MOMENT) events.now }
+    requires works { All (Works layout.now events.now) callers.old }
+    ensures { AllByPlace (Finished layout.now events.now) callers.old callers.new }
+{
+    for round in 0..events.len() {
+        one_round(rt, layout, events, callers);
+    }
+}
