@@ -1,0 +1,1 @@
+//! Laws of what travellers do, each the contract of a function that does nothing.
