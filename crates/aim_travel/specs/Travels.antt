@@ -1,9 +1,10 @@
 -- What travellers do, from one step to a later one.
-use Rattle.std.specs.Prelude.{◌≡◌, ◌⊎◌, ℕ, ◌<◌, ◌≤◌, Bool, true, false, List, [], ◌∷◌, ◌++◌, length, Some, None, slice_get, slice_index_or, All}
+use Rattle.std.specs.Prelude.{◌≡◌, ◌⊎◌, ℕ, ◌+◌, ◌<◌, ◌≤◌, Bool, true, false, List, [], ◌∷◌, ◌++◌, length, Some, None, slice_get, slice_index_or, All}
 use Rattle.aim_driver.specs.Models.{step_of}
 use Rattle.aim_turn.specs.Models.{TurnstileModel, IsPassOf}
 use Rattle.aim_manager.specs.declared.keeper.Setting.{Setting}
 use Rattle.aim_agent.specs.Agents.{IsAgentOf}
+use Rattle.aim_agent.specs.Went.{Went}
 use Rattle.aim_legs.specs.Acked.{acked}
 use Rattle.aim_travel.specs.Models.{LegModel, OverModel, TravellerModel}
 use Rattle.aim_travel.specs.Rode.{Managers, IsBegun, Rode}
@@ -73,6 +74,13 @@ module _ (managers : Managers) where
   pub record IsReady (step : ℕ) (t : TravellerModel) : Type 0 where
     pub own : IsTravellerOf t
     pub late : step_of t.agent.driver.log ≤ step
+
+  -- the agent of the leg that it is on took its turn of the step
+  pub record TakesTurn (step : ℕ) (t u : TravellerModel) : Type 0 where
+    pub manager : TurnstileModel Setting
+    pub stands : slice_get managers t.crossing ≡ Some manager
+    pub rest : u ≡ record t { agent = u.agent }
+    pub went : Went manager.setting step (step + 1) t.agent u.agent
 
   -- It took its turns of the steps from `from` on and below `last`, with whatever legs it had set out and when.
   pub record Moves (from last : ℕ) (t u : TravellerModel) : Type 0 where

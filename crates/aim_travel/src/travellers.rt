@@ -6,7 +6,7 @@ ghost use Rattle.aim_agent.specs.Agents.{Idles, IsFull};
 ghost use Rattle.aim_legs.specs.Acked.{begun_at};
 ghost use Rattle.aim_travel.specs.Models.{AreLegsOf};
 ghost use Rattle.aim_travel.specs.Rode.{IsMade};
-ghost use Rattle.aim_travel.specs.Travels.{AreLegsLeft, Begins, GoesOn, IsReady, Moves, SetsOut};
+ghost use Rattle.aim_travel.specs.Travels.{AreLegsLeft, Begins, GoesOn, IsReady, Moves, SetsOut, TakesTurn};
 
 use aim_agent::{Agent, Gate, Trouble};
 use aim_driver::{DrivePlan, Driver, Link, NoMemory};
@@ -172,6 +172,16 @@ impl<L: Ledger> Traveller<L> {
         self.over.push_reserved((through, driver, pass));
     }
 
+    // A turn of the agent of the leg that it is on.
+    fn ride<R: Wait, G: Gate>(&mut self, rt: &R, managers: &[Manager<L>], gate: &G, step: u32)
+        requires ready { IsReady managers.now step self.old }
+        requires most { step ≤ LATEST_MOMENT }
+        ensures { TakesTurn managers.now step self.old self.new }
+    {
+        let manager = &managers[self.crossing as usize];
+        self.agent.turn(rt, manager, gate, step);
+    }
+
     /// One turn, of the leg that it is on. Where that leg is through, the next one begins with the next step.
     pub fn turn<R: Wait, G: Gate>(
         &mut self,
@@ -187,8 +197,7 @@ impl<L: Ledger> Traveller<L> {
         if !self.is_busy(step) {
             return;
         }
-        let manager = &managers[self.crossing as usize];
-        self.agent.turn(rt, manager, gate, step);
+        self.ride(rt, managers, gate, step);
         if self.goes_on() {
             self.go_on(step);
         }
