@@ -33,4 +33,4 @@ pub in_order : (until : ℕ) (journal : ℕ → List Entry) (begun : Option ℕ)
 in_order until journal begun [] late legs = tt
 in_order until journal begun (r ∷ []) late legs = tt
 in_order until journal begun (r ∷ q ∷ rs) late legs =
-    (one_behind until (journal q.crossing) r.log q late.1 legs.1, in_order until journal (acked r.log) (q ∷ rs) (late.1, late.2) (legs.1, legs.2))
+    (one_behind until (journal q.crossing) r.log q late.1.0 legs.1.0, in_order until journal (acked r.log) (q ∷ rs) late.1 legs.1)

@@ -33,26 +33,25 @@ second_journal = entry 28 1 (body.Request (car 0 38)) (granted 0 38 48) ∷ entr
 pub two_crossings : AreLegs 60 (journal_in (first_journal ∷ second_journal ∷ [])) (Some 0) (ride 0 1 first_log ∷ ride 1 5 second_log ∷ [])
 two_crossings = (
   record { calls = call 1 1 (body.Request (car 0 11)) ∷ call 22 2 (body.Done 0) ∷ []; course = refl; carried = refl },
-  record { calls = call 28 1 (body.Request (car 0 38)) ∷ call 49 2 (body.Done 0) ∷ []; course = refl; carried = refl },
-  tt,
+  (record { calls = call 28 1 (body.Request (car 0 38)) ∷ call 49 2 (body.Done 0) ∷ []; course = refl; carried = refl }, tt),
 )
 
 -- the steps end before it is through with the first: the second leg isn't begun
 pub ends_on_the_way : AreLegs 20 (journal_in ((entry 1 1 (body.Request (car 0 11)) (granted 0 11 21) ∷ []) ∷ [] ∷ [])) (Some 0)
     (ride 0 1 (sent 1 1 (body.Request (car 0 11)) ∷ item.Got 2 1 (granted 0 11 21) ∷ item.Entered 11 0 ∷ []) ∷ ride 1 5 [] ∷ [])
-ends_on_the_way = (record { calls = call 1 1 (body.Request (car 0 11)) ∷ []; course = refl; carried = refl }, (refl, refl), tt)
+ends_on_the_way = (record { calls = call 1 1 (body.Request (car 0 11)) ∷ []; course = refl; carried = refl }, ((refl, refl), tt))
 
 -- who is through goes on: an empty log and an empty journal are refused
 pub stays_there : AreLegs 60 (journal_in (first_journal ∷ [] ∷ [])) (Some 0) (ride 0 1 first_log ∷ ride 1 5 [] ∷ []) → ⊥
-stays_there legs = cc (ap (λ (p : List LogItem × List Call). p.0) legs.1.course)
+stays_there legs = cc (ap (λ (p : List LogItem × List Call). p.0) legs.1.0.course)
 
 -- who isn't through begins no further leg
 pub goes_ahead : (h : List Entry) (x : LogItem) (log : List LogItem) → AreLegs 60 (journal_in (h ∷ second_journal ∷ [])) (Some 0) (ride 0 1 [] ∷ ride 1 5 (x ∷ log) ∷ []) → ⊥
-goes_ahead h x log legs = cc legs.1.0
+goes_ahead h x log legs = cc legs.1.0.0
 
 -- and who is through begins it behind the Ack: not as if its steps were counted from the first one
 pub counts_from_the_start : AreLegs 60 (journal_in (first_journal ∷ second_journal ∷ [])) (Some 0) (ride 0 1 first_log ∷ ride 1 28 second_log ∷ []) → ⊥
-counts_from_the_start legs = cc (ap (λ (p : List LogItem × List Call). p.0) legs.1.course)
+counts_from_the_start legs = cc (ap (λ (p : List LogItem × List Call). p.0) legs.1.0.course)
 
 pub in_order : IsRoute (log_of (ride 0 1 first_log) ∷ log_of (ride 1 5 second_log) ∷ [])
-in_order = ((23, refl, omega arith, omega arith, omega arith, omega arith, omega arith, tt), tt)
+in_order = ((23, refl, (omega arith, (omega arith, (omega arith, (omega arith, (omega arith, tt)))))), tt)

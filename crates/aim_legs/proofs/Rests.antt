@@ -78,28 +78,28 @@ unanswered past seq e = is_none_of (answer past) (and_right (has_number (latest 
 -- from its DONE on it is active on nothing
 inactive : (past : List LogItem) → is_leaving (latest past) ≡ true → is_quiet (answer past) ≡ true → active past ≡ None
 inactive [] left quiet = absurd (cc left)
-inactive (item.Sent step m ∷ past) left quiet = go (is_above m.seq (latest past)) left quiet
+inactive (item.Sent step m ∷ past) left quiet = go (is_above m.seq (latest past)) left quiet (inactive past)
   where
-    go : (b : Bool) → is_leaving (if b then Some m else latest past) ≡ true → is_quiet (if b then None else answer past) ≡ true → active_sent m.body (active past) ≡ None
-    go true l q = done_ends m.body (active past) l
-    go false l q = ap (active_sent m.body) (inactive past l q) ∙ none_stays m.body
-inactive (item.Got step seq r ∷ past) left quiet = go (counts past seq) refl quiet
+    go : (b : Bool) → is_leaving (if b then Some m else latest past) ≡ true → is_quiet (if b then None else answer past) ≡ true
+        → (is_leaving (latest past) ≡ true → is_quiet (answer past) ≡ true → active past ≡ None) → active_sent m.body (active past) ≡ None
+    go true l q before = done_ends m.body (active past) l
+    go false l q before = ap (active_sent m.body) (before l q) ∙ none_stays m.body
+inactive (item.Got step seq r ∷ past) left quiet = go (counts past seq) refl quiet (inactive past left)
   where
-    go : (b : Bool) → counts past seq ≡ b → is_quiet (if b then Some r else answer past) ≡ true → (if b then active_told (changed (latest past)) r (active past) else active past) ≡ None
-    go true c q =
-        let was : is_quiet (answer past) ≡ true = ap is_quiet (unanswered past seq c) in
-        ack_keeps (changed (latest past)) r (active past) q ∙ inactive past left was
-    go false c q = inactive past left q
+    go : (b : Bool) → counts past seq ≡ b → is_quiet (if b then Some r else answer past) ≡ true → (is_quiet (answer past) ≡ true → active past ≡ None)
+        → (if b then active_told (changed (latest past)) r (active past) else active past) ≡ None
+    go true c q before = ack_keeps (changed (latest past)) r (active past) q ∙ before (ap is_quiet (unanswered past seq c))
+    go false c q before = before q
 inactive (item.Entered step id ∷ past) left quiet = inactive past left quiet
 
 -- it sent the DONE
 has_left : (past : List LogItem) → is_leaving (latest past) ≡ true → is_done_sent past ≡ true
 has_left [] left = absurd (cc left)
-has_left (item.Sent step m ∷ past) left = go (is_above m.seq (latest past)) left
+has_left (item.Sent step m ∷ past) left = go (is_above m.seq (latest past)) left (has_left past)
   where
-    go : (b : Bool) → is_leaving (if b then Some m else latest past) ≡ true → (is_done m.body || is_done_sent past) ≡ true
-    go true l = either_left (is_done m.body) (is_done_sent past) l
-    go false l = either_right (is_done m.body) (is_done_sent past) (has_left past l)
+    go : (b : Bool) → is_leaving (if b then Some m else latest past) ≡ true → (is_leaving (latest past) ≡ true → is_done_sent past ≡ true) → (is_done m.body || is_done_sent past) ≡ true
+    go true l before = either_left (is_done m.body) (is_done_sent past) l
+    go false l before = either_right (is_done m.body) (is_done_sent past) (before l)
 has_left (item.Got step seq r ∷ past) left = has_left past left
 has_left (item.Entered step id ∷ past) left = has_left past left
 

@@ -42,17 +42,17 @@ pub second_leg : follows (begun_at 23 second_plan) [] [] 60 (granted 0 38 48 ∷
 second_leg = refl
 
 pub in_order : IsRoute (first_log ∷ second_log ∷ [])
-in_order = ((23, refl, omega arith, omega arith, omega arith, omega arith, omega arith, tt), tt)
+in_order = ((23, refl, (omega arith, (omega arith, (omega arith, (omega arith, (omega arith, tt)))))), tt)
 
 -- a leg that isn't begun has an empty log, behind which none is begun
 pub not_begun : IsRoute ((sent 1 1 (body.Request (car 0 11)) ∷ []) ∷ [] ∷ [] ∷ [])
-not_begun = (tt, tt, tt)
+not_begun = (tt, (tt, tt))
 
 -- what stands before the Ack is out of order, also where the Ack comes later
 pub too_soon : IsRoute (first_log ∷ (sent 23 1 (body.Request (car 0 33)) ∷ []) ∷ []) → ⊥
 too_soon r =
     let is : Some 23 ≡ Some r.0.0 = r.0.1 in
-    let lt : r.0.0 < 23 = r.0.2 in
+    let lt : r.0.0 < 23 = r.0.2.0 in
     absurd (let same : 23 ≡ r.0.0 = cc is in omega arith)
 
 -- its DONE has no answer, or one that is no Ack, or its last answer is to another message

@@ -3,4 +3,4 @@ use Rattle.aim_legs.specs.Told.{told_all}
 use Rattle.aim_legs.proofs.acks.acked_at.Given as goal
 
 abbrev pub invariant-loop-item : goal.invariant-loop-item
-invariant-loop-item g l = l.told ≡ told_all (take l.item-index l.log)
+invariant-loop-item l = l.told ≡ told_all (take l.item-index l.log)
