@@ -1,11 +1,13 @@
 -- What a turn makes of a route so far.
-use Rattle.std.proofs.Common.{◌≡◌, ℕ, ◌+◌, ◌<◌, ◌≤◌, ◌⊎◌, inl, inr, List, [], ◌∷◌, ◌++◌, length, get_or, Option, Some, None, refl, sym, ap, ◌∙◌, subst, arith, add-zero}
-use Rattle.std.specs.Prelude.{All, slice_get}
+use Rattle.std.proofs.Common.{Bool, true, false, ◌==◌, is_some, ◌≡◌, ℕ, suc, ◌+◌, ◌<◌, ◌≤◌, ◌⊎◌, inl, inr, List, [], ◌∷◌, ◌++◌, length, get_or, Option, Some, None, refl, sym, ap, ◌∙◌, subst, arith, add-zero}
+use Rattle.std.specs.Prelude.{All, slice_get, remove}
+use Rattle.std.proofs.lemmas.Bool.{eqb-false}
 use Rattle.aim_driver.specs.Models.{step_of}
 use Rattle.aim_driver.specs.Follows.{Course, running, turn, turns}
 use Rattle.aim_driver.specs.declared.logs.LogItem.{LogItem}
 use Rattle.aim_turn.specs.Models.{TurnstileModel, IsPassOf}
 use Rattle.aim_manager.specs.declared.keeper.Setting.{Setting}
+use Rattle.aim_agent.specs.declared.agents.Trouble.{Trouble}
 use Rattle.aim_agent.specs.Agents.{AgentModel, AgentPass, IsAgentOf, Idles, state_of}
 use Rattle.aim_agent.specs.Went.{Went, replies}
 use Rattle.aim_agent.proofs.Courses.{went_then, stays_went}
@@ -167,7 +169,7 @@ module _ (ms : Managers) where
               vehicle = subst (λ (p : AgentPass). p.number < next.manager.setting.vehicles) (sym b.agent.pass_is) next.vehicle;
               room = b.agent.room_is ∙ next.room;
             };
-            waiting = subst (λ (w : List LegModel). All (IsLegAt ms) w) (sym b.waiting) (λ j d lt. all (j + 1) d (omega arith));
+            waiting = subst (λ (w : List LegModel). All (IsLegAt ms) w) (sym b.waiting) (λ j d lt. all (suc j) d (omega arith));
           };
           late = (let none : step_of v.agent.driver.log ≡ 0 = ap step_of b.agent.new.log in omega arith);
         };
@@ -189,3 +191,34 @@ module _ (ms : Managers) where
               stands = next.stands;
             }) h);
       }
+
+-- whether it goes on
+
+pub goes : (t : TravellerModel) (b : Bool) → GoesOn t b → b ≡ true → (t.agent.trouble ≡ None) × (s : ℕ) × (acked t.agent.driver.log ≡ Some s)
+goes t true h is = (h.0, h.2, h.3)
+goes t false h is = absurd (cc is)
+
+pub stays : (t : TravellerModel) (b : Bool) → GoesOn t b → b ≡ false → t.agent.trouble ≡ None → (t.waiting ≡ []) ⊎ (acked t.agent.driver.log ≡ None)
+stays t true h is = absurd (cc is)
+stays t false h is = h
+
+pub no_legs : (t : TravellerModel) (ls : List LegModel) → ls ≡ t.waiting → length ls ≡ 0 → GoesOn t false
+no_legs t [] is len = λ calm. inl (sym is)
+no_legs t (l ∷ ls) is len = absurd (omega arith)
+
+pub in_trouble : (t : TravellerModel) (o : Option Trouble) → o ≡ t.agent.trouble → is_some o ≡ true → GoesOn t false
+in_trouble t None is some = absurd (cc some)
+in_trouble t (Some why) is some = λ calm. absurd (cc (is, calm))
+
+pub goes_by : (t : TravellerModel) (ls : List LegModel) (n : ℕ) (why : Option Trouble) (o : Option ℕ) → ls ≡ t.waiting → n ≡ length ls → (n == 0) ≡ false → why ≡ t.agent.trouble → is_some why ≡ false
+    → o ≡ acked t.agent.driver.log → GoesOn t (is_some o)
+goes_by t [] n why o is len some calm none at = absurd (eqb-false n 0 some len)
+goes_by t (l ∷ ls) n (Some x) o is len some calm none at = absurd (cc none)
+goes_by t (l ∷ ls) n None None is len some calm none at = λ _. inr (sym at)
+goes_by t (l ∷ ls) n None (Some s) is len some calm none at =
+    (sym calm, subst (λ (w : List LegModel). 0 < length w) is (omega arith), s, sym at)
+
+-- the first leg is taken out
+pub first_out : (xs ys : List LegModel) (x : LegModel) → 0 < length xs → x ≡ get_or xs 0 x → ys ≡ remove xs 0 → xs ≡ x ∷ ys
+first_out [] ys x some at rest = absurd (omega arith)
+first_out (y ∷ xs) ys x some at rest = λ i. sym at i ∷ sym rest i

@@ -3,6 +3,7 @@ use Rattle.std.proofs.Common.{◌≡◌, ℕ, ◌+◌, ◌-◌, ◌≤◌, ◌�
 use Rattle.std.specs.Prelude.{slice_get}
 use Rattle.std.proofs.lemmas.List.{append-nil}
 use Rattle.aim_msg.specs.declared.replies.Reply.{Reply}
+use Rattle.aim_driver.specs.declared.logs.LogItem.{LogItem}
 use Rattle.aim_driver.specs.Models.{DriverModel}
 use Rattle.aim_driver.specs.Follows.{Call, Course, running, fresh, turns, course, follows_from, follows}
 use Rattle.aim_driver.proofs.TurnLemmas.{follows_later}
@@ -16,8 +17,8 @@ use Rattle.aim_legs.specs.Acked.{acked, begun_at}
 use Rattle.aim_legs.proofs.Rests.{rests}
 use Rattle.aim_travel.specs.Models.{LegModel, OverModel, TravellerModel}
 use Rattle.aim_travel.specs.Rode.{Managers, IsBegun, IsRidden, IsOver, IsAlong, Rode}
-use Rattle.aim_travel.specs.Travels.{SetsOut, IsTravellerOf, IsUnbegun, AreUnbegun, AreLegsLeft}
-use Rattle.aim_travel.specs.Legs.{IsFollowedLeg, IsLegLeft, AreFollowed, AreFresh}
+use Rattle.aim_travel.specs.Travels.{SetsOut, IsTravellerOf}
+use Rattle.aim_travel.specs.Legs.{IsFollowedLeg, AreFollowed, AreFresh, legs_told, told, told_unbegun}
 use Rattle.aim_travel.proofs.Along.{new_acked}
 
 -- where the turns of a leg's agent lead
@@ -49,14 +50,14 @@ from_the_first at from until l b calls late soon le is =
 module _ (ms : Managers) (until : ℕ) where
   -- of the leg that it is on
   ridden_leg : (at from : ℕ) (l : LegModel) (crossing : ℕ) (b : AgentModel) → 1 ≤ l.plan.first → from ≤ at + 1 → IsRidden ms at from until l crossing b → b.trouble ≡ None
-      → IsFollowedLeg until at l (crossing, b.driver, b.pass)
+      → IsFollowedLeg until at l b.driver.log b.pass
   ridden_leg at from l crossing b late soon r calm =
       let d = leads r.manager.setting at from until l r.begun b r.is_begun r.went calm in
       let steps : from + r.went.count ≡ until = r.went.steps in
       record { calls = d.calls; carried = d.carried; follows = from_the_first at from until l b d.calls late soon (omega arith) d.course_is }
 
   -- of one that is over: it does nothing more
-  over_leg : (at from s : ℕ) (l : LegModel) (o : OverModel) → 1 ≤ l.plan.first → from ≤ at + 1 → s + 1 ≤ until → IsOver ms at from s l o → IsFollowedLeg until at l o
+  over_leg : (at from s : ℕ) (l : LegModel) (o : OverModel) → 1 ≤ l.plan.first → from ≤ at + 1 → s + 1 ≤ until → IsOver ms at from s l o → IsFollowedLeg until at l o.1.log o.2
   over_leg at from s l o late soon below over =
       let r = over.ridden in
       let b = over.agent in
@@ -65,11 +66,8 @@ module _ (ms : Managers) (until : ℕ) where
       let rest = rests (begun_at at l.plan) from (s + 1) until (replies b.pass.mine) s (omega arith) below
           (ap (λ (c : Course). c.goes_on) d.course_is) (ap (λ (c : Course). acked c.state.log) d.course_is ∙ over.acked) in
       let is = from_the_first at from until l b d.calls late soon (omega arith) (rest ∙ d.course_is) in
-      record {
-        calls = d.calls;
-        carried = subst (λ es. Carry es d.calls) (ap (λ (p : AgentPass). p.mine) over.pass) d.carried;
-        follows = ap (λ (p : AgentPass). follows (begun_at at l.plan) [] [] until (replies p.mine)) (sym over.pass) ∙ is ∙ ap (λ (x : DriverModel). (x.log, d.calls)) over.driver;
-      }
+      subst (λ (x : DriverModel). IsFollowedLeg until at l x.log o.2) over.driver
+      (subst (λ (p : AgentPass). IsFollowedLeg until at l b.driver.log p) over.pass (record { calls = d.calls; carried = d.carried; follows = is }))
 
   -- the steps of a leg come behind those of the one before
   along_later : (at from : ℕ) (legs : List LegModel) (os : List OverModel) (crossing : ℕ) (a : AgentModel) (waiting : List LegModel) → IsAlong ms at from until legs os crossing a waiting → from ≤ until
@@ -81,38 +79,31 @@ module _ (ms : Managers) (until : ℕ) where
       omega arith
 
   -- the legs that aren't begun
-  unbegun_legs : (ls : List LegModel) (os : List OverModel) → AreFresh ls → AreUnbegun ls os → AreFollowed until None ls os
-  unbegun_legs [] [] fresh h = tt
-  unbegun_legs [] (o ∷ os) fresh h = h
-  unbegun_legs (l ∷ ls) [] fresh h = h
-  unbegun_legs (l ∷ ls) (o ∷ os) fresh h =
-      (h.0.crossing, (h.0.log, ap (λ (p : AgentPass). p.mine) h.0.pass ∙ fresh.1),
-      subst (λ b. AreFollowed until b ls os) (sym (ap acked h.0.log)) (unbegun_legs ls os fresh.2 h.1))
+  unbegun_legs : (ls : List LegModel) → AreFresh ls → AreFollowed until None ls (map told_unbegun ls)
+  unbegun_legs [] fresh = tt
+  unbegun_legs (l ∷ ls) fresh = (refl, (refl, fresh.1), unbegun_legs ls fresh.2)
 
-  all_legs : (at from : ℕ) (legs : List LegModel) (os : List OverModel) (crossing : ℕ) (a : AgentModel) (waiting : List LegModel) (rest : List OverModel) → from ≤ at + 1 → AreFresh legs
-      → a.trouble ≡ None → IsAlong ms at from until legs os crossing a waiting → AreUnbegun waiting rest → AreFollowed until (Some at) legs (os ++ (crossing, a.driver, a.pass) ∷ rest)
-  all_legs at from [] os crossing a waiting rest soon fresh calm h un = absurd h
-  all_legs at from (l ∷ ls) [] crossing a waiting rest soon fresh calm h un =
-      (h.0.crossing_is, ridden_leg at from l crossing a fresh.0 soon h.0 calm, behind ls fresh.2 (subst (λ w. AreUnbegun w rest) h.1 un) (subst (λ w. (w ≡ []) ⊎ (acked a.driver.log ≡ None)) h.1 (h.2 calm)))
-    where
-      behind : (ls : List LegModel) → AreFresh ls → AreUnbegun ls rest → (ls ≡ []) ⊎ (acked a.driver.log ≡ None) → AreFollowed until (acked a.driver.log) ls rest
-      behind ls f u (inr none) = subst (λ b. AreFollowed until b ls rest) (sym none) (unbegun_legs ls rest f u)
-      behind ls f u (inl none) = last ls rest none u
-        where
-          last : (ls : List LegModel) (os : List OverModel) → ls ≡ [] → AreUnbegun ls os → AreFollowed until (acked a.driver.log) ls os
-          last [] [] e u = tt
-          last [] (o ∷ os) e u = u
-          last (l ∷ ls) os e u = absurd (cc e)
-  all_legs at from (l ∷ ls) (o ∷ os) crossing a waiting rest soon fresh calm h un =
+  -- the legs behind one, which are no more or wait for its Ack
+  behind : (log : List LogItem) (ls : List LegModel) → AreFresh ls → (ls ≡ []) ⊎ (acked log ≡ None) → AreFollowed until (acked log) ls (map told_unbegun ls)
+  behind log [] fresh h = tt
+  behind log (l ∷ ls) fresh (inl none) = absurd (cc none)
+  behind log (l ∷ ls) fresh (inr none) = subst (λ b. AreFollowed until b (l ∷ ls) (map told_unbegun (l ∷ ls))) (sym none) (unbegun_legs (l ∷ ls) fresh)
+
+  all_legs : (at from : ℕ) (legs : List LegModel) (os : List OverModel) (crossing : ℕ) (a : AgentModel) (waiting : List LegModel) → from ≤ at + 1 → AreFresh legs
+      → a.trouble ≡ None → IsAlong ms at from until legs os crossing a waiting → AreFollowed until (Some at) legs (map told os ++ (crossing, a.driver.log, a.pass) ∷ map told_unbegun waiting)
+  all_legs at from [] os crossing a waiting soon fresh calm h = absurd h
+  all_legs at from (l ∷ ls) [] crossing a waiting soon fresh calm h =
+      (h.0.crossing_is, ridden_leg at from l crossing a fresh.0 soon h.0 calm,
+      subst (λ (w : List LegModel). AreFollowed until (acked a.driver.log) ls (map told_unbegun w)) (sym h.1)
+      (behind a.driver.log ls fresh.2 (subst (λ (w : List LegModel). (w ≡ []) ⊎ (acked a.driver.log ≡ None)) h.1 (h.2 calm))))
+  all_legs at from (l ∷ ls) (o ∷ os) crossing a waiting soon fresh calm h =
       let le : h.0 + 1 ≤ until = along_later h.0 (h.0 + 1) ls os crossing a waiting h.2 in
       (h.1.ridden.crossing_is, over_leg at from h.0 l o fresh.0 soon le h.1,
-      subst (λ b. AreFollowed until b ls (os ++ (crossing, a.driver, a.pass) ∷ rest)) (sym (ap (λ (d : DriverModel). acked d.log) (sym h.1.driver) ∙ h.1.acked))
-      (all_legs h.0 (h.0 + 1) ls os crossing a waiting rest (omega arith) fresh.2 calm h.2 un))
+      subst (λ b. AreFollowed until b ls (map told os ++ (crossing, a.driver.log, a.pass) ∷ map told_unbegun waiting)) (sym (ap (λ (d : DriverModel). acked d.log) (sym h.1.driver) ∙ h.1.acked))
+      (all_legs h.0 (h.0 + 1) ls os crossing a waiting (omega arith) fresh.2 calm h.2))
 
-  pub legs_followed : (legs : List LegModel) (t : TravellerModel) (os : List OverModel) → AreFresh legs → Rode ms 0 until legs t → t.agent.trouble ≡ None → AreLegsLeft t os → AreFollowed until (Some 0) legs os
-  legs_followed legs t os fresh h calm left =
-      subst (λ (l : List OverModel). AreFollowed until (Some 0) legs l) (sym left.all)
-      (all_legs 0 0 legs t.over t.crossing t.agent t.waiting left.unbegun (omega arith) fresh calm h left.empty)
+  pub legs_followed : (legs : List LegModel) (t : TravellerModel) → AreFresh legs → Rode ms 0 until legs t → t.agent.trouble ≡ None → AreFollowed until (Some 0) legs (legs_told t)
+  legs_followed legs t fresh h calm = all_legs 0 0 legs t.over t.crossing t.agent t.waiting (omega arith) fresh calm h
 
 -- it has set out
 pub set_out : (ms : Managers) (first vehicle : ℕ) (legs : List LegModel) (t : TravellerModel) → SetsOut vehicle legs t → IsTravellerOf ms t → Rode ms first first legs t

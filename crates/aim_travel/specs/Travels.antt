@@ -36,24 +36,6 @@ pub record Begins (step : ℕ) (t u : TravellerModel) : Type 0 where
   pub agent : IsBegun step next u.agent
   pub waiting : u.waiting ≡ rest
 
--- a leg that isn't begun leaves its crossing, a driver with an empty log, and its pass
-pub record IsUnbegun (l : LegModel) (o : OverModel) : Type 0 where
-  pub crossing : o.0 ≡ l.crossing
-  pub log : o.1.log ≡ []
-  pub pass : o.2 ≡ l.pass
-
-abbrev pub AreUnbegun : List LegModel → List OverModel → Type 0
-AreUnbegun [] [] = Unit {0}
-AreUnbegun [] (o ∷ os) = ⊥
-AreUnbegun (l ∷ ls) [] = ⊥
-AreUnbegun (l ∷ ls) (o ∷ os) = IsUnbegun l o × AreUnbegun ls os
-
--- what is left of all legs: of those that are over, of the one that it is on, and of those that aren't begun
-pub record AreLegsLeft (t : TravellerModel) (os : List OverModel) : Type 0 where
-  pub unbegun : List OverModel
-  pub all : os ≡ t.over ++ (t.crossing, t.agent.driver, t.agent.pass) ∷ unbegun
-  pub empty : AreUnbegun t.waiting unbegun
-
 module _ (managers : Managers) where
   -- a leg at one of the managers' crossings, with a vehicle's pass of that manager and sheets of the room that its layout wants
   pub record IsLegAt (l : LegModel) : Type 0 where

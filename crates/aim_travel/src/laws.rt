@@ -1,10 +1,10 @@
 //! Laws of what travellers do, each the contract of a function that does nothing.
 
 ghost use Rattle.std.specs.Prelude.{◌≡◌, ℕ, List, Some, None};
-ghost use Rattle.aim_travel.specs.Models.{LegModel, OverModel, TravellerModel};
+ghost use Rattle.aim_travel.specs.Models.{LegModel, TravellerModel};
 ghost use Rattle.aim_travel.specs.Rode.{Managers, Rode};
-ghost use Rattle.aim_travel.specs.Travels.{AreLegsLeft, IsTravellerOf, SetsOut};
-ghost use Rattle.aim_travel.specs.Legs.{AreFollowed, AreFresh};
+ghost use Rattle.aim_travel.specs.Travels.{IsTravellerOf, SetsOut};
+ghost use Rattle.aim_travel.specs.Legs.{AreFollowed, AreFresh, legs_told};
 
 /// A traveller that has set out took no turn yet.
 pub fn setting_out_takes_no_turn()
@@ -15,6 +15,6 @@ pub fn setting_out_takes_no_turn()
 /// Each leg of a traveller without trouble is what its driver follows up to the last step, where it was begun, and each
 /// was begun exactly where the leg before got the Ack that answers its DONE.
 pub fn what_travellers_do_is_followed()
-    ensures { (managers : Managers) (until : ℕ) (legs : List LegModel) (t : TravellerModel) (os : List OverModel) →
-        AreFresh legs → Rode managers 0 until legs t → t.agent.trouble ≡ None → AreLegsLeft t os → AreFollowed until (Some 0) legs os }
+    ensures { (managers : Managers) (until : ℕ) (legs : List LegModel) (t : TravellerModel) →
+        AreFresh legs → Rode managers 0 until legs t → t.agent.trouble ≡ None → AreFollowed until (Some 0) legs (legs_told t) }
 {}

@@ -1,12 +1,13 @@
 //! Travellers.
 
-ghost use Rattle.std.specs.Prelude.{◌≡◌, ◌+◌, ◌<◌, ◌≤◌, [], length, Some, false, IfOk};
+ghost use Rattle.std.specs.Prelude.{◌≡◌, ◌+◌, ◌<◌, ◌≤◌, [], length, map, Some, true, IfOk};
 ghost use Rattle.aim_msg.specs.declared.entries.TheConstants.{LATEST_MOMENT};
 ghost use Rattle.aim_agent.specs.Agents.{Idles, IsFull};
 ghost use Rattle.aim_legs.specs.Acked.{begun_at};
+ghost use Rattle.aim_travel.specs.Legs.{legs_told, told, told_unbegun};
 ghost use Rattle.aim_travel.specs.Models.{AreLegsOf};
 ghost use Rattle.aim_travel.specs.Rode.{IsMade};
-ghost use Rattle.aim_travel.specs.Travels.{AreLegsLeft, Begins, GoesOn, IsReady, Moves, SetsOut, TakesTurn};
+ghost use Rattle.aim_travel.specs.Travels.{Begins, GoesOn, IsReady, Moves, SetsOut, TakesTurn};
 
 use aim_agent::{Agent, Gate, Trouble};
 use aim_driver::{DrivePlan, Driver, Link, NoMemory};
@@ -95,6 +96,23 @@ fn new_agent<L: Ledger>(
     Agent::new(driver, up, down, pass, pool)
 }
 
+// What is left of a leg that isn't begun.
+fn unbegun<L: Ledger>(alloc: Global, leg: Leg<L>) -> (u32, Driver, ManagerPass<L>)
+    requires lead { leg.plan.lead ≤ 65536 }
+    ensures { told result ≡ told_unbegun leg }
+{
+    let Leg {
+        crossing,
+        plan,
+        pass,
+        pool: _,
+    } = leg;
+    let Ok(driver) = Driver::new(alloc, plan) else {
+        unreachable!()
+    };
+    (crossing, driver, pass)
+}
+
 impl<L: Ledger> Traveller<L> {
     /// A vehicle that sets out on these legs, in their order.
     pub fn new(
@@ -138,20 +156,24 @@ impl<L: Ledger> Traveller<L> {
         self.vehicle
     }
 
-    // It may have something to do at the step.
-    pub(crate) fn is_busy(&self, step: u32) -> bool
-        ensures { result ≡ false → Idles self.now.agent step }
+    // Its turn of the step does nothing.
+    pub(crate) fn is_idle(&self, step: u32) -> bool
+        ensures { result ≡ true → Idles self.now.agent step }
     {
-        self.agent.idle_until(step) <= step as u64
+        (step as u64) < self.agent.idle_until(step)
     }
 
     // It is through with its leg, and a further one waits.
     fn goes_on(&self) -> bool
         ensures { GoesOn self.now result }
     {
-        self.agent.trouble().is_none()
-            && !self.waiting.is_empty()
-            && acked_at(self.agent.log()).is_some()
+        if self.waiting.is_empty() {
+            return false;
+        }
+        if self.agent.trouble().is_some() {
+            return false;
+        }
+        acked_at(self.agent.log()).is_some()
     }
 
     // Its next leg begins behind the step.
@@ -194,7 +216,7 @@ impl<L: Ledger> Traveller<L> {
         requires most { step ≤ LATEST_MOMENT }
         ensures { Moves managers.now step (step + 1) self.old self.new }
     {
-        if !self.is_busy(step) {
+        if self.is_idle(step) {
             return;
         }
         self.ride(rt, managers, gate, step);
@@ -206,7 +228,7 @@ impl<L: Ledger> Traveller<L> {
     /// The crossing, the driver and the pass of each leg, in order. A leg that wasn't begun has a driver with an empty
     /// log.
     pub fn into_legs(self) -> Result<Vec<(u32, Driver, ManagerPass<L>)>, NoMemory>
-        ensures { IfOk result (λ v. AreLegsLeft self v.items) }
+        ensures { IfOk result (λ v. map told v.items ≡ legs_told self) }
     {
         let Traveller {
             alloc,
@@ -219,13 +241,7 @@ impl<L: Ledger> Traveller<L> {
         let (driver, pass) = agent.into_parts();
         over.push((crossing, driver, pass))?;
         for leg in waiting {
-            let Leg {
-                crossing,
-                plan,
-                pass,
-                pool: _,
-            } = leg;
-            over.push((crossing, Driver::new(alloc, plan)?, pass))?;
+            over.push(unbegun(alloc, leg))?;
         }
         Ok(over)
     }

@@ -36,7 +36,7 @@ fn are_two_runs_busy<L: Ledger>(travellers: &[Traveller<L>], step: u32, size: us
     let mut first = None;
     for place in 0..travellers.len() {
         let run = place / size;
-        if travellers[place].is_busy(step) && *first.get_or_insert(run) != run {
+        if !travellers[place].is_idle(step) && *first.get_or_insert(run) != run {
             return true;
         }
     }
