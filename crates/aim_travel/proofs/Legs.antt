@@ -121,3 +121,23 @@ set_out ms first vehicle legs t s own =
       s.waiting,
       λ _. inr (new_acked 0 s.first t.agent s.agent),
     ))
+
+-- what is left of all legs, where the one that it is on comes behind those that are over
+
+map_self : (ls : List LegModel) → map (λ l. l) ls ≡ ls
+map_self [] = refl
+map_self (l ∷ ls) = ap (λ ks. l ∷ ks) (map_self ls)
+
+pub all_yielded : (ls ks : List LegModel) → map (λ l. l) ls ≡ ks → ls ≡ ks
+all_yielded ls ks e = sym (map_self ls) ∙ e
+
+told_pushed : (os : List OverModel) (o : OverModel) (ls : List LegModel) → map told (os ++ o ∷ []) ++ map told_unbegun ls ≡ map told os ++ told o ∷ map told_unbegun ls
+told_pushed [] o ls = refl
+told_pushed (p ∷ os) o ls = ap (λ xs. told p ∷ xs) (told_pushed os o ls)
+
+pub told_left : (os qs : List OverModel) (crossing : ℕ) (d d' : DriverModel) (p p' : AgentPass) (ls : List LegModel) → qs ≡ os ++ (crossing, d, p) ∷ [] → d ≡ d' → p ≡ p'
+    → map told qs ++ map told_unbegun ls ≡ map told os ++ (crossing, d'.log, p') ∷ map told_unbegun ls
+told_left os qs crossing d d' p p' ls is driver pass =
+    ap (λ (l : List OverModel). map told l ++ map told_unbegun ls) is
+    ∙ told_pushed os (crossing, d, p) ls
+    ∙ (λ i. map told os ++ (crossing, (driver i).log, pass i) ∷ map told_unbegun ls)

@@ -1,5 +1,5 @@
 use Rattle.std.proofs.Common.{◌+◌, ◌<◌, length, sym, subst, arith}
-use Rattle.aim_travel.specs.Travels.{Moves}
+use Rattle.aim_travel.specs.Travels.{IsReady, Moves}
 use Rattle.aim_travel.specs.Models.{TravellerModel}
 use Rattle.aim_travel.proofs.Runs.{turned_none, turned_more, all_turned, item_ready}
 use Rattle.aim_travel.proofs.travelling.run_turns.Goals as goal
@@ -10,8 +10,9 @@ loop-traveller-init g c = turned_none c.args.managers.now c.args.step c.args.tra
 pub turn-requires-clause-ready : goal.turn-requires-clause-ready
 turn-requires-clause-ready g c κs within =
     let lt : c.loop-traveller.traveller-index < length c.loop-traveller.travellers = omega arith in
-    item_ready c.args.managers.now c.args.step c.loop-traveller.traveller-index c.args.travellers.now c.loop-traveller.travellers c.traveller-item.result
-    c.requires.ready c.loop-traveller.invariant lt c.traveller-item.is
+    subst (λ (x : TravellerModel). IsReady c.args.managers.now c.args.step x) c.traveller-item.is
+    (item_ready c.args.managers.now c.args.step c.loop-traveller.traveller-index c.args.travellers.now c.loop-traveller.travellers c.traveller-item.result
+    c.requires.ready c.loop-traveller.invariant lt c.traveller-item.is)
 
 pub loop-traveller-preserved : goal.loop-traveller-preserved
 loop-traveller-preserved g c =
