@@ -1,4 +1,0 @@
-pub mod Along
-pub mod Runs
-pub mod Legs
-pub mod Crosses

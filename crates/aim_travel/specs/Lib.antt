@@ -1,4 +1,0 @@
-pub mod Models
-pub mod Rode
-pub mod Travels
-pub mod Legs
