@@ -64,7 +64,7 @@ module _ (ms : Managers) (until : ℕ) where
       let d = leads r.manager.setting at from (s + 1) l r.begun b r.is_begun r.went over.calm in
       let steps : from + r.went.count ≡ s + 1 = r.went.steps in
       let rest = rests (begun_at at l.plan) from (s + 1) until (replies b.pass.mine) s (omega arith) below
-          (ap (λ (c : Course). c.goes_on) d.course_is) (ap (λ (c : Course). acked c.state.log) d.course_is ∙ over.acked) in
+      (ap (λ (c : Course). c.goes_on) d.course_is) (ap (λ (c : Course). acked c.state.log) d.course_is ∙ over.acked) in
       let is = from_the_first at from until l b d.calls late soon (omega arith) (rest ∙ d.course_is) in
       subst (λ (x : DriverModel). IsFollowedLeg until at l x.log o.2) over.driver
       (subst (λ (p : AgentPass). IsFollowedLeg until at l b.driver.log p) over.pass (record { calls = d.calls; carried = d.carried; follows = is }))
@@ -92,15 +92,19 @@ module _ (ms : Managers) (until : ℕ) where
   all_legs : (at from : ℕ) (legs : List LegModel) (os : List OverModel) (crossing : ℕ) (a : AgentModel) (waiting : List LegModel) → from ≤ at + 1 → AreFresh legs
       → a.trouble ≡ None → IsAlong ms at from until legs os crossing a waiting → AreFollowed until (Some at) legs (map told os ++ (crossing, a.driver.log, a.pass) ∷ map told_unbegun waiting)
   all_legs at from [] os crossing a waiting soon fresh calm h = absurd h
-  all_legs at from (l ∷ ls) [] crossing a waiting soon fresh calm h =
-      (h.0.crossing_is, ridden_leg at from l crossing a fresh.0 soon h.0 calm,
-      subst (λ (w : List LegModel). AreFollowed until (acked a.driver.log) ls (map told_unbegun w)) (sym h.1)
-      (behind a.driver.log ls fresh.2 (subst (λ (w : List LegModel). (w ≡ []) ⊎ (acked a.driver.log ≡ None)) h.1 (h.2 calm))))
+  all_legs at from (l ∷ ls) [] crossing a waiting soon fresh calm h = (
+    h.0.crossing_is,
+    ridden_leg at from l crossing a fresh.0 soon h.0 calm,
+    subst (λ (w : List LegModel). AreFollowed until (acked a.driver.log) ls (map told_unbegun w)) (sym h.1)
+        (behind a.driver.log ls fresh.2 (subst (λ (w : List LegModel). (w ≡ []) ⊎ (acked a.driver.log ≡ None)) h.1 (h.2 calm))),
+  )
   all_legs at from (l ∷ ls) (o ∷ os) crossing a waiting soon fresh calm h =
-      let le : h.0 + 1 ≤ until = along_later h.0 (h.0 + 1) ls os crossing a waiting h.2 in
-      (h.1.ridden.crossing_is, over_leg at from h.0 l o fresh.0 soon le h.1,
-      subst (λ b. AreFollowed until b ls (map told os ++ (crossing, a.driver.log, a.pass) ∷ map told_unbegun waiting)) (sym (ap (λ (d : DriverModel). acked d.log) (sym h.1.driver) ∙ h.1.acked))
-      (all_legs h.0 (h.0 + 1) ls os crossing a waiting (omega arith) fresh.2 calm h.2))
+      let le : h.0 + 1 ≤ until = along_later h.0 (h.0 + 1) ls os crossing a waiting h.2 in (
+        h.1.ridden.crossing_is,
+        over_leg at from h.0 l o fresh.0 soon le h.1,
+        subst (λ b. AreFollowed until b ls (map told os ++ (crossing, a.driver.log, a.pass) ∷ map told_unbegun waiting)) (sym (ap (λ (d : DriverModel). acked d.log) (sym h.1.driver) ∙ h.1.acked))
+            (all_legs h.0 (h.0 + 1) ls os crossing a waiting (omega arith) fresh.2 calm h.2),
+      )
 
   pub legs_followed : (legs : List LegModel) (t : TravellerModel) → AreFresh legs → Rode ms 0 until legs t → t.agent.trouble ≡ None → AreFollowed until (Some 0) legs (legs_told t)
   legs_followed legs t fresh h calm = all_legs 0 0 legs t.over t.crossing t.agent t.waiting (omega arith) fresh calm h

@@ -115,11 +115,7 @@ fn unbegun<L: Ledger>(alloc: Global, leg: Leg<L>) -> (u32, Driver, ManagerPass<L
 
 impl<L: Ledger> Traveller<L> {
     /// A vehicle that sets out on these legs, in their order.
-    pub fn new(
-        alloc: Global,
-        vehicle: u32,
-        mut legs: Vec<Leg<L>>,
-    ) -> Result<Traveller<L>, NoMemory>
+    pub fn new(alloc: Global, vehicle: u32, mut legs: Vec<Leg<L>>) -> Result<Traveller<L>, NoMemory>
         requires some { 0 < length legs.items }
         requires legs { AreLegsOf vehicle legs.items }
         ensures { IfOk result (λ t. SetsOut vehicle legs.items t) }
@@ -205,13 +201,7 @@ impl<L: Ledger> Traveller<L> {
     }
 
     /// One turn, of the leg that it is on. Where that leg is through, the next one begins with the next step.
-    pub fn turn<R: Wait, G: Gate>(
-        &mut self,
-        rt: &R,
-        managers: &[Manager<L>],
-        gate: &G,
-        step: u32,
-    )
+    pub fn turn<R: Wait, G: Gate>(&mut self, rt: &R, managers: &[Manager<L>], gate: &G, step: u32)
         requires ready { IsReady managers.now step self.old }
         requires most { step ≤ LATEST_MOMENT }
         ensures { Moves managers.now step (step + 1) self.old self.new }

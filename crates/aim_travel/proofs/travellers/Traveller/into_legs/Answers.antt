@@ -14,5 +14,5 @@ returns g c =
     c.loop-leg.invariant
     ∙ ap (λ (ls : List LegModel). map told c.push.new.self.items ++ map told_unbegun ls) all
     ∙ told_left c.self.inside.over.items c.push.new.self.items c.self.inside.crossing c.into_parts-driver.result.0 c.self.inside.agent.driver c.into_parts-driver.result.1 c.self.inside.agent.pass
-      c.self.inside.waiting.items c.in_ok-push.ensures.items c.into_parts-driver.ensures.driver c.into_parts-driver.ensures.pass
+    c.self.inside.waiting.items c.in_ok-push.ensures.items c.into_parts-driver.ensures.driver c.into_parts-driver.ensures.pass
     ∙ ap legs_told c.self.view_is
