@@ -1,10 +1,9 @@
 -- What a turn makes of a route so far.
-use Rattle.std.proofs.Common.{Bool, true, false, ◌==◌, is_some, ◌≡◌, ℕ, suc, ◌+◌, ◌<◌, ◌≤◌, ◌⊎◌, inl, inr, List, [], ◌∷◌, ◌++◌, length, get_or, Option, Some, None, refl, sym, ap, ◌∙◌, subst, arith, add-zero}
+use Rattle.std.proofs.Common.{Bool, true, false, ◌==◌, is_some, ◌≡◌, ℕ, suc, ◌+◌, ◌<◌, ◌≤◌, ◌⊎◌, inl, inr, List, [], ◌∷◌, ◌++◌, length, get_or, Option, Some, None, refl, sym, ap, ◌∙◌, subst, arith}
 use Rattle.std.specs.Prelude.{All, slice_get, remove}
 use Rattle.std.proofs.lemmas.Bool.{eqb-false}
 use Rattle.aim_driver.specs.Models.{step_of}
-use Rattle.aim_driver.specs.Follows.{Course, running, turn, turns}
-use Rattle.aim_driver.specs.declared.logs.LogItem.{LogItem}
+use Rattle.aim_driver.specs.Follows.{Course, running, turns}
 use Rattle.aim_turn.specs.Models.{TurnstileModel, IsPassOf}
 use Rattle.aim_manager.specs.declared.keeper.Setting.{Setting}
 use Rattle.aim_agent.specs.declared.agents.Trouble.{Trouble}
@@ -16,8 +15,8 @@ use Rattle.aim_agent.proofs.Sheets.{agent_went}
 use Rattle.aim_legs.specs.Acked.{acked}
 use Rattle.aim_legs.proofs.Logs.{acked_turn}
 use Rattle.aim_travel.specs.Models.{LegModel, OverModel, TravellerModel}
-use Rattle.aim_travel.specs.Rode.{Managers, IsBegun, IsRidden, IsOver, IsAlong, Rode}
-use Rattle.aim_travel.specs.Travels.{Begins, GoesOn, IsLegAt, IsTravellerOf, IsReady, TakesTurn, Moves, Travels}
+use Rattle.aim_travel.specs.Rode.{Managers, IsBegun, IsRidden, IsAlong}
+use Rattle.aim_travel.specs.Travels.{Begins, GoesOn, IsLegAt, IsReady, TakesTurn, Moves}
 
 -- an agent that got its Ack in a turn got it at the step of that turn
 went_acked : (s : Setting) (step t : ℕ) (a b : AgentModel) → Went s step (step + 1) a b → b.trouble ≡ None → acked a.driver.log ≡ None → acked b.driver.log ≡ Some t → t ≡ step

@@ -1,13 +1,11 @@
 -- The legs of a traveller when its steps are over.
-use Rattle.std.proofs.Common.{◌≡◌, ℕ, ◌+◌, ◌-◌, ◌≤◌, ◌⊎◌, inl, inr, true, List, [], ◌∷◌, ◌++◌, map, Option, Some, None, refl, sym, ap, ◌∙◌, subst, arith}
+use Rattle.std.proofs.Common.{◌≡◌, ℕ, ◌+◌, ◌-◌, ◌≤◌, ◌⊎◌, inl, inr, List, [], ◌∷◌, ◌++◌, map, Some, None, refl, sym, ap, ◌∙◌, subst, arith}
 use Rattle.std.specs.Prelude.{slice_get}
 use Rattle.std.proofs.lemmas.List.{append-nil}
-use Rattle.aim_msg.specs.declared.replies.Reply.{Reply}
 use Rattle.aim_driver.specs.declared.logs.LogItem.{LogItem}
 use Rattle.aim_driver.specs.Models.{DriverModel}
-use Rattle.aim_driver.specs.Follows.{Call, Course, running, fresh, turns, course, follows_from, follows}
+use Rattle.aim_driver.specs.Follows.{Call, Course, running, fresh, turns, course, follows}
 use Rattle.aim_driver.proofs.TurnLemmas.{follows_later}
-use Rattle.aim_turn.specs.Models.{TurnstileModel}
 use Rattle.aim_manager.specs.declared.keeper.Setting.{Setting}
 use Rattle.aim_agent.specs.Agents.{AgentModel, AgentPass, state_of}
 use Rattle.aim_agent.specs.Went.{Carry, replies, Went}

@@ -1,5 +1,5 @@
 -- What a traveller did since it set out.
-use Rattle.std.specs.Prelude.{◌≡◌, ◌⊎◌, ℕ, ◌+◌, ◌≤◌, List, [], ◌∷◌, Some, None, slice_get}
+use Rattle.std.specs.Prelude.{◌≡◌, ◌⊎◌, ℕ, ◌+◌, List, [], ◌∷◌, Some, None, slice_get}
 use Rattle.aim_driver.specs.declared.plans.DrivePlan.{DrivePlan}
 use Rattle.aim_turn.specs.Models.{TurnstileModel}
 use Rattle.aim_manager.specs.declared.keeper.Setting.{Setting}

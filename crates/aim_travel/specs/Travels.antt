@@ -6,7 +6,7 @@ use Rattle.aim_manager.specs.declared.keeper.Setting.{Setting}
 use Rattle.aim_agent.specs.Agents.{IsAgentOf}
 use Rattle.aim_agent.specs.Went.{Went}
 use Rattle.aim_legs.specs.Acked.{acked}
-use Rattle.aim_travel.specs.Models.{LegModel, OverModel, TravellerModel}
+use Rattle.aim_travel.specs.Models.{LegModel, TravellerModel}
 use Rattle.aim_travel.specs.Rode.{Managers, IsBegun, Rode}
 
 -- what a traveller is that has set out with these legs and did nothing

@@ -1,4 +1,4 @@
-use Rattle.std.proofs.Common.{◌≡◌, List, ◌++◌, map, ap, ◌∙◌, arith}
+use Rattle.std.proofs.Common.{List, ◌++◌, map, ap, ◌∙◌, arith}
 use Rattle.std.proofs.lemmas.Iterator.Adapters.{YieldsList-from_vec}
 use Rattle.std.proofs.lemmas.Iterator.Consumers.{YieldsList-end}
 use Rattle.aim_travel.specs.Legs.{legs_told, told, told_unbegun}
