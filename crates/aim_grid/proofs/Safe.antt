@@ -9,7 +9,7 @@ use Rattle.aim_paths.specs.Valid.{IsValid}
 use Rattle.aim_rules.specs.Claims.{green}
 use Rattle.aim_rules.specs.Legal.{IsLegal}
 use Rattle.aim_driver.specs.declared.logs.LogItem.{LogItem}
-use Rattle.aim_driver.specs.Fits.{CarriesSent, Fits, AreCallsOf, entries_of, replies_of}
+use Rattle.aim_driver.specs.Fits.{Fits, AreCallsOf, entries_of, replies_of}
 use Rattle.aim_driver.specs.Follows.{Call}
 use Rattle.aim_driver.specs.Keeps.{keeps}
 use Rattle.aim_driver.proofs.SmallFacts.{none_some, some_is}

@@ -1,5 +1,5 @@
 -- What holds of the journals of several crossings and of the logs of the vehicles that go over them, whatever the threads do.
-use Rattle.std.specs.Prelude.{◌≡◌, ◌≢◌, ℕ, ◌≤◌, ◌==◌, Bool, true, false, List, [], ◌∷◌, length, map, Option, Some, None, slice_get, slice_index_or}
+use Rattle.std.specs.Prelude.{◌≡◌, ◌≢◌, ℕ, ◌≤◌, ◌==◌, true, false, List, [], ◌∷◌, length, map, Option, Some, None, slice_get, slice_index_or}
 use Rattle.std.specs.List.{filter}
 use Rattle.aim_msg.specs.declared.entries.Entry.{Entry}
 use Rattle.aim_geometry.specs.Cells.{Cell}

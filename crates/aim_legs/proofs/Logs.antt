@@ -1,5 +1,5 @@
 -- How a log grows in a turn, and what stays so.
-use Rattle.std.proofs.Common.{◌≡◌, ℕ, zero, suc, ◌+◌, ◌-◌, ◌≤◌, ◌⊎◌, inl, inr, Bool, true, false, ◌&&◌, List, [], ◌∷◌, ◌++◌, reverse, Option, Some, None, if◌then◌else◌, refl, sym, ap, ◌∙◌, subst, arith}
+use Rattle.std.proofs.Common.{◌≡◌, ℕ, zero, suc, ◌+◌, ◌-◌, ◌≤◌, inl, inr, Bool, true, false, ◌&&◌, List, [], ◌∷◌, ◌++◌, reverse, Option, Some, None, if◌then◌else◌, refl, sym, ap, ◌∙◌, subst, arith}
 use Rattle.std.proofs.lemmas.Bool.{cases_lt}
 use Rattle.std.proofs.lemmas.List.{reverse-append}
 use Rattle.aim_msg.specs.declared.messages.Message.{Message}
@@ -8,13 +8,13 @@ use Rattle.aim_driver.specs.declared.plans.DrivePlan.{DrivePlan}
 use Rattle.aim_driver.specs.declared.logs.LogItem.{LogItem}
 use Rattle.aim_driver.specs.declared.logs.LogItem.TheVariants as item
 use Rattle.aim_driver.specs.declared.links.Fate.{Fate}
-use Rattle.aim_driver.specs.Logs.{item_step, is_above, latest, answer, counts, is_done}
+use Rattle.aim_driver.specs.Logs.{item_step, is_above, latest, answer, counts}
 use Rattle.aim_driver.specs.Models.{enters, acts, with_entered}
 use Rattle.aim_driver.specs.Links.{under_way, delivered}
 use Rattle.aim_driver.specs.Turns.{State, heard, hears, hears_all, entering, sending, begun}
-use Rattle.aim_driver.specs.Follows.{Course, running, fresh, called, calls_with, one_call, some_calls, calling, turn, turns, course, follows_from, follows}
+use Rattle.aim_driver.specs.Follows.{Course, running, fresh, called, calls_with, one_call, some_calls, calling, turn, turns, follows}
 use Rattle.aim_driver.proofs.TurnLemmas.{course_later}
-use Rattle.aim_legs.specs.Acked.{acks, is_ack, is_leaving, answered_at, acked_with, acked_in, acked}
+use Rattle.aim_legs.specs.Acked.{acks, is_leaving, answered_at, acked_with, acked_in, acked}
 use Rattle.aim_legs.specs.Route.{EachStep}
 
 -- the newest item comes first

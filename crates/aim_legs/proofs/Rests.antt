@@ -12,14 +12,13 @@ use Rattle.aim_msg.specs.declared.replies.Reply.TheVariants as reply
 use Rattle.aim_driver.specs.declared.plans.DrivePlan.{DrivePlan}
 use Rattle.aim_driver.specs.declared.logs.LogItem.{LogItem}
 use Rattle.aim_driver.specs.declared.logs.LogItem.TheVariants as item
-use Rattle.aim_driver.specs.declared.links.Fate.{Fate}
 use Rattle.aim_driver.specs.declared.links.Fate.TheVariants as fate
 use Rattle.aim_driver.specs.declared.links.Sending.{Sending}
 use Rattle.aim_driver.specs.declared.known.Known.{Known}
 use Rattle.aim_driver.specs.Logs.{has_number, is_above, latest, answer, counts, is_waiting_with, changed, active, active_sent, active_told, is_done}
 use Rattle.aim_driver.specs.Rules.{known, is_done_sent, is_crossing, reserved, is_due, is_due_change, is_cancelling, next_change, is_changing, act_by, is_open, entered_on}
 use Rattle.aim_driver.specs.Models.{enters, acts, with_entered}
-use Rattle.aim_driver.specs.Links.{LinkModel, under_way, new_link, sent_on, dues, fate_at, next_due, next_place, item_of, came_again, after_coming, delivered, after_delivery, NoneComes, IsNext}
+use Rattle.aim_driver.specs.Links.{LinkModel, under_way, new_link, sent_on, dues, fate_at, next_due, next_place, item_of, came_again, after_coming, delivered, after_delivery}
 use Rattle.aim_driver.specs.Turns.{State, heard, hears, hears_all, entering, sending, acting, begun}
 use Rattle.aim_driver.specs.Follows.{Call, Course, running, fresh, called, calls_with, one_call, some_calls, calling, turn, turns, course}
 use Rattle.aim_driver.proofs.SmallFacts.{and_left, and_right, either_left, either_right, some_is, none_some, is_none_of}
@@ -453,7 +452,7 @@ rest_turn : (plan : DrivePlan) (step : ℕ) (c : Course) → IsAtRest plan c →
 rest_turn plan step c r =
     ap (λ b. if b then calling step (record c { state = begun plan step c.state }) else c) r.goes_on
     ∙ ap (λ s. calling step (record c { state = s }))
-      (begun_none plan step c.state (r.below step) (no_entry plan (known plan (reverse c.state.log)) step r.over) (no_send plan (known plan (reverse c.state.log)) step r.over))
+    (begun_none plan step c.state (r.below step) (no_entry plan (known plan (reverse c.state.log)) step r.over) (no_send plan (known plan (reverse c.state.log)) step r.over))
     ∙ calls_none step (under_way c.state.up) c (r.above step)
 
 rest_turns : (plan : DrivePlan) (first n : ℕ) (c : Course) → IsAtRest plan c → turns plan first n c ≡ c

@@ -4,9 +4,8 @@ use Rattle.std.proofs.lemmas.List.{append-nil, append_assoc, reverse-append}
 use Rattle.aim_driver.specs.declared.logs.LogItem.{LogItem}
 use Rattle.aim_driver.specs.declared.logs.LogItem.TheVariants as item
 use Rattle.aim_driver.specs.Logs.{is_above, latest, answer, counts}
-use Rattle.aim_legs.specs.declared.acks.Told.{Told}
 use Rattle.aim_legs.specs.Acked.{answered_at}
-use Rattle.aim_legs.specs.Told.{told, told_by, told_all, nothing}
+use Rattle.aim_legs.specs.Told.{told, told_by, told_all}
 
 told_more : (past : List LogItem) (x : LogItem) → told_by (told past) x ≡ told (x ∷ past)
 told_more past (item.Sent step m) = go (is_above m.seq (latest past))

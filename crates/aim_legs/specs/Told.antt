@@ -1,5 +1,5 @@
 -- What is kept of a log to tell whether its driver is through. No public clause cites this file.
-use Rattle.std.specs.Prelude.{ℕ, List, Option, Some, None, fold, if◌then◌else◌}
+use Rattle.std.specs.Prelude.{ℕ, List, Some, None, fold, if◌then◌else◌}
 use Rattle.aim_msg.specs.declared.messages.Message.{Message}
 use Rattle.aim_msg.specs.declared.replies.Reply.{Reply}
 use Rattle.aim_driver.specs.declared.logs.LogItem.{LogItem}
