@@ -1,0 +1,4 @@
+pub mod Tells
+pub mod Logs
+pub mod Rests
+pub mod Rows

@@ -1,0 +1,3 @@
+pub mod Acked
+pub mod Told
+pub mod Route

@@ -1,0 +1,4 @@
+pub mod Models
+pub mod Rode
+pub mod Travels
+pub mod Legs

@@ -1,0 +1,100 @@
+//! The steps one after another, and in each the runs of travellers side by side.
+
+ghost use Rattle.std.specs.Prelude.{◌≡◌, ◌+◌, ◌<◌, ◌≤◌, All};
+ghost use Rattle.aim_msg.specs.declared.entries.TheConstants.{LATEST_MOMENT};
+ghost use Rattle.aim_travel.specs.Travels.{IsReady, Travels};
+
+use crate::Traveller;
+use aim_agent::Gate;
+use aim_manager::Manager;
+use std::sync::Wait;
+use std::sync::ledger::Ledger;
+use std::thread;
+use std::thread::Threads;
+
+// The turns of a run, one traveller after another.
+fn run_turns<L: Ledger, R: Wait, G: Gate>(
+    rt: &R,
+    managers: &[Manager<L>],
+    gate: &G,
+    step: u32,
+    travellers: &mut [Traveller<L>],
+)
+    requires ready { All (IsReady managers.now step) travellers.old }
+    requires most { step ≤ LATEST_MOMENT }
+    ensures { Travels managers.now step (step + 1) travellers.old travellers.new }
+{
+    for traveller in travellers.iter_mut() {
+        traveller.turn(rt, managers, gate, step);
+    }
+}
+
+// Whether travellers of two runs may have something to do at the step.
+fn are_two_runs_busy<L: Ledger>(travellers: &[Traveller<L>], step: u32, size: usize) -> bool
+    requires size { 0 < size }
+{
+    let mut first = None;
+    for place in 0..travellers.len() {
+        let run = place / size;
+        if !travellers[place].is_idle(step) && *first.get_or_insert(run) != run {
+            return true;
+        }
+    }
+    false
+}
+
+// The turns of all travellers of one step. The runs go side by side where two of them have something to do.
+fn turns<L: Ledger + Send, R: Threads + Wait + Sync, G: Gate>(
+    rt: &R,
+    managers: &[Manager<L>],
+    travellers: &mut [Traveller<L>],
+    gate: &G,
+    step: u32,
+    size: usize,
+)
+    requires size { 0 < size }
+    requires ready { All (IsReady managers.now step) travellers.old }
+    requires most { step ≤ LATEST_MOMENT }
+    ensures { Travels managers.now step (step + 1) travellers.old travellers.new }
+{
+    if !are_two_runs_busy(travellers, step, size) {
+        run_turns(rt, managers, gate, step, travellers);
+        return;
+    }
+    thread::for_each_chunk_mut(
+        rt,
+        travellers,
+        size,
+        &|_start: usize, run: &mut [Traveller<L>]|
+            requires { All (IsReady managers.now step) run.now × (step ≤ LATEST_MOMENT) }
+            ensures { Travels managers.entry.now step (step + 1) run.entry.now run.exit.now }
+        { run_turns(rt, managers, gate, step, run) },
+    );
+}
+
+/// Lets the travellers take their turns of the steps from `from` on and below `to`. In each step they are cut into runs
+/// of so many neighbours that there are at most `workers` runs. Where two runs have something to do the runs go side by
+/// side, on threads of their own where threads can be had, and are joined before the next step.
+pub fn travel<L: Ledger + Send, R: Threads + Wait + Sync, G: Gate>(
+    rt: &R,
+    managers: &[Manager<L>],
+    travellers: &mut [Traveller<L>],
+    gate: &G,
+    from: u32,
+    to: u32,
+    workers: u32,
+)
+    requires steps { from ≤ to }
+    requires most { to ≤ 65536 }
+    requires workers { (0 < workers) × (workers ≤ 64) }
+    requires ready { All (IsReady managers.now from) travellers.old }
+    ensures { Travels managers.now from to travellers.old travellers.new }
+{
+    if travellers.is_empty() {
+        return;
+    }
+    let size = travellers.len().div_ceil(workers as usize);
+    for step in from..to {
+        turns(rt, managers, travellers, gate, step, size);
+    }
+}
