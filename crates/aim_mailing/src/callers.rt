@@ -81,13 +81,7 @@ fn prepared_with(layout: &Layout, sheets: &mut Pool, message: &Message) -> Prepa
 }
 
 // Makes the call of an event.
-fn call<R: Wait>(
-    rt: &R,
-    layout: &Layout,
-    client: &mut Client,
-    sheets: &mut Pool,
-    event: &Event,
-)
+fn call<R: Wait>(rt: &R, layout: &Layout, client: &mut Client, sheets: &mut Pool, event: &Event)
     requires moment { event.now.moment ≤ LATEST_MOMENT }
     requires sheets { HasSheets layout.now client.old sheets.old }
     ensures sheets { HasSheets layout.now client.new sheets.new }
@@ -128,12 +122,7 @@ fn one_round<R: Wait>(rt: &R, layout: &Layout, events: &[Event], callers: &mut [
 }
 
 /// Lets the callers make all their calls, in rounds in which each in its turn makes one.
-pub(crate) fn make_all<R: Wait>(
-    rt: &R,
-    layout: &Layout,
-    events: &[Event],
-    callers: &mut [Caller],
-)
+pub(crate) fn make_all<R: Wait>(rt: &R, layout: &Layout, events: &[Event], callers: &mut [Caller])
     requires moments { All (λ e. e.moment ≤ LATEST_MOMENT) events.now }
     requires works { All (Works layout.now events.now) callers.old }
     ensures { AllByPlace (Finished layout.now events.now) callers.old callers.new }
