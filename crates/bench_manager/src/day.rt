@@ -1,9 +1,49 @@
 //! The calls of a day: vehicles come up in turn, each asks to cross, and some change their minds.
 
-use aim_msg::{Body, Message, Params, Reply, Turn};
+use aim_msg::{Body, Entry, Message, Params, Reply, Turn};
+use std::sync::atomic::{AtomicU32, Ordering};
+
+/// How many calls a turn has at most.
+pub const CALLS: u32 = 4;
+
+/// How many entries a journal of the day has room for.
+pub const ROOM: u32 = 262_144;
+
+/// How many sheets a caller has: two for a call, and one that the book may keep.
+pub const SHEETS: u32 = 3;
 
 /// How many steps pass from turn to turn.
 const GAP: u32 = 40;
+
+/// What all callers share beside the book: how many turns there are, and which one is next.
+#[derive(Drop)]
+pub struct Turns {
+    pub turns: u32,
+    next: AtomicU32,
+}
+
+impl Turns {
+    /// So many turns, of which none is taken.
+    pub fn new(turns: u32) -> Turns {
+        Turns {
+            turns,
+            next: AtomicU32::new(0),
+        }
+    }
+
+    /// The next turn, if there is one.
+    pub fn take(&self) -> Option<u32> {
+        let turn = self.next.fetch_add(1, Ordering::SeqCst);
+        if turn < self.turns { Some(turn) } else { None }
+    }
+}
+
+/// The journal of a day whose turns are taken, and the nanoseconds that they took.
+#[derive(Drop)]
+pub struct Taken {
+    pub journal: Vec<Entry>,
+    pub nanoseconds: u128,
+}
 
 /// The step of a turn.
 pub fn moment(turn: u32) -> u32 {

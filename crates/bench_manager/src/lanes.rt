@@ -7,6 +7,9 @@ use aim_paths::{Builder, Kind, Layout, Shape};
 use anyhow::{Result, bail};
 use std::alloc::Global;
 
+/// How many spans a sheet of the layout has room for.
+pub const SPANS: u32 = 8192;
+
 fn line(x0: u32, y0: u32, x1: u32, y1: u32) -> Shape {
     Shape::Line {
         x0,
@@ -55,7 +58,7 @@ pub fn twelve_lanes(alloc: Global) -> Result<Layout> {
         spacing: 100,
         fixed: 250,
         half: 1200,
-        spans: 8192,
+        spans: SPANS,
     };
     let times = Times {
         horizon: 3000,

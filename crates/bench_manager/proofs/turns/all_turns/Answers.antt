@@ -1,8 +1,8 @@
 use denote.Param.Send.{sendable}
 use Rattle.std.proofs.Crossing.{crosses, sync}
 use Rattle.aim_manager.proofs.Crosses.{shared}
-use Rattle.bench_manager.proofs.Turns.TheSendSync as turns
-use Rattle.bench_manager.proofs.all_turns.Goals as goal
+use Rattle.bench_manager.proofs.day.Turns.TheSendSync as turns
+use Rattle.bench_manager.proofs.turns.all_turns.Goals as goal
 
 pub map_vec-requires-send-J : goal.map_vec-requires-send-J
 map_vec-requires-send-J g c κs within = search (sendable, crosses, shared) depth 30

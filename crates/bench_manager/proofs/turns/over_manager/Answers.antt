@@ -1,6 +1,6 @@
 use Rattle.std.proofs.Common.{◌∙◌, ap}
 use Rattle.aim_manager.proofs.Passes.{passes_of_vehicles, passes_count}
-use Rattle.bench_manager.proofs.run.Goals as goal
+use Rattle.bench_manager.proofs.turns.over_manager.Goals as goal
 
 pub all_turns-requires-clause-own : goal.all_turns-requires-clause-own
 all_turns-requires-clause-own g c κs within =

@@ -1,0 +1,14 @@
+use denote.Param.Send.{sendable}
+use Rattle.std.proofs.Crossing.{crosses}
+use Rattle.aim_mailbox.proofs.Crosses.{crossing}
+use Rattle.bench_manager.proofs.mailbox.beside.Goals as goal
+
+pub join-requires-send-F : goal.join-requires-send-F
+join-requires-send-F g c κs within = search (sendable, crosses, crossing) depth 40 fits 20000
+
+pub join-requires-send-A : goal.join-requires-send-A
+join-requires-send-A g c κs within = search (sendable, crosses, crossing) depth 40 fits 20000
+
+-- what the clients' thread says of any mailbox, of this server's
+pub returns-clause-own : goal.returns-clause-own
+returns-clause-own g c = c.join.ensures.second c.args.server c.requires.own

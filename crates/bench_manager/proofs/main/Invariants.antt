@@ -1,4 +1,0 @@
-use Rattle.bench_manager.proofs.main.Given as goal
-
-abbrev pub ghosts-run : goal.ghosts-run
-ghosts-run g a = record { name = a.blank.name; parts = a.blank.parts }
