@@ -341,4 +341,5 @@ def main():
     return 1 if FAILURES else 0
 
 
-sys.exit(main())
+if __name__ == "__main__":
+    sys.exit(main())
