@@ -14,17 +14,18 @@ has_browser() {
   return 1
 }
 
-# As root, or by a sudo that asks for nothing. Lists of packages are read anew only where they don't know the package.
+# As root, or by a sudo that asks for nothing. Lists of packages are read anew only where they don't know the package. The
+# time is ample: an installation that is cut short leaves work for `dpkg --configure -a`.
 install_browser() {
   command -v apt-get > /dev/null || return 1
   local as=()
   [ "$(id -u)" -eq 0 ] || as=(sudo -n)
   [ "$(id -u)" -eq 0 ] || sudo -n true 2> /dev/null || return 1
   tell 'installing chromium-headless-shell from the packages of this system'
-  local install=(timeout 60 "${as[@]}" env DEBIAN_FRONTEND=noninteractive
+  local install=(timeout 600 "${as[@]}" env DEBIAN_FRONTEND=noninteractive
     apt-get install -y -q --no-install-recommends chromium-headless-shell)
   "${install[@]}" > /dev/null 2>&1 && return 0
-  timeout 30 "${as[@]}" apt-get update -q > /dev/null 2>&1 && "${install[@]}" > /dev/null 2>&1
+  timeout 120 "${as[@]}" apt-get update -q > /dev/null 2>&1 && "${install[@]}" > /dev/null 2>&1
 }
 
 if ! command -v python3 > /dev/null; then
