@@ -15,12 +15,12 @@ import subprocess
 import sys
 
 import drive_rules
+import judging
 from layouts import CROSSING, FOUR_PHASES, PLAIN_AND_LIGHTS, TURNS, TWELVE_LANES, VERSIONS
 
 TOP = pathlib.Path(__file__).resolve().parent.parent
 PROGRAM = sys.argv[1] if len(sys.argv) > 1 else TOP / "crates/aim/out/aim"
-FAILURES = []
-COUNT = 0
+JUDGE = judging.Judge("drives")
 
 LOSSY = CROSSING.format(version=1, times="1500 25 20 0 0", policies=PLAIN_AND_LIGHTS, vehicles=2) + """until 40
 plan 0 0 10 3 0 straight 500 500 0 1000 700 car
@@ -253,15 +253,6 @@ def generated(number, count):
 
 # ---- Runs.
 
-def judge(what, fault):
-    """Notes what is wrong, or that nothing is."""
-    global COUNT
-    COUNT += 1
-    if fault:
-        FAILURES.append(what)
-        print(f"drives: {what}: {fault}", file=sys.stderr)
-
-
 def printed(words, script=""):
     """The status and the text of a run."""
     done = subprocess.run([PROGRAM, *words], input=script.encode(), stdout=subprocess.PIPE, timeout=60, check=False)
@@ -273,7 +264,7 @@ def drive(what, script, workers, wanted=None):
     status, text = printed(["drive", str(workers)], script)
     fault = f"status {status}: {text[:100]!r}" if status else drive_rules.fault_of(PROGRAM, script, workers, text)
     fault = fault or wanted and drive_rules.difference(text.split("\n"), wanted.split("\n"), "wanted")
-    judge(f"{what}, {workers} workers", fault)
+    JUDGE(f"{what}, {workers} workers", fault)
     return text
 
 
@@ -295,13 +286,13 @@ def refusals():
     """The judge refuses each changed text of the lossy drive, so that what it lets pass says something."""
     texts = ["\n".join(lines + [""]) for lines in changed_texts(LOSSY_TEXT)]
     passed = [text for text in texts if not drive_rules.fault_of(PROGRAM, LOSSY, 1, text)]
-    judge(f"{len(texts)} changed texts", f"{len(passed)} are let through, the first is {passed[0]}" if passed else None)
+    JUDGE(f"{len(texts)} changed texts", f"{len(passed)} are let through, the first is {passed[0]}" if passed else None)
 
 
 def summaries():
     """`generate` twice, beside the drive of the same script."""
     runs = [printed(["generate", "1", "60"]) for _ in range(2)]
-    judge("two runs of generate 1 60", None if runs[0] == runs[1] else "they differ")
+    JUDGE("two runs of generate 1 60", None if runs[0] == runs[1] else "they differ")
     for number, count in ((1, 60), (0, 1), (4_294_967_295, 12)):
         text = drive(f"the script of generate {number} {count}", generated(number, count), 1)
         lines = text.split("\n")
@@ -313,7 +304,7 @@ def summaries():
                   f"end {len(entries)}", ""]
         status, text = printed(["generate", str(number), str(count)])
         fault = drive_rules.difference(text.split("\n"), wanted, "wanted")
-        judge(f"generate {number} {count}", f"status {status}" if status else fault)
+        JUDGE(f"generate {number} {count}", f"status {status}" if status else fault)
 
 
 def main():
@@ -337,8 +328,7 @@ def main():
     drive("256 vehicles", generated(7, 256), 4)
     refusals()
     summaries()
-    print(f"drives: {COUNT - len(FAILURES)} passed, {len(FAILURES)} failed")
-    return 1 if FAILURES else 0
+    return JUDGE.status()
 
 
 if __name__ == "__main__":

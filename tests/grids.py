@@ -16,12 +16,12 @@ import sys
 
 import drive_rules
 import grid_rules
+import judging
 from drives import CROSSING, TURNS, TWELVE_LANES, VERSIONS, changed_texts
 
 TOP = pathlib.Path(__file__).resolve().parent.parent
 PROGRAM = sys.argv[1] if len(sys.argv) > 1 else TOP / "crates/aim/out/aim"
-FAILURES = []
-COUNT = 0
+JUDGE = judging.Judge("grids")
 
 
 def block(head):
@@ -115,15 +115,6 @@ def day(seed):
 
 # ---- Runs.
 
-def judge(what, fault):
-    """Notes what is wrong, or that nothing is."""
-    global COUNT
-    COUNT += 1
-    if fault:
-        FAILURES.append(what)
-        print(f"grids: {what}: {fault}", file=sys.stderr)
-
-
 def printed(words, script):
     """The status and the text of a run."""
     done = subprocess.run([PROGRAM, *words], input=script.encode(), stdout=subprocess.PIPE, timeout=120, check=False)
@@ -135,7 +126,7 @@ def grid(what, script, workers, wanted=None):
     status, text = printed(["grid", str(workers)], script)
     fault = f"status {status}: {text[:100]!r}" if status else grid_rules.fault_of(PROGRAM, script, text)
     fault = fault or wanted and drive_rules.difference(text.split("\n"), wanted.split("\n"), "wanted")
-    judge(f"{what}, {workers} workers", fault)
+    JUDGE(f"{what}, {workers} workers", fault)
     return text
 
 
@@ -157,7 +148,7 @@ def refusals():
     """The judge refuses each changed text of two crossings, so that what it lets pass says something."""
     texts = ["\n".join(lines + [""]) for lines in changed_texts(TWO_TEXT)]
     passed = [text for text in texts if not grid_rules.fault_of(PROGRAM, TWO, text)]
-    judge(f"{len(texts)} changed texts", f"{len(passed)} are let through, the first is {passed[0]}" if passed else None)
+    JUDGE(f"{len(texts)} changed texts", f"{len(passed)} are let through, the first is {passed[0]}" if passed else None)
     others = {
         "a second leg that begins with the first": crossed_from(5),
         "a second leg that begins where the DONE is sent": crossed_from(27),
@@ -166,8 +157,8 @@ def refusals():
     }
     for what, second in others.items():
         text = f"{FIRST_TEXT}{second}end {4 if ' -> ' in second else 2}\n"
-        judge(what, None if grid_rules.fault_of(PROGRAM, TWO, text) else "it is let through")
-    judge("the crossings in another order", None if grid_rules.fault_of(PROGRAM, TWO, f"{SECOND_TEXT}{FIRST_TEXT}end 4\n")
+        JUDGE(what, None if grid_rules.fault_of(PROGRAM, TWO, text) else "it is let through")
+    JUDGE("the crossings in another order", None if grid_rules.fault_of(PROGRAM, TWO, f"{SECOND_TEXT}{FIRST_TEXT}end 4\n")
           else "they are let through")
 
 
@@ -191,10 +182,9 @@ def main():
         script = day(seed)
         for workers in (1, 2, 4)[: 3 - 2 * seed]:
             left = unfinished(script, grid(f"day {seed}", script, workers))
-            judge(f"all legs of day {seed}, {workers} workers", f"{left} aren't through" if left else None)
+            JUDGE(f"all legs of day {seed}, {workers} workers", f"{left} aren't through" if left else None)
     refusals()
-    print(f"grids: {COUNT - len(FAILURES)} passed, {len(FAILURES)} failed")
-    return 1 if FAILURES else 0
+    return JUDGE.status()
 
 
 sys.exit(main())

@@ -14,12 +14,12 @@ import subprocess
 import sys
 
 import drive_rules
+import judging
 from layouts import CROSSING, FOUR_PHASES, PLAIN_AND_LIGHTS, TURNS, TWELVE_LANES, VERSIONS
 
 TOP = pathlib.Path(__file__).resolve().parent.parent
 PROGRAM = sys.argv[1] if len(sys.argv) > 1 else TOP / "crates/aim/out/aim"
-FAILURES = []
-COUNT = 0
+JUDGE = judging.Judge("mail")
 
 
 # ---- The judge.
@@ -62,20 +62,11 @@ def fault_of(head, vehicles, events, workers, text):
     return drive_rules.difference(lines, again.split("\n"), "replayed")
 
 
-def judge(what, fault):
-    """Notes what is wrong, or that nothing is."""
-    global COUNT
-    COUNT += 1
-    if fault:
-        FAILURES.append(what)
-        print(f"mail: {what}: {fault}", file=sys.stderr)
-
-
 def mail(what, head, vehicles, events, workers):
     """Judges one run, and gives its text."""
     status, text = printed(["mail", str(workers)], script_of(head, events))
     fault = f"status {status}: {text[:100]!r}" if status else fault_of(head, vehicles, events, workers, text)
-    judge(f"{what}, {workers} workers", fault)
+    JUDGE(f"{what}, {workers} workers", fault)
     return text
 
 
@@ -192,7 +183,7 @@ def refusals():
     for what in dict(texts):
         some = [changed for change, changed in texts if change == what]
         passed = [changed for changed in some if not fault_of(head, vehicles, events, 1, changed)]
-        judge(what, f"{len(passed)} are let through, the first is {passed[0]}" if passed else None)
+        JUDGE(what, f"{len(passed)} are let through, the first is {passed[0]}" if passed else None)
 
 
 def main():
@@ -205,8 +196,7 @@ def main():
         for workers in (1, 2, 4):
             mail(f"256 clients {seed}", head, vehicles, events, workers)
     refusals()
-    print(f"mail: {COUNT - len(FAILURES)} passed, {len(FAILURES)} failed")
-    return 1 if FAILURES else 0
+    return JUDGE.status()
 
 
 sys.exit(main())

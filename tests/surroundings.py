@@ -6,6 +6,8 @@ import resource
 import subprocess
 import sys
 
+import judging
+
 TOP = pathlib.Path(__file__).resolve().parent.parent
 PROGRAM = os.environ.get("AIM", TOP / "crates/aim/out/aim")
 CASE = TOP / "tests/cases/a-first-confirm"
@@ -13,8 +15,7 @@ SCRIPT = (CASE / "input").read_bytes()
 TEXT = (CASE / "output").read_bytes()
 CONFIRMED = TEXT.split(b"\n")[0] + b"\n"
 HEADER = SCRIPT[: SCRIPT.index(b"begin\n") + 6]
-FAILURES = []
-COUNT = 0
+JUDGE = judging.Judge("surroundings")
 
 
 class Command:
@@ -32,11 +33,7 @@ MAIL = Command(["mail", "1"], "a script of events", "mail-two-clients", b" reque
 
 def judge(what, wanted, got):
     """Notes whether that is as wanted."""
-    global COUNT
-    COUNT += 1
-    if wanted != got:
-        FAILURES.append(what)
-        print(f"surroundings: {what}: {str(got)[:200]}, wanted {str(wanted)[:200]}", file=sys.stderr)
+    JUDGE(what, None if wanted == got else f"{str(got)[:200]}, wanted {str(wanted)[:200]}")
 
 
 def run(script, *words):
@@ -254,8 +251,7 @@ def main():
     many_events()
     reader_of_a_drive_goes_away()
     scarce_memory()
-    print(f"surroundings: {COUNT - len(FAILURES)} passed, {len(FAILURES)} failed")
-    return 1 if FAILURES else 0
+    return JUDGE.status()
 
 
 sys.exit(main())
