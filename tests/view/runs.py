@@ -9,8 +9,9 @@ ROOT = pathlib.Path(__file__).resolve().parents[2]
 EXAMPLES = ROOT / "examples"
 OUTPUTS = ROOT / "tests" / "view" / "outputs"
 
-# A mailbox's journal may have the events of two vehicles in another order than the script. The page doesn't read it.
-UNREAD = {"mail"}
+# A mailbox's journal may have the events of two vehicles in another order than the script, so the page doesn't read
+# `mail.out`. It reads what the program prints for that script as a replay.
+UNREAD = {"mail.out"}
 
 
 class Stored:
@@ -45,10 +46,9 @@ def stored():
     The scripts are the examples, and those that stand among the outputs since they show nothing but what is tested.
     """
     found = []
-    scripts = sorted(EXAMPLES.glob("*.aim")) + sorted(OUTPUTS.glob("*.aim"))
-    for script in (each for each in scripts if each.stem not in UNREAD):
+    for script in sorted(EXAMPLES.glob("*.aim")) + sorted(OUTPUTS.glob("*.aim")):
         for folder in (EXAMPLES, OUTPUTS):
-            if (folder / f"{script.stem}.out").is_file():
+            if (folder / f"{script.stem}.out").is_file() and f"{script.stem}.out" not in UNREAD:
                 found.append(Stored(script, folder / f"{script.stem}.out", words_of(script)))
         for output in sorted(OUTPUTS.glob(f"{script.stem}.chart-*.out")):
             step = re.fullmatch(r".*\.chart-(\d+)\.out", output.name).group(1)
