@@ -1,0 +1,2 @@
+//! Runs routes over several crossings in memory: what is left of each crossing.
+#![tactic(auto)]
