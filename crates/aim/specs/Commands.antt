@@ -5,7 +5,7 @@ use Rattle.aim_read.specs.Faults.{is_number, value_of}
 use Rattle.aim_script.specs.Spellings.{Spelled, by_words}
 use Rattle.aim_json_replay.specs.Spelling.{by_json}
 use Rattle.aim.specs.declared.words.Command.{Command}
-use Rattle.aim.specs.declared.words.Command.TheVariants.{Replay, Chart, ReplayJson, Drive, Generate, Shards, Mail}
+use Rattle.aim.specs.declared.words.Command.TheVariants.{Replay, Chart, ReplayJson, Drive, Grid, Generate, Shards, Mail}
 
 -- the number that the word spells, if it is one from the least to the most
 abbrev pub number_in : ℕ → ℕ → List ℕ → Option ℕ
@@ -17,6 +17,7 @@ abbrev pub command_with : List ℕ → List ℕ → Option Command
 command_with word number =
     if bytes_eq word (codes "chart") then option_map Chart (number_in 0 LATEST_MOMENT number)
     else if bytes_eq word (codes "drive") then option_map Drive (number_in 1 64 number)
+    else if bytes_eq word (codes "grid") then option_map Grid (number_in 1 64 number)
     else if bytes_eq word (codes "shards") then option_map Shards (number_in 1 64 number)
     else if bytes_eq word (codes "mail") then option_map Mail (number_in 1 64 number)
     else None
@@ -51,6 +52,7 @@ IsWithin Replay = Unit {0}
 IsWithin (Chart step) = Unit {0}
 IsWithin ReplayJson = Unit {0}
 IsWithin (Drive workers) = (0 < workers) × (workers ≤ 64)
+IsWithin (Grid workers) = (0 < workers) × (workers ≤ 64)
 IsWithin (Generate number count) = (0 < count) × (count ≤ 256)
 IsWithin (Shards workers) = (0 < workers) × (workers ≤ 64)
 IsWithin (Mail workers) = (0 < workers) × (workers ≤ 64)
@@ -61,6 +63,7 @@ is_replay Replay = true
 is_replay (Chart step) = true
 is_replay ReplayJson = true
 is_replay (Drive workers) = false
+is_replay (Grid workers) = false
 is_replay (Generate number count) = false
 is_replay (Shards workers) = false
 is_replay (Mail workers) = false
@@ -70,12 +73,20 @@ abbrev pub reads_input : Command → Bool
 reads_input (Generate number count) = false
 reads_input _ = true
 
+-- whether the command reads its script whole before it runs, and no more than the greatest input
+abbrev pub reads_whole : Command → Bool
+reads_whole (Drive workers) = true
+reads_whole (Grid workers) = true
+reads_whole (Mail workers) = true
+reads_whole _ = false
+
 -- the step of whose chart the command asks, if it does
 abbrev pub asked_in : Command → Option ℕ
 asked_in Replay = None
 asked_in (Chart step) = Some step
 asked_in ReplayJson = None
 asked_in (Drive workers) = None
+asked_in (Grid workers) = None
 asked_in (Generate number count) = None
 asked_in (Shards workers) = None
 asked_in (Mail workers) = None

@@ -8,16 +8,17 @@ ghost use Rattle.aim_io.specs.Known.{AppendsFront};
 ghost use Rattle.aim_replay.specs.Replays.{LastNeededBy, ReplaysBy, StopsShortBy, TakesAtMost, WritesFront};
 ghost use Rattle.aim_replay.specs.Texts.{text_by};
 ghost use Rattle.aim.specs.declared.words.Command.{Command};
-ghost use Rattle.aim.specs.Commands.{IsWithin, asked_in, command_of as command_in, is_replay, reads_input, spelled_in};
+ghost use Rattle.aim.specs.Commands.{IsWithin, asked_in, command_of as command_in, is_replay, reads_input, reads_whole, spelled_in};
 ghost use Rattle.aim_plans.specs.Scripts.{TakesAtMost as TakesAtMostOfDrive};
 ghost use Rattle.aim_plans.specs.Short.{StopsShort as StopsShortDrive};
 ghost use Rattle.aim_driving.specs.Commands.{Completes as CompletesDrive, Shows as ShowsDrive, ShowsFront as ShowsFrontOfDrive};
-ghost use Rattle.aim_driving.specs.Generated.{Counts, CountsFront};
+ghost use Rattle.aim_grid_script.specs.Short.{StopsShort as StopsShortGrid};
+ghost use Rattle.aim_routing.specs.Commands.{Completes as CompletesGrid, Shows as ShowsGrid, ShowsFront as ShowsFrontOfGrid};
 ghost use Rattle.aim_claims.specs.Short.{StopsShort as StopsShortClaims};
 ghost use Rattle.aim_callers.specs.Commands.{Completes as CompletesShards, Shows, ShowsFront};
 ghost use Rattle.aim_events.specs.Short.{StopsShort as StopsShortMail};
 ghost use Rattle.aim_mailing.specs.Commands.{Completes as CompletesMail, Shows as ShowsMail, ShowsFront as ShowsFrontOfMail};
-ghost use Rattle.aim.specs.Runs.{Completes, TellsUsage};
+ghost use Rattle.aim.specs.Runs.{Completes, Generates, Reports, TellsUsage};
 
 use crate::words::{Command, command_of};
 use aim_agent::Gate;
@@ -27,6 +28,7 @@ use aim_io::{Sink, Source, put_all};
 use aim_json_replay::replay_json;
 use aim_mailing::mail;
 use aim_replay::replay;
+use aim_routing::grid;
 use aim_shards::Hold;
 use std::alloc::Global;
 use std::sync::Wait;
@@ -76,38 +78,25 @@ fn obey<R: Threads + Wait + Sync, S: Source, K: Sink, G: Gate>(
         → result ≡ 4 → StopsShortBy (spelled_in command) (S.left source.old) (S.left source.new) (K.held sink.old) (K.held sink.new) }
     ensures memory { (spelled_in command).takes_memory ≡ false
         → result ≡ 7 → Appends (K.held sink.old) (K.held sink.new) [] }
-    ensures drive { (workers : ℕ) → command ≡ Command.Drive workers → (result ≡ 0) ⊎ ((result ≡ 3) ⊎ (result ≡ 6))
-        → IfSome (S.left source.old) (λ bytes. ShowsDrive workers bytes (K.held sink.old) (K.held sink.new) result) }
-    ensures drive_front { (workers : ℕ) → command ≡ Command.Drive workers → result ≡ 5
-        → IfSome (S.left source.old) (λ bytes. ShowsFrontOfDrive workers bytes (K.held sink.old) (K.held sink.new)) }
-    ensures drive_nothing { (workers : ℕ) → command ≡ Command.Drive workers → (result ≡ 4) ⊎ (result ≡ 7) → Appends (K.held sink.old) (K.held sink.new) [] }
-    ensures drive_short { (workers : ℕ) → command ≡ Command.Drive workers → result ≡ 4 → StopsShortDrive (S.left source.old) (S.left source.new) }
-    ensures drive_most { (workers : ℕ) → command ≡ Command.Drive workers → TakesAtMostOfDrive 67108865 (S.left source.old) (S.left source.new) }
-    ensures drive_complete { (workers : ℕ) → command ≡ Command.Drive workers → IfSome (S.left source.old)
-        (λ bytes. CompletesDrive bytes (S.faults source.old) (S.faults source.new) (K.faults sink.old) (K.faults sink.new) result) }
-    ensures generate { (number count : ℕ) → command ≡ Command.Generate number count → result ≡ 0 → Counts number count (K.held sink.old) (K.held sink.new) }
-    ensures generate_front { (number count : ℕ) → command ≡ Command.Generate number count → result ≡ 5 → CountsFront number count (K.held sink.old) (K.held sink.new) }
-    ensures generate_nothing { (number count : ℕ) → command ≡ Command.Generate number count → result ≡ 7 → Appends (K.held sink.old) (K.held sink.new) [] }
-    ensures generate_statuses { (number count : ℕ) → command ≡ Command.Generate number count → (result ≡ 0) ⊎ ((result ≡ 5) ⊎ (result ≡ 7)) }
+    ensures drive { (workers : ℕ) → command ≡ Command.Drive workers
+        → Reports (ShowsDrive workers) (ShowsFrontOfDrive workers) StopsShortDrive CompletesDrive
+        (S.left source.old) (S.left source.new) (S.faults source.old) (S.faults source.new)
+        (K.held sink.old) (K.held sink.new) (K.faults sink.old) (K.faults sink.new) result }
+    ensures grid { (workers : ℕ) → command ≡ Command.Grid workers
+        → Reports ShowsGrid ShowsFrontOfGrid StopsShortGrid CompletesGrid
+        (S.left source.old) (S.left source.new) (S.faults source.old) (S.faults source.new)
+        (K.held sink.old) (K.held sink.new) (K.faults sink.old) (K.faults sink.new) result }
+    ensures generate { (number count : ℕ) → command ≡ Command.Generate number count → Generates number count (K.held sink.old) (K.held sink.new) result }
     ensures unread { reads_input command ≡ false → source.new ≡ source.old }
-    ensures shards { (workers : ℕ) → command ≡ Command.Shards workers → (result ≡ 0) ⊎ ((result ≡ 3) ⊎ (result ≡ 6))
-        → IfSome (S.left source.old) (λ bytes. Shows bytes (K.held sink.old) (K.held sink.new) result) }
-    ensures shards_front { (workers : ℕ) → command ≡ Command.Shards workers → result ≡ 5
-        → IfSome (S.left source.old) (λ bytes. ShowsFront bytes (K.held sink.old) (K.held sink.new)) }
-    ensures shards_nothing { (workers : ℕ) → command ≡ Command.Shards workers → result ≡ 4 → Appends (K.held sink.old) (K.held sink.new) [] }
-    ensures shards_short { (workers : ℕ) → command ≡ Command.Shards workers → result ≡ 4
-        → StopsShortClaims (S.left source.old) (S.left source.new) }
-    ensures shards_complete { (workers : ℕ) → command ≡ Command.Shards workers → IfSome (S.left source.old)
-        (λ bytes. CompletesShards bytes (S.faults source.old) (S.faults source.new) (K.faults sink.old) (K.faults sink.new) result) }
-    ensures mail { (workers : ℕ) → command ≡ Command.Mail workers → (result ≡ 0) ⊎ ((result ≡ 3) ⊎ (result ≡ 6))
-        → IfSome (S.left source.old) (λ bytes. ShowsMail bytes (K.held sink.old) (K.held sink.new) result) }
-    ensures mail_front { (workers : ℕ) → command ≡ Command.Mail workers → result ≡ 5
-        → IfSome (S.left source.old) (λ bytes. ShowsFrontOfMail bytes (K.held sink.old) (K.held sink.new)) }
-    ensures mail_nothing { (workers : ℕ) → command ≡ Command.Mail workers → (result ≡ 4) ⊎ (result ≡ 7) → Appends (K.held sink.old) (K.held sink.new) [] }
-    ensures mail_short { (workers : ℕ) → command ≡ Command.Mail workers → result ≡ 4 → StopsShortMail (S.left source.old) (S.left source.new) }
-    ensures mail_most { (workers : ℕ) → command ≡ Command.Mail workers → TakesAtMostOfDrive 67108865 (S.left source.old) (S.left source.new) }
-    ensures mail_complete { (workers : ℕ) → command ≡ Command.Mail workers → IfSome (S.left source.old)
-        (λ bytes. CompletesMail bytes (S.faults source.old) (S.faults source.new) (K.faults sink.old) (K.faults sink.new) result) }
+    ensures shards { (workers : ℕ) → command ≡ Command.Shards workers
+        → Reports Shows ShowsFront StopsShortClaims CompletesShards
+        (S.left source.old) (S.left source.new) (S.faults source.old) (S.faults source.new)
+        (K.held sink.old) (K.held sink.new) (K.faults sink.old) (K.faults sink.new) result }
+    ensures mail { (workers : ℕ) → command ≡ Command.Mail workers
+        → Reports ShowsMail ShowsFrontOfMail StopsShortMail CompletesMail
+        (S.left source.old) (S.left source.new) (S.faults source.old) (S.faults source.new)
+        (K.held sink.old) (K.held sink.new) (K.faults sink.old) (K.faults sink.new) result }
+    ensures scripts { reads_whole command ≡ true → TakesAtMostOfDrive 67108865 (S.left source.old) (S.left source.new) }
     ensures read { result ≡ 4 → Rose (S.faults source.old) (S.faults source.new) }
     ensures write { result ≡ 5 → Rose (K.faults sink.old) (K.faults sink.new) }
     ensures source { S.faults source.old ≤ S.faults source.new }
@@ -121,6 +110,7 @@ fn obey<R: Threads + Wait + Sync, S: Source, K: Sink, G: Gate>(
         Command::ReplayJson => replay_json(alloc, source, sink),
         Command::Chart(step) => replay(alloc, source, sink, Some(step)),
         Command::Drive(workers) => drive(rt, alloc, workers, source, sink, gate),
+        Command::Grid(workers) => grid(rt, alloc, workers, source, sink, gate),
         Command::Generate(number, count) => generate(rt, alloc, number, count, sink),
         Command::Shards(workers) => shards(rt, alloc, workers, source, sink, &NoHold),
         Command::Mail(workers) => mail(rt, alloc, workers, source, sink),
@@ -131,8 +121,8 @@ fn obey<R: Threads + Wait + Sync, S: Source, K: Sink, G: Gate>(
 /// 0 where a script was whole, 2 for words outside the table, 3 for a line at fault, 4 where the
 /// source fails, 5 where the sink fails, 6 for a limit, and 7 where memory runs out.
 ///
-/// With the words `drive`, `generate` and `shards` it waits for turns, with `mail` for messages, and returns where these
-/// come. Before each call of a vehicle in `drive` it tells the gate.
+/// With the words `drive`, `generate`, `grid` and `shards` it waits for turns, with `mail` for messages, and returns where
+/// these come. Before each call of a vehicle in `drive` and `grid` it tells the gate.
 pub fn run<R: Threads + Wait + Sync, S: Source, K: Sink, G: Gate>(
     rt: &R,
     alloc: Global,
@@ -172,48 +162,45 @@ pub fn run<R: Threads + Wait + Sync, S: Source, K: Sink, G: Gate>(
     // A drive, in so many runs side by side: THE HEADLINE. With status 0, 3 or 6 a whole text of the source's bytes is
     // written, and the status is theirs. Of a whole script it is the report of a journal and logs of which the headline
     // holds, by the script's lines. With status 5 a front of such a text is written, with status 4 or 7 nothing.
-    ensures drive { (workers : ℕ) → command_in (map string_bytes words.now) ≡ Some (Command.Drive workers) → (result ≡ 0) ⊎ ((result ≡ 3) ⊎ (result ≡ 6))
-        → IfSome (S.left source.old) (λ bytes. ShowsDrive workers bytes (K.held sink.old) (K.held sink.new) result) }
-    ensures drive_front { (workers : ℕ) → command_in (map string_bytes words.now) ≡ Some (Command.Drive workers) → result ≡ 5
-        → IfSome (S.left source.old) (λ bytes. ShowsFrontOfDrive workers bytes (K.held sink.old) (K.held sink.new)) }
-    ensures drive_nothing { (workers : ℕ) → command_in (map string_bytes words.now) ≡ Some (Command.Drive workers) → (result ≡ 4) ⊎ (result ≡ 7) → Appends (K.held sink.old) (K.held sink.new) [] }
-    ensures drive_short { (workers : ℕ) → command_in (map string_bytes words.now) ≡ Some (Command.Drive workers) → result ≡ 4 → StopsShortDrive (S.left source.old) (S.left source.new) }
-    ensures drive_most { (workers : ℕ) → command_in (map string_bytes words.now) ≡ Some (Command.Drive workers) → TakesAtMostOfDrive 67108865 (S.left source.old) (S.left source.new) }
-    ensures drive_complete { (workers : ℕ) → command_in (map string_bytes words.now) ≡ Some (Command.Drive workers) → IfSome (S.left source.old)
-        (λ bytes. CompletesDrive bytes (S.faults source.old) (S.faults source.new) (K.faults sink.old) (K.faults sink.new) result) }
+    ensures drive { (workers : ℕ) → command_in (map string_bytes words.now) ≡ Some (Command.Drive workers)
+        → Reports (ShowsDrive workers) (ShowsFrontOfDrive workers) StopsShortDrive CompletesDrive
+        (S.left source.old) (S.left source.new) (S.faults source.old) (S.faults source.new)
+        (K.held sink.old) (K.held sink.new) (K.faults sink.old) (K.faults sink.new) result }
+
+    // Routes over several crossings, in so many runs side by side. With status 0, 3 or 6 a whole text of the source's bytes is
+    // written, and the status is theirs. Of a whole script it is the report of a journal and logs for each crossing: each
+    // journal is legal, each leg that is begun is what its driver follows, a further one is begun exactly where the leg before
+    // got the Ack that answers its DONE, and at each crossing no two drivers, nor a driver and another lane's green, have one
+    // tile in one step. With status 5 a front of such a text is written, with status 4 or 7 nothing.
+    ensures grid { (workers : ℕ) → command_in (map string_bytes words.now) ≡ Some (Command.Grid workers)
+        → Reports ShowsGrid ShowsFrontOfGrid StopsShortGrid CompletesGrid
+        (S.left source.old) (S.left source.new) (S.faults source.old) (S.faults source.new)
+        (K.held sink.old) (K.held sink.new) (K.faults sink.old) (K.faults sink.new) result }
+
     // Generated traffic. With status 0 the counts of a drive of its script, with one worker, are written: of a journal and
     // logs of which the headline holds. With status 5 a front of these lines is written, with 7 nothing, and there is no
     // other status. Nothing is read.
-    ensures generate { (number count : ℕ) → command_in (map string_bytes words.now) ≡ Some (Command.Generate number count) → result ≡ 0 → Counts number count (K.held sink.old) (K.held sink.new) }
-    ensures generate_front { (number count : ℕ) → command_in (map string_bytes words.now) ≡ Some (Command.Generate number count) → result ≡ 5 → CountsFront number count (K.held sink.old) (K.held sink.new) }
-    ensures generate_nothing { (number count : ℕ) → command_in (map string_bytes words.now) ≡ Some (Command.Generate number count) → result ≡ 7 → Appends (K.held sink.old) (K.held sink.new) [] }
-    ensures generate_statuses { (number count : ℕ) → command_in (map string_bytes words.now) ≡ Some (Command.Generate number count) → (result ≡ 0) ⊎ ((result ≡ 5) ⊎ (result ≡ 7)) }
+    ensures generate { (number count : ℕ) → command_in (map string_bytes words.now) ≡ Some (Command.Generate number count) → Generates number count (K.held sink.old) (K.held sink.new) result }
     ensures unread { (command : Command) → command_in (map string_bytes words.now) ≡ Some command → reads_input command ≡ false → source.new ≡ source.old }
 
     // A run of a script of claims. With status 0, 3 or 6 a whole text of the source's bytes is written, and the status is
-    // theirs; with status 5 a front of one is, with status 4 nothing.
-    ensures shards { (workers : ℕ) → command_in (map string_bytes words.now) ≡ Some (Command.Shards workers) → (result ≡ 0) ⊎ ((result ≡ 3) ⊎ (result ≡ 6))
-        → IfSome (S.left source.old) (λ bytes. Shows bytes (K.held sink.old) (K.held sink.new) result) }
-    ensures shards_front { (workers : ℕ) → command_in (map string_bytes words.now) ≡ Some (Command.Shards workers) → result ≡ 5
-        → IfSome (S.left source.old) (λ bytes. ShowsFront bytes (K.held sink.old) (K.held sink.new)) }
-    ensures shards_nothing { (workers : ℕ) → command_in (map string_bytes words.now) ≡ Some (Command.Shards workers) → result ≡ 4 → Appends (K.held sink.old) (K.held sink.new) [] }
-    ensures shards_short { (workers : ℕ) → command_in (map string_bytes words.now) ≡ Some (Command.Shards workers) → result ≡ 4
-        → StopsShortClaims (S.left source.old) (S.left source.new) }
-    ensures shards_complete { (workers : ℕ) → command_in (map string_bytes words.now) ≡ Some (Command.Shards workers) → IfSome (S.left source.old)
-        (λ bytes. CompletesShards bytes (S.faults source.old) (S.faults source.new) (K.faults sink.old) (K.faults sink.new) result) }
+    // theirs; with status 5 a front of one is, with status 4 or 7 nothing.
+    ensures shards { (workers : ℕ) → command_in (map string_bytes words.now) ≡ Some (Command.Shards workers)
+        → Reports Shows ShowsFront StopsShortClaims CompletesShards
+        (S.left source.old) (S.left source.new) (S.faults source.old) (S.faults source.new)
+        (K.held sink.old) (K.held sink.new) (K.faults sink.old) (K.faults sink.new) result }
 
     // A run of a script of events over a mailbox. With status 0, 3 or 6 the whole text of the source's bytes is written, and the
     // status is theirs: of a whole script the entries of one legal journal without an order, in which each vehicle's entries
     // are its events in the script's order. With status 5 a front of one is, with status 4 or 7 nothing.
-    ensures mail { (workers : ℕ) → command_in (map string_bytes words.now) ≡ Some (Command.Mail workers) → (result ≡ 0) ⊎ ((result ≡ 3) ⊎ (result ≡ 6))
-        → IfSome (S.left source.old) (λ bytes. ShowsMail bytes (K.held sink.old) (K.held sink.new) result) }
-    ensures mail_front { (workers : ℕ) → command_in (map string_bytes words.now) ≡ Some (Command.Mail workers) → result ≡ 5
-        → IfSome (S.left source.old) (λ bytes. ShowsFrontOfMail bytes (K.held sink.old) (K.held sink.new)) }
-    ensures mail_nothing { (workers : ℕ) → command_in (map string_bytes words.now) ≡ Some (Command.Mail workers) → (result ≡ 4) ⊎ (result ≡ 7) → Appends (K.held sink.old) (K.held sink.new) [] }
-    ensures mail_short { (workers : ℕ) → command_in (map string_bytes words.now) ≡ Some (Command.Mail workers) → result ≡ 4 → StopsShortMail (S.left source.old) (S.left source.new) }
-    ensures mail_most { (workers : ℕ) → command_in (map string_bytes words.now) ≡ Some (Command.Mail workers) → TakesAtMostOfDrive 67108865 (S.left source.old) (S.left source.new) }
-    ensures mail_complete { (workers : ℕ) → command_in (map string_bytes words.now) ≡ Some (Command.Mail workers) → IfSome (S.left source.old)
-        (λ bytes. CompletesMail bytes (S.faults source.old) (S.faults source.new) (K.faults sink.old) (K.faults sink.new) result) }
+    ensures mail { (workers : ℕ) → command_in (map string_bytes words.now) ≡ Some (Command.Mail workers)
+        → Reports ShowsMail ShowsFrontOfMail StopsShortMail CompletesMail
+        (S.left source.old) (S.left source.new) (S.faults source.old) (S.faults source.new)
+        (K.held sink.old) (K.held sink.new) (K.faults sink.old) (K.faults sink.new) result }
+
+    // Of the scripts of `drive`, `grid` and `mail` no more than one byte past the greatest input is taken, whatever the status.
+    ensures scripts { (command : Command) → command_in (map string_bytes words.now) ≡ Some command → reads_whole command ≡ true
+        → TakesAtMostOfDrive 67108865 (S.left source.old) (S.left source.new) }
 
     // Each status has its cause.
     ensures read { result ≡ 4 → Rose (S.faults source.old) (S.faults source.new) }

@@ -18,6 +18,8 @@ pub enum Command {
     ReplayJson,
     /// `drive WORKERS`: run the drive script of the input with so many workers, 1 to 64.
     Drive(u32),
+    /// `grid WORKERS`: run the routes of the input over several crossings with so many workers, 1 to 64.
+    Grid(u32),
     /// `generate NUMBER COUNT`: run generated traffic of so many vehicles, 1 to 256, and print counts.
     Generate(u32, u32),
     /// `shards WORKERS`: run the script of claims of the input with so many workers, 1 to 64.
@@ -61,6 +63,9 @@ fn command_with(word: &[u8], number: &[u8]) -> Option<Command>
     }
     if word == b"drive".as_slice() {
         return Some(Command::Drive(number_in(number, 1, 64)?));
+    }
+    if word == b"grid".as_slice() {
+        return Some(Command::Grid(number_in(number, 1, 64)?));
     }
     if word == b"shards".as_slice() {
         return Some(Command::Shards(number_in(number, 1, 64)?));
