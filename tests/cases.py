@@ -1,8 +1,6 @@
 """Runs the program that ./aim built over the cases of tests/cases, as a user does. Ends with a status other than 0
 where anything differs. A case is a folder with `words` (one a line), `input`, `output` and `status`; its name says what
-it shows. Cases of words that the program doesn't know yet aren't tried, and it says how many. AIM names another
-program."""
-import functools
+it shows. AIM names another program."""
 import os
 import pathlib
 import subprocess
@@ -18,18 +16,6 @@ def words_of(case):
     return (case / "words").read_text().splitlines()
 
 
-@functools.cache
-def knows_grids():
-    """Whether the program knows the word `grid`."""
-    done = subprocess.run([PROGRAM, "grid", "1"], stdin=subprocess.DEVNULL, stdout=subprocess.PIPE, timeout=60, check=False)
-    return done.stdout != b"usage\n"
-
-
-def is_known(case):
-    """Whether the program knows the case's words, or is to answer that they are none."""
-    return words_of(case)[:1] != ["grid"] or (case / "status").read_text().strip() == "2" or knows_grids()
-
-
 def difference(case):
     """What differs in a case: nothing where it passes."""
     words = words_of(case)
@@ -41,10 +27,7 @@ def difference(case):
 
 
 def main():
-    found = sorted(case for case in (TOP / "tests/cases").iterdir() if case.is_dir())
-    cases = [case for case in found if is_known(case)]
-    if len(cases) < len(found):
-        print(f"cases: {len(found) - len(cases)} of `grid` aren't tried, since the program doesn't know that word yet")
+    cases = sorted(case for case in (TOP / "tests/cases").iterdir() if case.is_dir())
     failed = 0
     for case in cases:
         differs = difference(case)

@@ -162,16 +162,7 @@ def refusals():
           else "they are let through")
 
 
-def is_known():
-    """Whether the program knows the word `grid`."""
-    done = subprocess.run([PROGRAM, "grid", "1"], stdin=subprocess.DEVNULL, stdout=subprocess.PIPE, timeout=60, check=False)
-    return done.stdout != b"usage\n"
-
-
 def main():
-    if not is_known():
-        print("grids: not tested, since the program doesn't know the word `grid` yet")
-        return 0
     for workers in (1, 2, 4):
         grid("two crossings", TWO, workers, TWO_TEXT)
     for first in (21, 22, 23, 24, 60):

@@ -10,11 +10,12 @@ run() { # run WORD .. < INPUT
   printf 'status %s' $?
 }
 
-# Each example prints what stands beside it. A drive, which has an `until` line, does with one worker, and so do the
-# clients of a mailbox.
+# Each example prints what stands beside it. A drive, which has an `until` line, does with one worker, and so do routes,
+# which begin with `crossings`, and the clients of a mailbox.
 for text in examples/*.out; do
   words=(replay)
   ! grep -q '^until ' "${text%.out}.aim" || words=(drive 1)
+  ! grep -q '^crossings ' "${text%.out}.aim" || words=(grid 1)
   [ "$text" != examples/mail.out ] || words=(mail 1)
   judge "$text" "$(cat "$text"; printf 'status 0')" "$(run "${words[@]}" < "${text%.out}.aim")"
 done

@@ -35,7 +35,7 @@ def words_of(script):
 
 
 def output_of(name):
-    """The stored output of an example: beside it, or among the outputs where the program doesn't print it yet."""
+    """The stored output of a script: beside the example, or among the outputs."""
     beside = EXAMPLES / f"{name}.out"
     return beside if beside.is_file() else OUTPUTS / f"{name}.out"
 
