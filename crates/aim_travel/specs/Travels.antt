@@ -3,7 +3,7 @@ use Rattle.std.specs.Prelude.{◌≡◌, ◌⊎◌, ℕ, ◌+◌, ◌<◌, ◌�
 use Rattle.aim_driver.specs.Models.{step_of}
 use Rattle.aim_turn.specs.Models.{TurnstileModel, IsPassOf}
 use Rattle.aim_manager.specs.declared.keeper.Setting.{Setting}
-use Rattle.aim_agent.specs.Agents.{IsAgentOf}
+use Rattle.aim_agent.specs.Agents.{IsAgentOf, Idles}
 use Rattle.aim_agent.specs.Went.{Went}
 use Rattle.aim_legs.specs.Acked.{acked}
 use Rattle.aim_travel.specs.Models.{LegModel, TravellerModel}
@@ -35,6 +35,10 @@ pub record Begins (step : ℕ) (t u : TravellerModel) : Type 0 where
   pub crossing : u.crossing ≡ next.crossing
   pub agent : IsBegun step next u.agent
   pub waiting : u.waiting ≡ rest
+
+-- the agents of all of them idle at the steps from `first` on and below `last`
+abbrev pub AllIdle : ℕ → ℕ → List TravellerModel → Type 0
+AllIdle first last ts = All (λ (t : TravellerModel). (step : ℕ) → first ≤ step → step < last → Idles t.agent step) ts
 
 module _ (managers : Managers) where
   -- a leg at one of the managers' crossings, with a vehicle's pass of that manager and sheets of the room that its layout wants

@@ -1,6 +1,6 @@
 //! Travellers.
 
-ghost use Rattle.std.specs.Prelude.{◌≡◌, ◌+◌, ◌<◌, ◌≤◌, [], length, map, Some, true, IfOk};
+ghost use Rattle.std.specs.Prelude.{◌≡◌, ℕ, ◌+◌, ◌<◌, ◌≤◌, [], length, map, Some, true, IfOk};
 ghost use Rattle.aim_msg.specs.declared.entries.TheConstants.{LATEST_MOMENT};
 ghost use Rattle.aim_agent.specs.Agents.{Idles, IsFull};
 ghost use Rattle.aim_legs.specs.Acked.{begun_at};
@@ -152,11 +152,18 @@ impl<L: Ledger> Traveller<L> {
         self.vehicle
     }
 
+    // From that step on and below the one that it gives its turns do nothing.
+    pub(crate) fn idle_until(&self, step: u32) -> u64
+        ensures { (s : ℕ) → step ≤ s → s < result → Idles self.now.agent s }
+    {
+        self.agent.idle_until(step)
+    }
+
     // Its turn of the step does nothing.
     pub(crate) fn is_idle(&self, step: u32) -> bool
         ensures { result ≡ true → Idles self.now.agent step }
     {
-        (step as u64) < self.agent.idle_until(step)
+        (step as u64) < self.idle_until(step)
     }
 
     // It is through with its leg, and a further one waits.

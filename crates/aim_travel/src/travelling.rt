@@ -2,7 +2,7 @@
 
 ghost use Rattle.std.specs.Prelude.{◌≡◌, ◌+◌, ◌<◌, ◌≤◌, All};
 ghost use Rattle.aim_msg.specs.declared.entries.TheConstants.{LATEST_MOMENT};
-ghost use Rattle.aim_travel.specs.Travels.{IsReady, Travels};
+ghost use Rattle.aim_travel.specs.Travels.{AllIdle, IsReady, Travels};
 
 use crate::Traveller;
 use aim_agent::Gate;
@@ -11,6 +11,17 @@ use std::sync::Wait;
 use std::sync::ledger::Ledger;
 use std::thread;
 use std::thread::Threads;
+
+// The step that it gives is the first one, from `step` on, at which one of them may have something to do.
+fn wakes_at<L: Ledger>(travellers: &[Traveller<L>], step: u32) -> u64
+    ensures { AllIdle step result travellers.now }
+{
+    let mut least = u64::MAX;
+    for traveller in travellers {
+        least = least.min(traveller.idle_until(step));
+    }
+    least
+}
 
 // The turns of a run, one traveller after another.
 fn run_turns<L: Ledger, R: Wait, G: Gate>(
@@ -74,7 +85,8 @@ fn turns<L: Ledger + Send, R: Threads + Wait + Sync, G: Gate>(
 
 /// Lets the travellers take their turns of the steps from `from` on and below `to`. In each step they are cut into runs
 /// of so many neighbours that there are at most `workers` runs. Where two runs have something to do the runs go side by
-/// side, on threads of their own where threads can be had, and are joined before the next step.
+/// side, on threads of their own where threads can be had, and are joined before the next step. A step in which no
+/// traveller has anything to do is passed over.
 pub fn travel<L: Ledger + Send, R: Threads + Wait + Sync, G: Gate>(
     rt: &R,
     managers: &[Manager<L>],
@@ -94,7 +106,12 @@ pub fn travel<L: Ledger + Send, R: Threads + Wait + Sync, G: Gate>(
         return;
     }
     let size = travellers.len().div_ceil(workers as usize);
+    let mut wake = 0u64;
     for step in from..to {
+        if (step as u64) < wake {
+            continue;
+        }
         turns(rt, managers, travellers, gate, step, size);
+        wake = wakes_at(travellers, step + 1);
     }
 }
