@@ -1,0 +1,5 @@
+//! Tests of the calls of `aim_crossings` and `aim_travel`: routes over several crossings in memory.
+#![tactic(auto)]
+
+#[cfg(test)]
+mod routes;
