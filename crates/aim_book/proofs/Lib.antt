@@ -18,3 +18,4 @@ mod ChartLemmas
 mod OwnLemmas
 mod CostLemmas
 mod AtOnceLemmas
+mod Rows

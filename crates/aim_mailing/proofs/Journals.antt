@@ -1,5 +1,5 @@
 -- The journal of a run has the calls of all events.
-use Rattle.std.proofs.Common.{◌≡◌, ◌≢◌, ℕ, zero, suc, ◌+◌, ◌<◌, ◌≤◌, inl, inr, false, List, [], ◌∷◌, ◌++◌, length, map, get_or, max, Ok, Err, Result, refl, sym, ap, ◌∙◌, subst, arith, length-append, append-nil}
+use Rattle.std.proofs.Common.{◌≡◌, ◌≢◌, ℕ, suc, ◌<◌, ◌≤◌, inl, inr, false, List, [], ◌∷◌, ◌++◌, length, map, get_or, max, Ok, Err, refl, sym, ap, ◌∙◌, subst, arith, append-nil}
 use Rattle.std.specs.Prelude.{◌==◌, All}
 use Rattle.std.proofs.lemmas.Bool.{eq-eqb}
 use Rattle.std.proofs.lemmas.List.{get_or-map, length-map}
@@ -8,11 +8,10 @@ use Rattle.std.proofs.lemmas.Option.{slice_get-get_or}
 use Rattle.aim_msg.specs.declared.entries.Act.{Act}
 use Rattle.aim_msg.specs.declared.entries.Act.TheVariants as act
 use Rattle.aim_msg.specs.declared.entries.Entry.{Entry}
-use Rattle.aim_msg.specs.declared.entries.Order.TheVariants as order
 use Rattle.aim_msg.specs.declared.entries.TheConstants.{LATEST_MOMENT, OPERATOR}
 use Rattle.aim_paths.specs.Intersection.{Intersection}
-use Rattle.aim_rules.specs.Journals.{Call, call_of}
-use Rattle.aim_rules.specs.Legal.{IsLegal, IsWellFormed, MayAct}
+use Rattle.aim_rules.specs.Journals.{call_of}
+use Rattle.aim_rules.specs.Legal.{IsLegal, MayAct}
 use Rattle.aim_book.specs.Sheets.{own}
 use Rattle.aim_events.specs.declared.scripts.Event.{Event}
 use Rattle.aim_events.specs.declared.scripts.EventScript.{EventScript}
@@ -21,7 +20,7 @@ use Rattle.aim_mailbox.specs.declared.letter.Setting.{Setting}
 use Rattle.aim_mailbox.specs.Calls.{Answer, Call as ClientCall, ClientModel, ServerModel, IsNewClient, IsOfMail, IsReply, IsSettled, entries_of, entry_of}
 use Rattle.aim_mailbox.proofs.Clients.{of_same}
 use Rattle.aim_mailing.specs.declared.callers.Caller.{Caller}
-use Rattle.aim_mailing.specs.Runs.{IsRun, calls_by, event_call, events_by}
+use Rattle.aim_mailing.specs.Runs.{IsRun, event_call, events_by}
 use Rattle.aim_mailing.specs.Calling.{AllByPlace, HasCalled, HasMade, IsNewCaller, call_by}
 use Rattle.aim_mailing.proofs.Places.{element}
 use Rattle.aim_mailing.proofs.Totals.{count_all, count_of, none_kept, sum_below, sum_same, sum_tight}

@@ -1,10 +1,10 @@
 -- A run of a script is one of the lines that say it.
-use Rattle.std.proofs.Common.{◌≡◌, ℕ, List, Result, Ok, Err, ◌∙◌, subst}
+use Rattle.std.proofs.Common.{◌≡◌, ℕ, List, Result, Ok, Err, subst}
 use Rattle.std.specs.Prelude.{IfOk}
 use Rattle.aim_msg.specs.declared.entries.Entry.{Entry}
 use Rattle.aim_msg.specs.declared.script.Line.{Line}
 use Rattle.aim_paths.specs.Intersection.{Intersection}
-use Rattle.aim_script.specs.Said.{layout_of, vehicles_of}
+use Rattle.aim_script.specs.Said.{vehicles_of}
 use Rattle.aim_events.specs.declared.scripts.Event.{Event}
 use Rattle.aim_events.specs.declared.scripts.EventScript.{EventScript}
 use Rattle.aim_events.specs.Said.{events_of}

@@ -1,20 +1,18 @@
 -- What a caller does, call by call.
-use Rattle.std.proofs.Common.{◌≡◌, ℕ, ◌+◌, ◌<◌, ◌≤◌, List, [], ◌∷◌, ◌++◌, length, map, take, get_or, Option, Some, None, refl, sym, ap, ◌∙◌, subst, arith}
+use Rattle.std.proofs.Common.{◌≡◌, ℕ, ◌+◌, ◌<◌, ◌≤◌, List, [], ◌∷◌, ◌++◌, length, map, take, get_or, Option, Some, refl, sym, ap, ◌∙◌, subst, arith}
 use Rattle.std.specs.Prelude.{All, IfSome}
 use Rattle.std.proofs.lemmas.List.{get_or-map, length-map, map-append, take_all}
 use Rattle.aim_msg.specs.declared.entries.Act.TheVariants as act
 use Rattle.aim_paths.specs.Intersection.{Intersection}
 use Rattle.aim_pool.specs.Pools.{Stock}
-use Rattle.aim_rules.specs.Journals.{Call}
 use Rattle.aim_events.specs.declared.scripts.Event.{Event}
 use Rattle.aim_mailbox.specs.declared.letter.Setting.{Setting}
-use Rattle.aim_mailbox.specs.Calls.{Call as ClientCall, ClientModel, ServerModel, IsNewClient, IsOfMail, IsSameClient}
-use Rattle.aim_mailbox.proofs.Clients.{of_same, same_refl, same_trans}
+use Rattle.aim_mailbox.specs.Calls.{Call as ClientCall, ClientModel, ServerModel, IsNewClient}
+use Rattle.aim_mailbox.proofs.Clients.{same_refl, same_trans}
 use Rattle.aim_mailing.specs.declared.callers.Caller.{Caller}
 use Rattle.aim_mailing.specs.Runs.{calls_by, event_call}
-use Rattle.aim_mailing.specs.Calling.{AllByPlace, Called, Finished, HasCalled, HasMade, HasSheets, IsNewCaller, IsSameCaller, Reached, Stepped, Works, call_by}
+use Rattle.aim_mailing.specs.Calling.{Called, Finished, HasCalled, HasMade, HasSheets, IsNewCaller, IsSameCaller, Reached, Stepped, Works, call_by}
 use Rattle.aim_mailing.proofs.Events.{own_more}
-use Rattle.aim_mailing.proofs.Places.{element}
 
 -- the call of the event comes behind those before it
 called_more : (v : ℕ) (events : List Event) (p : ℕ) (d : Event) (old new : List ClientCall) (call : ClientCall) → p < length events → (get_or events p d).vehicle ≡ v → call.moment ≡ (get_or events p d).moment → call.message ≡ (get_or events p d).message

@@ -7,7 +7,7 @@ use Rattle.aim_rules.specs.Journals.{Call}
 use Rattle.aim_events.specs.declared.scripts.Event.{Event}
 use Rattle.aim_mailbox.specs.Calls.{Call as ClientCall, ClientModel, IsSameClient}
 use Rattle.aim_mailing.specs.declared.callers.Caller.{Caller}
-use Rattle.aim_mailing.specs.Runs.{calls_by, event_call}
+use Rattle.aim_mailing.specs.Runs.{calls_by}
 
 -- what a vehicle's client has called with
 abbrev pub call_by : ℕ → ClientCall → Call

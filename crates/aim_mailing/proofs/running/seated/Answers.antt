@@ -1,4 +1,4 @@
-use Rattle.std.proofs.Common.{length, map, sym, ap, ◌∙◌, arith}
+use Rattle.std.proofs.Common.{length, sym, ap, ◌∙◌, arith}
 use Rattle.std.proofs.lemmas.List.{length-map, length_push}
 use Rattle.aim_mailing.proofs.Seats.{clients_more, seats_more}
 use Rattle.aim_mailing.proofs.running.seated.Goals as goal

@@ -1,4 +1,4 @@
-use Rattle.std.proofs.Common.{◌≡◌, List, length, map, sym, ap, ◌∙◌, subst, arith}
+use Rattle.std.proofs.Common.{◌≡◌, List, length, map, sym, ap, ◌∙◌, subst}
 use Rattle.std.proofs.lemmas.List.{with_items_is}
 use Rattle.aim_mailing.specs.declared.callers.Caller.{Caller}
 use Rattle.aim_mailing.specs.Calling.{AllByPlace, Finished, HasMade}
