@@ -8,3 +8,4 @@ mod summaries;
 
 pub use commands::drive;
 pub use generating::generate;
+pub use reports::{put_all_tiles, put_logs};

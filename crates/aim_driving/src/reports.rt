@@ -25,8 +25,8 @@ fn log_among(logs: &[Logged], vehicle: u32) -> &[LogItem]
     &[]
 }
 
-// Appends the logs of all vehicles, in rising order.
-fn put_logs(out: &mut Vec<u8>, vehicles: u32, logs: &[Logged]) -> Result<(), NoMemory>
+/// Appends the logs of all vehicles, in rising order. Where memory runs out, it is not said what was appended.
+pub fn put_logs(out: &mut Vec<u8>, vehicles: u32, logs: &[Logged]) -> Result<(), NoMemory>
     ensures { OnOk result (out.new.items ≡ out.old.items ++ all_logs (in_order vehicles (map log_of logs.now))) }
 {
     for vehicle in 0..vehicles {
@@ -35,8 +35,8 @@ fn put_logs(out: &mut Vec<u8>, vehicles: u32, logs: &[Logged]) -> Result<(), NoM
     Ok(())
 }
 
-// Appends the tiles of all vehicles, in rising order.
-fn put_all_tiles(
+/// Appends the tiles of all vehicles, in rising order. Where memory runs out, it is not said what was appended.
+pub fn put_all_tiles(
     alloc: Global,
     out: &mut Vec<u8>,
     layout: &Layout,
