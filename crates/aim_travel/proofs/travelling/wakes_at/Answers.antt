@@ -6,7 +6,7 @@ use Rattle.aim_travel.specs.Models.{TravellerModel}
 use Rattle.aim_travel.proofs.travelling.wakes_at.Goals as goal
 
 pub loop-traveller-preserved : goal.loop-traveller-preserved
-loop-traveller-preserved g c = λ k d lt t lo hi.
+loop-traveller-preserved c = λ k d lt t lo hi.
     let xs = c.args.travellers.now in
     let n = c.loop-traveller.traveller-index in
     let within : n < length xs = omega arith in
