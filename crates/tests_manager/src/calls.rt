@@ -1,6 +1,6 @@
 //! Calls of the manager, one after another.
 
-ghost use Rattle.std.specs.Prelude.{◌≡◌, ◌<◌, ◌≤◌};
+ghost use Rattle.std.specs.Prelude.{◌<◌, ◌≤◌};
 ghost use Rattle.aim_turn.specs.Models.{IsPassOf, IsSamePass};
 
 use crate::crossing::{crossing, request};

@@ -1,6 +1,6 @@
 //! Callers on threads of their own, over a crossing of two lanes.
 
-ghost use Rattle.std.specs.Prelude.{◌≡◌, ◌<◌, ◌≤◌, IfOk};
+ghost use Rattle.std.specs.Prelude.{◌<◌, ◌≤◌};
 ghost use Rattle.std.specs.Thread.{IsSync};
 ghost use Rattle.aim_turn.specs.Models.{IsPassOf, IsSamePass};
 
