@@ -12,7 +12,6 @@ use Rattle.aim_msg.specs.declared.replies.Reply.{Reply}
 use Rattle.aim_msg.specs.declared.replies.Reply.TheVariants as reply
 use Rattle.aim_paths.specs.Intersection.{Intersection}
 use Rattle.aim_rules.proofs.Rows.{small}
-use Rattle.aim_driver.specs.declared.logs.LogItem.{LogItem}
 use Rattle.aim_driver.specs.declared.logs.LogItem.TheVariants as item
 use Rattle.aim_driver.proofs.Rows.{car, sent, granted}
 use Rattle.aim_driver.proofs.SmallFacts.{none_some}
