@@ -22,7 +22,6 @@ use aim_msg::{LATEST_MOMENT, Message, Reply};
 use aim_pool::Pool;
 use std::marker::Model;
 use std::sync::Wait;
-use std::sync::ledger::Ledger;
 
 /// What is called before each call of a vehicle, at the step of its turn. It says nothing of what it does.
 pub trait Gate: Sync {
@@ -74,17 +73,17 @@ const NO_REST: Rest = Rest { first: 0, last: 0 };
 ///
 /// Contracts see the driver, the links, the pass, how many sheets are not in use and their room, and the trouble.
 #[derive(Drop)]
-pub struct Agent<L: Ledger> {
+pub struct Agent {
     driver: Driver,
     up: Link<Message>,
     down: Link<(u32, Reply)>,
-    pass: ManagerPass<L>,
+    pass: ManagerPass,
     pool: Pool,
     trouble: Option<Trouble>,
     rest: Rest,
 }
 
-impl<L: Ledger> Model for Agent<L> {
+impl Model for Agent {
     ghost use Rattle.aim_agent.specs.Agents.{AgentModel, Stands};
 
     ghost Value = { AgentModel };
@@ -94,16 +93,16 @@ impl<L: Ledger> Model for Agent<L> {
     ghost invariant = { λ a. Stands a.driver a.up a.down a.pass a.pool a.trouble a.rest.first a.rest.last };
 }
 
-impl<L: Ledger> Agent<L> {
+impl Agent {
     /// An agent that has done nothing. A message reaches the manager in the step in which it goes up, and its reply is
     /// heard in the next one, where the links' fates let them.
     pub fn new(
         driver: Driver,
         up: Link<Message>,
         down: Link<(u32, Reply)>,
-        pass: ManagerPass<L>,
+        pass: ManagerPass,
         pool: Pool,
-    ) -> Agent<L>
+    ) -> Agent
         requires driver { driver.log ≡ [] }
         requires up { (up.lag ≡ 0) × (up.sent ≡ []) }
         requires down { (down.lag ≡ 1) × (down.sent ≡ []) }
@@ -150,7 +149,7 @@ impl<L: Ledger> Agent<L> {
     }
 
     /// Its driver and its pass.
-    pub fn into_parts(self) -> (Driver, ManagerPass<L>)
+    pub fn into_parts(self) -> (Driver, ManagerPass)
         ensures driver { result.0 ≡ self.driver }
         ensures pass { result.1 ≡ self.pass }
     {
@@ -167,7 +166,7 @@ impl<L: Ledger> Agent<L> {
     }
 
     /// A note of what its pass has seen.
-    pub fn front(&mut self, manager: &Manager<L>) -> ManagerFront<L>
+    pub fn front(&mut self, manager: &Manager) -> ManagerFront
         requires own { IsPassOf manager.now self.old.pass }
         ensures same { self.new ≡ self.old }
         ensures front { result ≡ front_of self.old.pass }
@@ -176,7 +175,7 @@ impl<L: Ledger> Agent<L> {
     }
 
     /// Lets its pass see what the front shows, so that its next call stands behind all of it.
-    pub fn meet(&mut self, manager: &Manager<L>, front: ManagerFront<L>)
+    pub fn meet(&mut self, manager: &Manager, front: ManagerFront)
         requires own { IsPassOf manager.now self.old.pass }
         requires front { front.table ≡ manager.now.table }
         ensures { Met manager.now.setting self.old front self.new }
@@ -212,7 +211,7 @@ impl<L: Ledger> Agent<L> {
     fn call<R: Wait, G: Gate>(
         &mut self,
         rt: &R,
-        manager: &Manager<L>,
+        manager: &Manager,
         gate: &G,
         step: u32,
         message: &Message,
@@ -237,7 +236,7 @@ impl<L: Ledger> Agent<L> {
     fn make_calls<R: Wait, G: Gate>(
         &mut self,
         rt: &R,
-        manager: &Manager<L>,
+        manager: &Manager,
         gate: &G,
         step: u32,
     ) -> Result<(), Trouble>
@@ -258,7 +257,7 @@ impl<L: Ledger> Agent<L> {
     fn try_turn<R: Wait, G: Gate>(
         &mut self,
         rt: &R,
-        manager: &Manager<L>,
+        manager: &Manager,
         gate: &G,
         step: u32,
     ) -> Result<(), Trouble>
@@ -273,7 +272,7 @@ impl<L: Ledger> Agent<L> {
     }
 
     // A turn, whatever is known of the steps at which it does nothing.
-    fn take_turn<R: Wait, G: Gate>(&mut self, rt: &R, manager: &Manager<L>, gate: &G, step: u32)
+    fn take_turn<R: Wait, G: Gate>(&mut self, rt: &R, manager: &Manager, gate: &G, step: u32)
         requires own { IsAgentOf manager.now self.old }
         requires last { step_of self.old.driver.log ≤ step }
         requires most { step ≤ LATEST_MOMENT }
@@ -323,7 +322,7 @@ impl<L: Ledger> Agent<L> {
 
     /// One turn: it hears the replies that come, enters if its driver does, acts, and makes a call of each message that
     /// comes on the up link. Before each call it tells the gate. In trouble it does nothing.
-    pub fn turn<R: Wait, G: Gate>(&mut self, rt: &R, manager: &Manager<L>, gate: &G, step: u32)
+    pub fn turn<R: Wait, G: Gate>(&mut self, rt: &R, manager: &Manager, gate: &G, step: u32)
         requires own { IsAgentOf manager.now self.old }
         requires last { step_of self.old.driver.log ≤ step }
         requires most { step ≤ LATEST_MOMENT }

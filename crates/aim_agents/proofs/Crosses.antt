@@ -1,22 +1,13 @@
 -- Agents may go to other threads, and threads may share a manager and what they call before a call.
-use denote.RattleType.{RattleType}
 use denote.Param.Send.{IsSend, sendable}
 use Rattle.std.proofs.Crossing.{crosses}
-use Rattle.std.specs.declared.sync.ledger.Ledger.{Ghosts}
 use Rattle.aim_msg.proofs.messages.Message.TheSendSync as message
 use Rattle.aim_msg.proofs.replies.Reply.TheSendSync as reply
 use Rattle.aim_agent.proofs.agents.Trouble.TheSendSync as trouble
 use Rattle.aim_driver.proofs.drivers.Driver.TheSendSync as driver
 use Rattle.aim_driver.proofs.links.Link.TheSendSync as link
-use Rattle.aim_pool.proofs.sheets.Slots.TheSendSync as slots
-use Rattle.aim_pool.proofs.sheets.Node.TheLaws.TheKnot as node
-use Rattle.aim_pool.specs.contracts.pools.Pool as Pool
-use Rattle.aim_manager.proofs.Crosses.{pass_send}
+use Rattle.aim_manager.proofs.Crosses.{pass_send, pool_send}
 use Rattle.aim_agent.specs.contracts.agents.Agent as Agent
 
-pool_send : IsSend Pool.the_row
-pool_send = search (sendable, crosses, node.send-Node, slots.the_send) depth 20
-
-module _ (L : RattleType) (g : Ghosts L.Denot) where
-  pub agent_send : IsSend (Agent.the_row L g)
-  agent_send = search (sendable, crosses, message.the_send, reply.the_send, trouble.the_send, driver.the_send, link.the_send, pass_send, pool_send) depth 30 fits 20000
+pub agent_send : IsSend Agent.the_row
+agent_send = search (sendable, crosses, message.the_send, reply.the_send, trouble.the_send, driver.the_send, link.the_send, pass_send, pool_send) depth 30 fits 20000

@@ -11,10 +11,9 @@ ghost use Rattle.aim_agents.specs.Runs.{Behind, Done, Followed, Gathered, IsFron
 use aim_agent::{Agent, Gate};
 use aim_manager::{Manager, ManagerFront, ManagerPass};
 use std::sync::Wait;
-use std::sync::ledger::Ledger;
 
 // Lets the agent meet the one before it, if there is one.
-fn follow<L: Ledger>(manager: &Manager<L>, agent: &mut Agent<L>, before: Option<ManagerFront<L>>)
+fn follow(manager: &Manager, agent: &mut Agent, before: Option<ManagerFront>)
     requires own { IsAgentOf manager.now agent.old }
     requires before { IsFrontOf manager.now before }
     ensures { Followed manager.now.setting (shown_by before) agent.old agent.new }
@@ -26,14 +25,14 @@ fn follow<L: Ledger>(manager: &Manager<L>, agent: &mut Agent<L>, before: Option<
 }
 
 // One turn behind the agent before, and a note of what was seen then.
-fn one_turn<L: Ledger, R: Wait, G: Gate>(
+fn one_turn<R: Wait, G: Gate>(
     rt: &R,
-    manager: &Manager<L>,
+    manager: &Manager,
     gate: &G,
     step: u32,
-    agent: &mut Agent<L>,
-    before: Option<ManagerFront<L>>,
-) -> ManagerFront<L>
+    agent: &mut Agent,
+    before: Option<ManagerFront>,
+) -> ManagerFront
     requires own { IsAgentOf manager.now agent.old }
     requires last { step_of agent.old.driver.log ≤ step }
     requires most { step ≤ LATEST_MOMENT }
@@ -48,12 +47,12 @@ fn one_turn<L: Ledger, R: Wait, G: Gate>(
 }
 
 /// The turns of a run, one agent after another, each behind all that the one before had seen.
-pub(crate) fn run_turns<L: Ledger, R: Wait, G: Gate>(
+pub(crate) fn run_turns<R: Wait, G: Gate>(
     rt: &R,
-    manager: &Manager<L>,
+    manager: &Manager,
     gate: &G,
     step: u32,
-    agents: &mut [Agent<L>],
+    agents: &mut [Agent],
 )
     requires own { All (IsAgentOf manager.now) agents.old }
     requires last { All (λ a. step_of a.driver.log ≤ step) agents.old }
@@ -67,11 +66,7 @@ pub(crate) fn run_turns<L: Ledger, R: Wait, G: Gate>(
 }
 
 /// Lets the operator's pass see what each agent's pass has seen.
-pub(crate) fn gather<L: Ledger>(
-    manager: &Manager<L>,
-    operator: &mut ManagerPass<L>,
-    agents: &mut [Agent<L>],
-)
+pub(crate) fn gather(manager: &Manager, operator: &mut ManagerPass, agents: &mut [Agent])
     requires operator { IsPassOf manager.now operator.old }
     requires agents { All (IsAgentOf manager.now) agents.old }
     ensures same { IsSamePass operator.old operator.new }
@@ -84,11 +79,7 @@ pub(crate) fn gather<L: Ledger>(
 }
 
 /// Lets each agent's pass see what the operator's has seen.
-pub(crate) fn meet_all<L: Ledger>(
-    manager: &Manager<L>,
-    operator: &mut ManagerPass<L>,
-    agents: &mut [Agent<L>],
-)
+pub(crate) fn meet_all(manager: &Manager, operator: &mut ManagerPass, agents: &mut [Agent])
     requires operator { IsPassOf manager.now operator.old }
     requires agents { All (IsAgentOf manager.now) agents.old }
     ensures operator { operator.new ≡ operator.old }

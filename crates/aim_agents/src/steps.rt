@@ -12,12 +12,11 @@ use crate::runs::{gather, meet_all, run_turns};
 use aim_agent::{Agent, Gate};
 use aim_manager::{Manager, ManagerPass};
 use std::sync::Wait;
-use std::sync::ledger::Ledger;
 use std::thread;
 use std::thread::Threads;
 
 // The step that it gives is the first one, from `step` on, at which one of them may have something to do.
-fn wakes_at<L: Ledger>(agents: &[Agent<L>], step: u32) -> u64
+fn wakes_at(agents: &[Agent], step: u32) -> u64
     ensures { AllIdle step result agents.now }
 {
     let mut least = u64::MAX;
@@ -27,26 +26,32 @@ fn wakes_at<L: Ledger>(agents: &[Agent<L>], step: u32) -> u64
     least
 }
 
-// Whether agents of two runs may have something to do at the step.
-fn are_two_runs_busy<L: Ledger>(agents: &[Agent<L>], step: u32, size: usize) -> bool
+// Whether the runs are worth a thread each at the step: agents of two runs or more have something to do, and no fewer
+// agents than there are runs. To start a thread takes longer than a turn.
+fn are_worth_threads(agents: &[Agent], step: u32, size: usize) -> bool
     requires size { 0 < size }
 {
+    let runs = agents.len().div_ceil(size);
     let mut first = None;
+    let mut busy = 0;
     for place in 0..agents.len() {
-        let run = place / size;
-        if agents[place].idle_until(step) <= step as u64 && *first.get_or_insert(run) != run {
-            return true;
+        if agents[place].idle_until(step) <= step as u64 {
+            let run = place / size;
+            busy += 1;
+            if *first.get_or_insert(run) != run && runs <= busy {
+                return true;
+            }
         }
     }
     false
 }
 
-// The turns of all agents of one step. The runs go side by side where two of them have something to do; otherwise the
-// agents take their turns one after another, which keeps the order within each run too.
-fn turns<L: Ledger + Send, R: Threads + Wait + Sync, G: Gate>(
+// The turns of all agents of one step. The runs go side by side where they are worth a thread each; otherwise the agents
+// take their turns one after another, which keeps the order within each run too.
+fn turns<R: Threads + Wait + Sync, G: Gate>(
     rt: &R,
-    manager: &Manager<L>,
-    agents: &mut [Agent<L>],
+    manager: &Manager,
+    agents: &mut [Agent],
     gate: &G,
     step: u32,
     size: usize,
@@ -57,7 +62,7 @@ fn turns<L: Ledger + Send, R: Threads + Wait + Sync, G: Gate>(
     requires most { step ≤ LATEST_MOMENT }
     ensures { RunsWent manager.now.setting step size agents.old agents.new }
 {
-    if !are_two_runs_busy(agents, step, size) {
+    if !are_worth_threads(agents, step, size) {
         run_turns(rt, manager, gate, step, agents);
         return;
     }
@@ -65,7 +70,7 @@ fn turns<L: Ledger + Send, R: Threads + Wait + Sync, G: Gate>(
         rt,
         agents,
         size,
-        &|_start: usize, run: &mut [Agent<L>]|
+        &|_start: usize, run: &mut [Agent]|
             requires { All (IsAgentOf manager.now) run.now × All (λ a. step_of a.driver.log ≤ step) run.now × (step ≤ LATEST_MOMENT) }
             ensures { Ran manager.entry.now.setting step run.entry.now run.exit.now }
         { run_turns(rt, manager, gate, step, run) },
@@ -73,11 +78,11 @@ fn turns<L: Ledger + Send, R: Threads + Wait + Sync, G: Gate>(
 }
 
 // One step: the turns, and then the meetings.
-fn one_step<L: Ledger + Send, R: Threads + Wait + Sync, G: Gate>(
+fn one_step<R: Threads + Wait + Sync, G: Gate>(
     rt: &R,
-    manager: &Manager<L>,
-    operator: &mut ManagerPass<L>,
-    agents: &mut [Agent<L>],
+    manager: &Manager,
+    operator: &mut ManagerPass,
+    agents: &mut [Agent],
     gate: &G,
     step: u32,
     size: usize,
@@ -95,15 +100,16 @@ fn one_step<L: Ledger + Send, R: Threads + Wait + Sync, G: Gate>(
 }
 
 /// Lets the agents take their turns of the steps from `from` on and below `to`. In each step they are cut into runs of
-/// so many neighbours that there are at most `workers` runs. Where two runs have something to do the runs go side by
-/// side, on threads of their own where threads can be had, and are joined before the next step; in a run each agent's
-/// turn stands behind that of the one before. Between two steps all that any of them has seen is seen by all, and by the
-/// operator's pass. A step in which no agent has anything to do is passed over.
-pub fn rounds<L: Ledger + Send, R: Threads + Wait + Sync, G: Gate>(
+/// so many neighbours that there are at most `workers` runs. Where agents of two runs or more have something to do, and
+/// no fewer agents than there are runs, the runs go side by side, on threads of their own where threads can be had, and
+/// are joined before the next step; in a run each agent's turn stands behind that of the one before. Between two steps
+/// all that any of them has seen is seen by all, and by the operator's pass. A step in which no agent has anything to do
+/// is passed over.
+pub fn rounds<R: Threads + Wait + Sync, G: Gate>(
     rt: &R,
-    manager: &Manager<L>,
-    operator: &mut ManagerPass<L>,
-    agents: &mut [Agent<L>],
+    manager: &Manager,
+    operator: &mut ManagerPass,
+    agents: &mut [Agent],
     gate: &G,
     from: u32,
     to: u32,

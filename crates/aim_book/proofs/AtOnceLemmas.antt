@@ -1,5 +1,5 @@
 -- What is known of a message before the cells of its crossing are.
-use Rattle.std.proofs.Common.{◌≡◌, ℕ, zero, suc, ◌+◌, ◌*◌, ◌/◌, ◌<◌, ◌≤◌, Bool, true, false, ◌&&◌, ◌||◌, not, nat_le, List, [], ◌∷◌, ◌++◌, map, length, Option, Some, None, Result, Ok, Err, refl, sym, ◌∙◌, ap, arith, subst, le-ltb, length-append}
+use Rattle.std.proofs.Common.{◌≡◌, ℕ, zero, suc, ◌+◌, ◌*◌, ◌/◌, ◌<◌, ◌≤◌, Bool, true, false, ◌&&◌, ◌||◌, not, nat_le, List, [], map, length, Option, Some, None, Result, Ok, Err, refl, sym, ◌∙◌, ap, arith, subst, le-ltb, length-append}
 use Rattle.std.specs.Prelude.{◌-◌, flat_map, is_none, option_and_then, if◌then◌else◌, IfOk}
 use Rattle.std.specs.List.{list_any, range_with_len}
 use Rattle.std.specs.Option.{option_or}

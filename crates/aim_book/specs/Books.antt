@@ -1,5 +1,5 @@
 -- What a book is, by its parts.
--- No public clause cites it: only the model of `Book`.
+-- No public clause cites it: only the models of `Book` and `IdleBook`.
 use Rattle.std.specs.Prelude.{◌≡◌, ℕ, ◌≤◌, List, length}
 use Rattle.aim_msg.specs.declared.entries.Entry.{Entry}
 use Rattle.aim_msg.specs.declared.entries.TheConstants.{MOST_ENTRIES}

@@ -8,4 +8,5 @@ pub mod Blocking
 pub mod Asking
 pub mod Keeping
 pub mod Books
+pub mod Idle
 pub mod Charted

@@ -34,12 +34,12 @@ pub struct Full;
 /// memory is taken by `open`. The words of its table are counted in the ledger `L`.
 #[derive(Drop)]
 pub struct Book<L: Ledger> {
-    layout: Layout,
-    vehicles: u32,
-    room: u32,
-    journal: Vec<Entry>,
-    desk: Desk<L>,
-    approaches: Approaches,
+    pub(crate) layout: Layout,
+    pub(crate) vehicles: u32,
+    pub(crate) room: u32,
+    pub(crate) journal: Vec<Entry>,
+    pub(crate) desk: Desk<L>,
+    pub(crate) approaches: Approaches,
 }
 
 impl<L: Ledger> Model for Book<L> {

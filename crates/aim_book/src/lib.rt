@@ -7,6 +7,7 @@ mod book;
 mod conflicts;
 mod desks;
 mod greens;
+mod idle;
 mod keeping;
 pub mod laws;
 mod refusals;
@@ -15,3 +16,4 @@ mod serving;
 mod sheets;
 
 pub use book::{Book, Full, OpenFault};
+pub use idle::IdleBook;

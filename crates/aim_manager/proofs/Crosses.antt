@@ -1,10 +1,8 @@
 -- What callers share and carry may cross threads. The search alone doesn't find it of a book, since a sheet's nodes refer
 -- to one another: of such a type, and of each that holds one, nothing is kept ready, and a book is too large to be
 -- searched through at once. So it is shown part by part. What others cite is at the end.
-use denote.RattleType.{RattleType}
 use denote.Param.Send.{IsSend, IsSync, sendable}
 use Rattle.std.proofs.Crossing.{crosses}
-use Rattle.std.specs.declared.sync.ledger.Ledger.{Ghosts}
 use Rattle.aim_msg.proofs.entries.Entry.TheSendSync as entry
 use Rattle.aim_msg.specs.contracts.entries.Entry as Entry
 use Rattle.aim_paths.proofs.layouts.Layout.TheSendSync as layout
@@ -12,16 +10,14 @@ use Rattle.aim_pool.proofs.sheets.Slots.TheSendSync as slots
 use Rattle.aim_pool.proofs.sheets.Node.TheLaws.TheKnot as node
 use Rattle.aim_pool.specs.contracts.pools.Pool as Pool
 use Rattle.aim_pool.specs.contracts.sheets.Sheet as Sheet
-use Rattle.aim_tiles.proofs.counters.Steps.TheSendSync as steps
-use Rattle.aim_tiles.proofs.tables.Table.TheSendSync as table
+use Rattle.aim_tiles.proofs.idle.IdleTable.TheSendSync as idle
 use Rattle.aim_session.proofs.sessions.Sessions.TheSendSync as sessions
 use Rattle.aim_switch.proofs.timelines.Timeline.TheSendSync as timeline
 use Rattle.aim_fcfs.proofs.distances.Distances.TheSendSync as distances
 use Rattle.aim_emerg.proofs.approaches.Approaches.TheSendSync as approaches
-use Rattle.aim_book.specs.contracts.desks.Desk as Desk
+use Rattle.aim_book.specs.contracts.idle.IdleBook as IdleBook
+use Rattle.aim_book.specs.contracts.idle.IdleDesk as IdleDesk
 use Rattle.aim_book.specs.contracts.reservations.Reservation as Reservation
-use Rattle.aim_book.specs.contracts.reservations.Reservations as Reservations
-use Rattle.aim_book.specs.contracts.book.Book as Book
 use Rattle.aim_turn.proofs.pass.Front.TheSendSync as front
 use Rattle.aim_turn.proofs.pass.Pass.TheSendSync as pass
 use Rattle.aim_turn.proofs.turnstile.Turnstile.TheSendSync as turnstile
@@ -44,31 +40,26 @@ pool_send = search (sendable, crosses, node.send-Node, slots.the_send) depth 20
 reservation_send : IsSend Reservation.the_row
 reservation_send = search (sendable, crosses, sheet_send) depth 20
 
-module _ (L : RattleType) (g : Ghosts L.Denot) where
-  reservations_send : IsSend (Reservations.the_field L g).row
-  reservations_send = search (sendable, crosses, table.the_send, reservation_send) depth 20
+idle_desk_send : IsSend IdleDesk.the_field.row
+idle_desk_send = search (sendable, crosses, sessions.the_send, idle.the_send, reservation_send, timeline.the_send, distances.the_send) depth 30
 
-  desk_send : IsSend (Desk.the_field L g).row
-  desk_send = search (sendable, crosses, sessions.the_send, reservations_send, timeline.the_send, distances.the_send) depth 30
+book_send : IsSend IdleBook.the_row
+book_send = search (sendable, crosses, layout.the_send, entry.the_send, idle_desk_send, approaches.the_send) depth 30
 
-  book_send : IsSend (Book.the_row L g)
-  book_send = search (sendable, crosses, layout.the_send, entry.the_send, desk_send, approaches.the_send) depth 30
+pub keeper_send : IsSend Keeper.the_row
+keeper_send = search (sendable, crosses, book_send) depth 20
 
-  -- the book with the count of its table's words
-  pub keeper_send : IsSend (Keeper.the_row L g)
-  keeper_send = search (sendable, crosses, book_send, steps.the_send) depth 20
+-- a pass may go to another thread
+pub pass_send : IsSend (Pass.the_row Keeper.the_row Setting.the_row Entry.the_row Ask.the_row Told.the_row kept.ghosts)
+pass_send = search (sendable, pass.the_send, keeper_send)
 
-  -- a pass may go to another thread
-  pub pass_send : IsSend (Pass.the_row (Keeper.the_row L g) Setting.the_row Entry.the_row Ask.the_row Told.the_row (kept.ghosts L g kept.no_dict))
-  pass_send = search (sendable, pass.the_send, keeper_send)
+-- and so may what it notes
+pub front_send : IsSend (Front.the_row Keeper.the_row Setting.the_row Entry.the_row Ask.the_row Told.the_row kept.ghosts)
+front_send = search (sendable, front.the_send, keeper_send)
 
-  -- and so may what it notes
-  pub front_send : IsSend (Front.the_row (Keeper.the_row L g) Setting.the_row Entry.the_row Ask.the_row Told.the_row (kept.ghosts L g kept.no_dict))
-  front_send = search (sendable, front.the_send, keeper_send)
-
-  -- threads may share a manager
-  pub manager_sync : IsSync (Manager.the_row L g)
-  manager_sync = search (sendable, crosses, turnstile.the_sync, keeper_send, layout.the_sync) depth 20
+-- threads may share a manager
+pub manager_sync : IsSync Manager.the_row
+manager_sync = search (sendable, crosses, turnstile.the_sync, keeper_send, layout.the_sync) depth 20
 
 -- for the searches of callers
 pub ruleset shared = (pool_send, pass_send, front_send, manager_sync)

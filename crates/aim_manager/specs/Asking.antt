@@ -11,6 +11,7 @@ use Rattle.aim_pool.specs.Pools.{Stock}
 use Rattle.aim_buffers.specs.Requests.{Request, IsPreparedFor}
 use Rattle.aim_book.specs.declared.book.Full.{Full}
 use Rattle.aim_book.specs.Sheets.{sheets_kept}
+use Rattle.aim_book.specs.State.{State}
 use Rattle.aim_rules.specs.Answer.{answer}
 use Rattle.aim_rules.specs.Legal.{IsOfLayout}
 use Rattle.aim_manager.specs.declared.keeper.Setting.{Setting}
@@ -18,6 +19,10 @@ use Rattle.aim_manager.specs.declared.keeper.Ask.{Ask}
 use Rattle.aim_manager.specs.declared.keeper.Ask.TheVariants as ask
 use Rattle.aim_manager.specs.declared.keeper.Told.{Told}
 use Rattle.aim_manager.specs.declared.keeper.Told.TheVariants as told
+
+-- what no call changes of a book
+abbrev pub setting_of : State → Setting
+setting_of b = record { layout = b.layout; vehicles = b.vehicles; room = b.room }
 
 -- whether the vehicle may have the message served, with this pool
 pub record MayServe (s : Setting) (vehicle at : ℕ) (request : Request) (sheets : Stock) : Type 0 where

@@ -1,14 +1,14 @@
 //! The book as what stands under the turn.
 
-use aim_book::{Book, Full};
+use aim_book::{Book, Full, IdleBook};
 use aim_buffers::Prepared;
 use aim_msg::{Entry, Order, Reply};
 use aim_paths::Layout;
 use aim_pool::Pool;
 use aim_tiles::Steps;
 use aim_turn::Kept;
-use std::marker::Model;
-use std::sync::ledger::Ledger;
+use std::marker::{Brand, Model};
+use std::sync::ledger::{Blank, Ledger};
 
 /// What a caller asks of the book.
 #[derive(Drop)]
@@ -45,14 +45,13 @@ pub struct Setting {
     pub room: u32,
 }
 
-/// The book under the turn, with the count of the words of its table.
+/// The book under the turn. It belongs to no ledger, and joins one of its own in each call.
 #[derive(Drop)]
-pub struct Keeper<L: Ledger> {
-    pub(crate) book: Book<L>,
-    pub(crate) steps: Steps<L>,
+pub struct Keeper {
+    pub(crate) book: IdleBook,
 }
 
-impl<L: Ledger> Model for Keeper<L> {
+impl Model for Keeper {
     ghost use Rattle.std.specs.Prelude.{◌≤◌, length};
     ghost use Rattle.aim_book.specs.State.{State};
 
@@ -63,11 +62,63 @@ impl<L: Ledger> Model for Keeper<L> {
     ghost invariant = { λ k. length k.book.journal ≤ k.book.room };
 }
 
-impl<L: Ledger> Kept for Keeper<L> {
-    ghost use Rattle.std.specs.Prelude.{◌≤◌, [], length};
+ghost use Rattle.std.specs.Prelude.{◌≡◌, ◌<◌, ◌≤◌, [], ◌∷◌, ◌++◌, length, MatchBool};
+ghost use Rattle.aim_msg.specs.declared.entries.Entry.{Entry};
+ghost use Rattle.aim_manager.specs.Asking.{MayCall, Does, is_made, setting_of};
+ghost use Rattle.aim_manager.specs.Seen.{IsLawful, caller_of};
+
+// Serves the message, or takes the order.
+fn make_call<L: Ledger>(book: &mut Book<L>, caller: u32, call: Ask, steps: &mut Steps<L>) -> Told
+    requires may_call { MayCall (setting_of book.old) caller call }
+    requires fits { length book.old.journal ≤ book.old.room }
+    ensures setting { setting_of book.new ≡ setting_of book.old }
+    ensures does { Does (setting_of book.old) caller call book.old.journal book.new.journal result }
+    ensures entry { MatchBool (is_made result)
+        ((e : Entry) × (book.new.journal ≡ book.old.journal ++ e ∷ []) × (e.caller ≡ caller))
+        (book.new.journal ≡ book.old.journal) }
+    ensures lawful { IsLawful (setting_of book.new) book.new.journal }
+{
+    match call {
+        Ask::Serve {
+            moment,
+            prepared,
+            mut sheets,
+        } => {
+            let result = book.serve(caller, moment, prepared, &mut sheets, steps);
+            Told::Served { result, sheets }
+        }
+        Ask::Operate { moment, order } => {
+            let result = book.operate(moment, order, steps);
+            Told::Operated { result }
+        }
+    }
+}
+
+// Makes the call on the book while it is in the ledger.
+fn answer<L: Ledger>(book: IdleBook, caller: u32, call: Ask, blank: Blank) -> (IdleBook, Told)
+    requires name { blank.name ≡ L.name }
+    requires parts { blank.parts ≡ L.parts }
+    requires some { 0 < blank.parts }
+    requires may_call { MayCall (setting_of book) caller call }
+    requires fits { length book.journal ≤ book.room }
+    ensures setting { setting_of result.0 ≡ setting_of book }
+    ensures does { Does (setting_of book) caller call book.journal result.0.journal result.1 }
+    ensures entry { MatchBool (is_made result.1)
+        ((e : Entry) × (result.0.journal ≡ book.journal ++ e ∷ []) × (e.caller ≡ caller))
+        (result.0.journal ≡ book.journal) }
+    ensures lawful { IsLawful (setting_of result.0) result.0.journal }
+{
+    let mut steps = Steps::<L>::new(blank);
+    let mut book = book.join::<L>();
+    let told = make_call(&mut book, caller, call, &mut steps);
+    (book.leave(steps), told)
+}
+
+impl Kept for Keeper {
+    ghost use Rattle.std.specs.Prelude.{[]};
     ghost use Rattle.std.proofs.Common.{arith, length-append};
     ghost use Rattle.aim_rules.proofs.LegalLemmas.{IsLegal-before, IsLegal-journal};
-    ghost use Rattle.aim_manager.specs.Asking.{MayCall, Does, is_made};
+    ghost use Rattle.aim_manager.specs.Asking.{MayCall, Does, is_made, setting_of};
     ghost use Rattle.aim_manager.specs.Seen.{IsLawful, caller_of};
 
     type Setting = Setting;
@@ -78,7 +129,7 @@ impl<L: Ledger> Kept for Keeper<L> {
 
     type Answer = Told;
 
-    ghost setting = { λ s. record { layout = s.layout; vehicles = s.vehicles; room = s.room } };
+    ghost setting = { setting_of };
 
     ghost entries = { λ s. s.journal };
 
@@ -93,23 +144,10 @@ impl<L: Ledger> Kept for Keeper<L> {
     ghost is_made = { is_made };
 
     /// Serves the message, or takes the order.
-    fn apply(&mut self, caller: u32, call: Ask) -> Told {
-        match call {
-            Ask::Serve {
-                moment,
-                prepared,
-                mut sheets,
-            } => {
-                let result = self
-                    .book
-                    .serve(caller, moment, prepared, &mut sheets, &mut self.steps);
-                Told::Served { result, sheets }
-            }
-            Ask::Operate { moment, order } => {
-                let result = self.book.operate(moment, order, &mut self.steps);
-                Told::Operated { result }
-            }
-        }
+    fn apply(self, caller: u32, call: Ask) -> (Keeper, Told) {
+        let Keeper { book } = self;
+        let (book, told) = answer::<Brand>(book, caller, call, Blank::new(1));
+        (Keeper { book }, told)
     }
 
     fn made(answer: &Told) -> bool {

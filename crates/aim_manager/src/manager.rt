@@ -13,35 +13,33 @@ ghost use Rattle.aim_manager.specs.Seen.{caller_of, callers, IsServed, Meets};
 
 use crate::keeper::{Ask, Keeper, Told};
 use aim_book::laws::sheets_are_those_of_own_entries;
-use aim_book::{Book, Full, OpenFault};
+use aim_book::{Full, IdleBook, OpenFault};
 use aim_buffers::Prepared;
 use aim_msg::{Entry, OPERATOR, Order, Reply};
 use aim_paths::Layout;
 use aim_pool::Pool;
-use aim_tiles::Steps;
 use aim_turn::{Front, NoMemory, Pass, Turnstile};
 use std::alloc::Global;
 use std::marker::Model;
 use std::mem;
 use std::sync::Wait;
-use std::sync::ledger::{Blank, Ledger};
 
 /// The right to the calls of one vehicle, or to those of the operator.
-pub type ManagerPass<L> = Pass<Keeper<L>>;
+pub type ManagerPass = Pass<Keeper>;
 
 /// A note of what a pass had seen.
-pub type ManagerFront<L> = Front<Keeper<L>>;
+pub type ManagerFront = Front<Keeper>;
 
-/// A manager that threads share. Each caller has a pass. The words of its table are counted in the ledger `L`.
+/// A manager that threads share. Each caller has a pass. It belongs to no ledger, so several managers are of one type.
 ///
 /// Contracts see its name, its layout, the numbers of its vehicles, and the room of its journal.
 #[derive(Drop)]
-pub struct Manager<L: Ledger> {
-    turnstile: Turnstile<Keeper<L>>,
+pub struct Manager {
+    turnstile: Turnstile<Keeper>,
     layout: Layout,
 }
 
-impl<L: Ledger> Model for Manager<L> {
+impl Model for Manager {
     ghost use Rattle.std.specs.Prelude.{◌≡◌};
     ghost use Rattle.aim_turn.specs.Models.{TurnstileModel};
     ghost use Rattle.aim_manager.specs.Seen.{callers};
@@ -56,11 +54,11 @@ impl<L: Ledger> Model for Manager<L> {
 
 /// A new manager with the passes of its callers.
 #[derive(Drop)]
-pub struct Opened<L: Ledger> {
-    pub manager: Manager<L>,
+pub struct Opened {
+    pub manager: Manager,
     /// The passes of the vehicles, in the order of their numbers.
-    pub passes: Vec<ManagerPass<L>>,
-    pub operator: ManagerPass<L>,
+    pub passes: Vec<ManagerPass>,
+    pub operator: ManagerPass,
 }
 
 /// What is left of a manager.
@@ -80,7 +78,7 @@ fn caller_numbers(alloc: Global, vehicles: u32) -> Result<Vec<u32>, NoMemory>
 }
 
 // Puts the keeper under a turn, beside a copy of its layout.
-fn shared<L: Ledger>(alloc: Global, keeper: Keeper<L>) -> Result<Opened<L>, NoMemory>
+fn shared(alloc: Global, keeper: Keeper) -> Result<Opened, NoMemory>
     requires empty { keeper.journal ≡ [] }
     requires most { keeper.vehicles ≤ MOST_VEHICLES }
     ensures manager { IfOk result (λ o. o.manager.setting ≡ record { layout = keeper.layout; vehicles = keeper.vehicles; room = keeper.room }) }
@@ -101,27 +99,22 @@ fn shared<L: Ledger>(alloc: Global, keeper: Keeper<L>) -> Result<Opened<L>, NoMe
     })
 }
 
-impl<L: Ledger> Manager<L> {
+impl Manager {
     /// A manager with an empty journal, for that many vehicles and that many entries. It takes all its memory here.
     pub fn open(
         alloc: Global,
         layout: Layout,
         vehicles: u32,
         room: u32,
-        blank: Blank,
-    ) -> Result<Opened<L>, OpenFault>
-        requires name { blank.name ≡ L.name }
-        requires parts { blank.parts ≡ L.parts }
-        requires some { 0 < blank.parts }
+    ) -> Result<Opened, OpenFault>
         ensures manager { IfOk result (λ o. o.manager.setting ≡ record { layout = layout; vehicles = vehicles; room = room }) }
         ensures passes { IfOk result (λ o. o.passes.items ≡ map (new_pass o.manager) (range_with_len 0 vehicles)) }
         ensures operator { IfOk result (λ o. o.operator ≡ new_pass o.manager OPERATOR) }
         ensures vehicles { (result ≡ Err OpenFault.Vehicles) ↔ ((vehicles ≡ 0) ⊎ (MOST_VEHICLES < vehicles)) }
         ensures room { (result ≡ Err OpenFault.Room) ↔ ((0 < vehicles) × (vehicles ≤ MOST_VEHICLES) × ((room ≡ 0) ⊎ (MOST_ENTRIES < room))) }
     {
-        let book = Book::open(alloc, layout, vehicles, room)?;
-        let steps = Steps::new(blank);
-        match shared(alloc, Keeper { book, steps }) {
+        let book = IdleBook::open(alloc, layout, vehicles, room)?;
+        match shared(alloc, Keeper { book }) {
             Ok(opened) => Ok(opened),
             Err(_) => Err(OpenFault::NoMemory),
         }
@@ -132,7 +125,7 @@ impl<L: Ledger> Manager<L> {
     pub fn serve<R: Wait>(
         &self,
         rt: &R,
-        pass: &mut ManagerPass<L>,
+        pass: &mut ManagerPass,
         moment: u32,
         prepared: Prepared,
         back: &mut Pool,
@@ -166,7 +159,7 @@ impl<L: Ledger> Manager<L> {
     pub fn operate<R: Wait>(
         &self,
         rt: &R,
-        operator: &mut ManagerPass<L>,
+        operator: &mut ManagerPass,
         moment: u32,
         order: Order,
     ) -> Result<Reply, Full>
@@ -185,7 +178,7 @@ impl<L: Ledger> Manager<L> {
     }
 
     /// A note of what the pass has seen.
-    pub fn front(&self, pass: &mut ManagerPass<L>) -> ManagerFront<L>
+    pub fn front(&self, pass: &mut ManagerPass) -> ManagerFront
         requires own { pass.old.table ≡ self.now.table }
         ensures pass { pass.new ≡ pass.old }
         ensures front { result ≡ record { table = pass.old.table; setting = pass.old.setting; seen = pass.old.seen } }
@@ -194,7 +187,7 @@ impl<L: Ledger> Manager<L> {
     }
 
     /// Lets the pass see what the front shows, so that its next call stands behind all of it.
-    pub fn meet(&self, pass: &mut ManagerPass<L>, front: ManagerFront<L>)
+    pub fn meet(&self, pass: &mut ManagerPass, front: ManagerFront)
         requires own { IsPassOf self.now pass.old }
         requires front { front.table ≡ self.now.table }
         ensures same { IsSamePass pass.old pass.new }
@@ -212,7 +205,7 @@ impl<L: Ledger> Manager<L> {
 
     /// Ends the turns, where the passes of all callers are there, those of the vehicles in any order. The journal begins
     /// with all that the passes have seen, and of each caller it has exactly its pass's entries. It takes no memory.
-    pub fn close(self, passes: Vec<ManagerPass<L>>, operator: ManagerPass<L>) -> Closed
+    pub fn close(self, passes: Vec<ManagerPass>, operator: ManagerPass) -> Closed
         requires own { All (λ p. p.table ≡ self.table) passes.items × (operator.table ≡ self.table) }
         requires all { length passes.items ≡ self.setting.vehicles }
         ensures legal { IsLegal self.setting.layout self.setting.vehicles result.journal.items }
@@ -226,7 +219,7 @@ impl<L: Ledger> Manager<L> {
             turnstile,
             layout: _,
         } = self;
-        let Keeper { book, steps: _ } = turnstile.close_with(passes, operator);
+        let Keeper { book } = turnstile.close_with(passes, operator);
         Closed {
             journal: book.into_journal(),
         }

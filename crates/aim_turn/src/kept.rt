@@ -34,15 +34,16 @@ pub trait Kept: Drop {
     /// Whether an answer tells that an entry was made.
     ghost is_made: { Self.Answer → Bool };
 
-    /// Makes one call. It adds one entry of the caller exactly where `made` says so of the answer.
-    fn apply(&mut self, caller: u32, call: Self::Call) -> Self::Answer
-        requires may_call { may_call (setting self.old) caller call }
-        ensures setting { setting self.new ≡ setting self.old }
-        ensures does { does (setting self.old) caller call (entries self.old) (entries self.new) result }
-        ensures entry { MatchBool (is_made result)
-            ((e : Self.Entry) × (entries self.new ≡ entries self.old ++ e ∷ []) × (caller_of e ≡ caller))
-            (entries self.new ≡ entries self.old) }
-        ensures lawful { is_lawful (setting self.new) (entries self.new) };
+    /// Makes one call, and gives the value back with the answer. It adds one entry of the caller exactly where `made`
+    /// says so of the answer.
+    fn apply(self, caller: u32, call: Self::Call) -> (Self, Self::Answer)
+        requires may_call { may_call (setting self) caller call }
+        ensures setting { setting result.0 ≡ setting self }
+        ensures does { does (setting self) caller call (entries self) (entries result.0) result.1 }
+        ensures entry { MatchBool (is_made result.1)
+            ((e : Self.Entry) × (entries result.0 ≡ entries self ++ e ∷ []) × (caller_of e ≡ caller))
+            (entries result.0 ≡ entries self) }
+        ensures lawful { is_lawful (setting result.0) (entries result.0) };
 
     /// Whether the answer tells that an entry was made.
     fn made(answer: &Self::Answer) -> bool

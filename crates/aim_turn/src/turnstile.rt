@@ -199,8 +199,8 @@ impl<K: Kept> Turnstile<K> {
         ensures call { MakesCall K.caller_of K.is_lawful K.does self.now.setting call result (K.is_made result) pass.old pass.new }
     {
         let number = pass.number;
-        let mut kept = enter(rt, &self.desk, &mut pass.seat, number);
-        let answer = kept.apply(number, call);
+        let kept = enter(rt, &self.desk, &mut pass.seat, number);
+        let (kept, answer) = kept.apply(number, call);
         let made = K::made(&answer);
         leave(&self.desk, &mut pass.seat, number, kept, made);
         answer

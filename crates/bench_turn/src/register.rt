@@ -73,13 +73,13 @@ impl Kept for Register {
     ghost is_made = { is_some };
 
     /// Does the work, and marks the result where there is room.
-    fn apply(&mut self, caller: u32, call: Work) -> Option<u32> {
+    fn apply(mut self, caller: u32, call: Work) -> (Register, Option<u32>) {
         let value = mixed(call.seed, call.rounds);
         if self.marks.len() < self.room as usize {
             self.marks.push_reserved(Mark { caller, value });
-            return Some(value);
+            return (self, Some(value));
         }
-        None
+        (self, None)
     }
 
     fn made(answer: &Option<u32>) -> bool {

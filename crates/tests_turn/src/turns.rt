@@ -63,16 +63,16 @@ impl Kept for Register {
     ghost is_made = { is_some };
 
     /// Writes the value, where there is room, and answers at which place.
-    fn apply(&mut self, caller: u32, call: u32) -> Option<u32> {
+    fn apply(mut self, caller: u32, call: u32) -> (Register, Option<u32>) {
         let place = self.marks.len();
         if place < self.room as usize {
             self.marks.push_reserved(Mark {
                 caller,
                 value: call,
             });
-            return Some(place as u32);
+            return (self, Some(place as u32));
         }
-        None
+        (self, None)
     }
 
     fn made(answer: &Option<u32>) -> bool {

@@ -3,7 +3,7 @@ use Rattle.aim_agents.proofs.RunLaws.{gathered_more}
 use Rattle.aim_agents.proofs.runs.gather.Goals as goal
 
 pub loop-agent-preserved : goal.loop-agent-preserved
-loop-agent-preserved g c =
+loop-agent-preserved c =
     let lt : c.loop-agent.agent-index < length c.loop-agent.agents = omega arith in
     let s = c.loop-agent.invariant.same in
     let t = c.meet.ensures.same in

@@ -5,7 +5,7 @@ use Rattle.aim_agents.proofs.RunLaws.{done_more}
 use Rattle.aim_agents.proofs.runs.meet_all.Goals as goal
 
 pub loop-agent-preserved : goal.loop-agent-preserved
-loop-agent-preserved g c =
+loop-agent-preserved c =
     let s = c.args.manager.now.setting in
     let shown = front_of c.args.operator.now in
     let lt : c.loop-agent.agent-index < length c.loop-agent.agents = omega arith in

@@ -5,7 +5,7 @@ use Rattle.aim_agent.specs.Agents.{Idles}
 use Rattle.aim_agents.proofs.steps.wakes_at.Goals as goal
 
 pub loop-agent-preserved : goal.loop-agent-preserved
-loop-agent-preserved g c = λ k d lt t lo hi.
+loop-agent-preserved c = λ k d lt t lo hi.
     let xs = c.args.agents.now in
     let n = c.loop-agent.agent-index in
     let within : n < length xs = omega arith in

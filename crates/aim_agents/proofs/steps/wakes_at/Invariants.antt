@@ -3,4 +3,4 @@ use Rattle.aim_agent.specs.Agents.{AgentModel, Idles}
 use Rattle.aim_agents.proofs.steps.wakes_at.Given as goal
 
 abbrev pub invariant-loop-agent : goal.invariant-loop-agent
-invariant-loop-agent g l = (k : ℕ) (d : AgentModel) → k < l.agent-index → (t : ℕ) → l.step ≤ t → t < l.least → Idles (get_or l.agents k d) t
+invariant-loop-agent l = (k : ℕ) (d : AgentModel) → k < l.agent-index → (t : ℕ) → l.step ≤ t → t < l.least → Idles (get_or l.agents k d) t

@@ -4,7 +4,7 @@ use Rattle.aim_agent.specs.Rests.{AreStill}
 use Rattle.aim_agent.proofs.agents.Agent.note_rest.Goals as goal
 
 pub invariant_of-self : goal.invariant_of-self
-invariant_of-self g c = record {
+invariant_of-self c = record {
   whole = c.self.invariant.whole;
   sheets = c.self.invariant.sheets;
   full = c.self.invariant.full;

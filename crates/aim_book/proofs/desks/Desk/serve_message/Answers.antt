@@ -1,5 +1,4 @@
 use Rattle.std.proofs.Common.{◌≡◌, [], ◌∷◌, ◌++◌, length, refl, sym, ◌∙◌, ap, arith, subst, false}
-use Rattle.std.specs.Prelude.{slice_index_or}
 use Rattle.aim_msg.specs.declared.entries.Act.TheVariants as act
 use Rattle.aim_msg.specs.declared.entries.Entry.{Entry}
 use Rattle.aim_rules.specs.Answer.{answer}

@@ -1,0 +1,220 @@
+//! A book that belongs to no ledger.
+
+use crate::book::{Book, OpenFault};
+use crate::desks::Desk;
+use crate::reservations::{Reservation, Reservations};
+use aim_emerg::Approaches;
+use aim_fcfs::Distances;
+use aim_msg::Entry;
+use aim_paths::Layout;
+use aim_session::Sessions;
+use aim_switch::Timeline;
+use aim_tiles::{IdleTable, Steps};
+use std::alloc::Global;
+use std::marker::{Brand, Model};
+use std::sync::ledger::{Blank, Ledger};
+
+/// What a manager keeps of its history, where the table of its reservations belongs to no ledger.
+#[derive(Drop)]
+pub(crate) struct IdleDesk {
+    pub(crate) sessions: Sessions,
+    pub(crate) rows: Vec<Option<Reservation>>,
+    pub(crate) table: IdleTable,
+    pub(crate) timeline: Timeline,
+    pub(crate) distances: Distances,
+    pub(crate) has_lights: bool,
+    pub(crate) stopped: bool,
+}
+
+/// A book that belongs to no ledger. No call reads or writes a word of its table until it joins one.
+#[derive(Drop)]
+pub struct IdleBook {
+    layout: Layout,
+    vehicles: u32,
+    room: u32,
+    journal: Vec<Entry>,
+    desk: IdleDesk,
+    approaches: Approaches,
+}
+
+impl Model for IdleBook {
+    ghost use Rattle.std.specs.Prelude.{vec_capacity};
+    ghost use Rattle.aim_book.specs.State.{State};
+
+    ghost Value = { State };
+
+    ghost use Rattle.aim_book.specs.Books.{IsBook};
+    ghost use Rattle.aim_book.specs.Idle.{joined};
+
+    ghost view = { λ b. record { layout = b.layout; vehicles = b.vehicles; room = b.room; journal = b.journal.items } };
+
+    ghost invariant = { λ b. IsBook b.layout b.vehicles b.room b.journal.items (vec_capacity b.journal) (joined {L = Unit {0}} b.desk) b.approaches };
+}
+
+ghost use Rattle.std.specs.Prelude.{◌≡◌, ◌<◌, ◌≤◌, ◌⊎◌, ◌↔◌, [], IfOk, Err};
+ghost use Rattle.aim_msg.specs.declared.entries.TheConstants.{MOST_ENTRIES, MOST_VEHICLES};
+ghost use Rattle.aim_rules.specs.Legal.{IsLegal};
+ghost use Rattle.aim_book.specs.Idle.{joined};
+
+impl IdleDesk {
+    // The desk in a ledger.
+    fn join<L: Ledger>(self) -> Desk<L>
+        ensures { result ≡ joined self }
+    {
+        let IdleDesk {
+            sessions,
+            rows,
+            table,
+            timeline,
+            distances,
+            has_lights,
+            stopped,
+        } = self;
+        let table = table.join();
+        Desk {
+            sessions,
+            reservations: Reservations { rows, table },
+            timeline,
+            distances,
+            has_lights,
+            stopped,
+        }
+    }
+}
+
+impl<L: Ledger> Desk<L> {
+    // The desk without its ledger, whose count it takes.
+    fn leave(self, steps: Steps<L>) -> IdleDesk
+        ensures { self ≡ joined result }
+    {
+        let Desk {
+            sessions,
+            reservations: Reservations { rows, table },
+            timeline,
+            distances,
+            has_lights,
+            stopped,
+        } = self;
+        IdleDesk {
+            sessions,
+            rows,
+            table: table.leave(steps),
+            timeline,
+            distances,
+            has_lights,
+            stopped,
+        }
+    }
+}
+
+impl<L: Ledger> Book<L> {
+    /// Leaves the ledger. It takes the ledger's one count with it, so no table of that ledger is read or written again.
+    pub fn leave(self, steps: Steps<L>) -> IdleBook
+        ensures { result ≡ self }
+    {
+        let Book {
+            layout,
+            vehicles,
+            room,
+            journal,
+            desk,
+            approaches,
+        } = self;
+        IdleBook {
+            layout,
+            vehicles,
+            room,
+            journal,
+            desk: desk.leave(steps),
+            approaches,
+        }
+    }
+}
+
+impl IdleBook {
+    /// A book with an empty journal, for that many vehicles and that many entries. It takes all its memory here.
+    pub fn open(
+        alloc: Global,
+        layout: Layout,
+        vehicles: u32,
+        room: u32,
+    ) -> Result<IdleBook, OpenFault>
+        ensures book { IfOk result (λ b. b ≡ record { layout = layout; vehicles = vehicles; room = room; journal = [] }) }
+        ensures legal { IfOk result (λ b. IsLegal b.layout b.vehicles b.journal) }
+        ensures vehicles { (result ≡ Err OpenFault.Vehicles) ↔ ((vehicles ≡ 0) ⊎ (MOST_VEHICLES < vehicles)) }
+        ensures room { (result ≡ Err OpenFault.Room) ↔ ((0 < vehicles) × (vehicles ≤ MOST_VEHICLES) × ((room ≡ 0) ⊎ (MOST_ENTRIES < room))) }
+    {
+        opened::<Brand>(alloc, layout, vehicles, room, Blank::new(1))
+    }
+
+    /// Joins a ledger, whose count is needed from now on.
+    pub fn join<L: Ledger>(self) -> Book<L>
+        ensures { result ≡ self }
+    {
+        let IdleBook {
+            layout,
+            vehicles,
+            room,
+            journal,
+            desk,
+            approaches,
+        } = self;
+        Book {
+            layout,
+            vehicles,
+            room,
+            journal,
+            desk: desk.join(),
+            approaches,
+        }
+    }
+
+    /// The journal itself.
+    pub fn into_journal(self) -> Vec<Entry>
+        ensures journal { result.items ≡ self.journal }
+        ensures legal { IsLegal self.layout self.vehicles self.journal }
+    {
+        let IdleBook {
+            layout: _,
+            vehicles: _,
+            room: _,
+            journal,
+            desk: _,
+            approaches: _,
+        } = self;
+        journal
+    }
+
+    /// The number of vehicles.
+    pub fn vehicles(&self) -> u32
+        ensures { result ≡ self.now.vehicles }
+    {
+        self.vehicles
+    }
+
+    /// The layout.
+    pub fn layout(&self) -> &Layout
+        ensures { result.now ≡ self.now.layout }
+    {
+        &self.layout
+    }
+}
+
+// A book that was opened in a ledger, and has left it.
+fn opened<L: Ledger>(
+    alloc: Global,
+    layout: Layout,
+    vehicles: u32,
+    room: u32,
+    blank: Blank,
+) -> Result<IdleBook, OpenFault>
+    requires name { blank.name ≡ L.name }
+    requires parts { blank.parts ≡ L.parts }
+    requires some { 0 < blank.parts }
+    ensures book { IfOk result (λ b. b ≡ record { layout = layout; vehicles = vehicles; room = room; journal = [] }) }
+    ensures vehicles { (result ≡ Err OpenFault.Vehicles) ↔ ((vehicles ≡ 0) ⊎ (MOST_VEHICLES < vehicles)) }
+    ensures room { (result ≡ Err OpenFault.Room) ↔ ((0 < vehicles) × (vehicles ≤ MOST_VEHICLES) × ((room ≡ 0) ⊎ (MOST_ENTRIES < room))) }
+{
+    let book = Book::<L>::open(alloc, layout, vehicles, room)?;
+    Ok(book.leave(Steps::new(blank)))
+}
