@@ -66,6 +66,9 @@ pub kept_many : (c : ℕ) (m : TurnstileModel Setting) (xs : List Seat) (s t : S
 kept_many c m xs s t new keeps =
     keeps.many ∙ ap length new.passes ∙ length-map (range_with_len 0 m.setting.vehicles) (λ v. Some (new_pass {E = Entry} m v)) ∙ length-range_with_len 0 m.setting.vehicles
 
+pub new_held : (m : TurnstileModel Setting) (s : Seats) (v : ℕ) → AreNew m s → v < m.setting.vehicles → held s v ≡ Some (new_pass m v)
+new_held m s v new l = ap (λ (os : List (Option AgentPass)). get_or os v None) new.passes ∙ get_or-map-range_with_len (λ n. Some (new_pass {E = Entry} m n)) 0 m.setting.vehicles v v None l (omega arith)
+
 module _ (ms : Managers) (vehicles c : ℕ) (m : TurnstileModel Setting) (gs : List Gone) (s t u : Seats) (stands : slice_get ms c ≡ Some m) (new : AreNew m s) (keeps : Keeps c (map seat_gone gs) s t) (gives : Gives c gs t u)
     (gone : AllByRecursion (IsGone ms vehicles) gs) where
   -- a leg that came back, and its log at the crossing
@@ -82,16 +85,13 @@ module _ (ms : Managers) (vehicles c : ℕ) (m : TurnstileModel Setting) (gs : L
   pub seats_operator : u.operator ≡ new_pass m OPERATOR
   seats_operator = gives.operator ∙ keeps.operator ∙ new.operator
 
-  new_held : (v : ℕ) → v < m.setting.vehicles → held s v ≡ Some (new_pass m v)
-  new_held v l = ap (λ (os : List (Option AgentPass)). get_or os v None) new.passes ∙ get_or-map-range_with_len (λ n. Some (new_pass {E = Entry} m n)) 0 m.setting.vehicles v v None l (omega arith)
-
   -- what is held for a vehicle: its new pass, where it has no leg at the crossing, and otherwise that of such a leg
   pub at_seat : (v : ℕ) → v < m.setting.vehicles → (AreOthers v c (map seat_gone gs) × (held u v ≡ Some (new_pass m v))) ⊎ IsGiven v c IsBackWith (held u v)
   at_seat v l =
       let n : length t.passes.items ≡ m.setting.vehicles = sym gives.many ∙ seats_many in
       let after : held u v ≡ held_after v c gs (held t v) = gives.after v (omega arith) in
       elim (held_cases v c IsBackWith gs (held t v) all_back_with) [
-        | inl h ↦ inl (h.0, after ∙ h.1 ∙ keeps.others v h.0 ∙ new_held v l)
+        | inl h ↦ inl (h.0, after ∙ h.1 ∙ keeps.others v h.0 ∙ new_held m s v new l)
         | inr h ↦ inr (record { leg = h.leg; known = h.known; vehicle = h.vehicle; crossing = h.crossing; given = after ∙ h.given })
       ]
 

@@ -7,5 +7,7 @@ pub mod Fewness
 pub mod Openings
 pub mod Ends
 pub mod Followed
+pub mod Gathering
+pub mod Returning
 pub mod Told
 pub mod Whole
