@@ -14,15 +14,14 @@ use aim_agents::rounds;
 use aim_manager::{Full, Manager, ManagerPass};
 use aim_plans::Ordered;
 use std::sync::Wait;
-use std::sync::ledger::Ledger;
 use std::thread::Threads;
 
 /// Lets new agents take their turns of the steps below `until`, each order being given before the turns of its moment.
-pub fn drive<L: Ledger + Send, R: Threads + Wait + Sync, G: Gate>(
+pub fn drive<R: Threads + Wait + Sync, G: Gate>(
     rt: &R,
-    manager: &Manager<L>,
-    operator: &mut ManagerPass<L>,
-    agents: &mut [Agent<L>],
+    manager: &Manager,
+    operator: &mut ManagerPass,
+    agents: &mut [Agent],
     gate: &G,
     orders: &[Ordered],
     until: u32,

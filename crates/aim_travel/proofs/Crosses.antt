@@ -1,8 +1,6 @@
 -- Travellers may go to other threads, and threads may share the managers.
-use denote.RattleType.{RattleType}
 use denote.Param.Send.{IsSend, sendable}
 use Rattle.std.proofs.Crossing.{crosses}
-use Rattle.std.specs.declared.sync.ledger.Ledger.{Ghosts}
 use Rattle.aim_driver.proofs.drivers.Driver.TheSendSync as driver
 use Rattle.aim_driver.proofs.plans.DrivePlan.TheSendSync as plan
 use Rattle.aim_manager.proofs.Crosses.{pass_send, pool_send}
@@ -10,9 +8,8 @@ use Rattle.aim_agents.proofs.Crosses.{agent_send}
 use Rattle.aim_travel.specs.contracts.travellers.Leg as Leg
 use Rattle.aim_travel.specs.contracts.travellers.Traveller as Traveller
 
-module _ (L : RattleType) (g : Ghosts L.Denot) where
-  leg_send : IsSend (Leg.the_row L g)
-  leg_send = search (sendable, crosses, plan.the_send, pass_send, pool_send) depth 30
+leg_send : IsSend Leg.the_row
+leg_send = search (sendable, crosses, plan.the_send, pass_send, pool_send) depth 30
 
-  pub traveller_send : IsSend (Traveller.the_row L g)
-  traveller_send = search (sendable, crosses, driver.the_send, pass_send, agent_send, leg_send) depth 30 fits 20000
+pub traveller_send : IsSend Traveller.the_row
+traveller_send = search (sendable, crosses, driver.the_send, pass_send, agent_send, leg_send) depth 30 fits 20000

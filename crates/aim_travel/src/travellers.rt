@@ -18,22 +18,21 @@ use std::alloc::Global;
 use std::marker::Model;
 use std::mem;
 use std::sync::Wait;
-use std::sync::ledger::Ledger;
 
 /// A leg of a route that isn't begun: one crossing, and what the vehicle is to do there.
 #[derive(Drop)]
-pub struct Leg<L: Ledger> {
+pub struct Leg {
     /// The number of the crossing.
     pub crossing: u32,
     /// Its first step is told from the step at which the leg before is through.
     pub plan: DrivePlan,
     /// The vehicle's pass of the manager at that crossing.
-    pub pass: ManagerPass<L>,
+    pub pass: ManagerPass,
     /// Three sheets.
     pub pool: Pool,
 }
 
-impl<L: Ledger> Model for Leg<L> {
+impl Model for Leg {
     ghost use Rattle.aim_travel.specs.Models.{LegModel};
 
     ghost Value = { LegModel };
@@ -46,16 +45,16 @@ impl<L: Ledger> Model for Leg<L> {
 /// Contracts see the vehicle, what is left of the legs that are over, the crossing and the agent of the leg that it is on,
 /// and the legs that aren't begun.
 #[derive(Drop)]
-pub struct Traveller<L: Ledger> {
+pub struct Traveller {
     alloc: Global,
     vehicle: u32,
-    over: Vec<(u32, Driver, ManagerPass<L>)>,
+    over: Vec<(u32, Driver, ManagerPass)>,
     crossing: u32,
-    agent: Agent<L>,
-    waiting: Vec<Leg<L>>,
+    agent: Agent,
+    waiting: Vec<Leg>,
 }
 
-impl<L: Ledger> Model for Traveller<L> {
+impl Model for Traveller {
     ghost use Rattle.std.specs.Prelude.{◌+◌, ◌≤◌, vec_len, vec_capacity};
     ghost use Rattle.aim_travel.specs.Models.{TravellerModel, AreLegsOf};
 
@@ -77,12 +76,7 @@ fn plan_behind(step: u32, mut plan: DrivePlan) -> DrivePlan
 }
 
 // An agent that has done nothing, with links that deliver all in time.
-fn new_agent<L: Ledger>(
-    alloc: Global,
-    plan: DrivePlan,
-    pass: ManagerPass<L>,
-    pool: Pool,
-) -> Agent<L>
+fn new_agent(alloc: Global, plan: DrivePlan, pass: ManagerPass, pool: Pool) -> Agent
     requires lead { plan.lead ≤ 65536 }
     requires pass { pass.mine ≡ [] }
     requires sheets { pool.count ≡ 3 }
@@ -97,7 +91,7 @@ fn new_agent<L: Ledger>(
 }
 
 // What is left of a leg that isn't begun.
-fn unbegun<L: Ledger>(alloc: Global, leg: Leg<L>) -> (u32, Driver, ManagerPass<L>)
+fn unbegun(alloc: Global, leg: Leg) -> (u32, Driver, ManagerPass)
     requires lead { leg.plan.lead ≤ 65536 }
     ensures { told result ≡ told_unbegun leg }
 {
@@ -113,9 +107,9 @@ fn unbegun<L: Ledger>(alloc: Global, leg: Leg<L>) -> (u32, Driver, ManagerPass<L
     (crossing, driver, pass)
 }
 
-impl<L: Ledger> Traveller<L> {
+impl Traveller {
     /// A vehicle that sets out on these legs, in their order.
-    pub fn new(alloc: Global, vehicle: u32, mut legs: Vec<Leg<L>>) -> Result<Traveller<L>, NoMemory>
+    pub fn new(alloc: Global, vehicle: u32, mut legs: Vec<Leg>) -> Result<Traveller, NoMemory>
         requires some { 0 < length legs.items }
         requires legs { AreLegsOf vehicle legs.items }
         ensures { IfOk result (λ t. SetsOut vehicle legs.items t) }
@@ -191,7 +185,7 @@ impl<L: Ledger> Traveller<L> {
     }
 
     // A turn of the agent of the leg that it is on.
-    fn ride<R: Wait, G: Gate>(&mut self, rt: &R, managers: &[Manager<L>], gate: &G, step: u32)
+    fn ride<R: Wait, G: Gate>(&mut self, rt: &R, managers: &[Manager], gate: &G, step: u32)
         requires ready { IsReady managers.now step self.old }
         requires most { step ≤ LATEST_MOMENT }
         ensures { TakesTurn managers.now step self.old self.new }
@@ -201,7 +195,7 @@ impl<L: Ledger> Traveller<L> {
     }
 
     /// One turn, of the leg that it is on. Where that leg is through, the next one begins with the next step.
-    pub fn turn<R: Wait, G: Gate>(&mut self, rt: &R, managers: &[Manager<L>], gate: &G, step: u32)
+    pub fn turn<R: Wait, G: Gate>(&mut self, rt: &R, managers: &[Manager], gate: &G, step: u32)
         requires ready { IsReady managers.now step self.old }
         requires most { step ≤ LATEST_MOMENT }
         ensures { Moves managers.now step (step + 1) self.old self.new }
@@ -217,7 +211,7 @@ impl<L: Ledger> Traveller<L> {
 
     /// The crossing, the driver and the pass of each leg, in order. A leg that wasn't begun has a driver with an empty
     /// log.
-    pub fn into_legs(self) -> Result<Vec<(u32, Driver, ManagerPass<L>)>, NoMemory>
+    pub fn into_legs(self) -> Result<Vec<(u32, Driver, ManagerPass)>, NoMemory>
         ensures { IfOk result (λ v. map told v.items ≡ legs_told self) }
     {
         let Traveller {

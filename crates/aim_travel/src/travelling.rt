@@ -8,17 +8,16 @@ use crate::Traveller;
 use aim_agent::Gate;
 use aim_manager::Manager;
 use std::sync::Wait;
-use std::sync::ledger::Ledger;
 use std::thread;
 use std::thread::Threads;
 
 // The turns of a run, one traveller after another.
-fn run_turns<L: Ledger, R: Wait, G: Gate>(
+fn run_turns<R: Wait, G: Gate>(
     rt: &R,
-    managers: &[Manager<L>],
+    managers: &[Manager],
     gate: &G,
     step: u32,
-    travellers: &mut [Traveller<L>],
+    travellers: &mut [Traveller],
 )
     requires ready { All (IsReady managers.now step) travellers.old }
     requires most { step ≤ LATEST_MOMENT }
@@ -29,25 +28,31 @@ fn run_turns<L: Ledger, R: Wait, G: Gate>(
     }
 }
 
-// Whether travellers of two runs may have something to do at the step.
-fn are_two_runs_busy<L: Ledger>(travellers: &[Traveller<L>], step: u32, size: usize) -> bool
+// Whether the runs are worth a thread each at the step: travellers of two runs or more have something to do, and no fewer
+// travellers than there are runs. To start a thread takes longer than a turn.
+fn are_worth_threads(travellers: &[Traveller], step: u32, size: usize) -> bool
     requires size { 0 < size }
 {
+    let runs = travellers.len().div_ceil(size);
     let mut first = None;
+    let mut busy = 0;
     for place in 0..travellers.len() {
-        let run = place / size;
-        if !travellers[place].is_idle(step) && *first.get_or_insert(run) != run {
-            return true;
+        if !travellers[place].is_idle(step) {
+            let run = place / size;
+            busy += 1;
+            if *first.get_or_insert(run) != run && runs <= busy {
+                return true;
+            }
         }
     }
     false
 }
 
-// The turns of all travellers of one step. The runs go side by side where two of them have something to do.
-fn turns<L: Ledger + Send, R: Threads + Wait + Sync, G: Gate>(
+// The turns of all travellers of one step. The runs go side by side where they are worth a thread each.
+fn turns<R: Threads + Wait + Sync, G: Gate>(
     rt: &R,
-    managers: &[Manager<L>],
-    travellers: &mut [Traveller<L>],
+    managers: &[Manager],
+    travellers: &mut [Traveller],
     gate: &G,
     step: u32,
     size: usize,
@@ -57,7 +62,7 @@ fn turns<L: Ledger + Send, R: Threads + Wait + Sync, G: Gate>(
     requires most { step ≤ LATEST_MOMENT }
     ensures { Travels managers.now step (step + 1) travellers.old travellers.new }
 {
-    if !are_two_runs_busy(travellers, step, size) {
+    if !are_worth_threads(travellers, step, size) {
         run_turns(rt, managers, gate, step, travellers);
         return;
     }
@@ -65,7 +70,7 @@ fn turns<L: Ledger + Send, R: Threads + Wait + Sync, G: Gate>(
         rt,
         travellers,
         size,
-        &|_start: usize, run: &mut [Traveller<L>]|
+        &|_start: usize, run: &mut [Traveller]|
             requires { All (IsReady managers.now step) run.now × (step ≤ LATEST_MOMENT) }
             ensures { Travels managers.entry.now step (step + 1) run.entry.now run.exit.now }
         { run_turns(rt, managers, gate, step, run) },
@@ -73,12 +78,13 @@ fn turns<L: Ledger + Send, R: Threads + Wait + Sync, G: Gate>(
 }
 
 /// Lets the travellers take their turns of the steps from `from` on and below `to`. In each step they are cut into runs
-/// of so many neighbours that there are at most `workers` runs. Where two runs have something to do the runs go side by
-/// side, on threads of their own where threads can be had, and are joined before the next step.
-pub fn travel<L: Ledger + Send, R: Threads + Wait + Sync, G: Gate>(
+/// of so many neighbours that there are at most `workers` runs. Where travellers of two runs or more have something to
+/// do, and no fewer travellers than there are runs, the runs go side by side, on threads of their own where threads can
+/// be had, and are joined before the next step.
+pub fn travel<R: Threads + Wait + Sync, G: Gate>(
     rt: &R,
-    managers: &[Manager<L>],
-    travellers: &mut [Traveller<L>],
+    managers: &[Manager],
+    travellers: &mut [Traveller],
     gate: &G,
     from: u32,
     to: u32,

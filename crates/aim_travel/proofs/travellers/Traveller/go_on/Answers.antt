@@ -6,7 +6,7 @@ use Rattle.aim_travel.proofs.Along.{first_out}
 use Rattle.aim_travel.proofs.travellers.Traveller.go_on.Goals as goal
 
 pub returns : goal.returns
-returns g c =
+returns c =
     let view = c.self.view_is in
     let waiting = c.self.inside.waiting.items in
     let next : LegModel = record { crossing = c.crossing.inside.crossing; plan = c.crossing.inside.plan; pass = c.crossing.inside.pass; pool = c.crossing.inside.pool } in

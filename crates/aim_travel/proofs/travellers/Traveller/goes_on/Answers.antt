@@ -7,18 +7,18 @@ use Rattle.aim_travel.proofs.Along.{no_legs, in_trouble, goes_by}
 use Rattle.aim_travel.proofs.travellers.Traveller.goes_on.Goals as goal
 
 pub returns-then-is_empty : goal.returns-then-is_empty
-returns-then-is_empty g c =
+returns-then-is_empty c =
     let n : c.self.inside.waiting.len ≡ 0 = eqb-true _ _ (sym c.is_empty.ensures ∙ c.if-is_empty.true) in
     let e : length c.self.inside.waiting.items ≡ 0 = omega (arith, c.self.inside.waiting.ok) in
     no_legs c.args.self.now c.self.inside.waiting.items (ap (λ (t : TravellerModel). t.waiting) c.self.view_is) e
 
 pub returns-then-is_some : goal.returns-then-is_some
-returns-then-is_some g c =
+returns-then-is_some c =
     in_trouble c.args.self.now c.trouble.result (c.trouble.ensures.trouble ∙ ap (λ (t : TravellerModel). t.agent.trouble) c.self.view_is)
     (sym c.is_some.ensures ∙ c.if-is_some.true)
 
 pub returns : goal.returns
-returns g c =
+returns c =
     let len : c.self.inside.waiting.len ≡ length c.self.inside.waiting.items = omega (arith, c.self.inside.waiting.ok) in
     subst (λ b. GoesOn c.args.self.now b) (sym c.is_some-2.ensures)
     (goes_by c.args.self.now c.self.inside.waiting.items c.self.inside.waiting.len c.trouble.result c.acked_at.result

@@ -7,7 +7,7 @@ use Rattle.aim_travel.proofs.Legs.{all_yielded, told_left}
 use Rattle.aim_travel.proofs.travellers.Traveller.into_legs.Goals as goal
 
 pub returns : goal.returns
-returns g c =
+returns c =
     let gives = c.into_iter-leg-iterator.ensures.into_iter_gives in
     let t = YieldsList-end (YieldsList-from_vec {s = c.into_iter-leg-iterator.result} c.self.inside.waiting.items gives.0 (omega (arith, gives.1))) c.loop-leg.yielded c.loop-leg.leg-iterator c.loop-leg.yielded_by c.next.result c.next.new.self c.in-None.is c.next.ensures.steps in
     let all = all_yielded c.loop-leg.yielded c.self.inside.waiting.items t.0 in

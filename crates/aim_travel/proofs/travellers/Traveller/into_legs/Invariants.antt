@@ -3,4 +3,4 @@ use Rattle.aim_travel.specs.Legs.{told, told_unbegun}
 use Rattle.aim_travel.proofs.travellers.Traveller.into_legs.Given as goal
 
 abbrev pub invariant-loop-leg : goal.invariant-loop-leg
-invariant-loop-leg g l = map told l.over.items ≡ map told l.initial.over.items ++ map told_unbegun l.yielded
+invariant-loop-leg l = map told l.over.items ≡ map told l.initial.over.items ++ map told_unbegun l.yielded
