@@ -3,8 +3,8 @@ use Rattle.std.proofs.Common.{◌≡◌, ◌≢◌, ℕ, zero, suc, ◌+◌, ◌
 use Rattle.std.specs.Prelude.{All, AllPairs, slice_get}
 use Rattle.std.specs.List.{AllByRecursion, AllZip, filter}
 use Rattle.std.proofs.Math.ListN.{set}
-use Rattle.std.proofs.lemmas.Bool.{and_from, and_left, and_right, cases_eq, eq-eqb, ne_eqb}
-use Rattle.std.proofs.lemmas.List.{append-nil, get_or-take, get_or_read, length-set}
+use Rattle.std.proofs.lemmas.Bool.{and_from, and_left, and_right, cases_eq, cases_lt, eq-eqb, ne_eqb}
+use Rattle.std.proofs.lemmas.List.{append-nil, get_or-take, get_or_past, get_or_read, length-set}
 use Rattle.std.proofs.lemmas.List.Elements.{filter_more}
 use Rattle.std.proofs.lemmas.Option.{slice_get_within, slice_get-get_or}
 use Rattle.aim_driver.specs.declared.logs.LogItem.{LogItem}
@@ -20,6 +20,10 @@ use Rattle.aim_crossings.specs.Making.{AllKeep, AreOthers, HasNew, IsMadeLeg, Is
 use Rattle.aim_crossings.specs.Closing.{AllGive, Gives, Gone, IsBackAt, IsSeated, held_after, logs_gone}
 use Rattle.aim_crossings.proofs.Places.{others_filter}
 use Rattle.aim_crossings.proofs.Zips.{same_some, set_here, set_there, there}
+
+-- where a pass is held there is a seat
+pub held_within : (s : Seats) (v : ℕ) (p : AgentPass) → held s v ≡ Some p → v < length s.passes.items
+held_within s v p is = elim (cases_lt v (length s.passes.items)) [ inl l ↦ l | inr ge ↦ absurd (cc (get_or_past s.passes.items v None ge, is)) ]
 
 -- a pass was taken
 

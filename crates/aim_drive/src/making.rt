@@ -11,15 +11,14 @@ use aim_manager::{Manager, ManagerPass};
 use aim_plans::Planned;
 use aim_pool::Pool;
 use std::alloc::Global;
-use std::sync::ledger::Ledger;
 
 // A new agent that has the plan, the fates and the pass.
-fn agent_of<L: Ledger>(
+fn agent_of(
     alloc: Global,
     planned: Planned,
-    pass: ManagerPass<L>,
+    pass: ManagerPass,
     spans: u32,
-) -> Result<Agent<L>, NoMemory>
+) -> Result<Agent, NoMemory>
     requires lead { planned.plan.lead ≤ 65536 }
     requires pass { pass.mine ≡ [] }
     ensures { IfOk result (λ a. IsMadeOf planned pass spans a) }
@@ -38,7 +37,7 @@ fn agent_of<L: Ledger>(
 }
 
 // Takes out the pass of the vehicle.
-fn take_pass<L: Ledger>(passes: &mut Vec<ManagerPass<L>>, vehicle: u32) -> ManagerPass<L>
+fn take_pass(passes: &mut Vec<ManagerPass>, vehicle: u32) -> ManagerPass
     requires { Contains (map (λ p. p.number) passes.old.items) vehicle }
     ensures { IsTaken passes.old.items vehicle result passes.new.items }
 {
@@ -53,13 +52,13 @@ fn take_pass<L: Ledger>(passes: &mut Vec<ManagerPass<L>>, vehicle: u32) -> Manag
 }
 
 /// An agent for each plan, in their order, with the pass of its vehicle. The other passes are left.
-pub(crate) fn agents_of<L: Ledger>(
+pub(crate) fn agents_of(
     alloc: Global,
-    manager: &Manager<L>,
+    manager: &Manager,
     plans: Vec<Planned>,
-    passes: &mut Vec<ManagerPass<L>>,
+    passes: &mut Vec<ManagerPass>,
     spans: u32,
-) -> Result<Vec<Agent<L>>, NoMemory>
+) -> Result<Vec<Agent>, NoMemory>
     requires plans { ArePlans manager.now.setting.vehicles plans.items }
     requires passes { passes.old.items ≡ all_passes manager.now }
     ensures agents { IfOk result (λ v. AreAgentsFor manager.now spans plans.items v.items) }

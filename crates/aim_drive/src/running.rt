@@ -23,7 +23,6 @@ use aim_paths::Layout;
 use aim_plans::DriveScript;
 use std::alloc::Global;
 use std::sync::Wait;
-use std::sync::ledger::{Blank, Ledger};
 use std::thread::Threads;
 
 /// The log of a vehicle's driver.
@@ -42,24 +41,20 @@ pub struct Drove {
     pub logs: Vec<Logged>,
 }
 
-// A new manager with room for all calls and orders of a drive.
-fn open<L: Ledger>(
+/// A new manager with room for all calls and orders of a drive.
+pub fn open(
     alloc: Global,
     layout: Layout,
     vehicles: u32,
     orders: u32,
-    blank: Blank,
-) -> Result<Opened<L>, NoMemory>
+) -> Result<Opened, NoMemory>
     requires vehicles { (0 < vehicles) × (vehicles ≤ 256) }
     requires orders { orders ≤ 1024 }
-    requires name { blank.name ≡ L.name }
-    requires parts { blank.parts ≡ L.parts }
-    requires some { 0 < blank.parts }
     ensures manager { IfOk result (λ o. o.manager.setting ≡ record { layout = layout; vehicles = vehicles; room = 128 * vehicles + orders + 1 }) }
     ensures passes { IfOk result (λ o. o.passes.items ≡ all_passes o.manager) }
     ensures operator { IfOk result (λ o. o.operator ≡ new_pass o.manager OPERATOR) }
 {
-    match Manager::<L>::open(alloc, layout, vehicles, 128 * vehicles + orders + 1, blank) {
+    match Manager::open(alloc, layout, vehicles, 128 * vehicles + orders + 1) {
         Ok(opened) => Ok(opened),
         Err(OpenFault::NoMemory) => Err(NoMemory),
         Err(OpenFault::Vehicles) => unreachable!(),
@@ -68,7 +63,7 @@ fn open<L: Ledger>(
 }
 
 // Whether one of them found no memory.
-fn lack_memory<L: Ledger>(agents: &Vec<Agent<L>>) -> bool
+fn lack_memory(agents: &Vec<Agent>) -> bool
     ensures { result ≡ false → All (λ a. (a.trouble ≢ Some trouble.NoMemory) × (a.trouble ≡ Some trouble.Full → IsFull a.pass)) agents.now.items }
 {
     for agent in agents {
@@ -80,10 +75,10 @@ fn lack_memory<L: Ledger>(agents: &Vec<Agent<L>>) -> bool
 }
 
 // The logs of the drivers, in the order of the agents. Their passes come behind the others.
-fn logs_of<L: Ledger>(
+fn logs_of(
     alloc: Global,
-    agents: Vec<Agent<L>>,
-    passes: &mut Vec<ManagerPass<L>>,
+    agents: Vec<Agent>,
+    passes: &mut Vec<ManagerPass>,
 ) -> Result<Vec<Logged>, NoMemory>
     ensures logs { IfOk result (λ v. map log_of v.items ≡ map told_by agents.items) }
     ensures passes { OnOk result (passes.new.items ≡ passes.old.items ++ map (λ (a : AgentModel). a.pass) agents.items) }
@@ -103,19 +98,15 @@ fn logs_of<L: Ledger>(
 /// Runs a whole script: an agent for each plan, their turns of all steps in rounds of that many runs side by side, and
 /// the operator's orders between them. The journal and the logs are as the headline says, and each driver enters at a
 /// step for which its tiles can be told.
-pub fn run_script<L: Ledger + Send, R: Threads + Wait + Sync, G: Gate>(
+pub fn run_script<R: Threads + Wait + Sync, G: Gate>(
     rt: &R,
     alloc: Global,
     script: DriveScript,
     gate: &G,
     workers: u32,
-    blank: Blank,
 ) -> Result<Drove, NoMemory>
     requires script { IsFit script }
     requires workers { (0 < workers) × (workers ≤ 64) }
-    requires name { blank.name ≡ L.name }
-    requires parts { blank.parts ≡ L.parts }
-    requires some { 0 < blank.parts }
     ensures headline { IfOk result (λ d. Headline script.layout script.vehicles script.until (run_size (length script.plans.items) workers)
         (map drive_told script.plans.items) script.orders.items d.journal.items (map log_of d.logs.items)) }
     ensures few { IfOk result (λ d. length d.journal.items ≤ 128 * script.vehicles + length script.orders.items + 1) }
@@ -129,7 +120,7 @@ pub fn run_script<L: Ledger + Send, R: Threads + Wait + Sync, G: Gate>(
         orders,
     } = script;
     let spans = layout.ground().grid().spans;
-    let opened = open::<L>(alloc, layout, vehicles, orders.len() as u32, blank)?;
+    let opened = open(alloc, layout, vehicles, orders.len() as u32)?;
     let Opened {
         manager,
         mut passes,

@@ -9,7 +9,7 @@ use Rattle.aim_drive.proofs.Seats.{contains_pass, taken_new, made_next, left_mor
 use Rattle.aim_drive.proofs.making.agents_of.Goals as goal
 
 pub take_pass-pass-requires : goal.take_pass-pass-requires
-take_pass-pass-requires g c =
+take_pass-pass-requires c =
     let i = c.loop-planned.invariant in
     let gives = c.into_iter-planned-iterator.ensures.into_iter_gives in
     let t = YieldsList-turn (YieldsList-from_vec {s = c.into_iter-planned-iterator.result} c.args.plans.items gives.0 (omega (arith, gives.1))) c.loop-planned.yielded c.loop-planned.planned-iterator c.loop-planned.yielded_by c.next.result c.next.new.self c.in-Some.planned c.in-Some.is c.next.ensures.steps in
@@ -17,12 +17,12 @@ take_pass-pass-requires g c =
     c.requires.plans i.made i.left t.0 t.1
 
 pub agent_of-requires-clause-pass : goal.agent_of-requires-clause-pass
-agent_of-requires-clause-pass g c =
+agent_of-requires-clause-pass c =
     ap (λ (p : AgentPass). p.mine) (taken_new c.args.manager.now c.loop-planned.agents.items c.loop-planned.passes.items c.take_pass-pass.new.passes.items c.in-Some.planned.vehicle c.take_pass-pass.result
     c.loop-planned.invariant.left c.take_pass-pass.ensures)
 
 pub loop-planned-preserved : goal.loop-planned-preserved
-loop-planned-preserved g c =
+loop-planned-preserved c =
     let i = c.loop-planned.invariant in
     let gives = c.into_iter-planned-iterator.ensures.into_iter_gives in
     let t = YieldsList-turn (YieldsList-from_vec {s = c.into_iter-planned-iterator.result} c.args.plans.items gives.0 (omega (arith, gives.1))) c.loop-planned.yielded c.loop-planned.planned-iterator c.loop-planned.yielded_by c.next.result c.next.new.self c.in-Some.planned c.in-Some.is c.next.ensures.steps in
@@ -47,7 +47,7 @@ loop-planned-preserved g c =
     }
 
 pub returns-clause-agents : goal.returns-clause-agents
-returns-clause-agents g c =
+returns-clause-agents c =
     let gives = c.into_iter-planned-iterator.ensures.into_iter_gives in
     let t = YieldsList-end (YieldsList-from_vec {s = c.into_iter-planned-iterator.result} c.args.plans.items gives.0 (omega (arith, gives.1))) c.loop-planned.yielded c.loop-planned.planned-iterator c.loop-planned.yielded_by c.next.result c.next.new.self c.in-None.is c.next.ensures.steps in
     subst (λ (ps : List Planned). AreAgentsFor c.args.manager.now c.args.spans ps c.loop-planned.agents.items) (take_all (length c.loop-planned.yielded) c.args.plans.items (omega (arith, t.1))) c.loop-planned.invariant.made

@@ -5,12 +5,12 @@ use Rattle.aim_drive.proofs.Lists.{element}
 use Rattle.aim_drive.proofs.making.take_pass.Goals as goal
 
 pub loop-place-smaller : goal.loop-place-smaller
-loop-place-smaller g c =
+loop-place-smaller c =
     let s : length c.loop-place.passes.items ≡ length c.args.passes.now.items = ap (λ l. length l) c.loop-place.invariant.same in
     omega arith
 
 pub unreachable-requires : goal.unreachable-requires
-unreachable-requires g c =
+unreachable-requires c =
     let ps = c.args.passes.now.items in
     let n : length (map (λ (p : AgentPass). p.number) c.args.passes.now.items) ≡ length c.args.passes.now.items = length-map c.args.passes.now.items (λ (p : AgentPass). p.number) in
     let s : length c.loop-place.passes.items ≡ length c.args.passes.now.items = ap (λ l. length l) c.loop-place.invariant.same in

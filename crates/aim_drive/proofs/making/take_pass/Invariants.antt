@@ -3,10 +3,10 @@ use Rattle.aim_agent.specs.Agents.{AgentPass}
 use Rattle.aim_drive.proofs.making.take_pass.Given as goal
 
 abbrev pub invariant-loop-place : goal.invariant-loop-place
-invariant-loop-place g l = record {
+invariant-loop-place l = record {
   same : l.passes.items ≡ l.fn.passes.items;
   none : (k : ℕ) (d : AgentPass) → k < l.place → (get_or l.fn.passes.items k d).number ≢ l.vehicle;
 }
 
 abbrev pub decreases-loop-place : goal.decreases-loop-place
-decreases-loop-place g l = length l.fn.passes.items - l.place
+decreases-loop-place l = length l.fn.passes.items - l.place

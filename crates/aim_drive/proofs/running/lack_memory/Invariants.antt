@@ -4,4 +4,4 @@ use Rattle.aim_agent.specs.Agents.{AgentModel, IsFull}
 use Rattle.aim_drive.proofs.running.lack_memory.Given as goal
 
 abbrev pub invariant-loop-agent : goal.invariant-loop-agent
-invariant-loop-agent g l = (k : ℕ) (d : AgentModel) → k < l.agent-index → let a = get_or l.agents.items k d in (a.trouble ≢ Some trouble.NoMemory) × (a.trouble ≡ Some trouble.Full → IsFull a.pass)
+invariant-loop-agent l = (k : ℕ) (d : AgentModel) → k < l.agent-index → let a = get_or l.agents.items k d in (a.trouble ≢ Some trouble.NoMemory) × (a.trouble ≡ Some trouble.Full → IsFull a.pass)

@@ -5,7 +5,7 @@ use Rattle.aim_drive.specs.Making.{told_by, log_of}
 use Rattle.aim_drive.proofs.running.logs_of.Given as goal
 
 abbrev pub invariant-loop-agent : goal.invariant-loop-agent
-invariant-loop-agent g l = record {
+invariant-loop-agent l = record {
   count : vec_len l.logs ≡ length l.yielded;
   room : vec_len l.fn.agents ≤ vec_capacity l.logs;
   logs : map log_of l.logs.items ≡ map told_by l.yielded;
