@@ -1,10 +1,12 @@
 -- Crossings that were opened, and the legs that are made there.
-use Rattle.std.proofs.Common.{◌≡◌, ◌≢◌, ℕ, ◌+◌, ◌*◌, ◌<◌, ◌≤◌, ◌==◌, List, [], ◌∷◌, length, map, Some, refl, sym, ap, ◌∙◌, subst, arith}
+use Rattle.std.proofs.Common.{◌≡◌, ◌≢◌, ℕ, ◌+◌, ◌*◌, ◌<◌, ◌≤◌, ◌==◌, List, [], ◌∷◌, ◌++◌, length, map, Option, Some, refl, sym, ap, ◌∙◌, subst, arith}
 use Rattle.std.specs.Prelude.{All, slice_get}
-use Rattle.std.specs.List.{AllByRecursion, AllZip}
-use Rattle.std.proofs.lemmas.List.{length-map}
-use Rattle.std.proofs.lemmas.List.Elements.{All-from_recursion, recursion_from_All, All-filter}
+use Rattle.std.specs.List.{AllByRecursion, AllZip, range_with_len}
+use Rattle.std.proofs.lemmas.List.{length-map, map-append}
+use Rattle.std.proofs.lemmas.List.Elements.{All-from_recursion, All-push, recursion_from_All, All-filter}
+use Rattle.aim_msg.specs.declared.entries.TheConstants.{OPERATOR}
 use Rattle.aim_paths.specs.Intersection.{Intersection}
+use Rattle.aim_paths.specs.Valid.{IsValid}
 use Rattle.aim_driver.specs.declared.plans.DrivePlan.{DrivePlan}
 use Rattle.aim_driver.specs.Models.{step_of}
 use Rattle.aim_turn.specs.Models.{TurnstileModel, IsPassOf, new_pass}
@@ -13,13 +15,14 @@ use Rattle.aim_agent.specs.Agents.{AgentPass}
 use Rattle.aim_travel.specs.Models.{LegModel, TravellerModel, IsLegOf, AreLegsOf}
 use Rattle.aim_travel.specs.Rode.{Managers}
 use Rattle.aim_travel.specs.Travels.{IsLegAt, IsReady, SetsOut}
+use Rattle.aim_drive.specs.Making.{all_passes}
 use Rattle.aim_routes.specs.declared.routes.PlannedLeg.{PlannedLeg}
 use Rattle.aim_routes.specs.Fits.{AreLegs, FitsLeg}
 use Rattle.aim_crossings.specs.declared.seats.Seats.{Seats}
 use Rattle.aim_crossings.specs.Runs.{legs_for}
 use Rattle.aim_crossings.specs.Making.{AreNew, AreOpen, IsMadeLeg, IsSetOut, setting_in, setting_of}
 use Rattle.aim_crossings.proofs.Rides.{vehicle_for}
-use Rattle.aim_crossings.proofs.Zips.{map_at, map_from, same_some, zip_at, zip_length}
+use Rattle.aim_crossings.proofs.Zips.{map_at, map_from, zip_at, zip_length, zip_push}
 
 -- what is known of a crossing of its own
 pub record IsOpenAt (layouts : List Intersection) (vehicles c : ℕ) (m : TurnstileModel Setting) : Type 0 where
@@ -115,3 +118,34 @@ module _ (ms : Managers) where
   set_ready layouts vehicles crossings seats legs t open_are fit s =
       sets_ready t.vehicle s.made t s.out
       (legs_at vehicles crossings (legs_for t.vehicle legs) s.made (λ c m at. (open_at layouts vehicles ms seats c m open_are at).vehicles_is) (fit_for vehicles crossings t.vehicle legs fit) s.legs_are)
+
+-- one crossing more is opened
+
+new_each : (m : TurnstileModel Setting) (vs : List ℕ) → map (λ (p : AgentPass). Some p) (map (new_pass m) vs) ≡ map (λ v. Some (new_pass m v)) vs
+new_each m [] = refl
+new_each m (v ∷ vs) = ap (λ (l : List (Option AgentPass)). Some (new_pass m v) ∷ l) (new_each m vs)
+
+pub manager_new : (m : TurnstileModel Setting) (s : Seats) (ps : List AgentPass) (op : AgentPass) → s.passes.items ≡ map (λ (p : AgentPass). Some p) ps → ps ≡ all_passes m → s.operator ≡ op → op ≡ new_pass m OPERATOR → s.logs.items ≡ [] → AreNew m s
+manager_new m s ps op held is same new none = record {
+  passes = held ∙ ap (map (λ (p : AgentPass). Some p)) is ∙ new_each m (range_with_len 0 m.setting.vehicles);
+  operator = same ∙ new;
+  logs = none;
+}
+
+pub settings_more : (ms next : Managers) (m : TurnstileModel Setting) (vehicles : ℕ) (layouts : List Intersection) (i : Intersection) → next ≡ ms ++ m ∷ [] → map setting_in ms ≡ map (setting_of vehicles) layouts
+    → m.setting ≡ record { layout = i; vehicles = vehicles; room = 128 * vehicles + 0 + 1 } → map setting_in next ≡ map (setting_of vehicles) (layouts ++ i ∷ [])
+settings_more ms next m vehicles layouts i more before is =
+    let room : 128 * vehicles + 0 + 1 ≡ 128 * vehicles + 1 = omega arith in
+    ap (map setting_in) more
+    ∙ map-append setting_in ms (m ∷ [])
+    ∙ (λ j. before j ++ (is ∙ ap (λ n. record { layout = i; vehicles = vehicles; room = n }) room) j ∷ [])
+    ∙ sym (map-append (setting_of vehicles) layouts (i ∷ []))
+
+pub valid_more : (ms next : Managers) (m : TurnstileModel Setting) (i : Intersection) → next ≡ ms ++ m ∷ [] → All (λ (k : TurnstileModel Setting). IsValid k.setting.layout) ms → IsValid i → m.setting.layout ≡ i
+    → All (λ (k : TurnstileModel Setting). IsValid k.setting.layout) next
+valid_more ms next m i more before valid is =
+    subst (λ (l : Managers). All (λ (k : TurnstileModel Setting). IsValid k.setting.layout) l) (sym more) (All-push (λ (k : TurnstileModel Setting). IsValid k.setting.layout) ms m before (subst IsValid (sym is) valid))
+
+pub seats_more : (ms next : Managers) (m : TurnstileModel Setting) (seats seats' : List Seats) (s : Seats) → next ≡ ms ++ m ∷ [] → seats' ≡ seats ++ s ∷ [] → AllZip AreNew ms seats → AreNew m s → AllZip AreNew next seats'
+seats_more ms next m seats seats' s more more' before new =
+    subst (λ (l : Managers). AllZip AreNew l seats') (sym more) (subst (λ (l : List Seats). AllZip AreNew (ms ++ m ∷ []) l) (sym more') (zip_push AreNew ms seats m s before new))

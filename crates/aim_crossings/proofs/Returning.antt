@@ -1,11 +1,12 @@
 -- Legs that come back one after another, and crossings that are closed so.
 use Rattle.std.proofs.Common.{◌≡◌, ℕ, zero, suc, ◌+◌, ◌<◌, List, [], ◌∷◌, ◌++◌, length, map, get_or, Option, Some, None, refl, sym, ap, ◌∙◌, subst, arith}
-use Rattle.std.specs.Prelude.{All, slice_get}
+use Rattle.std.specs.Prelude.{All, IsSomeAnd, slice_get}
 use Rattle.std.specs.List.{AllByRecursion, AllZip, zip}
 use Rattle.std.proofs.lemmas.List.{append-nil, append_assoc, get_or-map, length-map, map-append}
 use Rattle.std.proofs.lemmas.List.Elements.{All-from_recursion}
 use Rattle.aim_turn.specs.Models.{TurnstileModel}
 use Rattle.aim_manager.specs.declared.keeper.Setting.{Setting}
+use Rattle.aim_agent.specs.Agents.{AgentPass}
 use Rattle.aim_travel.specs.Legs.{LegTold, legs_told, told}
 use Rattle.aim_travel.specs.Models.{OverModel, TravellerModel}
 use Rattle.aim_travel.specs.Rode.{Managers}
@@ -70,6 +71,12 @@ traveller_more ts t v os seats now next own told_is p q =
     (all_give_then (all_gone ts) (gone_of t) seats now next p (subst (λ gs. AllGive gs now next) (sym (same_told v t os own told_is)) q))
 
 -- closing
+
+-- the passes that are taken out of the seats are the manager's
+pub tables_of : (m : TurnstileModel Setting) (s : Seats) (ps : List AgentPass) → AreBack m s → s.passes.items ≡ map (λ p. Some p) ps → All (λ (p : AgentPass). p.table ≡ m.table) ps
+tables_of m s ps back is k d l =
+    let n : length s.passes.items ≡ length ps = ap length is ∙ length-map ps (λ (p : AgentPass). Some p) in
+    subst (λ o. IsSomeAnd o (λ (p : AgentPass). p.table ≡ m.table)) (ap (λ (os : List (Option AgentPass)). get_or os k (Some d)) is ∙ get_or-map (λ (p : AgentPass). Some p) ps k d (Some d) l) (back.back k (Some d) (omega arith))
 
 abbrev pub Open : Type 0
 Open = TurnstileModel Setting × Seats

@@ -4,9 +4,9 @@ use Rattle.std.specs.Prelude.{All, AllPairs, slice_get}
 use Rattle.std.specs.List.{AllByRecursion, AllZip, filter}
 use Rattle.std.proofs.Math.ListN.{set}
 use Rattle.std.proofs.lemmas.Bool.{and_from, and_left, and_right, cases_eq, cases_lt, eq-eqb, ne_eqb}
-use Rattle.std.proofs.lemmas.List.{append-nil, get_or-take, get_or_past, get_or_read, length-set}
+use Rattle.std.proofs.lemmas.List.{append-nil, get_or-take, get_or_past, get_or_read, length-set, map-append}
 use Rattle.std.proofs.lemmas.List.Elements.{filter_more}
-use Rattle.std.proofs.lemmas.Option.{slice_get_within, slice_get-get_or}
+use Rattle.std.proofs.lemmas.Option.{get_or_from_slice_get, slice_get_within}
 use Rattle.aim_driver.specs.declared.logs.LogItem.{LogItem}
 use Rattle.aim_agent.specs.Agents.{AgentPass}
 use Rattle.aim_travel.specs.Rode.{Managers}
@@ -19,11 +19,16 @@ use Rattle.aim_crossings.specs.Runs.{legs_for}
 use Rattle.aim_crossings.specs.Making.{AllKeep, AreOthers, HasNew, IsMadeLeg, IsTakenAt, Keeps, Seat, held, seat_of}
 use Rattle.aim_crossings.specs.Closing.{AllGive, Gives, Gone, IsBackAt, IsSeated, held_after, logs_gone}
 use Rattle.aim_crossings.proofs.Places.{others_filter}
-use Rattle.aim_crossings.proofs.Zips.{same_some, set_here, set_there, there}
+use Rattle.aim_crossings.proofs.Held.{all_keep_then}
+use Rattle.aim_crossings.proofs.Zips.{same_some, set_here, set_there, there, zip_push}
 
 -- where a pass is held there is a seat
 pub held_within : (s : Seats) (v : ℕ) (p : AgentPass) → held s v ≡ Some p → v < length s.passes.items
 held_within s v p is = elim (cases_lt v (length s.passes.items)) [ inl l ↦ l | inr ge ↦ absurd (cc (get_or_past s.passes.items v None ge, is)) ]
+
+-- what is read at a place is what stands there
+pub read_seats : (seats : List Seats) (c : ℕ) (s t : Seats) → slice_get seats c ≡ Some s → t ≡ get_or seats c t → s ≡ t
+read_seats seats c s t at is = sym (get_or_from_slice_get seats c s t at) ∙ sym is
 
 -- a pass was taken
 
@@ -138,3 +143,24 @@ seated_after gs seats new g gives h =
     let many : length t.0.passes.items ≡ length h.there.passes.items = (gives.each g.crossing h.there t.0 h.at t.1).many in
     let low : g.vehicle < length h.there.passes.items = h.seat in
     record { there = t.0; at = t.1; seat = omega arith }
+
+-- one leg more of a vehicle
+
+pub leg_new : (ms : Managers) (seats now : List Seats) (v : ℕ) (legs : List PlannedLeg) (k : ℕ) (p : PlannedLeg) → All (λ (q : PlannedLeg). q.vehicle ≡ v → HasNew ms seats q) legs → AllPairs AreApart legs → k < length legs → p ≡ get_or legs k p → p.vehicle ≡ v
+    → AllKeep (map seat_of (legs_for v (take k legs))) seats now → HasNew ms now p
+leg_new ms seats now v legs k p new apart l is own keeps =
+    kept_new ms (map seat_of (legs_for v (take k legs))) seats now p
+    (subst (λ (q : PlannedLeg). HasNew ms seats q) (sym is) (new k p l (ap (λ (q : PlannedLeg). q.vehicle) (sym is) ∙ own))) keeps
+    (subst (λ w. AreOthers p.vehicle p.crossing (map seat_of (legs_for w (take k legs)))) own (others_before legs k p apart l is))
+
+pub made_more : (ms : Managers) (v : ℕ) (legs : List PlannedLeg) (k : ℕ) (p : PlannedLeg) (ls next : List LegModel) (x : LegModel) → k < length legs → p ≡ get_or legs k p → p.vehicle ≡ v → next ≡ ls ++ x ∷ [] → AllZip (IsMadeLeg ms) (legs_for v (take k legs)) ls
+    → IsMadeLeg ms p x → AllZip (IsMadeLeg ms) (legs_for v (take (k + 1) legs)) next
+made_more ms v legs k p ls next x l is own more before made =
+    subst (λ (ps : List PlannedLeg). AllZip (IsMadeLeg ms) ps next) (sym (legs_more v legs k p l is own))
+    (subst (λ (xs : List LegModel). AllZip (IsMadeLeg ms) (legs_for v (take k legs) ++ p ∷ []) xs) (sym more) (zip_push (IsMadeLeg ms) (legs_for v (take k legs)) ls p x before made))
+
+pub kept_more : (v : ℕ) (legs : List PlannedLeg) (k : ℕ) (p : PlannedLeg) (seats now next : List Seats) → k < length legs → p ≡ get_or legs k p → p.vehicle ≡ v → AllKeep (map seat_of (legs_for v (take k legs))) seats now → AllKeep (seat_of p ∷ []) now next
+    → AllKeep (map seat_of (legs_for v (take (k + 1) legs))) seats next
+kept_more v legs k p seats now next l is own before more =
+    subst (λ ss. AllKeep ss seats next) (sym (ap (map seat_of) (legs_more v legs k p l is own) ∙ map-append seat_of (legs_for v (take k legs)) (p ∷ [])))
+    (all_keep_then (map seat_of (legs_for v (take k legs))) (seat_of p ∷ []) seats now next before more)

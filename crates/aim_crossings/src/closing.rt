@@ -55,7 +55,7 @@ impl Crossings {
         legs: Vec<(u32, Driver, ManagerPass)>,
     ) -> Result<(), NoMemory>
         requires seated { AllByRecursion (IsSeated self.old.seats.items) (map (gone vehicle) (map told legs.items)) }
-        ensures managers { self.new.managers ≡ self.old.managers }
+        ensures managers { self.new.managers.items ≡ self.old.managers.items }
         ensures seats { OnOk result (AllGive (map (gone vehicle) (map told legs.items)) self.old.seats.items self.new.seats.items) }
     {
         for (crossing, driver, pass) in legs {
@@ -67,7 +67,7 @@ impl Crossings {
     /// Takes back what is left of the travellers' legs.
     pub(crate) fn take_back(&mut self, travellers: Vec<Traveller>) -> Result<(), NoMemory>
         requires seated { AllByRecursion (IsSeated self.old.seats.items) (all_gone travellers.items) }
-        ensures managers { self.new.managers ≡ self.old.managers }
+        ensures managers { self.new.managers.items ≡ self.old.managers.items }
         ensures seats { OnOk result (AllGive (all_gone travellers.items) self.old.seats.items self.new.seats.items) }
     {
         for traveller in travellers {

@@ -1,6 +1,6 @@
 //! Crossings that are opened, and the travellers that set out over them.
 
-ghost use Rattle.std.specs.Prelude.{◌≡◌, ◌≢◌, ◌<◌, ◌≤◌, [], ◌∷◌, length, map, true, false, All, AllPairs, Contains, IfOk};
+ghost use Rattle.std.specs.Prelude.{◌≡◌, ◌≢◌, ◌<◌, ◌≤◌, [], ◌∷◌, length, map, true, false, All, AllPairs, Contains, IfOk, OnOk};
 ghost use Rattle.std.specs.List.{AllZip};
 ghost use Rattle.aim_grid_read.specs.Spelled.{IsBare};
 ghost use Rattle.aim_routes.specs.Fits.{AreApart};
@@ -69,11 +69,12 @@ impl Crossings {
         let mut all = Vec::with_capacity(alloc, layouts.len())?;
         for layout in layouts {
             layout.ground();
+            let opened = open(alloc, layout, vehicles, 0)?;
             let Opened {
                 manager,
                 passes,
                 operator,
-            } = open(alloc, layout, vehicles, 0)?;
+            } = opened;
             all.push_reserved(Seats::new(alloc, passes, operator)?);
             managers.push_reserved(manager);
         }
@@ -88,8 +89,8 @@ impl Crossings {
         requires new { HasNew self.old.managers.items self.old.seats.items planned.now }
         requires bare { IsBare planned.now.plan }
         ensures leg { IfOk result (λ l. IsMadeLeg self.old.managers.items planned.now l) }
-        ensures managers { self.new.managers ≡ self.old.managers }
-        ensures seats { AllKeep (seat_of planned.now ∷ []) self.old.seats.items self.new.seats.items }
+        ensures managers { self.new.managers.items ≡ self.old.managers.items }
+        ensures seats { OnOk result (AllKeep (seat_of planned.now ∷ []) self.old.seats.items self.new.seats.items) }
     {
         let place = planned.crossing as usize;
         let spans = self.managers[place].layout().ground().grid().spans;
@@ -114,8 +115,8 @@ impl Crossings {
         requires bare { All (λ p. IsBare p.plan) legs.now }
         requires apart { AllPairs AreApart legs.now }
         ensures legs { IfOk result (λ v. AllZip (IsMadeLeg self.old.managers.items) (legs_for vehicle legs.now) v.items) }
-        ensures managers { self.new.managers ≡ self.old.managers }
-        ensures seats { AllKeep (map seat_of (legs_for vehicle legs.now)) self.old.seats.items self.new.seats.items }
+        ensures managers { self.new.managers.items ≡ self.old.managers.items }
+        ensures seats { OnOk result (AllKeep (map seat_of (legs_for vehicle legs.now)) self.old.seats.items self.new.seats.items) }
     {
         let mut own = Vec::new(alloc);
         for planned in legs {
@@ -135,7 +136,7 @@ impl Crossings {
     ) -> Result<Vec<Traveller>, NoMemory>
         requires ready { AreReady self.old.managers.items self.old.seats.items legs.now }
         ensures travellers { IfOk result (λ v. AreSetOut self.old.managers.items legs.now legs.now v.items) }
-        ensures managers { self.new.managers ≡ self.old.managers }
+        ensures managers { self.new.managers.items ≡ self.old.managers.items }
         ensures seats { IfOk result (λ v. AllKeep (map seat_of (legs_of_all legs.now (vehicles_of v.items))) self.old.seats.items self.new.seats.items) }
     {
         let mut travellers = Vec::new(alloc);

@@ -2,7 +2,7 @@ use Rattle.std.proofs.Common.{◌≡◌, ◌≤◌, length, vec_len}
 use Rattle.std.specs.Prelude.{vec_capacity}
 use Rattle.std.specs.List.{AllZip}
 use Rattle.aim_crossings.proofs.Returning.{IsLeftOf}
-use Rattle.aim_crossings.proofs.closing.Crossings.close.Given as goal
+use Rattle.aim_crossings.proofs.making.Crossings.close.Given as goal
 
 abbrev pub invariant-loop-manager : goal.invariant-loop-manager
 invariant-loop-manager l = record {
