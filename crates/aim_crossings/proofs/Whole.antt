@@ -14,7 +14,7 @@ use Rattle.aim_manager.specs.Seen.{caller_of}
 use Rattle.aim_agent.specs.Agents.{AgentPass}
 use Rattle.aim_travel.specs.Models.{LegModel, TravellerModel}
 use Rattle.aim_travel.specs.Rode.{Managers, Rode}
-use Rattle.aim_travel.specs.Travels.{Travels}
+use Rattle.aim_travel.specs.Travels.{IsReady, Travels}
 use Rattle.aim_travel.specs.Legs.{LegTold, legs_told, told, told_unbegun}
 use Rattle.aim_travel.proofs.Legs.{legs_followed, set_out}
 use Rattle.aim_drive.specs.Making.{log_of}
@@ -300,3 +300,26 @@ module _ (layouts : List Intersection) (vehicles until : ℕ) (legs : List Plann
             done = all_done;
             left = ended_at;
           }
+
+-- by other names of what is equal
+
+fit_here : (layouts : List Intersection) (vehicles : ℕ) (legs : List PlannedLeg) (ms : Managers) (seats : List Seats) → AreLegs vehicles (length layouts) legs → AreOpen layouts vehicles ms seats → AreLegs vehicles (length ms) legs
+fit_here layouts vehicles legs ms seats fit open_are = subst (λ n. AreLegs vehicles n legs) (sym (count_layouts layouts vehicles ms seats open_are)) fit
+
+pub ready_by : (layouts : List Intersection) (vehicles : ℕ) (legs legs' : List PlannedLeg) (ms ms' : Managers) (seats : List Seats) (ts ts' : List TravellerModel) → AreLegs vehicles (length layouts) legs → AreOpen layouts vehicles ms seats
+    → legs' ≡ legs → AreSetOut ms legs' legs' ts → ms' ≡ ms → ts' ≡ ts → All (IsReady ms' 0) ts'
+ready_by layouts vehicles legs legs' ms ms' seats ts ts' fit open_are el out em et =
+    subst (λ (k : Managers). All (IsReady k 0) ts') (sym em) (subst (λ (l : List TravellerModel). All (IsReady ms 0) l) (sym et) each)
+  where
+    each : All (IsReady ms 0) ts
+    each k d l = set_ready ms layouts vehicles (length ms) seats legs (get_or ts k d) open_are (fit_here layouts vehicles legs ms seats fit open_are) (subst (λ (ps : List PlannedLeg). IsSetOut ms ps (get_or ts k d)) el (out.each k d l))
+
+pub travelled_by : (layouts : List Intersection) (vehicles until : ℕ) (legs legs' : List PlannedLeg) (ms ms' : Managers) (seats : List Seats) (ts ts' us us' : List TravellerModel) → AreLegs vehicles (length layouts) legs → AreOpen layouts vehicles ms seats
+    → legs' ≡ legs → AreSetOut ms legs' legs' ts → ms' ≡ ms → ts' ≡ ts → Travels ms' 0 until ts' us → us' ≡ us → All HasMemory us' → IsTravelled layouts vehicles until legs ms seats ts us
+travelled_by layouts vehicles until legs legs' ms ms' seats ts ts' us us' fit open_are el out em et travels eu memory = record {
+  fit = fit_here layouts vehicles legs ms seats fit open_are;
+  open_are = open_are;
+  out = subst (λ (ps : List PlannedLeg). AreSetOut ms ps ps ts) el out;
+  travels = subst (λ (l : List TravellerModel). Travels ms 0 until l us) et (subst (λ (k : Managers). Travels k 0 until ts' us) em travels);
+  memory = subst (λ (l : List TravellerModel). All HasMemory l) eu memory;
+}
