@@ -1,1 +1,13 @@
-
+pub mod Places
+pub mod Zips
+pub mod Rides
+pub mod Held
+pub mod Steps
+pub mod Fewness
+pub mod Openings
+pub mod Ends
+pub mod Followed
+pub mod Gathering
+pub mod Returning
+pub mod Told
+pub mod Whole

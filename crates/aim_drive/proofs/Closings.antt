@@ -164,21 +164,21 @@ length_carry : (es : List Entry) (calls : List Call) → Carry es calls → leng
 length_carry es calls c = sym (length-map es call_of) ∙ ap (λ (l : List (Option Call)). length l) c ∙ length-map calls (λ (x : Call). Some x)
 
 -- a new agent with memory makes few calls
-pub few_calls : (s : Setting) (last : ℕ) (a b : AgentModel) → IsNew a → Went s 0 last a b → b.trouble ≢ Some trouble.NoMemory → length b.pass.mine ≤ 128
-few_calls s last a b new went memory = go b.trouble refl
+pub few_calls : (s : Setting) (first last : ℕ) (a b : AgentModel) → IsNew a → Went s first last a b → b.trouble ≢ Some trouble.NoMemory → length b.pass.mine ≤ 128
+few_calls s first last a b new went memory = go b.trouble refl
   where
     go : (t : Option Trouble) → b.trouble ≡ t → length b.pass.mine ≤ 128
     go None e =
-        let f = followed s 0 last a b new went e in
+        let f = followed s first last a b new went e in
         let most : length f.calls ≤ 128 =
-        subst (λ (r : List LogItem × List Call). length r.1 ≤ 128) f.follows (follows_few a.driver.plan a.up.fates a.down.fates 0 last (replies b.pass.mine)) in
+        subst (λ (r : List LogItem × List Call). length r.1 ≤ 128) f.follows (follows_few a.driver.plan a.up.fates a.down.fates first last (replies b.pass.mine)) in
         let same : length b.pass.mine ≡ length f.calls = length_carry b.pass.mine f.calls f.carried in
         omega arith
     go (Some trouble.NoMemory) e = absurd (memory e)
     go (Some trouble.Full) e =
-        let f = stopped s 0 last a b new went e in
+        let f = stopped s first last a b new went e in
         let most : length (f.calls ++ f.extra ∷ []) ≤ 128 =
-        subst (λ (r : List LogItem × List Call). length r.1 ≤ 128) f.follows (follows_few a.driver.plan a.up.fates a.down.fates 0 last (replies b.pass.mine)) in
+        subst (λ (r : List LogItem × List Call). length r.1 ≤ 128) f.follows (follows_few a.driver.plan a.up.fates a.down.fates first last (replies b.pass.mine)) in
         let more : length (f.calls ++ f.extra ∷ []) ≡ length f.calls + 1 = length-append f.calls (f.extra ∷ []) in
         let same : length b.pass.mine ≡ length f.calls = length_carry b.pass.mine f.calls f.carried in
         omega arith

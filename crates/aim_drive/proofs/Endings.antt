@@ -93,7 +93,7 @@ module _ (m : TurnstileModel Setting) (spans size : ℕ) (plans : List Planned) 
           let c : length ys ≡ length xs = ride.driven.len in
           let n : length xs ≡ length plans = made.count in
           let lt : k < length plans = omega arith in
-          few_calls m.setting ride.step (get_or xs k d) (get_or ys k d) (made.each k (element plans k lt).0 d lt).new (ride.driven.each k d (omega arith)).went (memory k d l).0
+          few_calls m.setting 0 ride.step (get_or xs k d) (get_or ys k d) (made.each k (element plans k lt).0 d lt).new (ride.driven.each k d (omega arith)).went (memory k d l).0
 
   pub all_calm : (op : AgentPass) (h : List Entry) → IsClosed m.setting (rest ++ map pass_of ys) op h → All HasMemory ys → length h < m.setting.room → All (λ (a : AgentModel). a.trouble ≡ None) ys
   all_calm op h closed memory room k d l =

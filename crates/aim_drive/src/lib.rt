@@ -5,4 +5,4 @@ mod making;
 mod running;
 
 pub use aim_driver::NoMemory;
-pub use running::{Drove, Logged, run_script};
+pub use running::{Drove, Logged, open, run_script};

@@ -1,0 +1,152 @@
+//! Crossings that are opened, and the travellers that set out over them.
+
+ghost use Rattle.std.specs.Prelude.{◌≡◌, ◌≢◌, ◌<◌, ◌≤◌, [], ◌∷◌, length, map, true, false, All, AllPairs, Contains, IfOk, OnOk};
+ghost use Rattle.std.specs.List.{AllZip};
+ghost use Rattle.aim_grid_read.specs.Spelled.{IsBare};
+ghost use Rattle.aim_routes.specs.Fits.{AreApart};
+ghost use Rattle.aim_crossings.specs.Making.{AllKeep, AreNew, AreOpen, AreReady, AreSetOut, HasNew, IsMadeLeg, legs_of_all, seat_of, setting_of, vehicles_of};
+ghost use Rattle.aim_crossings.specs.Runs.{legs_for};
+
+use crate::NoMemory;
+use crate::seats::Seats;
+use aim_drive::open;
+use aim_driver::{Changes, DrivePlan};
+use aim_manager::{Manager, Opened};
+use aim_paths::Layout;
+use aim_pool::Pool;
+use aim_routes::PlannedLeg;
+use aim_travel::{Leg, Traveller};
+use std::alloc::Global;
+
+/// Crossings with open managers.
+#[derive(Drop)]
+pub(crate) struct Crossings {
+    pub(crate) managers: Vec<Manager>,
+    /// Of each crossing.
+    pub(crate) seats: Vec<Seats>,
+}
+
+// Another one, of a plan without changes.
+fn same_plan(plan: &DrivePlan) -> DrivePlan
+    requires bare { IsBare plan.now }
+    ensures { result ≡ plan.now }
+{
+    DrivePlan {
+        first: plan.first,
+        lead: plan.lead,
+        resend: plan.resend,
+        params: plan.params,
+        changes: Changes::none(),
+        cancel: None,
+        ahead: false,
+    }
+}
+
+// Whether one of them is of the vehicle.
+fn has_set_out(travellers: &[Traveller], vehicle: u32) -> bool
+    ensures yes { result ≡ true → Contains (vehicles_of travellers.now) vehicle }
+    ensures no { result ≡ false → All (λ t. t.vehicle ≢ vehicle) travellers.now }
+{
+    for traveller in travellers {
+        if traveller.vehicle() == vehicle {
+            return true;
+        }
+    }
+    false
+}
+
+impl Crossings {
+    /// New ones with these layouts.
+    pub(crate) fn open(
+        alloc: Global,
+        layouts: Vec<Layout>,
+        vehicles: u32,
+    ) -> Result<Crossings, NoMemory>
+        requires vehicles { (0 < vehicles) × (vehicles ≤ 256) }
+        ensures { IfOk result (λ c. AreOpen layouts.items vehicles c.managers.items c.seats.items) }
+    {
+        let mut managers = Vec::with_capacity(alloc, layouts.len())?;
+        let mut all = Vec::with_capacity(alloc, layouts.len())?;
+        for layout in layouts {
+            layout.ground();
+            let opened = open(alloc, layout, vehicles, 0)?;
+            let Opened {
+                manager,
+                passes,
+                operator,
+            } = opened;
+            all.push_reserved(Seats::new(alloc, passes, operator)?);
+            managers.push_reserved(manager);
+        }
+        Ok(Crossings {
+            managers,
+            seats: all,
+        })
+    }
+
+    // The leg, with its vehicle's pass and three sheets.
+    fn leg(&mut self, alloc: Global, planned: &PlannedLeg) -> Result<Leg, NoMemory>
+        requires new { HasNew self.old.managers.items self.old.seats.items planned.now }
+        requires bare { IsBare planned.now.plan }
+        ensures leg { IfOk result (λ l. IsMadeLeg self.old.managers.items planned.now l) }
+        ensures managers { self.new.managers.items ≡ self.old.managers.items }
+        ensures seats { OnOk result (AllKeep (seat_of planned.now ∷ []) self.old.seats.items self.new.seats.items) }
+    {
+        let place = planned.crossing as usize;
+        let spans = self.managers[place].layout().ground().grid().spans;
+        let pool = Pool::new(alloc, 3, spans)?;
+        let pass = self.seats[place].take(planned.vehicle);
+        Ok(Leg {
+            crossing: planned.crossing,
+            plan: same_plan(&planned.plan),
+            pass,
+            pool,
+        })
+    }
+
+    // The vehicle's legs, in their order.
+    fn legs_of(
+        &mut self,
+        alloc: Global,
+        vehicle: u32,
+        legs: &[PlannedLeg],
+    ) -> Result<Vec<Leg>, NoMemory>
+        requires new { All (λ p. p.vehicle ≡ vehicle → HasNew self.old.managers.items self.old.seats.items p) legs.now }
+        requires bare { All (λ p. IsBare p.plan) legs.now }
+        requires apart { AllPairs AreApart legs.now }
+        ensures legs { IfOk result (λ v. AllZip (IsMadeLeg self.old.managers.items) (legs_for vehicle legs.now) v.items) }
+        ensures managers { self.new.managers.items ≡ self.old.managers.items }
+        ensures seats { OnOk result (AllKeep (map seat_of (legs_for vehicle legs.now)) self.old.seats.items self.new.seats.items) }
+    {
+        let mut own = Vec::new(alloc);
+        for planned in legs {
+            if planned.vehicle != vehicle {
+                continue;
+            }
+            own.push(self.leg(alloc, planned)?)?;
+        }
+        Ok(own)
+    }
+
+    /// A traveller for each vehicle that has legs, in the order of their first ones. Each has all legs of its vehicle.
+    pub(crate) fn travellers(
+        &mut self,
+        alloc: Global,
+        legs: &[PlannedLeg],
+    ) -> Result<Vec<Traveller>, NoMemory>
+        requires ready { AreReady self.old.managers.items self.old.seats.items legs.now }
+        ensures travellers { IfOk result (λ v. AreSetOut self.old.managers.items legs.now legs.now v.items) }
+        ensures managers { self.new.managers.items ≡ self.old.managers.items }
+        ensures seats { IfOk result (λ v. AllKeep (map seat_of (legs_of_all legs.now (vehicles_of v.items))) self.old.seats.items self.new.seats.items) }
+    {
+        let mut travellers = Vec::new(alloc);
+        for planned in legs {
+            if has_set_out(&travellers, planned.vehicle) {
+                continue;
+            }
+            let own = self.legs_of(alloc, planned.vehicle, legs)?;
+            travellers.push(Traveller::new(alloc, planned.vehicle, own)?)?;
+        }
+        Ok(travellers)
+    }
+}
