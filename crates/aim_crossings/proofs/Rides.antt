@@ -92,14 +92,14 @@ who_rides legs P v [] d all = inr (refl, tt)
 who_rides legs P v (t ∷ ts) d all =
     elim (cases_eq t.vehicle v) [
       | inl e ↦ inl (record {
-          traveller = t;
-          known = all.0;
-          vehicle = e;
-          are =
-              filter-append (λ (r : Ride). r.vehicle == v) (rides_in legs t) (all_rides legs ts)
-              ∙ (λ i. here e i ++ none_rides legs v ts (subst (λ u. AllByRecursion (λ w. w ≢ u) (vehicles_of ts)) e d.0) i)
-              ∙ append-nil (rides_in legs t);
-        })
+        traveller = t;
+        known = all.0;
+        vehicle = e;
+        are =
+            filter-append (λ (r : Ride). r.vehicle == v) (rides_in legs t) (all_rides legs ts)
+            ∙ (λ i. here e i ++ none_rides legs v ts (subst (λ u. AllByRecursion (λ w. w ≢ u) (vehicles_of ts)) e d.0) i)
+            ∙ append-nil (rides_in legs t);
+      })
       | inr ne ↦ later ne (who_rides legs P v ts d.1 all.1)
     ]
   where

@@ -68,6 +68,7 @@ impl Crossings {
         let mut managers = Vec::with_capacity(alloc, layouts.len())?;
         let mut all = Vec::with_capacity(alloc, layouts.len())?;
         for layout in layouts {
+            // Tells that the layout is valid.
             layout.ground();
             let opened = open(alloc, layout, vehicles, 0)?;
             let Opened {
