@@ -8,7 +8,6 @@ use Rattle.aim_paths.specs.Intersection.{Intersection}
 use Rattle.aim_script.specs.Said.{layout_of, vehicles_of}
 use Rattle.aim_plans.specs.declared.scripts.DriveScript.{DriveScript}
 use Rattle.aim_plans.specs.declared.scripts.Ordered.{Ordered}
-use Rattle.aim_plans.specs.declared.scripts.Planned.{Planned}
 use Rattle.aim_plans.specs.Said.{Drive, until_of, drives_of, orders_of}
 use Rattle.aim_plans.specs.Scripts.{IsScriptOf, drive_told}
 use Rattle.aim_report.specs.Reports.{report}

@@ -20,9 +20,7 @@ use aim_plans::{DriveScript, Ending, read_drive};
 use aim_report::NoMemory;
 use aim_script::{Decision, last_line};
 use std::alloc::Global;
-use std::marker::Brand;
 use std::sync::Wait;
-use std::sync::ledger::{Blank, Ledger};
 use std::thread::Threads;
 
 // The status of a script that isn't whole.
@@ -51,25 +49,21 @@ fn put_refused<K: Sink>(sink: &mut K, decision: Decision) -> u8
     }
 }
 
-// Runs a script, with a manager whose words are counted in the ledger of the blank, and gives the text that reports it.
-fn text_of_run<L: Ledger + Send, R: Threads + Wait + Sync, G: Gate>(
+// Runs a script, and gives the text that reports it.
+fn text_of_run<R: Threads + Wait + Sync, G: Gate>(
     rt: &R,
     alloc: Global,
     script: DriveScript,
     workers: u32,
     gate: &G,
-    blank: Blank,
 ) -> Result<Vec<u8>, NoMemory>
     requires script { IsFit script }
     requires workers { (0 < workers) × (workers ≤ 64) }
-    requires name { blank.name ≡ L.name }
-    requires parts { blank.parts ≡ L.parts }
-    requires some { 0 < blank.parts }
     ensures { (lines : List Line) → IsScriptOf lines script → IfOk result (λ text. IsReport workers lines text.items) }
 {
     let layout = script.layout.copy()?;
     let vehicles = script.vehicles;
-    let drove = run_script::<L, R, G>(rt, alloc, script, gate, workers, blank)?;
+    let drove = run_script(rt, alloc, script, gate, workers)?;
     report_of(alloc, &layout, vehicles, &drove)
 }
 
@@ -93,7 +87,7 @@ fn put_run<R: Threads + Wait + Sync, K: Sink, G: Gate>(
     ensures sink { K.faults sink.old ≤ K.faults sink.new }
     ensures statuses { (result ≡ 0) ⊎ ((result ≡ 5) ⊎ (result ≡ 7)) }
 {
-    let text = match text_of_run::<Brand, R, G>(rt, alloc, script, workers, gate, Blank::new(1)) {
+    let text = match text_of_run(rt, alloc, script, workers, gate) {
         Ok(text) => text,
         Err(_) => return 7,
     };

@@ -12,9 +12,7 @@ use aim_io::{Sink, put_all};
 use aim_report::NoMemory;
 use aim_traffic::traffic;
 use std::alloc::Global;
-use std::marker::Brand;
 use std::sync::Wait;
-use std::sync::ledger::{Blank, Ledger};
 use std::thread::Threads;
 
 // A gate at which nobody waits.
@@ -24,23 +22,19 @@ impl Gate for NoGate {
     fn before(&self, _vehicle: u32, _step: u32) {}
 }
 
-// Runs generated traffic, with a manager whose words are counted in the ledger of the blank, and gives the text that counts.
-fn text_of_traffic<L: Ledger + Send, R: Threads + Wait + Sync>(
+// Runs generated traffic, and gives the text that counts.
+fn text_of_traffic<R: Threads + Wait + Sync>(
     rt: &R,
     alloc: Global,
     number: u32,
     count: u32,
-    blank: Blank,
 ) -> Result<Vec<u8>, NoMemory>
     requires count { (0 < count) × (count ≤ 256) }
-    requires name { blank.name ≡ L.name }
-    requires parts { blank.parts ≡ L.parts }
-    requires some { 0 < blank.parts }
     ensures { IfOk result (λ text. IsSummary number count text.items) }
 {
     let script = traffic(alloc, number, count)?;
     let steps = script.until;
-    let drove = run_script::<L, R, NoGate>(rt, alloc, script, &NoGate, 1, blank)?;
+    let drove = run_script(rt, alloc, script, &NoGate, 1)?;
     summary_of(alloc, steps, &drove)
 }
 
@@ -64,7 +58,7 @@ pub fn generate<R: Threads + Wait + Sync, K: Sink>(
     ensures sink { K.faults sink.old ≤ K.faults sink.new }
     ensures statuses { (result ≡ 0) ⊎ ((result ≡ 5) ⊎ (result ≡ 7)) }
 {
-    let text = match text_of_traffic::<Brand, R>(rt, alloc, number, count, Blank::new(1)) {
+    let text = match text_of_traffic(rt, alloc, number, count) {
         Ok(text) => text,
         Err(_) => return 7,
     };

@@ -33,11 +33,10 @@ fn taken<R: Threads + Wait + Sync + Clock>(
     turns: u32,
 ) -> Result<Taken> {
     let day = Turns::new(turns);
-    let blank = Blank::new(1);
     if by_mail {
-        over_mailbox::<Brand, R>(rt, alloc, blank, callers, &day)
+        over_mailbox::<Brand, R>(rt, alloc, Blank::new(1), callers, &day)
     } else {
-        over_manager::<Brand, R>(rt, alloc, blank, callers, &day)
+        over_manager(rt, alloc, callers, &day)
     }
 }
 

@@ -12,15 +12,14 @@ use aim_pool::Pool;
 use anyhow::{Result, bail};
 use std::alloc::Global;
 use std::sync::Wait;
-use std::sync::ledger::{Blank, Ledger};
 use std::thread::{self, Threads};
 use std::time::{Clock, Instant};
 
 // Prepares and serves one message. None is where the call may not be made, or finds the journal full.
-fn call<L: Ledger, R: Wait>(
+fn call<R: Wait>(
     rt: &R,
-    manager: &Manager<L>,
-    pass: &mut ManagerPass<L>,
+    manager: &Manager,
+    pass: &mut ManagerPass,
     pool: &mut Pool,
     now: u32,
     message: &Message,
@@ -40,10 +39,10 @@ fn call<L: Ledger, R: Wait>(
 }
 
 // Makes the calls of one turn. Gives what the vehicle holds then.
-fn one_turn<L: Ledger, R: Wait>(
+fn one_turn<R: Wait>(
     rt: &R,
-    manager: &Manager<L>,
-    pass: &mut ManagerPass<L>,
+    manager: &Manager,
+    pass: &mut ManagerPass,
     pool: &mut Pool,
     turn: u32,
     mut held: Option<u32>,
@@ -62,13 +61,13 @@ fn one_turn<L: Ledger, R: Wait>(
 }
 
 // Takes turns until the day has no more, and makes the calls of each.
-fn take_turns<L: Ledger, R: Wait>(
+fn take_turns<R: Wait>(
     rt: &R,
     alloc: Global,
-    manager: &Manager<L>,
-    mut pass: ManagerPass<L>,
+    manager: &Manager,
+    mut pass: ManagerPass,
     day: &Turns,
-) -> ManagerPass<L>
+) -> ManagerPass
     requires own { IsPassOf manager.now pass }
     requires vehicle { pass.number < manager.now.setting.vehicles }
     ensures same { IsSamePass pass result }
@@ -87,20 +86,20 @@ fn take_turns<L: Ledger, R: Wait>(
 }
 
 // Takes the turns of all callers, each on a thread of its own.
-fn all_turns<L: Ledger + Send + Sync, R: Threads + Wait + Sync>(
+fn all_turns<R: Threads + Wait + Sync>(
     rt: &R,
     alloc: Global,
-    manager: &Manager<L>,
-    passes: Vec<ManagerPass<L>>,
+    manager: &Manager,
+    passes: Vec<ManagerPass>,
     day: &Turns,
-) -> Result<Vec<ManagerPass<L>>>
+) -> Result<Vec<ManagerPass>>
     requires own { All (λ p. IsPassOf manager.now p × (p.number < manager.now.setting.vehicles)) passes.items }
     ensures same { IfOk result (λ v. All (λ p. p.table ≡ manager.now.table) v.items × (length v.items ≡ length passes.items)) }
 {
     let all = thread::map_vec(
         rt,
         passes,
-        &|pass: ManagerPass<L>| -> ManagerPass<L>
+        &|pass: ManagerPass| -> ManagerPass
             requires { IsPassOf manager.now pass × (pass.number < manager.now.setting.vehicles) }
             ensures { IsSamePass pass result }
         { take_turns(rt, alloc, manager, pass, day) },
@@ -109,19 +108,14 @@ fn all_turns<L: Ledger + Send + Sync, R: Threads + Wait + Sync>(
 }
 
 /// Opens a manager, has the day's turns taken, and closes it.
-pub fn over_manager<L: Ledger + Send + Sync, R: Threads + Wait + Sync + Clock>(
+pub fn over_manager<R: Threads + Wait + Sync + Clock>(
     rt: &R,
     alloc: Global,
-    blank: Blank,
     callers: u32,
     day: &Turns,
-) -> Result<Taken>
-    requires name { blank.name ≡ L.name }
-    requires parts { blank.parts ≡ L.parts }
-    requires some { 0 < blank.parts }
-{
+) -> Result<Taken> {
     let layout = twelve_lanes(alloc)?;
-    let Ok(opened) = Manager::<L>::open(alloc, layout, callers, ROOM, blank) else {
+    let Ok(opened) = Manager::open(alloc, layout, callers, ROOM) else {
         bail!("the manager isn't opened");
     };
     let Opened {

@@ -12,11 +12,9 @@ use aim_manager::{Manager, ManagerPass, Opened};
 use aim_msg::Reply;
 use aim_pool::Pool;
 use std::alloc::Global;
-use std::marker::Brand;
 use std::process::Abort;
 use std::sync::Wait;
 use std::sync::atomic::{AtomicU64, Ordering};
-use std::sync::ledger::{Blank, Ledger};
 use std::test::Fail;
 
 /// How many calls it was told of, and the sum of their steps.
@@ -41,13 +39,13 @@ fn no_calls_yet() -> Tally {
 }
 
 // An agent that asks from step 0 on to arrive 10 steps later, and again after 2 steps. Its first message has the fate.
-pub(crate) fn agent_of<L: Ledger>(
+pub(crate) fn agent_of(
     alloc: Global,
-    manager: &Manager<L>,
-    pass: ManagerPass<L>,
+    manager: &Manager,
+    pass: ManagerPass,
     lane: u8,
     fate: Fate,
-) -> Result<Agent<L>, Fail>
+) -> Result<Agent, Fail>
     requires own { IsPassOf manager.now pass }
     requires vehicle { pass.number < manager.now.setting.vehicles }
     requires mine { pass.mine ≡ [] }
@@ -71,10 +69,10 @@ pub(crate) fn agent_of<L: Ledger>(
 }
 
 // The turns of the steps from `from` to `until` - 1.
-fn drive<L: Ledger, R: Wait, G: Gate>(
+fn drive<R: Wait, G: Gate>(
     rt: &R,
-    manager: &Manager<L>,
-    agent: &mut Agent<L>,
+    manager: &Manager,
+    agent: &mut Agent,
     gate: &G,
     from: u32,
     until: u32,
@@ -116,16 +114,12 @@ fn whole_crossing() -> [LogItem; 6] {
 }
 
 // It is confirmed, enters, leaves and says so, though its first message is lost.
-fn one_vehicle<L: Ledger, R: Wait + Abort>(rt: &R, alloc: Global, blank: Blank) -> Result<(), Fail>
-    requires name { blank.name ≡ L.name }
-    requires parts { blank.parts ≡ L.parts }
-    requires some { 0 < blank.parts }
-{
+fn one_vehicle<R: Wait + Abort>(rt: &R, alloc: Global) -> Result<(), Fail> {
     let Opened {
         manager,
         mut passes,
         operator,
-    } = Manager::<L>::open(alloc, crossing(alloc)?, 1, 10, blank)?;
+    } = Manager::open(alloc, crossing(alloc)?, 1, 10)?;
     let Some(pass) = passes.pop() else {
         unreachable!()
     };
@@ -155,20 +149,16 @@ fn one_vehicle<L: Ledger, R: Wait + Abort>(rt: &R, alloc: Global, blank: Blank) 
 
 #[test]
 fn asks_again_enters_and_leaves(rt: HostRuntime) -> Result<(), Fail> {
-    one_vehicle::<Brand, HostRuntime>(&rt, rt.alloc(), Blank::new(1))
+    one_vehicle(&rt, rt.alloc())
 }
 
 // The journal has room for one entry: the second call is its trouble, and then it does nothing.
-fn little_room<L: Ledger, R: Wait + Abort>(rt: &R, alloc: Global, blank: Blank) -> Result<(), Fail>
-    requires name { blank.name ≡ L.name }
-    requires parts { blank.parts ≡ L.parts }
-    requires some { 0 < blank.parts }
-{
+fn little_room<R: Wait + Abort>(rt: &R, alloc: Global) -> Result<(), Fail> {
     let Opened {
         manager,
         mut passes,
         operator: _,
-    } = Manager::<L>::open(alloc, crossing(alloc)?, 1, 1, blank)?;
+    } = Manager::open(alloc, crossing(alloc)?, 1, 1)?;
     let Some(pass) = passes.pop() else {
         unreachable!()
     };
@@ -198,20 +188,16 @@ fn little_room<L: Ledger, R: Wait + Abort>(rt: &R, alloc: Global, blank: Blank) 
 
 #[test]
 fn finds_the_journal_full(rt: HostRuntime) -> Result<(), Fail> {
-    little_room::<Brand, HostRuntime>(&rt, rt.alloc(), Blank::new(1))
+    little_room(&rt, rt.alloc())
 }
 
 // The second agent meets the first before its turn, and is refused what the first was granted.
-fn two_vehicles<L: Ledger, R: Wait + Abort>(rt: &R, alloc: Global, blank: Blank) -> Result<(), Fail>
-    requires name { blank.name ≡ L.name }
-    requires parts { blank.parts ≡ L.parts }
-    requires some { 0 < blank.parts }
-{
+fn two_vehicles<R: Wait + Abort>(rt: &R, alloc: Global) -> Result<(), Fail> {
     let Opened {
         manager,
         mut passes,
         operator: _,
-    } = Manager::<L>::open(alloc, crossing(alloc)?, 2, 10, blank)?;
+    } = Manager::open(alloc, crossing(alloc)?, 2, 10)?;
     let (Some(second), Some(first)) = (passes.pop(), passes.pop()) else {
         unreachable!()
     };
@@ -239,5 +225,5 @@ fn two_vehicles<L: Ledger, R: Wait + Abort>(rt: &R, alloc: Global, blank: Blank)
 
 #[test]
 fn meets_the_agent_before(rt: HostRuntime) -> Result<(), Fail> {
-    two_vehicles::<Brand, HostRuntime>(&rt, rt.alloc(), Blank::new(1))
+    two_vehicles(&rt, rt.alloc())
 }

@@ -8,10 +8,8 @@ use aim_io::MemSource;
 use aim_plans::read_drive;
 use aim_report::{put_entries, put_log};
 use std::alloc::Global;
-use std::marker::Brand;
 use std::process::Abort;
 use std::sync::Wait;
-use std::sync::ledger::{Blank, Ledger};
 use std::test::Fail;
 use std::thread::Threads;
 
@@ -35,21 +33,13 @@ impl Gate for Open {
 }
 
 // Runs the script with one worker, and compares what it leaves.
-fn drives_alone<L: Ledger + Send, R: Threads + Wait + Sync + Abort>(
-    rt: &R,
-    alloc: Global,
-    blank: Blank,
-) -> Result<(), Fail>
-    requires name { blank.name ≡ L.name }
-    requires parts { blank.parts ≡ L.parts }
-    requires some { 0 < blank.parts }
-{
+fn drives_alone<R: Threads + Wait + Sync + Abort>(rt: &R, alloc: Global) -> Result<(), Fail> {
     let mut source = MemSource::new(SCRIPT.to_vec(alloc)?, Vec::new(alloc));
     let Ok(script) = read_drive(alloc, &mut source) else {
         return Err(Fail::from("a whole script"));
     };
     let gate = Open { opened: true };
-    let drove = run_script::<L, R, Open>(rt, alloc, script, &gate, 1, blank)?;
+    let drove = run_script(rt, alloc, script, &gate, 1)?;
     assert!(rt; drove.journal.len() == 12);
     let mut journal = Vec::new(alloc);
     put_entries(&mut journal, &drove.journal)?;
@@ -64,5 +54,5 @@ fn drives_alone<L: Ledger + Send, R: Threads + Wait + Sync + Abort>(
 
 #[test]
 fn messages_are_lost_repeated_and_delayed(rt: HostRuntime) -> Result<(), Fail> {
-    drives_alone::<Brand, HostRuntime>(&rt, rt.alloc(), Blank::new(1))
+    drives_alone(&rt, rt.alloc())
 }

@@ -1,6 +1,6 @@
 //! Calls of the manager, one after another.
 
-ghost use Rattle.std.specs.Prelude.{◌≡◌, ◌<◌, ◌≤◌};
+ghost use Rattle.std.specs.Prelude.{◌<◌, ◌≤◌};
 ghost use Rattle.aim_turn.specs.Models.{IsPassOf, IsSamePass};
 
 use crate::crossing::{crossing, request};
@@ -9,17 +9,15 @@ use aim_manager::{Full, Manager, ManagerPass, OpenFault, Opened};
 use aim_msg::{Message, OPERATOR, Order, Reason, Reply};
 use aim_pool::Pool;
 use std::alloc::Global;
-use std::marker::Brand;
 use std::process::Abort;
 use std::sync::Wait;
-use std::sync::ledger::{Blank, Ledger};
 use std::test::Fail;
 
 /// Prepares the message with two sheets of the pool and has it served.
-pub fn served<L: Ledger, R: Wait + Abort>(
+pub fn served<R: Wait + Abort>(
     rt: &R,
-    manager: &Manager<L>,
-    pass: &mut ManagerPass<L>,
+    manager: &Manager,
+    pass: &mut ManagerPass,
     pool: &mut Pool,
     moment: u32,
     message: &Message,
@@ -67,21 +65,12 @@ fn taken_by_0() -> Reply {
 
 // Two vehicles, of which the second may meet the first between their calls. Its answer doesn't depend on that, as
 // its turn comes second. Then there is no room.
-fn two_calls<L: Ledger, R: Wait + Abort>(
-    rt: &R,
-    alloc: Global,
-    blank: Blank,
-    meets: bool,
-) -> Result<(), Fail>
-    requires name { blank.name ≡ L.name }
-    requires parts { blank.parts ≡ L.parts }
-    requires some { 0 < blank.parts }
-{
+fn two_calls<R: Wait + Abort>(rt: &R, alloc: Global, meets: bool) -> Result<(), Fail> {
     let Opened {
         manager,
         mut passes,
         operator,
-    } = Manager::<L>::open(alloc, crossing(alloc)?, 2, 2, blank)?;
+    } = Manager::open(alloc, crossing(alloc)?, 2, 2)?;
     let Some(mut second) = passes.pop() else {
         unreachable!()
     };
@@ -112,26 +101,17 @@ fn two_calls<L: Ledger, R: Wait + Abort>(
 
 #[test]
 fn callers_that_meet(rt: HostRuntime) -> Result<(), Fail> {
-    two_calls::<Brand, HostRuntime>(&rt, rt.alloc(), Blank::new(1), true)
+    two_calls(&rt, rt.alloc(), true)
 }
 
 #[test]
 fn callers_that_do_not_meet(rt: HostRuntime) -> Result<(), Fail> {
-    two_calls::<Brand, HostRuntime>(&rt, rt.alloc(), Blank::new(1), false)
+    two_calls(&rt, rt.alloc(), false)
 }
 
 // Why the manager isn't opened, if it isn't.
-fn fault<L: Ledger>(
-    alloc: Global,
-    blank: Blank,
-    vehicles: u32,
-    room: u32,
-) -> Result<Option<OpenFault>, Fail>
-    requires name { blank.name ≡ L.name }
-    requires parts { blank.parts ≡ L.parts }
-    requires some { 0 < blank.parts }
-{
-    match Manager::<L>::open(alloc, crossing(alloc)?, vehicles, room, blank) {
+fn fault(alloc: Global, vehicles: u32, room: u32) -> Result<Option<OpenFault>, Fail> {
+    match Manager::open(alloc, crossing(alloc)?, vehicles, room) {
         Ok(_) => Ok(None),
         Err(fault) => Ok(Some(fault)),
     }
@@ -146,23 +126,19 @@ fn not_opened(rt: HostRuntime) -> Result<(), Fail> {
         (2, 262_145, OpenFault::Room),
     ];
     for (vehicles, room, want) in rows {
-        let found = fault::<Brand>(rt.alloc(), Blank::new(1), vehicles, room)?;
+        let found = fault(rt.alloc(), vehicles, room)?;
         assert!(rt; found == Some(want));
     }
     Ok(())
 }
 
 // The operator's order stands among the calls of vehicles, and what comes after it is answered by it.
-fn stop<L: Ledger, R: Wait + Abort>(rt: &R, alloc: Global, blank: Blank) -> Result<(), Fail>
-    requires name { blank.name ≡ L.name }
-    requires parts { blank.parts ≡ L.parts }
-    requires some { 0 < blank.parts }
-{
+fn stop<R: Wait + Abort>(rt: &R, alloc: Global) -> Result<(), Fail> {
     let Opened {
         manager,
         mut passes,
         mut operator,
-    } = Manager::<L>::open(alloc, crossing(alloc)?, 1, 3, blank)?;
+    } = Manager::open(alloc, crossing(alloc)?, 1, 3)?;
     let Some(mut pass) = passes.pop() else {
         unreachable!()
     };
@@ -184,5 +160,5 @@ fn stop<L: Ledger, R: Wait + Abort>(rt: &R, alloc: Global, blank: Blank) -> Resu
 
 #[test]
 fn an_order_among_the_calls(rt: HostRuntime) -> Result<(), Fail> {
-    stop::<Brand, HostRuntime>(&rt, rt.alloc(), Blank::new(1))
+    stop(&rt, rt.alloc())
 }

@@ -1,6 +1,6 @@
 //! Four callers on threads of their own, over the twelve lanes of a realistic layout.
 
-ghost use Rattle.std.specs.Prelude.{◌≡◌, ◌<◌, ◌≤◌, All, IfOk, length};
+ghost use Rattle.std.specs.Prelude.{◌≡◌, ◌<◌, All, IfOk, length};
 ghost use Rattle.aim_turn.specs.Models.{IsPassOf, IsSamePass};
 
 use crate::again::{numbered, serve_again};
@@ -13,7 +13,7 @@ use std::alloc::Global;
 use std::marker::Brand;
 use std::process::Abort;
 use std::sync::Wait;
-use std::sync::ledger::{Blank, Ledger};
+use std::sync::ledger::Blank;
 use std::test::Fail;
 use std::thread;
 use std::thread::Threads;
@@ -64,12 +64,12 @@ fn held_after(reply: &Reply) -> Option<u32> {
 }
 
 // Makes the calls of one caller.
-fn calls<L: Ledger, R: Wait + Abort>(
+fn calls<R: Wait + Abort>(
     rt: &R,
     alloc: Global,
-    manager: &Manager<L>,
-    mut pass: ManagerPass<L>,
-) -> ManagerPass<L>
+    manager: &Manager,
+    mut pass: ManagerPass,
+) -> ManagerPass
     requires own { IsPassOf manager.now pass }
     requires vehicle { pass.number < manager.now.setting.vehicles }
     ensures same { IsSamePass pass result }
@@ -90,19 +90,19 @@ fn calls<L: Ledger, R: Wait + Abort>(
 }
 
 // Makes the calls of all callers, each on a thread of its own.
-fn all_calls<L: Ledger + Send + Sync, R: Threads + Wait + Abort + Sync>(
+fn all_calls<R: Threads + Wait + Abort + Sync>(
     rt: &R,
     alloc: Global,
-    manager: &Manager<L>,
-    passes: Vec<ManagerPass<L>>,
-) -> Result<Vec<ManagerPass<L>>, Fail>
+    manager: &Manager,
+    passes: Vec<ManagerPass>,
+) -> Result<Vec<ManagerPass>, Fail>
     requires own { All (λ p. IsPassOf manager.now p × (p.number < manager.now.setting.vehicles)) passes.items }
     ensures same { IfOk result (λ v. All (λ p. p.table ≡ manager.now.table) v.items × (length v.items ≡ length passes.items)) }
 {
     let all = thread::map_vec(
         rt,
         passes,
-        &|pass: ManagerPass<L>| -> ManagerPass<L>
+        &|pass: ManagerPass| -> ManagerPass
             requires { IsPassOf manager.now pass × (pass.number < manager.now.setting.vehicles) }
             ensures { IsSamePass pass result }
         { calls(rt, alloc, manager, pass) },
@@ -111,20 +111,15 @@ fn all_calls<L: Ledger + Send + Sync, R: Threads + Wait + Abort + Sync>(
 }
 
 // Four callers on four threads. Gives the journal.
-fn four_callers<L: Ledger + Send + Sync, R: Threads + Wait + Abort + Sync>(
+fn four_callers<R: Threads + Wait + Abort + Sync>(
     rt: &R,
     alloc: Global,
-    blank: Blank,
-) -> Result<Vec<Entry>, Fail>
-    requires name { blank.name ≡ L.name }
-    requires parts { blank.parts ≡ L.parts }
-    requires some { 0 < blank.parts }
-{
+) -> Result<Vec<Entry>, Fail> {
     let Opened {
         manager,
         passes,
         operator,
-    } = Manager::<L>::open(alloc, twelve_lanes(alloc)?, 4, 200, blank)?;
+    } = Manager::open(alloc, twelve_lanes(alloc)?, 4, 200)?;
     let passes = all_calls(rt, alloc, &manager, passes)?;
     Ok(manager.close(passes, operator).journal)
 }
@@ -132,7 +127,7 @@ fn four_callers<L: Ledger + Send + Sync, R: Threads + Wait + Abort + Sync>(
 #[test]
 fn four_threads_are_answered_as_one(rt: HostRuntime) -> Result<(), Fail> {
     let alloc: Global = rt.alloc();
-    let journal = four_callers::<Brand, HostRuntime>(&rt, alloc, Blank::new(1))?;
+    let journal = four_callers(&rt, alloc)?;
     assert_eq!(rt; journal.len(), 200);
     for caller in 0..4 {
         assert_eq!(rt; numbered(&journal, caller), Some(MESSAGES));

@@ -1,6 +1,6 @@
 //! Callers on threads of their own, over a crossing of two lanes.
 
-ghost use Rattle.std.specs.Prelude.{◌≡◌, ◌<◌, ◌≤◌, IfOk};
+ghost use Rattle.std.specs.Prelude.{◌<◌, ◌≤◌};
 ghost use Rattle.std.specs.Thread.{IsSync};
 ghost use Rattle.aim_turn.specs.Models.{IsPassOf, IsSamePass};
 
@@ -14,26 +14,26 @@ use std::alloc::Global;
 use std::marker::Brand;
 use std::process::Abort;
 use std::sync::Wait;
-use std::sync::ledger::{Blank, Ledger};
+use std::sync::ledger::Blank;
 use std::test::Fail;
 use std::thread::{Threads, join};
 
 // A pass, and how many of its calls made an entry.
 #[derive(Drop)]
-struct Called<L: Ledger> {
-    pass: ManagerPass<L>,
+struct Called {
+    pass: ManagerPass,
     entries: u32,
 }
 
 // Makes as many requests as `count`, one at each step, with the numbers from 1 on. Behind a `Full` none makes an entry.
-fn requests<L: Ledger, R: Wait + Abort>(
+fn requests<R: Wait + Abort>(
     rt: &R,
-    manager: &Manager<L>,
-    mut pass: ManagerPass<L>,
+    manager: &Manager,
+    mut pass: ManagerPass,
     mut pool: Pool,
     lane: u8,
     count: u32,
-) -> Called<L>
+) -> Called
     requires own { IsPassOf manager.now pass }
     requires vehicle { pass.number < manager.now.setting.vehicles }
     requires count { count ≤ 1000 }
@@ -52,13 +52,13 @@ fn requests<L: Ledger, R: Wait + Abort>(
 }
 
 // Two callers make as many requests each as `count`, each in a thread of its own.
-fn side_by_side<L: Ledger + Send + Sync, R: Threads + Wait + Abort + Sync>(
+fn side_by_side<R: Threads + Wait + Abort + Sync>(
     rt: &R,
-    manager: &Manager<L>,
-    first: (ManagerPass<L>, Pool),
-    second: (ManagerPass<L>, Pool),
+    manager: &Manager,
+    first: (ManagerPass, Pool),
+    second: (ManagerPass, Pool),
     count: u32,
-) -> (Called<L>, Called<L>)
+) -> (Called, Called)
     requires own { IsPassOf manager.now first.0 × IsPassOf manager.now second.0 }
     requires first { first.0.number < manager.now.setting.vehicles }
     requires second { second.0.number < manager.now.setting.vehicles }
@@ -67,11 +67,11 @@ fn side_by_side<L: Ledger + Send + Sync, R: Threads + Wait + Abort + Sync>(
 {
     join(
         rt,
-        move || -> Called<L>
+        move || -> Called
             requires { IsSync R.row × IsPassOf manager.now first.0 × (first.0.number < manager.now.setting.vehicles) × (count ≤ 1000) }
             ensures { IsSamePass first.0 result.pass }
         { requests(rt, manager, first.0, first.1, 0, count) },
-        move || -> Called<L>
+        move || -> Called
             requires { IsSync R.row × IsPassOf manager.now second.0 × (second.0.number < manager.now.setting.vehicles) × (count ≤ 1000) }
             ensures { IsSamePass second.0 result.pass }
         { requests(rt, manager, second.0, second.1, 1, count) },
@@ -87,21 +87,16 @@ struct Left {
 }
 
 // Two callers make a hundred requests each, on two threads.
-fn hundred_each<L: Ledger + Send + Sync, R: Threads + Wait + Abort + Sync>(
+fn hundred_each<R: Threads + Wait + Abort + Sync>(
     rt: &R,
     alloc: Global,
-    blank: Blank,
     room: u32,
-) -> Result<Left, Fail>
-    requires name { blank.name ≡ L.name }
-    requires parts { blank.parts ≡ L.parts }
-    requires some { 0 < blank.parts }
-{
+) -> Result<Left, Fail> {
     let Opened {
         manager,
         mut passes,
         operator,
-    } = Manager::<L>::open(alloc, crossing(alloc)?, 2, room, blank)?;
+    } = Manager::open(alloc, crossing(alloc)?, 2, room)?;
     let Some(second) = passes.pop() else {
         unreachable!()
     };
@@ -123,7 +118,7 @@ fn hundred_each<L: Ledger + Send + Sync, R: Threads + Wait + Abort + Sync>(
 #[test]
 fn two_threads_keep_their_own_order(rt: HostRuntime) -> Result<(), Fail> {
     let alloc: Global = rt.alloc();
-    let left = hundred_each::<Brand, HostRuntime>(&rt, alloc, Blank::new(1), 200)?;
+    let left = hundred_each(&rt, alloc, 200)?;
     assert_eq!(rt; (left.first, left.second), (100, 100));
     assert_eq!(rt; left.journal.len(), 200);
     assert_eq!(rt; numbered(&left.journal, 0), Some(100));
@@ -141,7 +136,7 @@ fn two_threads_keep_their_own_order(rt: HostRuntime) -> Result<(), Fail> {
 #[test]
 fn the_room_ends_under_two_threads(rt: HostRuntime) -> Result<(), Fail> {
     let alloc: Global = rt.alloc();
-    let left = hundred_each::<Brand, HostRuntime>(&rt, alloc, Blank::new(1), 150)?;
+    let left = hundred_each(&rt, alloc, 150)?;
     assert_eq!(rt;
         left.journal.len(),
         150,

@@ -2,6 +2,3 @@ use Rattle.bench_manager.proofs.taken.Given as goal
 
 abbrev pub ghosts-over_mailbox : goal.ghosts-over_mailbox
 ghosts-over_mailbox g a = record { name = a.blank.name; parts = a.blank.parts }
-
-abbrev pub ghosts-over_manager : goal.ghosts-over_manager
-ghosts-over_manager g a = record { name = a.blank.name; parts = a.blank.parts }

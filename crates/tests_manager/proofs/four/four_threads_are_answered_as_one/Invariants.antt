@@ -1,7 +1,4 @@
 use Rattle.tests_manager.proofs.four.four_threads_are_answered_as_one.Given as goal
 
-abbrev pub ghosts-four_callers : goal.ghosts-four_callers
-ghosts-four_callers g a = record { name = a.blank.name; parts = a.blank.parts }
-
 abbrev pub ghosts-serve_again : goal.ghosts-serve_again
 ghosts-serve_again g a = record { name = a.blank.name; parts = a.blank.parts }
