@@ -42,12 +42,7 @@ pub struct Drove {
 }
 
 /// A new manager with room for all calls and orders of a drive.
-pub fn open(
-    alloc: Global,
-    layout: Layout,
-    vehicles: u32,
-    orders: u32,
-) -> Result<Opened, NoMemory>
+pub fn open(alloc: Global, layout: Layout, vehicles: u32, orders: u32) -> Result<Opened, NoMemory>
     requires vehicles { (0 < vehicles) × (vehicles ≤ 256) }
     requires orders { orders ≤ 1024 }
     ensures manager { IfOk result (λ o. o.manager.setting ≡ record { layout = layout; vehicles = vehicles; room = 128 * vehicles + orders + 1 }) }
