@@ -1,12 +1,11 @@
 -- The rides of travellers: their legs, each with the log of its driver, one traveller after another.
-use Rattle.std.proofs.Common.{◌≡◌, ◌≢◌, ℕ, ◌==◌, Bool, true, false, ◌⊎◌, inl, inr, List, [], ◌∷◌, ◌++◌, map, if◌then◌else◌, refl, sym, ap, ◌∙◌, subst, arith}
+use Rattle.std.proofs.Common.{◌≡◌, ◌≢◌, ℕ, ◌==◌, Bool, true, false, ◌⊎◌, inl, inr, List, [], ◌∷◌, ◌++◌, map, if◌then◌else◌, refl, sym, ap, ◌∙◌, subst}
 use Rattle.std.specs.List.{AllByRecursion, AllZip, filter}
 use Rattle.std.proofs.lemmas.Bool.{cases_eq, eqb-true, eq-eqb, ne_eqb}
 use Rattle.std.proofs.lemmas.List.{map-append, append-nil}
 use Rattle.std.proofs.lemmas.List.Elements.{filter-append}
 use Rattle.aim_travel.specs.Legs.{LegTold, legs_told}
 use Rattle.aim_travel.specs.Models.{TravellerModel}
-use Rattle.aim_drive.specs.Headline.{VehicleLog}
 use Rattle.aim_routes.specs.declared.routes.PlannedLeg.{PlannedLeg}
 use Rattle.aim_grid.specs.Travelled.{Ride, rides_of, logs_at, told_by}
 use Rattle.aim_crossings.specs.Runs.{planned_of, legs_for}
@@ -92,14 +91,14 @@ who_rides legs P v [] d all = inr (refl, tt)
 who_rides legs P v (t ∷ ts) d all =
     elim (cases_eq t.vehicle v) [
       | inl e ↦ inl (record {
-          traveller = t;
-          known = all.0;
-          vehicle = e;
-          are =
-              filter-append (λ (r : Ride). r.vehicle == v) (rides_in legs t) (all_rides legs ts)
-              ∙ (λ i. here e i ++ none_rides legs v ts (subst (λ u. AllByRecursion (λ w. w ≢ u) (vehicles_of ts)) e d.0) i)
-              ∙ append-nil (rides_in legs t);
-        })
+        traveller = t;
+        known = all.0;
+        vehicle = e;
+        are =
+            filter-append (λ (r : Ride). r.vehicle == v) (rides_in legs t) (all_rides legs ts)
+            ∙ (λ i. here e i ++ none_rides legs v ts (subst (λ u. AllByRecursion (λ w. w ≢ u) (vehicles_of ts)) e d.0) i)
+            ∙ append-nil (rides_in legs t);
+      })
       | inr ne ↦ later ne (who_rides legs P v ts d.1 all.1)
     ]
   where

@@ -15,18 +15,13 @@ use aim_travel::Traveller;
 use std::alloc::Global;
 
 // The passes, all of which are held.
-fn all_held(
-    alloc: Global,
-    held: Vec<Option<ManagerPass>>,
-) -> Result<Vec<ManagerPass>, NoMemory>
+fn all_held(alloc: Global, held: Vec<Option<ManagerPass>>) -> Result<Vec<ManagerPass>, NoMemory>
     requires all { All (λ o. IsSome o) held.items }
     ensures { IfOk result (λ v. held.items ≡ map (λ p. Some p) v.items) }
 {
     let mut passes = Vec::with_capacity(alloc, held.len())?;
     for one in held {
-        let Some(pass) = one else {
-            unreachable!()
-        };
+        let Some(pass) = one else { unreachable!() };
         passes.push_reserved(pass);
     }
     Ok(passes)

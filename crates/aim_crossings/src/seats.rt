@@ -22,7 +22,11 @@ pub(crate) struct Seats {
 
 impl Seats {
     /// Those of a new manager.
-    pub(crate) fn new(alloc: Global, passes: Vec<ManagerPass>, operator: ManagerPass) -> Result<Seats, NoMemory>
+    pub(crate) fn new(
+        alloc: Global,
+        passes: Vec<ManagerPass>,
+        operator: ManagerPass,
+    ) -> Result<Seats, NoMemory>
         ensures passes { IfOk result (λ s. s.passes.items ≡ map (λ p. Some p) passes.items) }
         ensures operator { IfOk result (λ s. s.operator ≡ operator) }
         ensures logs { IfOk result (λ s. s.logs.items ≡ []) }
