@@ -1,9 +1,9 @@
 -- A crossing whose passes are all back: what is held there, and what its journal has.
-use Rattle.std.proofs.Common.{◌≡◌, ◌≢◌, ℕ, zero, suc, ◌+◌, ◌*◌, ◌<◌, ◌≤◌, ◌==◌, Bool, true, false, ◌⊎◌, inl, inr, List, [], ◌∷◌, ◌++◌, length, length-append, map, get_or, Option, Some, None, if◌then◌else◌, refl, sym, ap, ◌∙◌, subst, arith}
+use Rattle.std.proofs.Common.{◌≡◌, ◌≢◌, ℕ, suc, ◌+◌, ◌*◌, ◌<◌, ◌≤◌, ◌==◌, Bool, true, false, ◌⊎◌, inl, inr, List, [], ◌∷◌, ◌++◌, length, length-append, map, get_or, Option, Some, None, if◌then◌else◌, refl, sym, ap, ◌∙◌, subst, arith}
 use Rattle.std.specs.Prelude.{All, Contains, slice_get, IsSomeAnd, sum_by}
 use Rattle.std.specs.List.{AllByRecursion, filter, range_with_len}
 use Rattle.std.proofs.lemmas.Bool.{cases_lt, cases_eq, eq-eqb}
-use Rattle.std.proofs.lemmas.List.{append-nil, get_or_append_left, get_or_default, get_or-map, get_or_push, length-map}
+use Rattle.std.proofs.lemmas.List.{get_or_append_left, get_or_default, get_or-map, get_or_push, length-map}
 use Rattle.std.proofs.lemmas.List.Elements.{Contains-push_cases}
 use Rattle.std.proofs.lemmas.List.FromFn.{get_or-range_with_len, get_or-map-range_with_len, length-range_with_len}
 use Rattle.std.proofs.lemmas.List.Sums.{sum_by-le, sum_by-append}
@@ -15,9 +15,7 @@ use Rattle.aim_manager.specs.declared.keeper.Setting.{Setting}
 use Rattle.aim_manager.specs.Seen.{caller_of, callers}
 use Rattle.aim_agent.specs.Agents.{AgentPass}
 use Rattle.aim_travel.specs.Rode.{Managers}
-use Rattle.aim_drive.proofs.Lists.{element}
 use Rattle.aim_drive.specs.Headline.{VehicleLog}
-use Rattle.aim_drive.specs.Making.{log_of}
 use Rattle.aim_drive.specs.declared.running.Drove.{Drove}
 use Rattle.aim_crossings.specs.declared.seats.Seats.{Seats}
 use Rattle.aim_crossings.specs.Making.{AreNew, AreOthers, Keeps, Seat, held}

@@ -1,13 +1,12 @@
 -- The rides of a vehicle are what its driver follows, leg after leg.
-use Rattle.std.proofs.Common.{◌≡◌, ℕ, zero, suc, ◌+◌, ◌<◌, ◌≤◌, ◌==◌, Bool, true, false, if◌then◌else◌, List, [], ◌∷◌, ◌++◌, map, Option, Some, None, refl, sym, ap, ◌∙◌, subst, arith}
+use Rattle.std.proofs.Common.{◌≡◌, ℕ, zero, suc, ◌≤◌, ◌==◌, Bool, true, false, if◌then◌else◌, List, [], ◌∷◌, map, Option, Some, None, refl, sym, ap, ◌∙◌, subst}
 use Rattle.std.specs.Prelude.{slice_get}
 use Rattle.std.specs.List.{AllByRecursion, AllZip, filter}
 use Rattle.std.proofs.lemmas.Bool.{eqb-true}
 use Rattle.aim_msg.specs.declared.entries.Entry.{Entry}
-use Rattle.aim_driver.specs.declared.plans.DrivePlan.{DrivePlan}
 use Rattle.aim_driver.specs.declared.logs.LogItem.{LogItem}
 use Rattle.aim_driver.specs.Fits.{entries_of, call_of, reply_of}
-use Rattle.aim_driver.specs.Follows.{Call, follows}
+use Rattle.aim_driver.specs.Follows.{follows}
 use Rattle.aim_safety.specs.Tiles.{EntersBy}
 use Rattle.aim_legs.specs.Acked.{acked, begun_at}
 use Rattle.aim_travel.specs.Models.{LegModel}

@@ -1,5 +1,5 @@
 -- What is held at the seats of a crossing after passes were taken and came back.
-use Rattle.std.proofs.Common.{◌≡◌, ◌≢◌, ℕ, ◌<◌, ◌==◌, ◌&&◌, Bool, true, false, ◌⊎◌, inl, inr, List, [], ◌∷◌, ◌++◌, length, map, get_or, Option, Some, None, if◌then◌else◌, refl, sym, ap, ◌∙◌, subst, arith}
+use Rattle.std.proofs.Common.{◌≡◌, ◌≢◌, ℕ, ◌<◌, ◌==◌, ◌&&◌, Bool, true, false, ◌⊎◌, inl, inr, List, [], ◌∷◌, ◌++◌, length, map, get_or, Option, Some, if◌then◌else◌, refl, sym, ap, ◌∙◌, subst, arith}
 use Rattle.std.specs.Prelude.{slice_get}
 use Rattle.std.specs.List.{AllByRecursion}
 use Rattle.std.proofs.lemmas.Bool.{and_parts, and_from, and_cases, eqb-true, eqb-false, eq-eqb}
@@ -10,7 +10,7 @@ use Rattle.aim_drive.specs.Making.{log_of}
 use Rattle.aim_crossings.specs.declared.seats.Seats.{Seats}
 use Rattle.aim_crossings.specs.Making.{Seat, AreOthers, held, Keeps, AllKeep}
 use Rattle.aim_crossings.specs.Closing.{Gone, seat_gone, held_after, logs_gone, Gives, AllGive}
-use Rattle.aim_crossings.proofs.Places.{AreDistinct, each_weaker, others_append, others_left, others_right}
+use Rattle.aim_crossings.proofs.Places.{AreDistinct, each_weaker, others_left, others_right}
 use Rattle.aim_crossings.proofs.Rides.{gone_append}
 
 -- whether the leg is the vehicle's at the crossing

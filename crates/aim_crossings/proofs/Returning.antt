@@ -1,5 +1,5 @@
 -- Legs that come back one after another, and crossings that are closed so.
-use Rattle.std.proofs.Common.{◌≡◌, ℕ, zero, suc, ◌+◌, ◌<◌, List, [], ◌∷◌, ◌++◌, length, map, get_or, Option, Some, None, refl, sym, ap, ◌∙◌, subst, arith}
+use Rattle.std.proofs.Common.{◌≡◌, ℕ, zero, suc, ◌<◌, List, [], ◌∷◌, ◌++◌, length, map, get_or, Option, Some, refl, sym, ap, ◌∙◌, subst, arith}
 use Rattle.std.specs.Prelude.{All, IsSomeAnd, slice_get}
 use Rattle.std.specs.List.{AllByRecursion, AllZip, zip}
 use Rattle.std.proofs.lemmas.List.{append-nil, append_assoc, get_or-map, length-map, map-append}
@@ -7,7 +7,7 @@ use Rattle.std.proofs.lemmas.List.Elements.{All-from_recursion}
 use Rattle.aim_turn.specs.Models.{TurnstileModel}
 use Rattle.aim_manager.specs.declared.keeper.Setting.{Setting}
 use Rattle.aim_agent.specs.Agents.{AgentPass}
-use Rattle.aim_travel.specs.Legs.{LegTold, legs_told, told}
+use Rattle.aim_travel.specs.Legs.{legs_told, told}
 use Rattle.aim_travel.specs.Models.{OverModel, TravellerModel}
 use Rattle.aim_travel.specs.Rode.{Managers}
 use Rattle.aim_drive.specs.declared.running.Drove.{Drove}

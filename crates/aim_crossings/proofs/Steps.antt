@@ -1,7 +1,7 @@
 -- What one leg changes at the seats of the crossings.
-use Rattle.std.proofs.Common.{◌≡◌, ◌≢◌, ℕ, zero, suc, ◌+◌, ◌<◌, ◌==◌, ◌&&◌, Bool, true, false, inl, inr, List, [], ◌∷◌, ◌++◌, length, length-take-le, map, take, get_or, Option, Some, None, if◌then◌else◌, refl, sym, ap, ◌∙◌, subst, arith}
+use Rattle.std.proofs.Common.{◌≡◌, ◌≢◌, ℕ, suc, ◌+◌, ◌<◌, ◌==◌, inl, inr, List, [], ◌∷◌, ◌++◌, length, length-take-le, map, take, get_or, Some, None, if◌then◌else◌, refl, sym, ap, ◌∙◌, subst, arith}
 use Rattle.std.specs.Prelude.{All, AllPairs, slice_get}
-use Rattle.std.specs.List.{AllByRecursion, AllZip, filter}
+use Rattle.std.specs.List.{AllZip}
 use Rattle.std.proofs.Math.ListN.{set}
 use Rattle.std.proofs.lemmas.Bool.{and_from, and_left, and_right, cases_eq, cases_lt, eq-eqb, ne_eqb}
 use Rattle.std.proofs.lemmas.List.{append-nil, get_or-take, get_or_past, get_or_read, length-set, map-append}
@@ -17,7 +17,7 @@ use Rattle.aim_routes.specs.Fits.{AreApart}
 use Rattle.aim_crossings.specs.declared.seats.Seats.{Seats}
 use Rattle.aim_crossings.specs.Runs.{legs_for}
 use Rattle.aim_crossings.specs.Making.{AllKeep, AreOthers, HasNew, IsMadeLeg, IsTakenAt, Keeps, Seat, held, seat_of}
-use Rattle.aim_crossings.specs.Closing.{AllGive, Gives, Gone, IsBackAt, IsSeated, held_after, logs_gone}
+use Rattle.aim_crossings.specs.Closing.{AllGive, Gives, Gone, IsBackAt, IsSeated}
 use Rattle.aim_crossings.proofs.Places.{others_filter}
 use Rattle.aim_crossings.proofs.Held.{all_keep_then}
 use Rattle.aim_crossings.proofs.Zips.{same_some, set_here, set_there, there, zip_push}

@@ -19,7 +19,6 @@ use Rattle.aim_travel.specs.Legs.{LegTold, legs_told, told, told_unbegun}
 use Rattle.aim_travel.proofs.Legs.{legs_followed, set_out}
 use Rattle.aim_drive.specs.Making.{log_of}
 use Rattle.aim_drive.specs.declared.running.Drove.{Drove}
-use Rattle.aim_drive.specs.declared.running.Logged.{Logged}
 use Rattle.aim_drive.proofs.Closings.{is_calm}
 use Rattle.aim_drive.proofs.Lists.{same_maps}
 use Rattle.aim_routes.specs.declared.routes.PlannedLeg.{PlannedLeg}

@@ -1,7 +1,6 @@
 -- What is left of the legs of a run, and of its crossings.
-use Rattle.std.specs.Prelude.{◌≡◌, ◌≢◌, ℕ, ◌<◌, ◌≤◌, ◌==◌, ◌&&◌, List, [], ◌∷◌, ◌++◌, length, map, Option, Some, None, if◌then◌else◌, slice_get, All, Contains, IsSomeAnd, sum_by}
-use Rattle.std.specs.List.{AllZip, filter, zip}
-use Rattle.aim_msg.specs.declared.entries.Entry.{Entry}
+use Rattle.std.specs.Prelude.{◌≡◌, ◌≢◌, ℕ, ◌<◌, ◌≤◌, ◌==◌, ◌&&◌, List, [], ◌∷◌, ◌++◌, length, map, Option, Some, if◌then◌else◌, slice_get, All, Contains, IsSomeAnd, sum_by}
+use Rattle.std.specs.List.{filter}
 use Rattle.aim_rules.specs.Legal.{IsLegal}
 use Rattle.aim_driver.specs.declared.logs.LogItem.{LogItem}
 use Rattle.aim_turn.specs.History.{entries_of}

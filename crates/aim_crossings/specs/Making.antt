@@ -1,5 +1,5 @@
 -- The legs and travellers that are made of planned legs, and the seats that they take.
-use Rattle.std.specs.Prelude.{◌≡◌, ◌≢◌, ℕ, ◌+◌, ◌*◌, ◌<◌, List, [], ◌∷◌, ◌++◌, length, map, Option, Some, None, slice_get, slice_index_or, All, AllPairs, Contains}
+use Rattle.std.specs.Prelude.{◌≡◌, ◌≢◌, ℕ, ◌+◌, ◌*◌, List, [], ◌∷◌, ◌++◌, length, map, Option, Some, None, slice_get, slice_index_or, All, AllPairs, Contains}
 use Rattle.std.specs.List.{AllZip, range_with_len}
 use Rattle.aim_msg.specs.declared.entries.TheConstants.{OPERATOR}
 use Rattle.aim_paths.specs.Intersection.{Intersection}

@@ -1,6 +1,5 @@
-use Rattle.std.proofs.Common.{◌≡◌, ◌<◌, length, sym, ap, ◌∙◌, subst, arith}
+use Rattle.std.proofs.Common.{◌≡◌, ◌<◌, length, sym, ◌∙◌, subst, arith}
 use Rattle.aim_travel.specs.Rode.{Managers}
-use Rattle.aim_travel.specs.Models.{LegModel}
 use Rattle.aim_crossings.specs.Making.{HasNew, IsMadeLeg}
 use Rattle.aim_crossings.proofs.Steps.{kept_more, leg_new, made_more}
 use Rattle.aim_crossings.proofs.making.Crossings.legs_of.Goals as goal
