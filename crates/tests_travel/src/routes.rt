@@ -1,4 +1,6 @@
-//! Two vehicles on routes over two crossings, which they cross in other orders.
+//! Two vehicles on routes: one over two crossings, the other over the second one alone.
+
+ghost use Rattle.std.specs.Prelude.{◌<◌, ◌≤◌};
 
 use aim_agent::Gate;
 use aim_crossings::run_routes;
