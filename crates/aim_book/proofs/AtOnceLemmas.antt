@@ -26,9 +26,10 @@ use Rattle.aim_rules.specs.Known.{Known, answer_asking_by, answer_free_by, answe
 use Rattle.aim_rules.proofs.CellLemmas.{cells_needed}
 use Rattle.aim_simulate.proofs.FieldLemmas.{steps_fewer}
 use Rattle.aim_book.specs.Costs.{asked_spans}
-use Rattle.aim_book.specs.Keeping.{is_named, row_count}
-use Rattle.aim_book.specs.Reserved.{rows_exchanged, spans_in}
-use Rattle.aim_book.specs.declared.reservations.Reservation.{Reservation}
+use Rattle.aim_reservations.specs.Keeping.{is_named, row_count}
+use Rattle.aim_reservations.specs.Rows.{spans_in}
+use Rattle.aim_book.specs.Reserved.{rows_exchanged}
+use Rattle.aim_reservations.specs.declared.reservations.Reservation.{Reservation}
 use Rattle.aim_book.proofs.HeldLemmas.{some_passes}
 
 -- a crossing has at most a span for each of its steps and each row

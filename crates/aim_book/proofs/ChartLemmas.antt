@@ -1,5 +1,5 @@
 -- The cells that vehicles hold, by the rows.
-use Rattle.std.proofs.Common.{◌≡◌, ℕ, ◌≤◌, Bool, true, false, ◌||◌, ◌&&◌, not, nat_lt, ◌+◌, add-one, List, Option, Some, None, refl, sym, ◌∙◌, ap, length}
+use Rattle.std.proofs.Common.{◌≡◌, ℕ, ◌≤◌, Bool, true, false, ◌&&◌, not, nat_lt, List, Option, Some, None, refl, sym, ◌∙◌, ap, length}
 use Rattle.std.proofs.lemmas.Bool.{false_from_ne_true, both_ways, le-ltb}
 use Rattle.aim_geometry.specs.Bounded.{some_below}
 use Rattle.aim_geometry.specs.Cells.{Cell}
@@ -17,8 +17,8 @@ use Rattle.aim_rules.proofs.Lists.{some_below-same}
 use Rattle.aim_switch.specs.Changes.{is_claimed_for}
 use Rattle.aim_switch.proofs.Histories.{claimed_for_all}
 use Rattle.aim_book.specs.Charted.{is_claimed_by_some, is_held}
-use Rattle.aim_book.specs.Keeping.{IsManaged}
-use Rattle.aim_book.specs.Reserved.{is_reserved, row_of}
+use Rattle.aim_book.specs.Managed.{IsManaged}
+use Rattle.aim_reservations.specs.Rows.{is_reserved, row_of}
 use Rattle.aim_book.specs.declared.desks.Desk.{Desk}
 use Rattle.aim_book.proofs.HeldLemmas.{some_passes}
 use Rattle.aim_book.proofs.ManagedLemmas.{row_has}
@@ -39,10 +39,6 @@ held_is i n h c before after legal l = go (is_owned i n (fresh h) c) refl
         let is = kept-is (fresh h) m.0.entry.caller m.0 k.0 in
         let here : owns i (fresh h) c m.0.entry.caller ≡ true = rw k.0 m.2 in
         both_ways (is_owned i n (fresh h) c) e (some_below_at n (owns i (fresh h) c) m.0.entry.caller (below-in n (fresh h) m.0 (are_below-legal i n h legal) is.there) here)))
-
--- one vehicle more
-pub one_more : (n : ℕ) (f : ℕ → Bool) (was now b : Bool) → was ≡ some_below n f → f n ≡ b → now ≡ (was || b) → now ≡ some_below (n + 1) f
-one_more n f was now b s e g = rw (add-one, g, s, e) refl
 
 -- the cells of a row, by the rows and by the timeline
 module _ {L : Type 0} (i : Intersection) (n : ℕ) (h : List Entry) (d : Desk L) (calls : List (Option (ℕ × ℕ))) (m : IsManaged i n h (now_of h 0) d calls) (c : Cell) (l : now_of h 0 ≤ c.step) where

@@ -10,9 +10,9 @@ use Rattle.aim_rules.specs.History.{Fresh, fresh, given_up, is_confirm}
 use Rattle.aim_rules.specs.Kept.{kept}
 use Rattle.aim_rules.proofs.TakenLaws.{kept-is, place-below}
 use Rattle.aim_book.specs.Costs.{exchanged}
-use Rattle.aim_book.specs.Keeping.{granted_sheet, is_changed, is_named, row_next, spans_moved}
+use Rattle.aim_reservations.specs.Keeping.{granted_sheet, is_changed, is_named, row_next, spans_moved}
 use Rattle.aim_book.specs.Reserved.{IsRowOf, rows_exchanged}
-use Rattle.aim_book.specs.declared.reservations.Reservation.{Reservation}
+use Rattle.aim_reservations.specs.declared.reservations.Reservation.{Reservation}
 
 -- the rows are what is kept
 pub exchanged_is : (i : Intersection) (o p : Option Fresh) (old new : Option Reservation) → IsRowOf i o old → IsRowOf i p new → rows_exchanged old new ≡ exchanged i o p

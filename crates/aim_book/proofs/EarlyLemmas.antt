@@ -28,7 +28,7 @@ use Rattle.aim_rules.specs.Bad.{bad}
 use Rattle.aim_rules.specs.Kept.{policy_in}
 use Rattle.aim_book.specs.Asking.{AreCalling, IsAsking}
 use Rattle.aim_book.specs.Desk.{Tells}
-use Rattle.aim_book.specs.SpanSteps.{Reaches}
+use Rattle.aim_reservations.specs.SpanSteps.{Reaches}
 use Rattle.aim_book.specs.declared.desks.Desk.{Desk}
 use Rattle.aim_book.proofs.HeldLemmas.{some_passes}
 

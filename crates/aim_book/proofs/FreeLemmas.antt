@@ -24,7 +24,7 @@ use Rattle.aim_rules.specs.Known.{Known, answer_asking_by, answer_free_by, confi
 use Rattle.aim_rules.proofs.CellLemmas.{cells_inside}
 use Rattle.aim_rules.proofs.GoodLemmas.{good_params as good_bounds}
 use Rattle.aim_book.specs.Asking.{IsAsking}
-use Rattle.aim_book.specs.Blocking.{AreAsked}
+use Rattle.aim_reservations.specs.Blocking.{AreAsked}
 use Rattle.aim_book.specs.Desk.{Tells}
 use Rattle.aim_book.specs.declared.desks.Desk.{Desk}
 use Rattle.aim_book.proofs.EarlyLemmas.{good_params}

@@ -24,7 +24,7 @@ use Rattle.aim_rules.proofs.AheadLemmas.{granted_ahead}
 use Rattle.aim_rules.proofs.GrantLemmas.{fresh_grants}
 use Rattle.aim_rules.specs.Answer.{answer_fresh}
 use Rattle.aim_rules.specs.History.{fresh}
-use Rattle.aim_book.specs.Keeping.{granted_sheet}
+use Rattle.aim_reservations.specs.Keeping.{granted_sheet}
 use Rattle.aim_book.proofs.FreeLemmas.{tiles_of}
 use Rattle.aim_book.proofs.EarlyLemmas.{good_params}
 

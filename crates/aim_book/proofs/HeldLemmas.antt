@@ -19,10 +19,11 @@ use Rattle.aim_rules.specs.Known.{Known, own_refusal_by}
 use Rattle.aim_rules.proofs.CellLemmas.{cells_has, cells_needed}
 use Rattle.aim_rules.proofs.Lists.{IsIn-test}
 use Rattle.aim_book.specs.Desk.{IsHeld, Tells}
-use Rattle.aim_book.specs.Reserved.{IsReservationOf, row_of}
-use Rattle.aim_book.specs.SpanSteps.{IsFirstStep, Reaches}
+use Rattle.aim_reservations.specs.Rows.{row_of}
+use Rattle.aim_book.specs.Reserved.{IsReservationOf}
+use Rattle.aim_reservations.specs.SpanSteps.{IsFirstStep, Reaches}
 use Rattle.aim_book.specs.declared.desks.Desk.{Desk}
-use Rattle.aim_book.specs.declared.reservations.Reservation.{Reservation}
+use Rattle.aim_reservations.specs.declared.reservations.Reservation.{Reservation}
 
 -- the cells that a Confirm grants are those of its list
 pub granted_has : (i : Intersection) (x : Fresh) (c : Cell) → i.times.early ≤ i.times.edge → i.times.late ≤ i.times.edge → is_granted i x c ≡ true → IsIn c (granted i x)

@@ -1,12 +1,8 @@
-mod SpanSteps
-mod RowLemmas
-mod GreenLemmas
-mod BeforeLemmas
 mod ConflictLemmas
 mod HeldLemmas
 mod EarlyLemmas
 mod FreeLemmas
-mod KeepingLemmas
+mod DistanceLemmas
 mod ManagedLemmas
 mod GrantedLemmas
 mod NextLemmas

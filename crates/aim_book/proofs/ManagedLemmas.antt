@@ -43,10 +43,11 @@ use Rattle.aim_msg.specs.declared.replies.Reason.TheVariants as reason
 use Rattle.aim_switch.proofs.Histories.{some_least}
 use Rattle.aim_book.specs.Asking.{AreCalling}
 use Rattle.aim_book.specs.Desk.{IsHeld, Tells}
-use Rattle.aim_book.specs.Keeping.{IsManaged}
-use Rattle.aim_book.specs.Reserved.{IsRowOf, is_reserved, row_of, spans_in}
+use Rattle.aim_book.specs.Managed.{IsManaged}
+use Rattle.aim_reservations.specs.Rows.{is_reserved, row_of, spans_in}
+use Rattle.aim_book.specs.Reserved.{IsRowOf}
 use Rattle.aim_book.specs.declared.desks.Desk.{Desk}
-use Rattle.aim_book.specs.declared.reservations.Reservation.{Reservation}
+use Rattle.aim_reservations.specs.declared.reservations.Reservation.{Reservation}
 use Rattle.aim_book.proofs.HeldLemmas.{lasts_reaches, reaches_lasts}
 
 -- what is known of a history for the answer to a vehicle

@@ -16,11 +16,12 @@ use Rattle.aim_fcfs.proofs.DistanceLaws.{distances_none}
 use Rattle.aim_rules.specs.Kept.{owns}
 use Rattle.aim_session.specs.Kept.{no_session}
 use Rattle.aim_session.proofs.SessionLaws.{sessions_none}
-use Rattle.aim_book.specs.Desk.{is_lit}
-use Rattle.aim_book.specs.Keeping.{IsManaged}
-use Rattle.aim_book.specs.Reserved.{IsRowOf, row_of}
+use Rattle.aim_reservations.specs.Blocking.{is_lit}
+use Rattle.aim_book.specs.Managed.{IsManaged}
+use Rattle.aim_reservations.specs.Rows.{row_of}
+use Rattle.aim_book.specs.Reserved.{IsRowOf}
 use Rattle.aim_book.specs.declared.desks.Desk.{Desk}
-use Rattle.aim_book.specs.declared.reservations.Reservation.{Reservation}
+use Rattle.aim_reservations.specs.declared.reservations.Reservation.{Reservation}
 
 pub lit_at : (ps : List Policy) (k : ℕ) (kind : Kind) → option_map (λ p. p.kind) (slice_get ps k) ≡ Some kind → has_lights kind ≡ true → list_any (λ p. has_lights p.kind) ps ≡ true
 lit_at [] k kind is lit = absurd (cc)

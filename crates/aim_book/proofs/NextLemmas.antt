@@ -15,10 +15,11 @@ use Rattle.aim_rules.specs.Kept.{AreApart, has_cell, is_owned, kept, kept_next, 
 use Rattle.aim_rules.proofs.TakenLaws.{is_owned-same, is_owned-snoc}
 use Rattle.aim_rules.proofs.VehicleLaws.{kept-snoc}
 use Rattle.aim_book.specs.Costs.{granted_spans}
-use Rattle.aim_book.specs.Keeping.{granted_sheet, is_changed, is_named, is_taken_then, row_next}
-use Rattle.aim_book.specs.Reserved.{AreReserved, IsRowOf, row_of, spans_in}
-use Rattle.aim_book.specs.declared.reservations.Reservation.{Reservation}
-use Rattle.aim_book.specs.declared.reservations.Reservations.{Reservations}
+use Rattle.aim_reservations.specs.Keeping.{granted_sheet, is_changed, is_named, is_taken_then, row_next}
+use Rattle.aim_reservations.specs.Rows.{row_of, spans_in}
+use Rattle.aim_book.specs.Reserved.{AreReserved, IsRowOf}
+use Rattle.aim_reservations.specs.declared.reservations.Reservation.{Reservation}
+use Rattle.aim_reservations.specs.declared.reservations.Reservations.{Reservations}
 use Rattle.aim_book.proofs.ManagedLemmas.{row_has}
 
 -- a reservation and what is kept are given up by one id

@@ -22,10 +22,10 @@ use Rattle.aim_session.specs.declared.sessions.Look.{Look}
 use Rattle.aim_session.specs.declared.sessions.Look.TheVariants as look
 use Rattle.aim_session.specs.Looks.{is_fresh_look}
 use Rattle.aim_session.proofs.SessionLaws.{sessions_same}
-use Rattle.aim_book.specs.Keeping.{IsManaged}
+use Rattle.aim_book.specs.Managed.{IsManaged}
 use Rattle.aim_book.specs.Reserved.{AreReserved}
 use Rattle.aim_book.specs.declared.desks.Desk.{Desk}
-use Rattle.aim_book.specs.declared.reservations.Reservations.{Reservations}
+use Rattle.aim_reservations.specs.declared.reservations.Reservations.{Reservations}
 
 pub not_fresh : (l : Look) → (l ≡ look.Fresh → ⊥) → is_fresh_look l ≡ false
 not_fresh look.Fresh other = absurd (other refl)

@@ -37,13 +37,15 @@ use Rattle.aim_session.specs.Looks.{look_of}
 use Rattle.aim_session.proofs.SessionLaws.{sessions_more}
 use Rattle.aim_book.specs.Asking.{AreCalling}
 use Rattle.aim_book.specs.Costs.{granted_spans, trial_spans}
-use Rattle.aim_book.specs.Keeping.{IsManaged, granted_sheet, is_changed, is_named, is_taken_then, row_next}
-use Rattle.aim_book.specs.Reserved.{AreReserved, HasRoom, IsRowOf, row_of, spans_in}
+use Rattle.aim_reservations.specs.Keeping.{granted_sheet, is_changed, is_named, is_taken_then, row_next}
+use Rattle.aim_book.specs.Managed.{IsManaged}
+use Rattle.aim_reservations.specs.Rows.{HasRoom, row_of, spans_in}
+use Rattle.aim_book.specs.Reserved.{AreReserved, IsRowOf}
 use Rattle.aim_book.specs.declared.desks.Desk.{Desk}
-use Rattle.aim_book.specs.declared.reservations.Reservation.{Reservation}
-use Rattle.aim_book.specs.declared.reservations.Reservations.{Reservations}
+use Rattle.aim_reservations.specs.declared.reservations.Reservation.{Reservation}
+use Rattle.aim_reservations.specs.declared.reservations.Reservations.{Reservations}
 use Rattle.aim_book.proofs.GrantedLemmas.{confirmed_asks, granted_later, granted_tiles, granted_trial}
-use Rattle.aim_book.proofs.KeepingLemmas.{cells_kept}
+use Rattle.aim_reservations.proofs.KeepingLemmas.{cells_kept}
 use Rattle.aim_book.proofs.ManagedLemmas.{answer_new, apart, calling, fresh_now, known_of}
 use Rattle.aim_book.proofs.NextLemmas.{reserved_next}
 

@@ -5,7 +5,7 @@ use Rattle.aim_msg.specs.declared.entries.Entry.{Entry}
 use Rattle.aim_msg.specs.declared.entries.TheConstants.{MOST_ENTRIES}
 use Rattle.aim_paths.specs.Intersection.{Intersection}
 use Rattle.aim_rules.specs.History.{now_of}
-use Rattle.aim_book.specs.Keeping.{IsManaged}
+use Rattle.aim_book.specs.Managed.{IsManaged}
 use Rattle.aim_book.specs.declared.desks.Desk.{Desk}
 use Rattle.std.specs.Prelude.{Option}
 

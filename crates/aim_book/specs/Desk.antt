@@ -1,12 +1,10 @@
 -- What a manager keeps of its history, and what it knows by that for an answer.
 -- No public clause cites it: only contracts of private functions.
-use Rattle.std.specs.Prelude.{◌≡◌, ℕ, ◌<◌, ◌≤◌, Bool, ◌&&◌, ◌==◌, not, List, length, Option, Some, None, is_some, slice_index_or}
-use Rattle.std.specs.List.{list_any}
+use Rattle.std.specs.Prelude.{◌≡◌, ℕ, ◌<◌, ◌≤◌, ◌&&◌, ◌==◌, not, List, length, Option, Some, None, is_some, slice_index_or}
 use Rattle.aim_geometry.specs.Bounded.{least_below}
 use Rattle.aim_geometry.specs.Cells.{Cell}
 use Rattle.aim_msg.specs.declared.entries.Entry.{Entry}
 use Rattle.aim_paths.specs.Intersection.{Intersection}
-use Rattle.aim_paths.specs.Policies.{has_lights}
 use Rattle.aim_pool.specs.Spans.{in_spans}
 use Rattle.aim_tiles.specs.Cells.{has_cell}
 use Rattle.aim_rules.specs.Answer.{is_stopped}
@@ -16,13 +14,11 @@ use Rattle.aim_rules.specs.Known.{Known}
 use Rattle.aim_fcfs.specs.Distances.{AreDistances}
 use Rattle.aim_session.specs.Kept.{AreSessions, no_session}
 use Rattle.aim_book.specs.declared.desks.Desk.{Desk}
-use Rattle.aim_book.specs.declared.reservations.Reservation.{Reservation}
-use Rattle.aim_book.specs.Reserved.{AreReserved, IsReservationOf, is_reserved, row_of, spans_in}
-use Rattle.aim_book.specs.SpanSteps.{Reaches}
-
--- some policy has lights
-abbrev pub is_lit : Intersection → Bool
-is_lit i = list_any (λ p. has_lights p.kind) i.policies
+use Rattle.aim_reservations.specs.declared.reservations.Reservation.{Reservation}
+use Rattle.aim_reservations.specs.Rows.{is_reserved, row_of, spans_in}
+use Rattle.aim_book.specs.Reserved.{AreReserved, IsReservationOf}
+use Rattle.aim_reservations.specs.Blocking.{is_lit}
+use Rattle.aim_reservations.specs.SpanSteps.{Reaches}
 
 -- after a history of vehicles below n, at a time: each part is what the history says
 pub record IsDesk {L : Type 0} (i : Intersection) (n : ℕ) (h : List Entry) (at : ℕ) (d : Desk L) : Type 0 where

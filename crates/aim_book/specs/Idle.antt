@@ -5,4 +5,4 @@ use Rattle.aim_book.specs.declared.idle.IdleDesk.{IdleDesk}
 
 -- the desk of the same parts
 abbrev pub joined : {L : Type 0} → IdleDesk → Desk L
-joined d = record { sessions = d.sessions; reservations = record { rows = d.rows; table = d.table }; timeline = d.timeline; distances = d.distances; has_lights = d.has_lights; stopped = d.stopped }
+joined d = record { sessions = d.sessions; reservations = record { rows = d.reservations.rows; table = d.reservations.table }; timeline = d.timeline; distances = d.distances; has_lights = d.has_lights; stopped = d.stopped }

@@ -1,12 +1,10 @@
 pub mod State
 pub mod Sheets
-pub mod SpanSteps
 pub mod Costs
 pub mod Reserved
 pub mod Desk
-pub mod Blocking
 pub mod Asking
-pub mod Keeping
+pub mod Managed
 pub mod Books
 pub mod Idle
 pub mod Charted

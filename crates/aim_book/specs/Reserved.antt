@@ -1,41 +1,17 @@
 -- The reservations that a manager keeps, and how they follow a history.
 -- No public clause cites it: only contracts of private functions.
-use Rattle.std.specs.Prelude.{◌≡◌, ℕ, ◌<◌, ◌+◌, ◌==◌, Bool, ◌&&◌, nat_le, if◌then◌else◌, List, [], length, Option, Some, None, slice_index_or}
+use Rattle.std.specs.Prelude.{◌≡◌, ℕ, ◌<◌, ◌+◌, ◌==◌, ◌&&◌, nat_le, if◌then◌else◌, List, length, Option, Some, None}
 use Rattle.aim_geometry.specs.Cells.{Cell}
 use Rattle.aim_paths.specs.Intersection.{Intersection}
-use Rattle.aim_pool.specs.declared.spans.Span.{Span}
-use Rattle.aim_pool.specs.Sheets.{Spans}
 use Rattle.aim_pool.specs.Spans.{in_spans}
 use Rattle.aim_tiles.specs.Cells.{has_cell}
 use Rattle.aim_rules.specs.History.{Fresh}
 use Rattle.aim_rules.specs.Holds.{is_granted}
 use Rattle.aim_rules.specs.Kept.{kept, is_owned}
 use Rattle.aim_book.specs.Costs.{granted_spans}
-use Rattle.aim_book.specs.declared.reservations.Reservation.{Reservation}
-use Rattle.aim_book.specs.declared.reservations.Reservations.{Reservations}
-
--- the vehicle's reservation
-abbrev pub row_of : List (Option Reservation) → ℕ → Option Reservation
-row_of rows v = slice_index_or rows v None
-
--- the spans of a reservation, if there is one
-abbrev pub spans_in : Option Reservation → List Span
-spans_in None = []
-spans_in (Some r) = r.sheet.spans
-
--- whether the vehicle has reserved the cell
-abbrev pub is_reserved : List (Option Reservation) → ℕ → Cell → Bool
-is_reserved rows v c = in_spans (spans_in (row_of rows v)) c
-
--- how many sheets there are
-abbrev pub sheet_count : Option Spans → ℕ
-sheet_count None = 0
-sheet_count (Some sheet) = 1
-
--- the sheet, if there is one, has this room
-abbrev pub HasRoom : ℕ → Option Spans → Type 0
-HasRoom room None = Unit {0}
-HasRoom room (Some sheet) = sheet.room ≡ room
+use Rattle.aim_reservations.specs.Rows.{row_of}
+use Rattle.aim_reservations.specs.declared.reservations.Reservation.{Reservation}
+use Rattle.aim_reservations.specs.declared.reservations.Reservations.{Reservations}
 
 -- the reservation is the one that a Confirm grants
 pub record IsReservationOf (i : Intersection) (x : Fresh) (r : Reservation) : Type 0 where

@@ -9,7 +9,8 @@ ghost use Rattle.aim_rules.specs.History.{params_of};
 ghost use Rattle.aim_rules.specs.Kept.{policy_in};
 ghost use Rattle.aim_rules.specs.Known.{Known, answer_asking_by, answer_free_by, answer_fresh_by, confirmation_by, first_blocked_by};
 ghost use Rattle.aim_book.specs.Asking.{AreCalling, IsAsking};
-ghost use Rattle.aim_book.specs.Desk.{Tells, is_lit};
+ghost use Rattle.aim_reservations.specs.Blocking.{is_lit};
+ghost use Rattle.aim_book.specs.Desk.{Tells};
 
 use crate::desks::Desk;
 use aim_buffers::Prepared;

@@ -1,13 +1,13 @@
 //! The book: a layout and the journal of what was asked and answered over it.
 
 use crate::desks::Desk;
-use crate::reservations::Reservations;
 use aim_buffers::Prepared;
 use aim_emerg::Approaches;
 use aim_fcfs::Distances;
 use aim_msg::{Act, Entry, MOST_ENTRIES, MOST_VEHICLES, Message, OPERATOR, Order, Reply};
 use aim_paths::Layout;
 use aim_pool::Pool;
+use aim_reservations::Reservations;
 use aim_session::Sessions;
 use aim_switch::Timeline;
 use aim_tiles::Steps;
@@ -299,7 +299,7 @@ impl<L: Ledger> Book<L> {
 ghost use Rattle.std.specs.Prelude.{◌≡◌, ◌<◌, ◌≤◌, [], IsTrue, IfOk};
 ghost use Rattle.std.specs.List.{list_any};
 ghost use Rattle.aim_msg.specs.declared.entries.TheConstants.{MOST_ENTRIES, MOST_VEHICLES};
-ghost use Rattle.aim_book.specs.Desk.{is_lit};
+ghost use Rattle.aim_reservations.specs.Blocking.{is_lit};
 
 // Whether some policy of the layout has lights.
 fn has_lights(layout: &Layout) -> bool

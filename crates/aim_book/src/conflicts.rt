@@ -1,68 +1,22 @@
-//! The first cell of a crossing that can't be had, and why.
+//! Why a cell of a crossing can't be had.
 
-ghost use Rattle.std.specs.Prelude.{◌≡◌, ℕ, ◌+◌, ◌<◌, ◌≤◌, ◌&&◌, ◌||◌, Bool, IsTrue, ◌↔◌, length, Some, is_none};
-ghost use Rattle.aim_geometry.specs.Cells.{Cell, cell_at};
+ghost use Rattle.std.specs.Prelude.{◌≡◌, ℕ, ◌+◌, ◌<◌, ◌≤◌, Bool, length, is_none};
+ghost use Rattle.aim_geometry.specs.Cells.{cell_at};
 ghost use Rattle.aim_msg.specs.declared.messages.Params.{Params};
-ghost use Rattle.aim_paths.specs.Intersection.{Intersection};
-ghost use Rattle.aim_pool.specs.Spans.{in_spans};
 ghost use Rattle.aim_tiles.specs.Sheets.{AreTiles};
 ghost use Rattle.aim_rules.specs.Known.{Known, blocked_in, first_blocked_by};
-ghost use Rattle.aim_book.specs.Blocking.{AreAsked, Before, IsLeastOf, is_green, is_held};
-ghost use Rattle.aim_book.specs.Desk.{Tells, is_lit};
-ghost use Rattle.aim_book.specs.Reserved.{row_of, spans_in};
+ghost use Rattle.aim_reservations.specs.Blocking.{AreAsked, is_lit};
+ghost use Rattle.aim_book.specs.Desk.{Tells};
 
 use crate::desks::Desk;
-use crate::greens::{first_green, green_lane};
 use aim_msg::Reason;
 use aim_paths::Layout;
 use aim_pool::Sheet;
+use aim_reservations::green_lane;
 use aim_tiles::Steps;
 use std::sync::ledger::Ledger;
 
-// Whether a cell, a step, a row and a column, is before another one.
-fn is_before(a: (u32, u8, u8), b: (u32, u8, u8)) -> bool
-    ensures { IsTrue result ↔ Before (cell_at a.0 a.1 a.2) (cell_at b.0 b.1 b.2) }
-{
-    a.0 < b.0 || a.0 == b.0 && (a.1 < b.1 || a.1 == b.1 && a.2 < b.2)
-}
-
-// The least of two cells, if there are any.
-fn least(a: Option<(u32, u8, u8)>, b: Option<(u32, u8, u8)>) -> Option<(u32, u8, u8)>
-    ensures { (p q : Cell → Bool) → IsLeastOf p a → IsLeastOf q b → IsLeastOf (λ c. p c || q c) result }
-{
-    match (a, b) {
-        (Some(first), Some(second)) => { if is_before(second, first) { b } else { a } }
-        (None, _) => b,
-        (_, None) => a,
-    }
-}
-
 impl<L: Ledger> Desk<L> {
-    // The least cell of the sheet that another lane than the one claims or another vehicle has taken.
-    fn first_blocked(
-        &self,
-        layout: &Layout,
-        vehicle: u32,
-        lane: u8,
-        sheet: &Sheet,
-        steps: &mut Steps<L>,
-    ) -> Option<(u32, u8, u8)>
-        requires there { vehicle < length self.now.reservations.rows.items }
-        requires lights { self.now.has_lights ≡ is_lit layout.now }
-        requires size { self.now.reservations.table.size ≡ layout.now.grid.n }
-        requires tiles { AreTiles layout.now.grid.n sheet.now.spans }
-        ensures least { IsLeastOf (λ c. in_spans sheet.now.spans c && (is_green layout.now self.now.timeline.pushed lane c || is_held self.now.reservations.table (spans_in (row_of self.now.reservations.rows.items vehicle)) c)) result }
-        ensures cost { steps.new ≤ steps.old + length sheet.now.spans }
-        ensures counted { steps.old ≤ steps.new }
-    {
-        let taken = self.reservations.first_taken(vehicle, sheet, steps);
-        if self.has_lights {
-            least(first_green(layout, &self.timeline, lane, sheet), taken)
-        } else {
-            taken
-        }
-    }
-
     // Why the cell can't be had, if it can't: a lane claims it, or else a vehicle has taken it.
     fn why_blocked(
         &self,
@@ -112,7 +66,16 @@ impl<L: Ledger> Desk<L> {
     {
         // This call only tells the ranges of the times.
         let _ground = layout.ground();
-        match self.first_blocked(layout, vehicle, lane, sheet, steps) {
+        let blocked = self.reservations.first_blocked(
+            layout,
+            &self.timeline,
+            self.has_lights,
+            vehicle,
+            lane,
+            sheet,
+            steps,
+        );
+        match blocked {
             Some(_) => false,
             None => true,
         }
@@ -139,7 +102,16 @@ impl<L: Ledger> Desk<L> {
     {
         // This call only tells the ranges of the times.
         let _ground = layout.ground();
-        match self.first_blocked(layout, vehicle, lane, sheet, steps) {
+        let blocked = self.reservations.first_blocked(
+            layout,
+            &self.timeline,
+            self.has_lights,
+            vehicle,
+            lane,
+            sheet,
+            steps,
+        );
+        match blocked {
             Some(cell) => self.why_blocked(layout, vehicle, lane, cell),
             None => None,
         }

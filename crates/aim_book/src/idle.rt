@@ -2,14 +2,14 @@
 
 use crate::book::{Book, OpenFault};
 use crate::desks::Desk;
-use crate::reservations::{Reservation, Reservations};
 use aim_emerg::Approaches;
 use aim_fcfs::Distances;
 use aim_msg::Entry;
 use aim_paths::Layout;
+use aim_reservations::IdleReservations;
 use aim_session::Sessions;
 use aim_switch::Timeline;
-use aim_tiles::{IdleTable, Steps};
+use aim_tiles::Steps;
 use std::alloc::Global;
 use std::marker::{Brand, Model};
 use std::sync::ledger::{Blank, Ledger};
@@ -18,8 +18,7 @@ use std::sync::ledger::{Blank, Ledger};
 #[derive(Drop)]
 pub(crate) struct IdleDesk {
     pub(crate) sessions: Sessions,
-    pub(crate) rows: Vec<Option<Reservation>>,
-    pub(crate) table: IdleTable,
+    pub(crate) reservations: IdleReservations,
     pub(crate) timeline: Timeline,
     pub(crate) distances: Distances,
     pub(crate) has_lights: bool,
@@ -63,17 +62,15 @@ impl IdleDesk {
     {
         let IdleDesk {
             sessions,
-            rows,
-            table,
+            reservations,
             timeline,
             distances,
             has_lights,
             stopped,
         } = self;
-        let table = table.join();
         Desk {
             sessions,
-            reservations: Reservations { rows, table },
+            reservations: reservations.join(),
             timeline,
             distances,
             has_lights,
@@ -89,7 +86,7 @@ impl<L: Ledger> Desk<L> {
     {
         let Desk {
             sessions,
-            reservations: Reservations { rows, table },
+            reservations,
             timeline,
             distances,
             has_lights,
@@ -97,8 +94,7 @@ impl<L: Ledger> Desk<L> {
         } = self;
         IdleDesk {
             sessions,
-            rows,
-            table: table.leave(steps),
+            reservations: reservations.leave(steps),
             timeline,
             distances,
             has_lights,

@@ -6,14 +6,11 @@ mod at_once;
 mod book;
 mod conflicts;
 mod desks;
-mod greens;
 mod idle;
 mod keeping;
 pub mod laws;
 mod refusals;
-mod reservations;
 mod serving;
-mod sheets;
 
 pub use book::{Book, Full, OpenFault};
 pub use idle::IdleBook;

@@ -18,12 +18,12 @@ ghost use Rattle.aim_book.specs.Asking.{AreCalling, IsAsking};
 ghost use Rattle.aim_book.specs.Desk.{Tells};
 
 use crate::desks::Desk;
-use crate::sheets::{first_step, reaches};
 use aim_buffers::Prepared;
 use aim_emerg::Approaches;
 use aim_fcfs::next_allowed;
 use aim_msg::{Body, Params, Reason, Reply};
 use aim_paths::{Kind, Layout};
+use aim_reservations::{first_step, reaches};
 use std::sync::ledger::Ledger;
 
 impl<L: Ledger> Desk<L> {

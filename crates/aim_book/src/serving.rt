@@ -15,8 +15,10 @@ ghost use Rattle.aim_session.specs.declared.sessions.Look.{Look};
 ghost use Rattle.aim_session.specs.Kept.{no_session};
 ghost use Rattle.aim_session.specs.Looks.{is_fresh_look, look_of};
 ghost use Rattle.aim_book.specs.Costs.{asked_spans};
-ghost use Rattle.aim_book.specs.Keeping.{IsManaged, row_count};
-ghost use Rattle.aim_book.specs.Reserved.{row_of, rows_exchanged};
+ghost use Rattle.aim_reservations.specs.Keeping.{row_count};
+ghost use Rattle.aim_book.specs.Managed.{IsManaged};
+ghost use Rattle.aim_reservations.specs.Rows.{row_of};
+ghost use Rattle.aim_book.specs.Reserved.{rows_exchanged};
 
 use crate::at_once::NeedsCells;
 use crate::desks::Desk;

@@ -5,8 +5,10 @@ use Rattle.std.specs.Prelude.{max, min, ◌-◌, ◌*◌}
 use Rattle.aim_rules.specs.History.{fresh, now_of, params_of}
 use Rattle.aim_rules.specs.Kept.{kept}
 use Rattle.aim_rules.proofs.HistoryLaws.{now_of-max}
-use Rattle.aim_book.specs.Keeping.{IsManaged, row_count}
-use Rattle.aim_book.specs.Reserved.{row_of, rows_exchanged}
+use Rattle.aim_reservations.specs.Keeping.{row_count}
+use Rattle.aim_book.specs.Managed.{IsManaged}
+use Rattle.aim_reservations.specs.Rows.{row_of}
+use Rattle.aim_book.specs.Reserved.{rows_exchanged}
 use Rattle.aim_book.specs.Costs.{asked_spans, spans_exchanged}
 use Rattle.aim_book.specs.Sheets.{sheets_kept}
 use Rattle.aim_book.proofs.CostLemmas.{exchanged_is}

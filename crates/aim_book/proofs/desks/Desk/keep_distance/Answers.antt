@@ -1,6 +1,6 @@
 use Rattle.std.proofs.Common.{◌∙◌, ap}
 use Rattle.aim_fcfs.specs.Distances.{distances_with}
-use Rattle.aim_book.proofs.KeepingLemmas.{distances_past}
+use Rattle.aim_book.proofs.DistanceLemmas.{distances_past}
 use Rattle.aim_book.proofs.desks.Desk.keep_distance.Goals as goal
 
 pub returns-then-params-ge16-clause-distances : goal.returns-then-params-ge16-clause-distances

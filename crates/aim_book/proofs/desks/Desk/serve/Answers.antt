@@ -9,7 +9,7 @@ use Rattle.aim_rules.proofs.LegalLemmas.{IsLegal-append}
 use Rattle.aim_session.specs.Kept.{no_session}
 use Rattle.aim_session.specs.Looks.{is_fresh_look, look_of}
 use Rattle.aim_session.proofs.SessionLaws.{session_fresh}
-use Rattle.aim_book.specs.Keeping.{IsManaged}
+use Rattle.aim_book.specs.Managed.{IsManaged}
 use Rattle.aim_book.proofs.SameLemmas.{managed_same, not_fresh, now_next}
 use Rattle.aim_book.proofs.desks.Desk.serve.Goals as goal
 

@@ -8,8 +8,9 @@ use Rattle.aim_emerg.specs.Calls.{call_of}
 use Rattle.aim_rules.specs.History.{fresh, is_confirm, now_of, params_of}
 use Rattle.aim_rules.specs.Known.{answer_fresh_by}
 use Rattle.aim_book.specs.Desk.{Tells}
-use Rattle.aim_book.specs.Keeping.{is_changed, row_next, spans_moved}
-use Rattle.aim_book.specs.Reserved.{row_of, rows_exchanged}
+use Rattle.aim_reservations.specs.Keeping.{is_changed, row_next, spans_moved}
+use Rattle.aim_reservations.specs.Rows.{row_of}
+use Rattle.aim_book.specs.Reserved.{rows_exchanged}
 use Rattle.aim_book.proofs.CostLemmas.{moved_fits}
 use Rattle.aim_book.proofs.ManagedLemmas.{answer_new, known_of, tells}
 use Rattle.aim_book.proofs.ServedLemmas.{calling_noted, later_granted, managed_next, row_tiles, tiles_granted}

@@ -7,7 +7,7 @@ use Rattle.aim_rules.specs.Legal.{IsLegal}
 use Rattle.aim_rules.proofs.LegalLemmas.{IsLegal-append}
 use Rattle.aim_session.specs.Looks.{is_fresh_look}
 use Rattle.aim_session.proofs.SessionLaws.{session_fresh}
-use Rattle.aim_book.specs.Keeping.{IsManaged}
+use Rattle.aim_book.specs.Managed.{IsManaged}
 use Rattle.aim_book.proofs.SameLemmas.{managed_same, not_fresh, now_next}
 use Rattle.aim_book.proofs.desks.Desk.serve_message.Goals as goal
 

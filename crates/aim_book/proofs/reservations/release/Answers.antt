@@ -1,4 +1,0 @@
-use Rattle.aim_book.proofs.reservations.release.Goals as goal
-
-pub release-requires : goal.release-requires
-release-requires g c = rw c.in-Some.is at c.requires

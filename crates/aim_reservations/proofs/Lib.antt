@@ -1,0 +1,6 @@
+pub mod SpanSteps
+mod RowLemmas
+mod GreenLemmas
+mod BeforeLemmas
+mod BlockedLemmas
+pub mod KeepingLemmas

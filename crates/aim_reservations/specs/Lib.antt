@@ -1,0 +1,4 @@
+pub mod SpanSteps
+pub mod Rows
+pub mod Keeping
+pub mod Blocking
