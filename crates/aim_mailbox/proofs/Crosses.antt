@@ -24,8 +24,8 @@ use Rattle.aim_emerg.proofs.approaches.Approaches.TheSendSync as approaches
 use Rattle.aim_buffers.specs.contracts.requests.Prepared as Prepared
 use Rattle.aim_book.proofs.book.Full.TheSendSync as full
 use Rattle.aim_book.specs.contracts.desks.Desk as BookDesk
-use Rattle.aim_book.specs.contracts.reservations.Reservation as Reservation
-use Rattle.aim_book.specs.contracts.reservations.Reservations as Reservations
+use Rattle.aim_reservations.specs.contracts.reservations.Reservation as Reservation
+use Rattle.aim_reservations.specs.contracts.reservations.Reservations as Reservations
 use Rattle.aim_book.specs.contracts.book.Book as Book
 use Rattle.atomic_table.proofs.badge.Badge.TheSendSync as badge
 use Rattle.atomic_table.proofs.owned.Table.TheSendSync as table

@@ -17,7 +17,8 @@ use Rattle.aim_fcfs.proofs.distances.Distances.TheSendSync as distances
 use Rattle.aim_emerg.proofs.approaches.Approaches.TheSendSync as approaches
 use Rattle.aim_book.specs.contracts.idle.IdleBook as IdleBook
 use Rattle.aim_book.specs.contracts.idle.IdleDesk as IdleDesk
-use Rattle.aim_book.specs.contracts.reservations.Reservation as Reservation
+use Rattle.aim_reservations.specs.contracts.idle.IdleReservations as IdleReservations
+use Rattle.aim_reservations.specs.contracts.reservations.Reservation as Reservation
 use Rattle.aim_turn.proofs.pass.Front.TheSendSync as front
 use Rattle.aim_turn.proofs.pass.Pass.TheSendSync as pass
 use Rattle.aim_turn.proofs.turnstile.Turnstile.TheSendSync as turnstile
@@ -40,8 +41,11 @@ pool_send = search (sendable, crosses, node.send-Node, slots.the_send) depth 20
 reservation_send : IsSend Reservation.the_row
 reservation_send = search (sendable, crosses, sheet_send) depth 20
 
+idle_reservations_send : IsSend IdleReservations.the_field.row
+idle_reservations_send = search (sendable, crosses, idle.the_send, reservation_send) depth 20
+
 idle_desk_send : IsSend IdleDesk.the_field.row
-idle_desk_send = search (sendable, crosses, sessions.the_send, idle.the_send, reservation_send, timeline.the_send, distances.the_send) depth 30
+idle_desk_send = search (sendable, crosses, sessions.the_send, idle_reservations_send, timeline.the_send, distances.the_send) depth 30
 
 book_send : IsSend IdleBook.the_row
 book_send = search (sendable, crosses, layout.the_send, entry.the_send, idle_desk_send, approaches.the_send) depth 30
