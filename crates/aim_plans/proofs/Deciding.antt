@@ -1,10 +1,11 @@
 -- What a drive script comes to, line after line.
-use Rattle.std.proofs.Common.{◌≡◌, ℕ, ◌+◌, ◌<◌, ◌≤◌, List, [], ◌∷◌, ◌++◌, length, Option, Some, None, Result, Ok, Err, IfSome, refl, sym, ap, ◌∙◌, subst, length-append, Bool, true, false, arith}
+use Rattle.std.proofs.Common.{◌≡◌, ℕ, ◌+◌, ◌≤◌, List, [], ◌∷◌, ◌++◌, length, Option, Some, None, Result, Ok, Err, IfSome, refl, sym, ap, ◌∙◌, length-append, Bool, true, false, arith}
 use Rattle.std.specs.Option.{unwrap_or}
 use Rattle.std.specs.Io.KnownBytes.{Consumes, Keeps, prepend_known}
 use Rattle.std.proofs.KnownBytes.{Consumes-nil, Consumes-trans, Consumes-kept}
 use Rattle.aim_io.specs.declared.lines.LineFault.{LineFault}
 use Rattle.aim_io.specs.declared.lines.LineFault.TheVariants.{Read, Long, Bytes, Lines}
+use Rattle.aim_io.specs.Causes.{Rose}
 use Rattle.aim_io.specs.Known.{WhereKnown}
 use Rattle.aim_io.specs.Lines.{InputFault, LongLine, TooManyBytes, TooManyLines, fault_of, Outcome, Line, Stop}
 use Rattle.aim_io.specs.Reader.{Reader, input, coming, Answers, IsSound, taken_by, after_call}
@@ -21,11 +22,12 @@ use Rattle.aim_script.specs.Verdicts.{Verdict, Judgement, decides, goes_on, numb
 use Rattle.aim_plans.specs.declared.scripts.DriveScript.{DriveScript}
 use Rattle.aim_plans.specs.declared.scripts.Ending.{Ending}
 use Rattle.aim_plans.specs.declared.scripts.Ending.TheVariants as ending
+use Rattle.aim_plans.specs.declared.drafts.Refusal.{Refusal}
 use Rattle.aim_plans.specs.declared.drafts.Refusal.TheVariants as refusal
 use Rattle.aim_plans.specs.Verdicts.{judge, verdict_from, drive_verdict}
 use Rattle.aim_plans.specs.Scripts.{Decides, Reads, TakesAtMost}
 use Rattle.aim_plans.specs.Short.{script_after}
-use Rattle.aim_plans.specs.Drafts.{Ends, Judged}
+use Rattle.aim_plans.specs.Drafts.{Ends, Judged, at_fault, refused}
 
 abbrev decided : List ScriptLine → Decision → Verdict
 decided before d = record { before = before; decision = d }
@@ -53,12 +55,12 @@ line_decides : (before : List ScriptLine) (d : Decision) (old new : Reader) (all
 line_decides before d old new all then now j known answers =
     decides_all before d all (decided_line (verdict_from before) drive_verdict (decided before d) old new all then now (λ more. rw j refl) known answers)
 
-pub bad_line : (before : List ScriptLine) (number : ℕ) (why : Kind) (old new : Reader) (all then now : Option (List ℕ)) → judge before (Line new.line) ≡ decides (decision.Bad (number_after before) why) → number ≡ number_after before
+bad_line : (before : List ScriptLine) (number : ℕ) (why : Kind) (old new : Reader) (all then now : Option (List ℕ)) → judge before (Line new.line) ≡ decides (decision.Bad (number_after before) why) → number ≡ number_after before
     → WhereKnown all then (λ bytes rest. verdict_from before (coming old rest) ≡ drive_verdict bytes) → Answers old new then now (Ok true) → Decides all (decision.Bad number why)
 bad_line before number why old new all then now j count known answers =
     line_decides before (decision.Bad number why) old new all then now (j ∙ ap (λ n. decides (decision.Bad n why)) (sym count)) known answers
 
-pub limit_line : (before : List ScriptLine) (which : Limit) (old new : Reader) (all then now : Option (List ℕ)) → judge before (Line new.line) ≡ decides (decision.Limit which)
+limit_line : (before : List ScriptLine) (which : Limit) (old new : Reader) (all then now : Option (List ℕ)) → judge before (Line new.line) ≡ decides (decision.Limit which)
     → WhereKnown all then (λ bytes rest. verdict_from before (coming old rest) ≡ drive_verdict bytes) → Answers old new then now (Ok true) → Decides all (decision.Limit which)
 limit_line before which old new all then now j known answers = line_decides before (decision.Limit which) old new all then now j known answers
 
@@ -99,9 +101,30 @@ fault_line : (before : List ScriptLine) (fault : LineFault) (old new : Reader) (
 fault_line before fault old new all then now other known answers =
     decides_all before (fault_decision fault) all (decided_fault (verdict_from before) drive_verdict (λ f. decided before (fault_decision f)) old new all then now fault other (fault_told before) known answers)
 
-pub long_line : (before : List ScriptLine) (number : ℕ) (old new : Reader) (all then now : Option (List ℕ)) → WhereKnown all then (λ bytes rest. verdict_from before (coming old rest) ≡ drive_verdict bytes)
-    → Answers old new then now (Err (Long number)) → Decides all (decision.Bad number kind.Long)
-long_line before number old new all then now known answers = fault_line before (Long number) old new all then now (λ e. cc) known answers
+pub fault_reads : (before : List ScriptLine) (fault : LineFault) (old new : Reader) (all then now : Option (List ℕ)) → WhereKnown all then (λ bytes rest. verdict_from before (coming old rest) ≡ drive_verdict bytes)
+    → Answers old new then now (Err fault) → Reads all (Err (at_fault fault))
+fault_reads before Read old new all then now known answers = tt
+fault_reads before (Long number) old new all then now known answers = fault_line before (Long number) old new all then now (λ e. cc) known answers
+fault_reads before Bytes old new all then now known answers = fault_line before Bytes old new all then now (λ e. cc) known answers
+fault_reads before Lines old new all then now known answers = fault_line before Lines old new all then now (λ e. cc) known answers
+
+-- the source has failed
+pub fault_is_read : (fault : LineFault) → ◌≡◌ {A = Result DriveScript Ending} (Err (at_fault fault)) (Err ending.Read) → fault ≡ Read
+fault_is_read Read e = refl
+fault_is_read (Long number) e = absurd (cc)
+fault_is_read Bytes e = absurd (cc)
+fault_is_read Lines e = absurd (cc)
+
+-- the count rose since it was first asked for
+pub rose_later : (first before now : ℕ) → first ≤ before → Rose before now → Rose first now
+rose_later first before now later rose = grind arith
+
+-- a line that isn't taken
+pub refused_reads : (before : List ScriptLine) (number : ℕ) (why : Refusal) (old new : Reader) (all then now : Option (List ℕ)) → Judged before new.line (Err why) → number ≡ number_after before
+    → WhereKnown all then (λ bytes rest. verdict_from before (coming old rest) ≡ drive_verdict bytes) → Answers old new then now (Ok true) → Reads all (Err (refused number why))
+refused_reads before number (refusal.Bad kind) old new all then now j count known answers = bad_line before number kind old new all then now j count known answers
+refused_reads before number (refusal.Limit which) old new all then now j count known answers = limit_line before which old new all then now j known answers
+refused_reads before number refusal.NoMemory old new all then now j count known answers = tt
 
 -- ---- a script behind whole lines, none of which decides
 

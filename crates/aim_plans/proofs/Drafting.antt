@@ -1,8 +1,6 @@
 -- A draft with one more line.
-use Rattle.std.proofs.Common.{◌≡◌, ◌⊎◌, ℕ, zero, suc, ◌<◌, ◌≤◌, Bool, true, false, ◌||◌, not, cond, List, [], ◌∷◌, ◌++◌, length, take, Option, Some, None, Ok, refl, sym, ap, ◌∙◌, subst, inl, inr, arith, slice_get}
-use Rattle.std.specs.Prelude.{if◌then◌else◌}
+use Rattle.std.proofs.Common.{◌≡◌, ◌⊎◌, ℕ, zero, suc, ◌<◌, ◌≤◌, Bool, true, ◌||◌, List, [], ◌∷◌, ◌++◌, length, take, Some, None, Ok, refl, sym, ap, ◌∙◌, subst, inl, inr, arith, slice_get}
 use Rattle.std.specs.Option.{unwrap_or}
-use Rattle.std.proofs.lemmas.Bool.{or_parts}
 use Rattle.std.proofs.lemmas.List.{take-append-le}
 use Rattle.std.proofs.Math.Seq.{take-append_seam}
 use Rattle.aim_msg.specs.declared.script.Line.{Line}
@@ -10,21 +8,19 @@ use Rattle.aim_msg.specs.declared.script.Line.TheVariants as line
 use Rattle.aim_msg.specs.Lines.{KeepsRanges}
 use Rattle.aim_read.proofs.LineSpelled.{line_was_spelled}
 use Rattle.aim_read.specs.Reading.{line_at}
-use Rattle.aim_script.specs.declared.decisions.Decision.{Decision}
 use Rattle.aim_script.specs.declared.decisions.Decision.TheVariants as decision
 use Rattle.aim_script.specs.declared.settings.Setting.{Setting}
 use Rattle.aim_script.specs.Headers.{HasName}
 use Rattle.aim_script.specs.Order.{is_end}
 use Rattle.aim_script.specs.Said.{last_of, version_in, vehicles_in, name_in, calls_of}
-use Rattle.aim_script.specs.Verdicts.{at_end, number_after}
-use Rattle.aim_script.specs.Kinds.{Test}
+use Rattle.aim_script.specs.Verdicts.{at_end}
 use Rattle.aim_script.proofs.AppendLemmas.{IsSilent, last_of_more, version_same, names_same, layout_same, vehicles_same}
 use Rattle.aim_plans.specs.Order.{place_after, is_begin, is_until, is_of_body}
-use Rattle.aim_plans.specs.Kinds.{kind_of_fault, limit_of, is_out_of_order}
+use Rattle.aim_plans.specs.Kinds.{kind_of_fault, limit_of}
 use Rattle.aim_plans.specs.Scripts.{IsDrive}
 use Rattle.aim_plans.specs.Drafts.{AreNamed, IsDraft, IsOpened, Stands, is_open}
 use Rattle.aim_plans.specs.declared.drafts.Part.{Part}
-use Rattle.aim_plans.proofs.Kinding.{passes, only_late}
+use Rattle.aim_plans.proofs.Kinding.{only_late}
 
 some_is : {A : Type 0} (x y : A) → Some x ≡ Some y → x ≡ y
 some_is x y e = ap (λ o. unwrap_or o x) e

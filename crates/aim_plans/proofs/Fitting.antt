@@ -1,29 +1,25 @@
 -- What holds of the script of lines that make a drive.
-use Rattle.std.proofs.Common.{◌≡◌, ◌⊎◌, ℕ, zero, suc, ◌+◌, ◌*◌, ◌<◌, ◌≤◌, Bool, true, false, ◌==◌, ◌||◌, not, cond, nat_lt, nat_le, is_some, List, [], ◌∷◌, ◌++◌, length, map, filter_map, take, Option, Some, None, option_map, Result, Ok, Err, refl, sym, ap, ◌∙◌, subst, inl, inr, arith, slice_get, append_assoc, append-nil, length-append}
-use Rattle.std.specs.Prelude.{bytes_eq, position, if◌then◌else◌, IfOk}
+use Rattle.std.proofs.Common.{◌≡◌, ℕ, zero, suc, ◌+◌, ◌*◌, ◌<◌, ◌≤◌, Bool, true, false, ◌==◌, ◌||◌, not, nat_lt, nat_le, List, [], ◌∷◌, ◌++◌, length, filter_map, take, Option, Some, None, option_map, Result, Ok, Err, refl, sym, ap, ◌∙◌, subst, arith, slice_get, append_assoc, append-nil, length-append}
+use Rattle.std.specs.Prelude.{bytes_eq, IfOk}
 use Rattle.std.specs.List.{list_any, position_or_len}
 use Rattle.std.specs.Option.{unwrap_or, option_or, option_to_list}
-use Rattle.std.proofs.lemmas.Bool.{or_parts, leb-false, ltb-false, ltb-true, eqb-true, eq-eqb}
+use Rattle.std.proofs.lemmas.Bool.{or_parts, leb-false, ltb-false, ltb-true, eq-eqb}
 use Rattle.std.proofs.lemmas.Option.{slice_get-map}
 use Rattle.std.proofs.lemmas.List.Elements.{filter_map-append}
 use Rattle.std.proofs.Math.Seq.{take-append_seam}
 use Rattle.aim_msg.specs.declared.script.Line.{Line}
 use Rattle.aim_msg.specs.declared.script.Line.TheVariants as line
-use Rattle.aim_msg.specs.declared.script.Name.{Name}
-use Rattle.aim_msg.specs.declared.entries.Order.{Order}
-use Rattle.aim_msg.specs.declared.entries.Order.TheVariants as order
 use Rattle.aim_msg.specs.Lines.{name_word}
 use Rattle.aim_geometry.specs.Bounded.{find_map, is_outside}
 use Rattle.aim_script.specs.declared.settings.Setting.{Setting}
 use Rattle.aim_script.specs.Kinds.{vehicles_limit as vehicles_limit_of_any}
-use Rattle.aim_script.specs.Said.{names_of, name_in, number_of, is_named, layout_of, vehicles_in, vehicles_of}
+use Rattle.aim_script.specs.Said.{names_of, name_in, number_of, vehicles_in, vehicles_of}
 use Rattle.aim_script.proofs.AppendLemmas.{filter_map-one, names_are_policies}
 use Rattle.aim_plans.specs.declared.scripts.DriveScript.{DriveScript}
 use Rattle.aim_plans.specs.declared.scripts.Ending.{Ending}
-use Rattle.aim_plans.specs.declared.scripts.Ending.TheVariants as ending
 use Rattle.aim_plans.specs.declared.scripts.Ordered.{Ordered}
 use Rattle.aim_plans.specs.declared.scripts.Planned.{Planned}
-use Rattle.aim_plans.specs.Said.{Drive, drive_in, drives_of, until_in, until_of, is_plan_for, is_planned, ordered_in, orders_of, moment_in, moments_of, last_number}
+use Rattle.aim_plans.specs.Said.{Drive, drive_in, until_in, until_of, is_plan_for, is_planned, ordered_in, orders_of, moment_in, moments_of, last_number}
 use Rattle.aim_plans.specs.Kinds.{kind_of_fault, limit_of, vehicles_limit, orders_limit, is_bad_order, is_bad_plan}
 use Rattle.aim_plans.specs.Scripts.{IsDrive, IsScriptOf, drive_told}
 use Rattle.aim_plans.specs.Fits.{FitsDrive, FitsOrder, IsFit, IsOrderOf}

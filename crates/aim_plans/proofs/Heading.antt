@@ -1,13 +1,10 @@
 -- The header of a drive is that of any script.
-use Rattle.std.proofs.Common.{◌≡◌, ℕ, ◌<◌, Bool, true, false, ◌||◌, not, List, [], ◌∷◌, ◌++◌, length, Option, Some, None, refl, sym, ap, ◌∙◌}
+use Rattle.std.proofs.Common.{◌≡◌, ℕ, Bool, true, false, List, [], ◌∷◌, ◌++◌, Option, Some, None, refl, sym, ap, ◌∙◌}
 use Rattle.aim_msg.specs.declared.script.Line.{Line}
 use Rattle.aim_msg.specs.declared.script.Line.TheVariants as line
 use Rattle.aim_paths.specs.Intersection.{Intersection}
-use Rattle.aim_script.specs.declared.decisions.Kind.{Kind}
 use Rattle.aim_script.specs.declared.decisions.Kind.TheVariants as why
-use Rattle.aim_script.specs.declared.decisions.Limit.{Limit}
 use Rattle.aim_script.specs.declared.headers.Header.{Header}
-use Rattle.aim_script.specs.declared.headers.Headed.TheVariants as headed
 use Rattle.aim_script.specs.declared.headers.Place.{Place as HeaderPlace}
 use Rattle.aim_script.specs.declared.headers.Place.TheVariants as header_place
 use Rattle.aim_script.specs.declared.settings.Setting.{Setting}

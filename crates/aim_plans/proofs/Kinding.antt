@@ -1,8 +1,7 @@
 -- What the table of kinds says of a line.
-use Rattle.std.proofs.Common.{◌≡◌, ℕ, zero, suc, ◌<◌, ◌≤◌, Bool, true, false, ◌==◌, ◌||◌, not, cond, nat_lt, nat_le, List, [], ◌∷◌, length, get_or, Option, Some, None, IfSome, refl, sym, ap, ◌∙◌, subst, arith, is_some, take, slice_get}
+use Rattle.std.proofs.Common.{◌≡◌, ℕ, zero, suc, ◌<◌, Bool, true, false, ◌==◌, ◌||◌, not, nat_lt, nat_le, List, [], ◌∷◌, length, get_or, Option, Some, None, IfSome, refl, sym, ◌∙◌, subst, take}
 use Rattle.std.specs.Prelude.{if◌then◌else◌}
 use Rattle.std.proofs.lemmas.Bool.{eqb-true, leb-false, ltb-false, or_parts}
-use Rattle.std.proofs.lemmas.Bool.Decides.{nat_tests}
 use Rattle.std.proofs.lemmas.Option.{slice_get-get_or}
 use Rattle.aim_msg.specs.declared.script.Line.{Line}
 use Rattle.aim_msg.specs.declared.script.Line.TheVariants as line
@@ -10,7 +9,6 @@ use Rattle.aim_geometry.specs.Bounded.{is_outside}
 use Rattle.aim_driver.specs.declared.plans.PlannedChange.{PlannedChange}
 use Rattle.aim_driver.specs.Plans.{last_change}
 use Rattle.aim_script.specs.declared.decisions.Kind.{Kind}
-use Rattle.aim_script.specs.declared.decisions.Kind.TheVariants as why
 use Rattle.aim_script.specs.Kinds.{Test}
 use Rattle.aim_script.specs.Said.{last_of}
 use Rattle.aim_script.proofs.KindLemmas.{first_kind, first_kind_is}
@@ -18,7 +16,7 @@ use Rattle.aim_plans.specs.declared.places.Place.{Place}
 use Rattle.aim_plans.specs.declared.places.Place.TheVariants as place
 use Rattle.aim_plans.specs.Order.{place_after, belongs, is_begin, is_until, is_of_body}
 use Rattle.aim_plans.specs.Said.{change_in, changes_of, until_of}
-use Rattle.aim_plans.specs.Kinds.{kinds, kind_of_fault, is_out_of_order, is_no_driver}
+use Rattle.aim_plans.specs.Kinds.{kinds, kind_of_fault, is_out_of_order}
 use Rattle.aim_plans.specs.Scripts.{IsDrive}
 use Rattle.aim_plans.specs.Drafts.{MayAdd, is_open, fault_in_order}
 

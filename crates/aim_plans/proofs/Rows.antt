@@ -1,13 +1,11 @@
 -- Worked scripts: the kinds of bad lines of a drive in their order, its limits, and what whole ones say.
-use Rattle.std.proofs.Common.{◌≡◌, ◌++◌, List, [], ◌∷◌, ℕ, Bool, true, false, map, refl, None, Some, Option}
+use Rattle.std.proofs.Common.{◌≡◌, ◌++◌, List, [], ◌∷◌, ℕ, true, false, map, refl, None, Some}
 use Rattle.std.specs.Prelude.{codes}
 use Rattle.std.specs.Fmt.{digits}
 use Rattle.aim_io.specs.Lines.{outcomes_from}
 use Rattle.aim_msg.specs.declared.entries.Order.TheVariants as order
 use Rattle.aim_msg.specs.declared.script.LineKind.TheVariants as read
-use Rattle.aim_driver.specs.declared.links.Fate.{Fate}
 use Rattle.aim_driver.specs.declared.links.Fate.TheVariants as fate
-use Rattle.aim_driver.specs.declared.plans.PlannedChange.{PlannedChange}
 use Rattle.aim_script.specs.declared.decisions.Decision.{Decision}
 use Rattle.aim_script.specs.declared.decisions.Decision.TheVariants as decision
 use Rattle.aim_script.specs.declared.decisions.Kind.TheVariants as why

@@ -1,5 +1,7 @@
 -- What is known of a script's lines so far. No public clause cites this file: only contracts of private functions.
 use Rattle.std.specs.Prelude.{◌≡◌, ℕ, ◌<◌, ◌≤◌, Bool, true, false, List, [], ◌∷◌, ◌++◌, length, Option, Some, None, Result, Ok, Err, slice_get, if◌then◌else◌}
+use Rattle.aim_io.specs.declared.lines.LineFault.{LineFault}
+use Rattle.aim_io.specs.declared.lines.LineFault.TheVariants as fault
 use Rattle.aim_io.specs.Lines.{Line as LineOf}
 use Rattle.aim_msg.specs.declared.script.Line.{Line}
 use Rattle.aim_msg.specs.declared.script.Line.TheVariants as line
@@ -9,6 +11,7 @@ use Rattle.aim_driver.specs.Plans.{last_change}
 use Rattle.aim_script.specs.declared.decisions.Decision.TheVariants as decision
 use Rattle.aim_script.specs.declared.decisions.Kind.{Kind}
 use Rattle.aim_script.specs.declared.decisions.Kind.TheVariants as kind
+use Rattle.aim_script.specs.declared.decisions.Limit.TheVariants as limit
 use Rattle.aim_script.specs.declared.settings.Setting.{Setting}
 use Rattle.aim_script.specs.Headers.{HasName, Stands as StandsAsHeader}
 use Rattle.aim_script.specs.Kinds.{is_bad_policy}
@@ -84,6 +87,19 @@ Judged before bytes (Ok after) = (l : Line) × (judge before (LineOf bytes) ≡ 
 Judged before bytes (Err (refusal.Bad why)) = judge before (LineOf bytes) ≡ decides (decision.Bad (number_after before) why)
 Judged before bytes (Err (refusal.Limit which)) = judge before (LineOf bytes) ≡ decides (decision.Limit which)
 Judged before bytes (Err refusal.NoMemory) = Unit {0}
+
+-- what a fault of the input comes to
+abbrev pub at_fault : LineFault → Ending
+at_fault fault.Read = ending.Read
+at_fault (fault.Long number) = ending.Bad number kind.Long
+at_fault fault.Bytes = ending.Limit limit.Bytes
+at_fault fault.Lines = ending.Limit limit.Lines
+
+-- what the line of that number comes to, which isn't taken
+abbrev pub refused : ℕ → Refusal → Ending
+refused number (refusal.Bad why) = ending.Bad number why
+refused number (refusal.Limit which) = ending.Limit which
+refused number refusal.NoMemory = ending.NoMemory
 
 -- what lines come to behind which the input ends
 abbrev pub Ends : List Line → Result DriveScript Ending → Type 0

@@ -1,5 +1,5 @@
 -- What holds of each whole drive script.
-use Rattle.std.specs.Prelude.{◌≡◌, ℕ, ◌*◌, ◌<◌, ◌≤◌, List, length, Some, slice_get}
+use Rattle.std.specs.Prelude.{◌≡◌, ℕ, ◌*◌, ◌<◌, ◌≤◌, length, Some, slice_get}
 use Rattle.aim_msg.specs.declared.entries.Order.{Order}
 use Rattle.aim_msg.specs.declared.entries.Order.TheVariants as order
 use Rattle.aim_plans.specs.declared.scripts.DriveScript.{DriveScript}

@@ -1,6 +1,6 @@
 -- Why a line that reads may not stand where it stands in a drive script: the table of the kinds of bad lines, in their
 -- order, and the limits on a script.
-use Rattle.std.specs.Prelude.{ℕ, ◌==◌, Bool, false, ◌||◌, not, nat_lt, nat_le, List, [], ◌∷◌, length, Option, Some, None, option_map, option_and_then, find, is_some, if◌then◌else◌}
+use Rattle.std.specs.Prelude.{ℕ, ◌==◌, Bool, false, ◌||◌, not, nat_lt, nat_le, List, [], ◌∷◌, length, Option, Some, None, option_map, find, is_some, if◌then◌else◌}
 use Rattle.aim_msg.specs.declared.script.Line.{Line}
 use Rattle.aim_msg.specs.declared.script.Line.TheVariants as line
 use Rattle.aim_geometry.specs.Bounded.{is_outside}

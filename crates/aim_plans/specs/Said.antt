@@ -1,5 +1,5 @@
 -- What the lines of a drive script say behind its header: questions over the whole list of lines.
-use Rattle.std.specs.Prelude.{ℕ, ◌==◌, Bool, true, false, List, [], ◌∷◌, map, filter_map, take, Option, Some, None, unwrap_or, if◌then◌else◌}
+use Rattle.std.specs.Prelude.{ℕ, ◌==◌, Bool, true, false, List, [], map, filter_map, take, Option, Some, None, unwrap_or, if◌then◌else◌}
 use Rattle.std.specs.List.{list_any}
 use Rattle.aim_msg.specs.declared.entries.Order.TheVariants as order
 use Rattle.aim_msg.specs.declared.script.FateList.{FateList}

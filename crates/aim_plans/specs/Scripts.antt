@@ -5,7 +5,6 @@ use Rattle.aim_msg.specs.declared.script.Line.{Line}
 use Rattle.aim_script.specs.declared.decisions.Decision.{Decision}
 use Rattle.aim_script.specs.declared.decisions.Decision.TheVariants as decision
 use Rattle.aim_script.specs.Said.{layout_of, vehicles_of, calls_of}
-use Rattle.aim_script.specs.Verdicts.{Verdict}
 use Rattle.aim_plans.specs.declared.scripts.DriveScript.{DriveScript}
 use Rattle.aim_plans.specs.declared.scripts.Ending.{Ending}
 use Rattle.aim_plans.specs.declared.scripts.Ending.TheVariants as ending

@@ -1,6 +1,6 @@
 -- What a drive script comes to: the first line that decides. What a verdict is, and what an input's faults and its end
 -- decide, is the same for all scripts.
-use Rattle.std.specs.Prelude.{ℕ, List, [], ◌∷◌, ◌++◌, Option, Some, None, Result, Ok, Err}
+use Rattle.std.specs.Prelude.{ℕ, List, [], ◌∷◌, Option, Some, None, Result, Ok, Err}
 use Rattle.aim_io.specs.Lines.{Outcome, Line, Stop, outcomes_of}
 use Rattle.aim_msg.specs.declared.script.Line.{Line as ScriptLine}
 use Rattle.aim_msg.specs.declared.script.LineKind.{LineKind}
@@ -9,7 +9,7 @@ use Rattle.aim_script.specs.declared.decisions.Decision.TheVariants as decision
 use Rattle.aim_script.specs.declared.decisions.Kind.{Kind}
 use Rattle.aim_script.specs.declared.decisions.Kind.TheVariants as kind
 use Rattle.aim_script.specs.Said.{version_after}
-use Rattle.aim_script.specs.Verdicts.{Verdict, Judgement, decides, goes_on, number_after, of_fault, unless_limited, at_end, then_on}
+use Rattle.aim_script.specs.Verdicts.{Verdict, Judgement, decides, number_after, of_fault, unless_limited, at_end, then_on}
 use Rattle.aim_plans.specs.Kinds.{kind_of_fault, limit_of}
 
 abbrev pub unless_bad : List ScriptLine → ScriptLine → Option Kind → Judgement

@@ -3,6 +3,7 @@
 ghost use Rattle.std.specs.Prelude.{◌≡◌, ◌≤◌, Err, IfOk};
 ghost use Rattle.std.specs.Io.KnownBytes.{IsAtEnd};
 ghost use Rattle.aim_io.specs.Causes.{Rose};
+ghost use Rattle.aim_plans.specs.Drafts.{at_fault, refused};
 ghost use Rattle.aim_plans.specs.Fits.{IsFit};
 ghost use Rattle.aim_plans.specs.Scripts.{Reads, TakesAtMost};
 ghost use Rattle.aim_plans.specs.Short.{StopsShort};
@@ -12,6 +13,29 @@ use crate::scripts::{DriveScript, Ending};
 use aim_io::{LineFault, LineReader, Source};
 use aim_script::{Kind, Limit};
 use std::alloc::Global;
+
+// What a fault of the input comes to.
+fn after_fault(fault: LineFault) -> Ending
+    ensures { result ≡ at_fault fault }
+{
+    match fault {
+        LineFault::Read => Ending::Read,
+        LineFault::Long(number) => Ending::Bad(number, Kind::Long),
+        LineFault::Bytes => Ending::Limit(Limit::Bytes),
+        LineFault::Lines => Ending::Limit(Limit::Lines),
+    }
+}
+
+// What the line of that number comes to, which isn't taken.
+fn after_refusal(number: u32, why: Refusal) -> Ending
+    ensures { result ≡ refused number why }
+{
+    match why {
+        Refusal::Bad(kind) => Ending::Bad(number, kind),
+        Refusal::Limit(limit) => Ending::Limit(limit),
+        Refusal::NoMemory => Ending::NoMemory,
+    }
+}
 
 /// Reads a drive script to its end, or to the line that decides. Nothing is read behind a line that decides.
 pub fn read_drive<S: Source>(alloc: Global, source: &mut S) -> Result<DriveScript, Ending>
@@ -33,18 +57,16 @@ pub fn read_drive<S: Source>(alloc: Global, source: &mut S) -> Result<DriveScrip
     let mut number = 0u32;
     'lines: loop {
         match reader.advance(source) {
-            Err(LineFault::Read) => return Err(Ending::Read),
-            Err(LineFault::Long(line)) => return Err(Ending::Bad(line, Kind::Long)),
-            Err(LineFault::Bytes) => return Err(Ending::Limit(Limit::Bytes)),
-            Err(LineFault::Lines) => return Err(Ending::Limit(Limit::Lines)),
+            Err(fault) => {
+                drop(draft);
+                return Err(after_fault(fault));
+            }
             Ok(false) => return draft.end(alloc, number),
             Ok(true) => {
                 number += 1;
                 match draft.take(alloc, reader.line()) {
                     Ok(next) => draft = next,
-                    Err(Refusal::Bad(kind)) => return Err(Ending::Bad(number, kind)),
-                    Err(Refusal::Limit(limit)) => return Err(Ending::Limit(limit)),
-                    Err(Refusal::NoMemory) => return Err(Ending::NoMemory),
+                    Err(why) => return Err(after_refusal(number, why)),
                 }
             }
         }

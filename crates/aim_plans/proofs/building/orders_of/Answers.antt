@@ -1,4 +1,4 @@
-use Rattle.std.proofs.Common.{◌∙◌, ap, refl, get_or, filter_map}
+use Rattle.std.proofs.Common.{refl, get_or}
 use Rattle.std.proofs.lemmas.Option.{slice_get-get_or}
 use Rattle.aim_msg.specs.declared.script.Line.TheVariants as line
 use Rattle.aim_plans.specs.Said.{ordered_in}

@@ -1,16 +1,23 @@
-use Rattle.std.proofs.Common.{Err, [], ◌∷◌, ◌++◌, arith, ◌≡◌, ◌+◌, true, false, sym, ap, ◌∙◌, refl}
+use Rattle.std.proofs.Common.{Err, [], ◌∷◌, ◌++◌, arith, ◌≡◌, ◌+◌, true, false, sym, ap, ◌∙◌, subst}
+use Rattle.aim_plans.specs.Drafts.{Judged}
 use Rattle.aim_io.proofs.LoopLemmas.{took_kept, took_line, took_part}
 use Rattle.aim_io.specs.Reader.{Reader, after_call}
-use Rattle.aim_plans.proofs.Deciding.{bad_line, end_line, goes_length, goes_on_line, limit_line, long_line, most, placed_kept, placed_more, placed_start, script_push}
+use Rattle.aim_plans.proofs.Deciding.{end_line, fault_is_read, fault_reads, goes_length, goes_on_line, most, placed_kept, placed_more, refused_reads, rose_later, script_push}
 use Rattle.aim_plans.proofs.Fitting.{fits_of}
 use Rattle.aim_plans.proofs.reading.read_drive.Goals as goal
 
-pub returns-in-Err-Read-clause-short : goal.returns-in-Err-Read-clause-short
-returns-in-Err-Read-clause-short g c _ =
+pub returns-in-Err-clause-reads : goal.returns-in-Err-clause-reads
+returns-in-Err-clause-reads g c =
     let i = c.lines.invariant in
-    let e = c.in-Err-Read.ensures in
+    let e = c.in-Err.ensures in
+    rw c.after_fault.ensures (fault_reads c.lines.draft c.in-Err.fault c.lines.reader c.advance.new.self _ _ _ i.decides (e.step i.knows i.no_fault))
+
+pub returns-in-Err-clause-short : goal.returns-in-Err-clause-short
+returns-in-Err-clause-short g c is =
+    let i = c.lines.invariant in
+    let e = c.in-Err.ensures in
     let new = c.advance.new.self in
-    let read = e.read (ap Err c.in-Err-Read.field-0-is) i.no_fault in
+    let read = e.read (ap Err (fault_is_read c.in-Err.fault (rw c.after_fault.ensures at is))) i.no_fault in
     let after = e.fault i.no_fault in
     let before = i.took (sym (ap (λ (r : Reader). r.ended) after) ∙ read.1) in record {
       lines = before.lines;
@@ -19,34 +26,16 @@ returns-in-Err-Read-clause-short g c _ =
       script = before.is;
     }
 
-pub returns-in-Err-Read-clause-most : goal.returns-in-Err-Read-clause-most
-returns-in-Err-Read-clause-most g c =
+pub returns-in-Err-clause-read : goal.returns-in-Err-clause-read
+returns-in-Err-clause-read g c is =
     let i = c.lines.invariant in
-    let e = c.in-Err-Read.ensures in
-    most _ _ c.advance.new.self (rw (ap (λ (r : Reader). r.place) (e.fault i.no_fault)) (placed_kept _ _ _ _ i.placed e.keeps)) e.sound
+    let read = c.in-Err.ensures.read (ap Err (fault_is_read c.in-Err.fault (rw c.after_fault.ensures at is))) i.no_fault in
+    rose_later _ _ _ i.later read.2
 
-pub returns-in-Err-Long-clause-reads : goal.returns-in-Err-Long-clause-reads
-returns-in-Err-Long-clause-reads g c =
+pub returns-in-Err-clause-most : goal.returns-in-Err-clause-most
+returns-in-Err-clause-most g c =
     let i = c.lines.invariant in
-    let step = rw c.in-Err-Long.field-0-is at (c.in-Err-Long.ensures.step i.knows i.no_fault) in
-    rw c.in-Err-Long.line-is (long_line c.lines.draft c.in-Err-Long.line c.lines.reader c.advance.new.self _ _ _ i.decides step)
-
-pub returns-in-Err-Long-clause-most : goal.returns-in-Err-Long-clause-most
-returns-in-Err-Long-clause-most g c =
-    let i = c.lines.invariant in
-    let e = c.in-Err-Long.ensures in
-    most _ _ c.advance.new.self (rw (ap (λ (r : Reader). r.place) (e.fault i.no_fault)) (placed_kept _ _ _ _ i.placed e.keeps)) e.sound
-
-pub returns-in-Err-Bytes-clause-most : goal.returns-in-Err-Bytes-clause-most
-returns-in-Err-Bytes-clause-most g c =
-    let i = c.lines.invariant in
-    let e = c.in-Err-Bytes.ensures in
-    most _ _ c.advance.new.self (rw (ap (λ (r : Reader). r.place) (e.fault i.no_fault)) (placed_kept _ _ _ _ i.placed e.keeps)) e.sound
-
-pub returns-in-Err-Lines-clause-most : goal.returns-in-Err-Lines-clause-most
-returns-in-Err-Lines-clause-most g c =
-    let i = c.lines.invariant in
-    let e = c.in-Err-Lines.ensures in
+    let e = c.in-Err.ensures in
     most _ _ c.advance.new.self (rw (ap (λ (r : Reader). r.place) (e.fault i.no_fault)) (placed_kept _ _ _ _ i.placed e.keeps)) e.sound
 
 pub lines-preserved : goal.lines-preserved
@@ -76,34 +65,15 @@ lines-preserved g c =
       later = omega (arith, i.later, c.advance.ensures.later);
     }
 
-pub returns-in-Err-Bad-clause-reads : goal.returns-in-Err-Bad-clause-reads
-returns-in-Err-Bad-clause-reads g c =
+pub returns-in-Err-take-clause-reads : goal.returns-in-Err-take-clause-reads
+returns-in-Err-take-clause-reads g c =
     let i = c.lines.invariant in
     let answers = rw c.in-Ok-true.field-0-test at (c.in-Ok-true.ensures.step i.knows i.no_fault) in
-    let judged = rw (c.in-Err-Bad.field-0-is, c.line.ensures) at c.in-Err-Bad.ensures in
-    rw c.in-Err-Bad.kind-is (bad_line c.lines.draft (c.lines.number + 1) c.in-Err-Bad.kind c.lines.reader c.advance.new.self _ _ _ judged (omega (arith, i.number, i.count)) i.decides answers)
+    let judged = subst (λ bytes. Judged c.lines.draft bytes (Err c.in-Err-take.why)) c.line.ensures c.in-Err-take.ensures in
+    rw c.after_refusal.ensures (refused_reads c.lines.draft (c.lines.number + 1) c.in-Err-take.why c.lines.reader c.advance.new.self _ _ _ judged (omega (arith, i.number, i.count)) i.decides answers)
 
-pub returns-in-Err-Bad-clause-most : goal.returns-in-Err-Bad-clause-most
-returns-in-Err-Bad-clause-most g c =
-    let e = c.in-Ok-true.ensures in
-    let t = c.in-Ok-true.field-0-test in
-    most _ _ c.advance.new.self (placed_more _ _ _ c.lines.reader c.advance.new.self true c.lines.invariant.placed (rw t at e.taken) (rw t at e.after)) e.sound
-
-pub returns-in-Err-Limit-clause-reads : goal.returns-in-Err-Limit-clause-reads
-returns-in-Err-Limit-clause-reads g c =
-    let i = c.lines.invariant in
-    let answers = rw c.in-Ok-true.field-0-test at (c.in-Ok-true.ensures.step i.knows i.no_fault) in
-    let judged = rw (c.in-Err-Limit.field-0-is, c.line.ensures) at c.in-Err-Limit.ensures in
-    rw c.in-Err-Limit.limit-is (limit_line c.lines.draft c.in-Err-Limit.limit c.lines.reader c.advance.new.self _ _ _ judged i.decides answers)
-
-pub returns-in-Err-Limit-clause-most : goal.returns-in-Err-Limit-clause-most
-returns-in-Err-Limit-clause-most g c =
-    let e = c.in-Ok-true.ensures in
-    let t = c.in-Ok-true.field-0-test in
-    most _ _ c.advance.new.self (placed_more _ _ _ c.lines.reader c.advance.new.self true c.lines.invariant.placed (rw t at e.taken) (rw t at e.after)) e.sound
-
-pub returns-in-Err-NoMemory-clause-most : goal.returns-in-Err-NoMemory-clause-most
-returns-in-Err-NoMemory-clause-most g c =
+pub returns-in-Err-take-clause-most : goal.returns-in-Err-take-clause-most
+returns-in-Err-take-clause-most g c =
     let e = c.in-Ok-true.ensures in
     let t = c.in-Ok-true.field-0-test in
     most _ _ c.advance.new.self (placed_more _ _ _ c.lines.reader c.advance.new.self true c.lines.invariant.placed (rw t at e.taken) (rw t at e.after)) e.sound

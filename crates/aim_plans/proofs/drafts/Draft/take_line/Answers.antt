@@ -1,4 +1,4 @@
-use Rattle.std.proofs.Common.{ap, subst, ◌∷◌, [], ◌++◌, List}
+use Rattle.std.proofs.Common.{subst, List}
 use Rattle.aim_msg.specs.declared.script.Line.{Line}
 use Rattle.aim_plans.specs.Drafts.{Leads}
 use Rattle.std.proofs.Common.{Ok}
