@@ -73,14 +73,21 @@ fn call(words: &mut Words<'_>) -> Result<Entry, LineKind>
     })
 }
 
-/// An entry and its position, of all the words.
+// An entry and its position, and no word behind them.
 #[tactic(auto, unfolding(crate::specs::EntrySteps::entry_steps))]
+fn positioned(words: &mut Words<'_>) -> Result<(u32, Entry), LineKind>
+    ensures { result ≡ entry_steps words.old }
+{
+    let position = number32(words)?;
+    let entry = call(words)?;
+    words.end()?;
+    Ok((position, entry))
+}
+
+/// An entry and its position, of all the words.
 pub fn entry(line: &[u8]) -> Result<(u32, Entry), LineKind>
     ensures { result ≡ entry_steps (words_of line.now) }
 {
     let mut words = Words::new(line);
-    let position = number32(&mut words)?;
-    let entry = call(&mut words)?;
-    words.end()?;
-    Ok((position, entry))
+    positioned(&mut words)
 }
