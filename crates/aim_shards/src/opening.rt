@@ -128,6 +128,34 @@ fn laid(
     }
 }
 
+// A pass for each number, with a seat of its own.
+fn seated(
+    alloc: Global,
+    desk: &Desk,
+    mut root: Chair,
+    numbers: &Vec<u32>,
+    calls: u32,
+) -> Result<Vec<ShardPass>, AllocError>
+    requires desk { (root.table_id ≡ desk.now.shared.table_id) × (desk.now.shared.table_id.words ≡ 9) }
+    requires key { (desk.now.shared.key.numbers.value.items ≡ numbers.now.items) × (desk.now.shared.key.calls ≡ calls) }
+    requires root { root.me ≡ (opening_view desk.now.shared.key.sets.value.items numbers.now.items calls, []) }
+    ensures { IfOk result (λ v. v.items ≡ map (new_pass (record { table = desk.now.shared.table_id; size = desk.now.shared.key.size; sets = desk.now.shared.key.sheets.value.items; quarters = desk.now.shared.key.sets.value.items; numbers = desk.now.shared.key.numbers.value.items; calls = desk.now.shared.key.calls })) numbers.now.items) }
+{
+    let mut passes = Vec::with_capacity(alloc, numbers.len())?;
+    for number in numbers {
+        let standing = Vec::with_capacity(alloc, calls as usize)?;
+        let seat = desk.shared.split_seat::<Deal>(&mut root);
+        passes.push_reserved(ShardPass {
+            number: *number,
+            calls,
+            made: 0,
+            standing,
+            seat,
+        });
+    }
+    Ok(passes)
+}
+
 impl Shards {
     // Opens shards for callers with these numbers.
     fn opened(
@@ -149,19 +177,8 @@ impl Shards {
     {
         let quarters = quarter_all(alloc, n, &sets)?;
         let nothing = no_cells(alloc)?;
-        let mut passes = Vec::with_capacity(alloc, numbers.len())?;
-        let (desk, mut root) = laid(alloc, n, horizon, &sets, &quarters, &numbers, calls)?;
-        for number in &numbers {
-            let standing = Vec::with_capacity(alloc, calls as usize)?;
-            let seat = desk.shared.split_seat::<Deal>(&mut root);
-            passes.push_reserved(ShardPass {
-                number: *number,
-                calls,
-                made: 0,
-                standing,
-                seat,
-            });
-        }
+        let (desk, root) = laid(alloc, n, horizon, &sets, &quarters, &numbers, calls)?;
+        let passes = seated(alloc, &desk, root, &numbers, calls)?;
         let shards = Shards {
             desk,
             quarters,
