@@ -22,18 +22,42 @@ const GENERATED: &[u8] = b"steps 4033\nentries 2\nconfirms 1\nrejects 0\nentered
 
 #[test]
 fn clients_of_a_run_are_answered_in_turn(rt: HostRuntime) -> Result<(), Fail> {
-    compare(&rt, rt.alloc(), &["mail", "1"], MAIL, (&[], &[]), 0, ANSWERED)
+    compare(
+        &rt,
+        rt.alloc(),
+        &["mail", "1"],
+        MAIL,
+        (&[], &[]),
+        0,
+        ANSWERED,
+    )
 }
 
 #[test]
 fn a_route_goes_on_behind_the_answer(rt: HostRuntime) -> Result<(), Fail> {
     for workers in ["1", "2"] {
-        compare(&rt, rt.alloc(), &["grid", workers], ROUTE, (&[], &[]), 0, TRAVELLED)?;
+        compare(
+            &rt,
+            rt.alloc(),
+            &["grid", workers],
+            ROUTE,
+            (&[], &[]),
+            0,
+            TRAVELLED,
+        )?;
     }
     Ok(())
 }
 
 #[test]
 fn traffic_is_counted(rt: HostRuntime) -> Result<(), Fail> {
-    compare(&rt, rt.alloc(), &["generate", "1", "1"], b"", (&[], &[]), 0, GENERATED)
+    compare(
+        &rt,
+        rt.alloc(),
+        &["generate", "1", "1"],
+        b"",
+        (&[], &[]),
+        0,
+        GENERATED,
+    )
 }

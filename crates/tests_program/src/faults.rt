@@ -92,7 +92,15 @@ fn words_outside_the_table(rt: HostRuntime) -> Result<(), Fail> {
 #[test]
 fn faults_of_the_source_and_the_sink(rt: HostRuntime) -> Result<(), Fail> {
     for (reads, writes, status, text) in FAULTS {
-        compare(&rt, rt.alloc(), &["replay"], SCRIPT, (reads, writes), status, text)?;
+        compare(
+            &rt,
+            rt.alloc(),
+            &["replay"],
+            SCRIPT,
+            (reads, writes),
+            status,
+            text,
+        )?;
     }
     Ok(())
 }
@@ -100,7 +108,15 @@ fn faults_of_the_source_and_the_sink(rt: HostRuntime) -> Result<(), Fail> {
 #[test]
 fn faults_of_the_sink_in_a_chart(rt: HostRuntime) -> Result<(), Fail> {
     for (writes, status, text) in CHART_FAULTS {
-        compare(&rt, rt.alloc(), &["chart", "15"], SCRIPT, (&[], writes), status, text)?;
+        compare(
+            &rt,
+            rt.alloc(),
+            &["chart", "15"],
+            SCRIPT,
+            (&[], writes),
+            status,
+            text,
+        )?;
     }
     Ok(())
 }
