@@ -40,21 +40,21 @@ const NORTH: Shape = Shape::Line {
     m: 40,
 };
 
+// Adds both moves, and a policy without lights.
+fn adds_all(builder: &mut Builder) -> bool {
+    builder.add_move(0, Turn::Straight, EAST).is_ok()
+        && builder.add_move(1, Turn::Straight, NORTH).is_ok()
+        && builder.add_policy(Kind::Fcfs).is_ok()
+}
+
 /// Lane 0 goes east, lane 1 north, and they share the tile in row 1, column 2. The one policy has no lights.
 pub fn crossing(rt: &impl Abort, alloc: Global) -> Layout {
-    let Ok(ground) = Ground::build(GRID, TIMES) else {
-        panic!(rt; "no ground")
-    };
-    let Ok(mut builder) = Builder::new(alloc, ground, 2) else {
-        panic!(rt; "no builder")
-    };
-    assert!(rt; builder.add_move(0, Turn::Straight, EAST).is_ok());
-    assert!(rt; builder.add_move(1, Turn::Straight, NORTH).is_ok());
-    assert!(rt; builder.add_policy(Kind::Fcfs).is_ok());
-    let Ok(layout) = builder.finish() else {
-        panic!(rt; "no layout")
-    };
-    layout
+    let ground = Ground::build(GRID, TIMES).ok().expect(rt, "no ground");
+    let mut builder = Builder::new(alloc, ground, 2)
+        .ok()
+        .expect(rt, "no builder");
+    assert!(rt; adds_all(&mut builder));
+    builder.finish().ok().expect(rt, "no layout")
 }
 
 /// A vehicle whose crossing takes 11 steps.

@@ -126,6 +126,12 @@ struct Course {
     moments: &'static [u32],
 }
 
+fn is_at(agent: &Agent, stop: &Stop) -> bool {
+    agent.sheets() == stop.sheets
+        && agent.idle_until(stop.step) == stop.idle_until
+        && agent.trouble() == stop.trouble
+}
+
 // The turns from the step `from` on. Then it stands as the stop says.
 fn go_on<R: Wait + Abort, G: Gate>(
     rt: &R,
@@ -142,9 +148,7 @@ fn go_on<R: Wait + Abort, G: Gate>(
 {
     assert!(rt; from <= stop.step && stop.step <= 65_536);
     drive(rt, manager, agent, gate, from, stop.step);
-    assert_eq!(rt; agent.sheets(), stop.sheets);
-    assert_eq!(rt; agent.idle_until(stop.step), stop.idle_until);
-    assert!(rt; agent.trouble() == stop.trouble);
+    assert!(rt; is_at(agent, stop));
 }
 
 fn is_log(found: &[LogItem], wanted: &[LogItem]) -> bool {
@@ -161,8 +165,8 @@ fn go_through<R: Wait + Abort>(rt: &R, manager: &Manager, agent: &mut Agent, cou
     go_on(rt, manager, agent, &gate, 0, &course.first);
     go_on(rt, manager, agent, &gate, course.first.step, &course.second);
     assert!(rt; is_log(agent.log(), course.log));
-    assert_eq!(rt; gate.calls.load(Ordering::SeqCst), course.calls);
-    assert_eq!(rt; gate.steps.load(Ordering::SeqCst), course.steps);
+    assert!(rt; gate.calls.load(Ordering::SeqCst) == course.calls);
+    assert!(rt; gate.steps.load(Ordering::SeqCst) == course.steps);
 }
 
 // The pass of an agent that ends with this log.
@@ -174,12 +178,13 @@ fn pass_of(rt: &impl Abort, agent: Agent, log: &[LogItem]) -> ManagerPass
     pass
 }
 
-// The journal has entries of these moments.
-fn has_moments(rt: &impl Abort, journal: &[Entry], moments: &[u32]) {
-    assert_eq!(rt; journal.len(), moments.len());
+fn has_moments(journal: &[Entry], moments: &[u32]) -> bool {
     for (entry, moment) in journal.iter().zip(moments) {
-        assert_eq!(rt; entry.moment, *moment);
+        if entry.moment != *moment {
+            return false;
+        }
     }
+    journal.len() == moments.len()
 }
 
 // The agent of the one vehicle of a manager goes through the course.
@@ -198,7 +203,8 @@ fn one_vehicle<R: Wait + Abort>(rt: &R, alloc: Global, course: &Course) {
     let mut agent = agent_of(rt, alloc, &manager, pass, 0, course.fate);
     go_through(rt, &manager, &mut agent, course);
     passes.push_reserved(pass_of(rt, agent, course.log));
-    has_moments(rt, &manager.close(passes, operator).journal, course.moments);
+    let journal = manager.close(passes, operator).journal;
+    assert!(rt; has_moments(&journal, course.moments));
 }
 
 // It is confirmed, enters, leaves and says so, though its first message is lost. One sheet is kept meanwhile.
@@ -345,7 +351,8 @@ fn two_vehicles<R: Wait + Abort>(rt: &R, alloc: Global) {
     meet(rt, &manager, &mut first, &mut second);
     passes.push_reserved(pass_of(rt, first, &GRANTED));
     passes.push_reserved(pass_of(rt, second, &REFUSED));
-    has_moments(rt, &manager.close(passes, operator).journal, &[0, 0]);
+    let journal = manager.close(passes, operator).journal;
+    assert!(rt; has_moments(&journal, &[0, 0]));
 }
 
 #[test]
