@@ -1,21 +1,20 @@
 //! Agents that take their turns one after another.
 
-ghost use Rattle.std.specs.Prelude.{◌≡◌, ◌<◌, ◌≤◌, [], IfOk};
+ghost use Rattle.std.specs.Prelude.{◌≡◌, ◌<◌, ◌≤◌, []};
 ghost use Rattle.aim_driver.specs.Models.{step_of};
 ghost use Rattle.aim_turn.specs.Models.{IsPassOf};
 ghost use Rattle.aim_agent.specs.Agents.{IsAgentOf};
 
-use crate::crossing::{car, confirm, crossing, done, request, taken_by_0};
+use crate::crossing::{ASKS_EAST, ASKS_NORTH, CONFIRM, DONE, TAKEN_BY_0, car, crossing};
 use aim_agent::{Agent, Gate, Trouble};
 use aim_driver::{Changes, DrivePlan, Driver, Fate, Link, LogItem};
 use aim_manager::{Manager, ManagerPass, Opened};
-use aim_msg::Reply;
+use aim_msg::{Entry, Reply};
 use aim_pool::Pool;
 use std::alloc::Global;
 use std::process::Abort;
 use std::sync::Wait;
 use std::sync::atomic::{AtomicU64, Ordering};
-use std::test::Fail;
 
 /// How many calls it was told of, and the sum of their steps.
 #[derive(Drop)]
@@ -38,34 +37,48 @@ fn no_calls_yet() -> Tally {
     }
 }
 
-// An agent that asks from step 0 on to arrive 10 steps later, and again after 2 steps. Its first message has the fate.
-pub(crate) fn agent_of(
+// What a driver of that lane is to do: to ask from step 0 on to arrive 10 steps later, and again after 2 steps.
+fn plan(lane: u8) -> DrivePlan
+    ensures { result.lead ≡ 10 }
+{
+    DrivePlan {
+        first: 0,
+        lead: 10,
+        resend: 2,
+        params: car(lane),
+        changes: Changes::none(),
+        cancel: None,
+        ahead: false,
+    }
+}
+
+// An agent that drives by the plan of the lane. Its first message has the fate.
+fn agent_of(
+    rt: &impl Abort,
     alloc: Global,
     manager: &Manager,
     pass: ManagerPass,
     lane: u8,
     fate: Fate,
-) -> Result<Agent, Fail>
+) -> Agent
     requires own { IsPassOf manager.now pass }
     requires vehicle { pass.number < manager.now.setting.vehicles }
     requires mine { pass.mine ≡ [] }
-    ensures own { IfOk result (λ a. IsAgentOf manager.now a) }
-    ensures log { IfOk result (λ a. a.driver.log ≡ []) }
+    ensures own { IsAgentOf manager.now result }
+    ensures log { result.driver.log ≡ [] }
 {
-    let plan = DrivePlan {
-        first: 0,
-        lead: 10,
-        resend: 2,
-        params: car(lane, 0),
-        changes: Changes::none(),
-        cancel: None,
-        ahead: false,
+    let Ok(driver) = Driver::new(alloc, plan(lane)) else {
+        unreachable!()
     };
-    let driver = Driver::new(alloc, plan)?;
-    let up = Link::new(alloc, 0, vec![in alloc; fate]?);
+    let Ok(fates) = vec![in alloc; fate] else {
+        panic!(rt; "no memory for fates")
+    };
+    let Ok(pool) = Pool::new(alloc, 3, manager.layout().ground().grid().spans) else {
+        panic!(rt; "no memory for sheets")
+    };
+    let up = Link::new(alloc, 0, fates);
     let down = Link::new(alloc, 1, Vec::new(alloc));
-    let pool = Pool::new(alloc, 3, manager.layout().ground().grid().spans)?;
-    Ok(Agent::new(driver, up, down, pass, pool))
+    Agent::new(driver, up, down, pass, pool)
 }
 
 // The turns of the steps from `from` to `until` - 1.
@@ -88,142 +101,261 @@ fn drive<R: Wait, G: Gate>(
     }
 }
 
-fn got(step: u32, seq: u32, reply: Reply) -> LogItem {
-    LogItem::Got { step, seq, reply }
+/// How an agent stands before its turn of a step: how many of its sheets are not in use, until when it does nothing, and
+/// what went wrong.
+struct Stop {
+    step: u32,
+    sheets: u32,
+    idle_until: u64,
+    trouble: Option<Trouble>,
 }
 
-// The log of a vehicle whose first message is lost.
-fn whole_crossing() -> [LogItem; 6] {
-    [
-        LogItem::Sent {
-            step: 0,
-            message: request(1, 0, 10),
-        },
-        LogItem::Sent {
-            step: 2,
-            message: request(1, 0, 10),
-        },
-        got(3, 1, confirm(0)),
-        LogItem::Entered { step: 10, id: 0 },
-        LogItem::Sent {
-            step: 21,
-            message: done(2, 0),
-        },
-        got(22, 2, Reply::Ack { id: 0 }),
-    ]
+/// What the agent of the one vehicle of a manager goes through.
+struct Course {
+    /// How many entries the journal has room for.
+    room: u32,
+    /// That of the first message.
+    fate: Fate,
+    first: Stop,
+    second: Stop,
+    log: &'static [LogItem],
+    /// How many calls the gate was told of, and the sum of their steps.
+    calls: u64,
+    steps: u64,
+    /// Those of the journal.
+    moments: &'static [u32],
 }
 
-// It is confirmed, enters, leaves and says so, though its first message is lost.
-fn one_vehicle<R: Wait + Abort>(rt: &R, alloc: Global) -> Result<(), Fail> {
+fn is_at(agent: &Agent, stop: &Stop) -> bool {
+    agent.sheets() == stop.sheets
+        && agent.idle_until(stop.step) == stop.idle_until
+        && agent.trouble() == stop.trouble
+}
+
+// The turns from the step `from` on. Then it stands as the stop says.
+fn go_on<R: Wait + Abort, G: Gate>(
+    rt: &R,
+    manager: &Manager,
+    agent: &mut Agent,
+    gate: &G,
+    from: u32,
+    stop: &Stop,
+)
+    requires own { IsAgentOf manager.now agent.old }
+    requires last { step_of agent.old.driver.log ≤ from }
+    ensures own { IsAgentOf manager.now agent.new }
+    ensures last { step_of agent.new.driver.log ≤ stop.now.step }
+{
+    assert!(rt; from <= stop.step && stop.step <= 65_536);
+    drive(rt, manager, agent, gate, from, stop.step);
+    assert!(rt; is_at(agent, stop));
+}
+
+fn is_log(found: &[LogItem], wanted: &[LogItem]) -> bool {
+    found == wanted
+}
+
+// All turns of the course.
+fn go_through<R: Wait + Abort>(rt: &R, manager: &Manager, agent: &mut Agent, course: &Course)
+    requires own { IsAgentOf manager.now agent.old }
+    requires log { agent.old.driver.log ≡ [] }
+    ensures own { IsAgentOf manager.now agent.new }
+{
+    let gate = no_calls_yet();
+    go_on(rt, manager, agent, &gate, 0, &course.first);
+    go_on(rt, manager, agent, &gate, course.first.step, &course.second);
+    assert!(rt; is_log(agent.log(), course.log));
+    assert!(rt; gate.calls.load(Ordering::SeqCst) == course.calls);
+    assert!(rt; gate.steps.load(Ordering::SeqCst) == course.steps);
+}
+
+// The pass of an agent that ends with this log.
+fn pass_of(rt: &impl Abort, agent: Agent, log: &[LogItem]) -> ManagerPass
+    ensures { result ≡ agent.pass }
+{
+    let (driver, pass) = agent.into_parts();
+    assert!(rt; is_log(driver.log(), log));
+    pass
+}
+
+fn has_moments(journal: &[Entry], moments: &[u32]) -> bool {
+    for (entry, moment) in journal.iter().zip(moments) {
+        if entry.moment != *moment {
+            return false;
+        }
+    }
+    journal.len() == moments.len()
+}
+
+// The agent of the one vehicle of a manager goes through the course.
+fn one_vehicle<R: Wait + Abort>(rt: &R, alloc: Global, course: &Course) {
+    let Ok(opened) = Manager::open(alloc, crossing(rt, alloc), 1, course.room) else {
+        panic!(rt; "no manager")
+    };
     let Opened {
         manager,
         mut passes,
         operator,
-    } = Manager::open(alloc, crossing(alloc)?, 1, 10)?;
+    } = opened;
     let Some(pass) = passes.pop() else {
         unreachable!()
     };
-    let gate = no_calls_yet();
-    let mut agent = agent_of(alloc, &manager, pass, 0, Fate::Lose)?;
-    drive(rt, &manager, &mut agent, &gate, 0, 5);
-    assert_eq!(rt; agent.sheets(), 2, "one sheet is kept");
-    assert_eq!(rt; agent.idle_until(5), 10, "it enters then");
-    drive(rt, &manager, &mut agent, &gate, 5, 30);
-    assert_eq!(rt; agent.idle_until(30), u64::MAX, "it is through");
-    assert!(rt; agent.trouble().is_none());
-    assert_eq!(rt; agent.sheets(), 3, "it came back");
-    let wanted = whole_crossing();
-    assert!(rt; agent.log() == &wanted[..]);
-    assert_eq!(rt; gate.calls.load(Ordering::SeqCst), 2);
-    assert_eq!(rt; gate.steps.load(Ordering::SeqCst), 23);
-    let (driver, pass) = agent.into_parts();
-    assert!(rt; driver.log() == &wanted[..]);
-    passes.push_reserved(pass);
+    let mut agent = agent_of(rt, alloc, &manager, pass, 0, course.fate);
+    go_through(rt, &manager, &mut agent, course);
+    passes.push_reserved(pass_of(rt, agent, course.log));
     let journal = manager.close(passes, operator).journal;
-    assert_eq!(rt; journal.len(), 2);
-    for (entry, moment) in journal.iter().zip([2, 21]) {
-        assert_eq!(rt; entry.moment, moment);
-    }
-    Ok(())
+    assert!(rt; has_moments(&journal, course.moments));
 }
 
-#[test]
-fn asks_again_enters_and_leaves(rt: HostRuntime) -> Result<(), Fail> {
-    one_vehicle(&rt, rt.alloc())
-}
-
-// The journal has room for one entry: the second call is its trouble, and then it does nothing.
-fn little_room<R: Wait + Abort>(rt: &R, alloc: Global) -> Result<(), Fail> {
-    let Opened {
-        manager,
-        mut passes,
-        operator: _,
-    } = Manager::open(alloc, crossing(alloc)?, 1, 1)?;
-    let Some(pass) = passes.pop() else {
-        unreachable!()
-    };
-    let gate = no_calls_yet();
-    let mut agent = agent_of(alloc, &manager, pass, 0, Fate::Deliver)?;
-    drive(rt, &manager, &mut agent, &gate, 0, 21);
-    assert!(rt; agent.trouble().is_none());
-    drive(rt, &manager, &mut agent, &gate, 21, 30);
-    assert!(rt; agent.trouble() == Some(Trouble::Full));
-    assert_eq!(rt; agent.sheets(), 2);
-    let wanted = [
+// It is confirmed, enters, leaves and says so, though its first message is lost. One sheet is kept meanwhile.
+const WHOLE_CROSSING: Course = Course {
+    room: 10,
+    fate: Fate::Lose,
+    first: Stop {
+        step: 5,
+        sheets: 2,
+        idle_until: 10,
+        trouble: None,
+    },
+    second: Stop {
+        step: 30,
+        sheets: 3,
+        idle_until: u64::MAX,
+        trouble: None,
+    },
+    log: &[
         LogItem::Sent {
             step: 0,
-            message: request(1, 0, 10),
+            message: ASKS_EAST,
         },
-        got(1, 1, confirm(0)),
+        LogItem::Sent {
+            step: 2,
+            message: ASKS_EAST,
+        },
+        LogItem::Got {
+            step: 3,
+            seq: 1,
+            reply: CONFIRM,
+        },
         LogItem::Entered { step: 10, id: 0 },
         LogItem::Sent {
             step: 21,
-            message: done(2, 0),
+            message: DONE,
         },
-    ];
-    assert!(rt; agent.log() == &wanted[..]);
-    assert_eq!(rt; gate.calls.load(Ordering::SeqCst), 2);
-    Ok(())
-}
+        LogItem::Got {
+            step: 22,
+            seq: 2,
+            reply: Reply::Ack { id: 0 },
+        },
+    ],
+    calls: 2,
+    steps: 23,
+    moments: &[2, 21],
+};
 
 #[test]
-fn finds_the_journal_full(rt: HostRuntime) -> Result<(), Fail> {
-    little_room(&rt, rt.alloc())
+fn asks_again_enters_and_leaves(rt: HostRuntime) {
+    one_vehicle(&rt, rt.alloc(), &WHOLE_CROSSING);
 }
 
+// The journal has room for one entry: the second call is its trouble, and then it does nothing.
+const LITTLE_ROOM: Course = Course {
+    room: 1,
+    fate: Fate::Deliver,
+    first: Stop {
+        step: 21,
+        sheets: 2,
+        idle_until: 21,
+        trouble: None,
+    },
+    second: Stop {
+        step: 30,
+        sheets: 2,
+        idle_until: u64::MAX,
+        trouble: Some(Trouble::Full),
+    },
+    log: &[
+        LogItem::Sent {
+            step: 0,
+            message: ASKS_EAST,
+        },
+        LogItem::Got {
+            step: 1,
+            seq: 1,
+            reply: CONFIRM,
+        },
+        LogItem::Entered { step: 10, id: 0 },
+        LogItem::Sent {
+            step: 21,
+            message: DONE,
+        },
+    ],
+    calls: 2,
+    steps: 21,
+    moments: &[0],
+};
+
+#[test]
+fn finds_the_journal_full(rt: HostRuntime) {
+    one_vehicle(&rt, rt.alloc(), &LITTLE_ROOM);
+}
+
+// The logs of an agent that asks first, and of one that is refused what the first was granted.
+const GRANTED: [LogItem; 1] = [LogItem::Sent {
+    step: 0,
+    message: ASKS_EAST,
+}];
+const REFUSED: [LogItem; 2] = [
+    LogItem::Sent {
+        step: 0,
+        message: ASKS_NORTH,
+    },
+    LogItem::Got {
+        step: 1,
+        seq: 1,
+        reply: TAKEN_BY_0,
+    },
+];
+
 // The second agent meets the first before its turn, and is refused what the first was granted.
-fn two_vehicles<R: Wait + Abort>(rt: &R, alloc: Global) -> Result<(), Fail> {
+fn meet<R: Wait + Abort>(rt: &R, manager: &Manager, first: &mut Agent, second: &mut Agent)
+    requires first { IsAgentOf manager.now first.old × (first.old.driver.log ≡ []) }
+    requires second { IsAgentOf manager.now second.old × (second.old.driver.log ≡ []) }
+    ensures first { IsAgentOf manager.now first.new }
+    ensures second { IsAgentOf manager.now second.new }
+{
+    let gate = no_calls_yet();
+    first.turn(rt, manager, &gate, 0);
+    let front = first.front(manager);
+    second.meet(manager, front);
+    second.turn(rt, manager, &gate, 0);
+    second.turn(rt, manager, &gate, 1);
+    assert!(rt; is_log(second.log(), &REFUSED));
+    assert!(rt; second.trouble().is_none());
+}
+
+fn two_vehicles<R: Wait + Abort>(rt: &R, alloc: Global) {
+    let Ok(opened) = Manager::open(alloc, crossing(rt, alloc), 2, 10) else {
+        panic!(rt; "no manager")
+    };
     let Opened {
         manager,
         mut passes,
-        operator: _,
-    } = Manager::open(alloc, crossing(alloc)?, 2, 10)?;
+        operator,
+    } = opened;
     let (Some(second), Some(first)) = (passes.pop(), passes.pop()) else {
         unreachable!()
     };
-    let gate = no_calls_yet();
-    let mut first = agent_of(alloc, &manager, first, 0, Fate::Deliver)?;
-    let mut second = agent_of(alloc, &manager, second, 1, Fate::Deliver)?;
-    first.turn(rt, &manager, &gate, 0);
-    let front = first.front(&manager);
-    second.meet(&manager, front);
-    second.turn(rt, &manager, &gate, 0);
-    second.turn(rt, &manager, &gate, 1);
-    assert!(rt;
-        second.log()
-            == &[
-                LogItem::Sent {
-                    step: 0,
-                    message: request(1, 1, 10)
-                },
-                got(1, 1, taken_by_0()),
-            ][..]
-    );
-    assert!(rt; second.trouble().is_none());
-    Ok(())
+    let mut first = agent_of(rt, alloc, &manager, first, 0, Fate::Deliver);
+    let mut second = agent_of(rt, alloc, &manager, second, 1, Fate::Deliver);
+    meet(rt, &manager, &mut first, &mut second);
+    passes.push_reserved(pass_of(rt, first, &GRANTED));
+    passes.push_reserved(pass_of(rt, second, &REFUSED));
+    let journal = manager.close(passes, operator).journal;
+    assert!(rt; has_moments(&journal, &[0, 0]));
 }
 
 #[test]
-fn meets_the_agent_before(rt: HostRuntime) -> Result<(), Fail> {
-    two_vehicles(&rt, rt.alloc())
+fn meets_the_agent_before(rt: HostRuntime) {
+    two_vehicles(&rt, rt.alloc());
 }

@@ -2,7 +2,6 @@
 
 use crate::crossing::Site;
 use crate::serving::{Case, serve_all};
-use std::test::Fail;
 
 const GRANTED_OR_TAKEN: [Case; 9] = [
     (
@@ -77,8 +76,8 @@ const GRANTED_OR_TAKEN: [Case; 9] = [
 ];
 
 #[test]
-fn granted_or_taken(rt: HostRuntime) -> Result<(), Fail> {
-    serve_all(&rt, rt.alloc(), &GRANTED_OR_TAKEN)
+fn granted_or_taken(rt: HostRuntime) {
+    serve_all(&rt, rt.alloc(), &GRANTED_OR_TAKEN);
 }
 
 const TWO_TRIALS: [Case; 3] = [
@@ -109,8 +108,8 @@ const TWO_TRIALS: [Case; 3] = [
 ];
 
 #[test]
-fn two_trials(rt: HostRuntime) -> Result<(), Fail> {
-    serve_all(&rt, rt.alloc(), &TWO_TRIALS)
+fn two_trials(rt: HostRuntime) {
+    serve_all(&rt, rt.alloc(), &TWO_TRIALS);
 }
 
 const TIME_BUFFERS: [Case; 5] = [
@@ -157,8 +156,8 @@ const TIME_BUFFERS: [Case; 5] = [
 ];
 
 #[test]
-fn time_buffers(rt: HostRuntime) -> Result<(), Fail> {
-    serve_all(&rt, rt.alloc(), &TIME_BUFFERS)
+fn time_buffers(rt: HostRuntime) {
+    serve_all(&rt, rt.alloc(), &TIME_BUFFERS);
 }
 
 const NUMBERS_AND_RESERVATIONS: [Case; 10] = [
@@ -257,6 +256,6 @@ const NUMBERS_AND_RESERVATIONS: [Case; 10] = [
 ];
 
 #[test]
-fn numbers_and_reservations(rt: HostRuntime) -> Result<(), Fail> {
-    serve_all(&rt, rt.alloc(), &NUMBERS_AND_RESERVATIONS)
+fn numbers_and_reservations(rt: HostRuntime) {
+    serve_all(&rt, rt.alloc(), &NUMBERS_AND_RESERVATIONS);
 }

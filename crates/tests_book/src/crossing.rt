@@ -4,7 +4,7 @@ use aim_geometry::{Grid, Ground, Times};
 use aim_msg::Turn;
 use aim_paths::{Builder, Kind, Layout, Shape};
 use std::alloc::Global;
-use std::test::Fail;
+use std::process::Abort;
 
 /// What is added to the crossing, or changed in it.
 #[derive(Clone, Copy)]
@@ -59,7 +59,7 @@ const SOUTH: Shape = Shape::Curve {
 };
 
 // The ground with the site's buffers.
-fn ground(site: Site) -> Result<Ground, Fail> {
+fn ground(rt: &impl Abort, site: Site) -> Ground {
     let (early, late, edge) = match site {
         Site::Buffered => (1, 1, 2),
         Site::Windows => (1, 3, 4),
@@ -73,44 +73,43 @@ fn ground(site: Site) -> Result<Ground, Fail> {
         late,
         edge,
     };
-    Ok(Ground::build(GRID, times).ok().ok_or("no ground")?)
+    Ground::build(GRID, times).ok().expect(rt, "no ground")
+}
+
+// Lane 0 goes east, lane 1 north.
+fn adds_moves(builder: &mut Builder, site: Site) -> bool {
+    builder.add_move(0, Turn::Straight, EAST).is_ok()
+        && builder.add_move(1, Turn::Straight, NORTH).is_ok()
+        && (!matches!(site, Site::Bend) || builder.add_move(0, Turn::Right, SOUTH).is_ok())
 }
 
 // Adds a policy. Where it has lights, each lane is green for 80 steps after 20 of red, in turn.
-fn add(builder: &mut Builder, kind: Kind) -> Result<(), Fail> {
-    builder.add_policy(kind).ok().ok_or("no policy")?;
-    if kind.has_lights() {
-        for lanes in [1, 2] {
-            builder.add_phase(20, 80, lanes).ok().ok_or("no phase")?;
-        }
-    }
-    Ok(())
+fn adds_policy(builder: &mut Builder, kind: Kind) -> bool {
+    builder.add_policy(kind).is_ok()
+        && (!kind.has_lights()
+            || builder.add_phase(20, 80, 1).is_ok() && builder.add_phase(20, 80, 2).is_ok())
 }
 
-/// Lane 0 goes east, lane 1 north, and they share the tile in row 1, column 2.
-pub fn crossing(alloc: Global, site: Site) -> Result<Layout, Fail> {
-    let mut builder = Builder::new(alloc, ground(site)?, 2)
-        .ok()
-        .ok_or("no builder")?;
-    for (lane, shape) in [(0, EAST), (1, NORTH)] {
-        builder
-            .add_move(lane, Turn::Straight, shape)
-            .ok()
-            .ok_or("no move")?;
-    }
-    if matches!(site, Site::Bend) {
-        builder
-            .add_move(0, Turn::Right, SOUTH)
-            .ok()
-            .ok_or("no bend")?;
-    }
+fn adds_policies(builder: &mut Builder, site: Site) -> bool {
     let kinds = match site {
         Site::SirenFirst => [Kind::Emerg, Kind::Fcfs, Kind::Light],
         Site::Yielding => [Kind::LightEmerg, Kind::Fcfs, Kind::Light],
         _ => [Kind::Fcfs, Kind::Light, Kind::Emerg],
     };
     for kind in kinds {
-        add(&mut builder, kind)?;
+        if !adds_policy(builder, kind) {
+            return false;
+        }
     }
-    Ok(builder.finish().ok().ok_or("unfinished")?)
+    true
+}
+
+/// Lane 0 goes east, lane 1 north, and they share the tile in row 1, column 2.
+pub fn crossing(rt: &impl Abort, alloc: Global, site: Site) -> Layout {
+    let mut builder = Builder::new(alloc, ground(rt, site), 2)
+        .ok()
+        .expect(rt, "no builder");
+    assert!(rt; adds_moves(&mut builder, site));
+    assert!(rt; adds_policies(&mut builder, site));
+    builder.finish().ok().expect(rt, "unfinished")
 }

@@ -3,7 +3,7 @@
 ghost use Rattle.std.specs.Prelude.{◌≡◌, ◌<◌};
 
 use crate::crossing::{Site, crossing};
-use crate::serving::{Lines, VEHICLES, Way, entry, give, kept};
+use crate::serving::{Lines, VEHICLES, Way, entry, give, kept, new_pool, open_book};
 use aim_book::{Book, Full, OpenFault};
 use aim_pool::Pool;
 use aim_tiles::Steps;
@@ -11,34 +11,39 @@ use std::alloc::Global;
 use std::marker::Brand;
 use std::process::Abort;
 use std::sync::ledger::{Blank, Ledger};
-use std::test::Fail;
 
 // Whether a book of so many vehicles and entries is not opened for that fault.
 fn is_refused<L: Ledger>(
+    rt: &impl Abort,
     alloc: Global,
     vehicles: u32,
     room: u32,
     fault: OpenFault,
-) -> Result<bool, Fail> {
-    let layout = crossing(alloc, Site::Plain)?;
-    Ok(match Book::<L>::open(alloc, layout, vehicles, room) {
-        Ok(_) => false,
+) -> bool {
+    let layout = crossing(rt, alloc, Site::Plain);
+    match Book::<L>::open(alloc, layout, vehicles, room) {
+        Ok(book) => {
+            book.into_journal();
+            false
+        }
         Err(found) => found == fault,
-    })
+    }
 }
 
+// Vehicles, entries, and why there is no book of so many.
+const REFUSED: [(u32, u32, OpenFault); 5] = [
+    (0, 1, OpenFault::Vehicles),
+    (0, 0, OpenFault::Vehicles),
+    (65_537, 1, OpenFault::Vehicles),
+    (1, 0, OpenFault::Room),
+    (65_536, 262_145, OpenFault::Room),
+];
+
 #[test]
-fn not_opened(rt: HostRuntime) -> Result<(), Fail> {
-    for (vehicles, room, fault) in [
-        (0, 1, OpenFault::Vehicles),
-        (0, 0, OpenFault::Vehicles),
-        (65_537, 1, OpenFault::Vehicles),
-        (1, 0, OpenFault::Room),
-        (65_536, 262_145, OpenFault::Room),
-    ] {
-        assert!(rt; is_refused::<Brand>(rt.alloc(), vehicles, room, fault)?);
+fn not_opened(rt: HostRuntime) {
+    for (vehicles, room, fault) in &REFUSED {
+        assert!(rt; is_refused::<Brand>(&rt, rt.alloc(), *vehicles, *room, *fault));
     }
-    Ok(())
 }
 
 // The entries of a journal, and how many sheets the book keeps after each.
@@ -69,7 +74,7 @@ const SERVED: [(&str, u32); 9] = [
     ("8 1 90 done 2 4 -> ack 4", 0),
 ];
 
-// Asserts that the call of the line gets its reply, and that so many sheets are kept then.
+// The call of the line gets its reply, and so many sheets are kept then.
 fn is_served<L: Ledger>(
     rt: &impl Abort,
     book: &mut Book<L>,
@@ -77,12 +82,12 @@ fn is_served<L: Ledger>(
     steps: &mut Steps<L>,
     line: &str,
     sheets: u32,
-) -> Result<(), Fail> {
-    let (_, entry) = entry(line)?;
-    let reply = give(rt, book, Way::Prepared, &entry, pool, steps)?;
-    assert!(rt; reply == Ok(entry.reply), "{line}");
-    assert_eq!(rt; kept(book), sheets);
-    Ok(())
+) {
+    let (_, entry) = entry(rt, line);
+    if give(rt, book, Way::Prepared, &entry, pool, steps) != Ok(entry.reply) {
+        rt.panic(line);
+    }
+    assert!(rt; kept(book) == sheets);
 }
 
 // Whether the journal has no room for the call of the line.
@@ -92,35 +97,42 @@ fn is_full<L: Ledger>(
     pool: &mut Pool,
     steps: &mut Steps<L>,
     line: &str,
-) -> Result<bool, Fail> {
-    let (_, entry) = entry(line)?;
-    Ok(give(rt, book, Way::Prepared, &entry, pool, steps)? == Err(Full))
+) -> bool {
+    let (_, entry) = entry(rt, line);
+    give(rt, book, Way::Prepared, &entry, pool, steps) == Err(Full)
 }
 
 // Serves the lines, and one call of each kind more, for which the journal has no room.
-fn fill<L: Ledger>(rt: &impl Abort, alloc: Global, blank: Blank) -> Result<(), Fail>
+fn fill_up<L: Ledger>(
+    rt: &impl Abort,
+    book: &mut Book<L>,
+    pool: &mut Pool,
+    steps: &mut Steps<L>,
+) {
+    for (line, sheets) in &SERVED {
+        is_served(rt, book, pool, steps, line, *sheets);
+    }
+    assert!(rt; is_full(rt, book, pool, steps, SERVED[0].0));
+    assert!(rt; is_full(rt, book, pool, steps, SERVED[7].0));
+    assert!(rt; pool.count() == VEHICLES + 2);
+    assert!(rt; book.journal().len() == 9);
+}
+
+fn fill<L: Ledger>(rt: &impl Abort, alloc: Global, blank: Blank)
     requires name { blank.name ≡ L.name }
     requires parts { blank.parts ≡ L.parts }
     requires some { 0 < blank.parts }
 {
-    let layout = crossing(alloc, Site::Plain)?;
-    let mut pool = Pool::new(alloc, VEHICLES + 2, 4096)?;
     let mut steps = Steps::<L>::new(blank);
-    let mut book = Book::<L>::open(alloc, layout, VEHICLES, 9)?;
-    for (line, sheets) in SERVED {
-        is_served(rt, &mut book, &mut pool, &mut steps, line, sheets)?;
-    }
-    for (line, _) in [SERVED[0], SERVED[7]] {
-        assert!(rt; is_full(rt, &mut book, &mut pool, &mut steps, line)?);
-    }
-    assert_eq!(rt; pool.count(), VEHICLES + 2);
-    assert_eq!(rt; book.journal().len(), 9);
-    Ok(())
+    let mut book = open_book::<L>(rt, alloc, Site::Plain, 9);
+    let mut pool = new_pool(rt, alloc);
+    fill_up(rt, &mut book, &mut pool, &mut steps);
+    book.leave(steps).into_journal();
 }
 
 #[test]
-fn sheets_are_kept_and_the_journal_is_full(rt: HostRuntime) -> Result<(), Fail> {
-    fill::<Brand>(&rt, rt.alloc(), Blank::new(1))
+fn sheets_are_kept_and_the_journal_is_full(rt: HostRuntime) {
+    fill::<Brand>(&rt, rt.alloc(), Blank::new(1));
 }
 
 // A switch to lights, and a crossing before they are in force.
@@ -154,26 +166,35 @@ fn is_marked<L: Ledger>(
     book.chart_row(row, step) == columns
 }
 
-fn draw<L: Ledger>(rt: &impl Abort, alloc: Global, blank: Blank) -> Result<(), Fail>
+// Serves the calls, and compares the chart.
+fn draw_rows<L: Ledger>(
+    rt: &impl Abort,
+    book: &mut Book<L>,
+    pool: &mut Pool,
+    steps: &mut Steps<L>,
+) {
+    for line in CHARTED {
+        let (_, entry) = entry(rt, line);
+        let _ = give(rt, book, Way::Prepared, &entry, pool, steps);
+    }
+    for (row, step, held, claimed) in &MARKS {
+        assert!(rt; is_marked(rt, book, *row, *step, (*held, *claimed)));
+    }
+}
+
+fn draw<L: Ledger>(rt: &impl Abort, alloc: Global, blank: Blank)
     requires name { blank.name ≡ L.name }
     requires parts { blank.parts ≡ L.parts }
     requires some { 0 < blank.parts }
 {
-    let layout = crossing(alloc, Site::Plain)?;
-    let mut pool = Pool::new(alloc, VEHICLES + 2, 4096)?;
     let mut steps = Steps::<L>::new(blank);
-    let mut book = Book::<L>::open(alloc, layout, VEHICLES, 2)?;
-    for line in CHARTED {
-        let (_, entry) = entry(line)?;
-        let _ = give(rt, &mut book, Way::Prepared, &entry, &mut pool, &mut steps)?;
-    }
-    for (row, step, held, claimed) in MARKS {
-        assert!(rt; is_marked(rt, &book, row, step, (held, claimed)));
-    }
-    Ok(())
+    let mut book = open_book::<L>(rt, alloc, Site::Plain, 2);
+    let mut pool = new_pool(rt, alloc);
+    draw_rows(rt, &mut book, &mut pool, &mut steps);
+    book.leave(steps).into_journal();
 }
 
 #[test]
-fn charts_have_what_is_held_and_claimed(rt: HostRuntime) -> Result<(), Fail> {
-    draw::<Brand>(&rt, rt.alloc(), Blank::new(1))
+fn charts_have_what_is_held_and_claimed(rt: HostRuntime) {
+    draw::<Brand>(&rt, rt.alloc(), Blank::new(1));
 }

@@ -2,7 +2,6 @@
 
 use crate::crossing::Site;
 use crate::serving::{Case, serve_all};
-use std::test::Fail;
 
 const SWITCHES_AND_STOPS: [Case; 3] = [
     (
@@ -39,8 +38,8 @@ const SWITCHES_AND_STOPS: [Case; 3] = [
 ];
 
 #[test]
-fn switches_and_stops(rt: HostRuntime) -> Result<(), Fail> {
-    serve_all(&rt, rt.alloc(), &SWITCHES_AND_STOPS)
+fn switches_and_stops(rt: HostRuntime) {
+    serve_all(&rt, rt.alloc(), &SWITCHES_AND_STOPS);
 }
 
 const GIVING_WAY: [Case; 3] = [
@@ -81,8 +80,8 @@ const GIVING_WAY: [Case; 3] = [
 ];
 
 #[test]
-fn giving_way(rt: HostRuntime) -> Result<(), Fail> {
-    serve_all(&rt, rt.alloc(), &GIVING_WAY)
+fn giving_way(rt: HostRuntime) {
+    serve_all(&rt, rt.alloc(), &GIVING_WAY);
 }
 
 const FORTY_STEPS_WITH_LOST_AND_LATE_MESSAGES: [Case; 1] = [(
@@ -105,6 +104,6 @@ const FORTY_STEPS_WITH_LOST_AND_LATE_MESSAGES: [Case; 1] = [(
 )];
 
 #[test]
-fn forty_steps_with_lost_and_late_messages(rt: HostRuntime) -> Result<(), Fail> {
-    serve_all(&rt, rt.alloc(), &FORTY_STEPS_WITH_LOST_AND_LATE_MESSAGES)
+fn forty_steps_with_lost_and_late_messages(rt: HostRuntime) {
+    serve_all(&rt, rt.alloc(), &FORTY_STEPS_WITH_LOST_AND_LATE_MESSAGES);
 }

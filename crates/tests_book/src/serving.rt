@@ -1,11 +1,12 @@
 //! A book that serves the calls of a journal.
 
-ghost use Rattle.std.specs.Prelude.{◌≡◌, ◌<◌};
+ghost use Rattle.std.specs.Prelude.{◌≡◌, ◌<◌, ◌≤◌};
+ghost use Rattle.aim_msg.specs.declared.entries.TheConstants.{LATEST_MOMENT};
 
 use crate::crossing::{Site, crossing};
 use aim_book::{Book, Full};
 use aim_buffers::prepare;
-use aim_msg::{Act, Entry, LATEST_MOMENT, Order, Reply, write_entry};
+use aim_msg::{Act, Entry, LATEST_MOMENT, Message, Order, Reply, write_entry};
 use aim_pool::Pool;
 use aim_read::read_entry;
 use aim_tiles::Steps;
@@ -13,7 +14,6 @@ use std::alloc::Global;
 use std::marker::Brand;
 use std::process::Abort;
 use std::sync::ledger::{Blank, Ledger};
-use std::test::Fail;
 
 /// How many vehicles there are.
 pub const VEHICLES: u32 = 8;
@@ -25,8 +25,8 @@ pub type Lines = &'static [&'static str];
 pub type Case = (&'static str, Site, Lines);
 
 /// Reads the text of an entry.
-pub fn entry(line: &str) -> Result<(u32, Entry), Fail> {
-    Ok(read_entry(line.as_bytes()).ok().ok_or("no entry")?)
+pub fn entry(rt: &impl Abort, line: &str) -> (u32, Entry) {
+    read_entry(line.as_bytes()).ok().expect(rt, line)
 }
 
 /// How a message is served.
@@ -38,6 +38,54 @@ pub enum Way {
     FromPool,
 }
 
+// Takes an order.
+fn operate<L: Ledger>(
+    rt: &impl Abort,
+    book: &mut Book<L>,
+    moment: u32,
+    order: Order,
+    steps: &mut Steps<L>,
+) -> Result<Reply, Full>
+    requires { moment ≤ LATEST_MOMENT }
+{
+    if let Order::Switch(policy) = order {
+        assert!(rt; policy < book.layout().policies());
+    }
+    book.operate(moment, order, steps)
+}
+
+// Answers a message, with two sheets of the pool.
+fn answer<L: Ledger>(
+    rt: &impl Abort,
+    book: &mut Book<L>,
+    way: Way,
+    caller: u32,
+    moment: u32,
+    message: &Message,
+    pool: &mut Pool,
+    steps: &mut Steps<L>,
+) -> Result<Reply, Full>
+    requires { moment ≤ LATEST_MOMENT }
+{
+    assert!(rt; caller < book.vehicles());
+    assert!(rt; pool.room() == book.layout().ground().grid().spans);
+    assert!(rt; pool.count() >= 2);
+    assert!(rt; pool.count() <= 1_000_000);
+    match way {
+        Way::Prepared => {
+            let Ok(first) = pool.take() else {
+                unreachable!()
+            };
+            let Ok(second) = pool.take() else {
+                unreachable!()
+            };
+            let prepared = prepare(book.layout(), message, first, second);
+            book.serve(caller, moment, prepared, pool, steps)
+        }
+        Way::FromPool => book.serve_message(caller, moment, message, pool, steps),
+    }
+}
+
 /// Makes the call of an entry, with two sheets of the pool.
 pub fn give<L: Ledger>(
     rt: &impl Abort,
@@ -46,32 +94,13 @@ pub fn give<L: Ledger>(
     entry: &Entry,
     pool: &mut Pool,
     steps: &mut Steps<L>,
-) -> Result<Result<Reply, Full>, Fail> {
+) -> Result<Reply, Full> {
     assert!(rt; entry.moment <= LATEST_MOMENT);
     match entry.act {
-        Act::Order(order) => {
-            if let Order::Switch(policy) = order {
-                assert!(rt; policy < book.layout().policies());
-            }
-            Ok(book.operate(entry.moment, order, steps))
-        }
-        Act::Message(message) => {
-            assert!(rt; entry.caller < book.vehicles());
-            assert!(rt; pool.room() == book.layout().ground().grid().spans);
-            assert!(rt; pool.count() >= 2);
-            assert!(rt; pool.count() <= 1_000_000);
-            match way {
-                Way::Prepared => {
-                    let first = pool.take()?;
-                    let second = pool.take()?;
-                    let prepared = prepare(book.layout(), &message, first, second);
-                    Ok(book.serve(entry.caller, entry.moment, prepared, pool, steps))
-                }
-                Way::FromPool => {
-                    Ok(book.serve_message(entry.caller, entry.moment, &message, pool, steps))
-                }
-            }
-        }
+        Act::Order(order) => operate(rt, book, entry.moment, order, steps),
+        Act::Message(message) => answer(
+            rt, book, way, entry.caller, entry.moment, &message, pool, steps,
+        ),
     }
 }
 
@@ -85,17 +114,60 @@ pub fn kept<L: Ledger>(book: &Book<L>) -> u32 {
 }
 
 // Whether the journal has these lines.
-fn is_told(alloc: Global, journal: &[Entry], lines: Lines) -> Result<bool, Fail> {
+fn is_told(rt: &impl Abort, alloc: Global, journal: &[Entry], lines: Lines) -> bool {
     let mut told = Vec::new(alloc);
     for (told_entry, line) in journal.iter().zip(lines) {
-        let (place, _) = entry(line)?;
+        let (place, _) = entry(rt, line);
         told.clear();
-        write_entry(place, told_entry, &mut told)?;
-        if told.as_slice() != line.as_bytes() {
-            return Ok(false);
+        if write_entry(place, told_entry, &mut told).is_err() || told.as_slice() != line.as_bytes() {
+            return false;
         }
     }
-    Ok(journal.len() == lines.len())
+    journal.len() == lines.len()
+}
+
+/// A book over the crossing of the site, with room for that many entries.
+pub fn open_book<L: Ledger>(rt: &impl Abort, alloc: Global, site: Site, room: u32) -> Book<L> {
+    Book::open(alloc, crossing(rt, alloc, site), VEHICLES, room)
+        .ok()
+        .expect(rt, "no book")
+}
+
+/// As many sheets as the calls of all vehicles need.
+pub fn new_pool(rt: &impl Abort, alloc: Global) -> Pool {
+    Pool::new(alloc, VEHICLES + 2, 4096)
+        .ok()
+        .expect(rt, "no sheets")
+}
+
+// The call of the line stands in its place and gets its reply, and no sheet is lost.
+fn serve_line<L: Ledger>(
+    rt: &impl Abort,
+    book: &mut Book<L>,
+    way: Way,
+    line: &str,
+    pool: &mut Pool,
+    steps: &mut Steps<L>,
+) {
+    let (place, entry) = entry(rt, line);
+    assert!(rt; place as usize == book.journal().len());
+    if give(rt, book, way, &entry, pool, steps) != Ok(entry.reply) {
+        rt.panic(line);
+    }
+    assert!(rt; pool.count().saturating_add(kept(book)) == VEHICLES + 2);
+}
+
+fn serve_lines<L: Ledger>(
+    rt: &impl Abort,
+    book: &mut Book<L>,
+    way: Way,
+    lines: Lines,
+    pool: &mut Pool,
+    steps: &mut Steps<L>,
+) {
+    for line in lines {
+        serve_line(rt, book, way, line, pool, steps);
+    }
 }
 
 fn serve<L: Ledger>(
@@ -105,32 +177,24 @@ fn serve<L: Ledger>(
     way: Way,
     site: Site,
     lines: Lines,
-) -> Result<(), Fail>
+)
     requires name { blank.name ≡ L.name }
     requires parts { blank.parts ≡ L.parts }
     requires some { 0 < blank.parts }
 {
-    let layout = crossing(alloc, site)?;
-    let mut pool = Pool::new(alloc, VEHICLES + 2, layout.ground().grid().spans)?;
     let mut steps = Steps::<L>::new(blank);
-    let mut book = Book::<L>::open(alloc, layout, VEHICLES, 16)?;
-    for line in lines {
-        let (place, entry) = entry(line)?;
-        assert_eq!(rt; place as usize, book.journal().len());
-        let reply = give(rt, &mut book, way, &entry, &mut pool, &mut steps)?;
-        assert!(rt; reply == Ok(entry.reply), "{line}");
-        assert_eq!(rt; pool.count().saturating_add(kept(&book)), VEHICLES + 2);
-    }
-    assert!(rt; is_told(alloc, &book.into_journal(), lines)?);
-    Ok(())
+    let mut book = open_book::<L>(rt, alloc, site, 16);
+    let mut pool = new_pool(rt, alloc);
+    serve_lines(rt, &mut book, way, lines, &mut pool, &mut steps);
+    let journal = book.leave(steps).into_journal();
+    assert!(rt; is_told(rt, alloc, &journal, lines));
 }
 
 /// Asserts that the calls of each of these journals get the replies that stand in it, in both ways.
-pub fn serve_all(rt: &impl Abort, alloc: Global, cases: &[Case]) -> Result<(), Fail> {
+pub fn serve_all(rt: &impl Abort, alloc: Global, cases: &[Case]) {
     for (_, site, lines) in cases {
         for way in [Way::Prepared, Way::FromPool] {
-            serve::<Brand>(rt, alloc, Blank::new(1), way, *site, *lines)?;
+            serve::<Brand>(rt, alloc, Blank::new(1), way, *site, *lines);
         }
     }
-    Ok(())
 }
