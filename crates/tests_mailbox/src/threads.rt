@@ -1,6 +1,6 @@
 //! Clients and the server on threads of their own, over a crossing of two lanes.
 
-ghost use Rattle.std.specs.Prelude.{◌≡◌, ◌<◌, ◌≤◌, IfSome, IfOk};
+ghost use Rattle.std.specs.Prelude.{◌≡◌, ◌<◌, IfSome};
 ghost use Rattle.std.specs.Thread.{IsSync};
 ghost use Rattle.aim_mailbox.specs.Calls.{IsOfMail, IsSameClient};
 
@@ -16,7 +16,6 @@ use std::process::Abort;
 use std::sync::Wait;
 use std::sync::atomic::{AtomicU64, Ordering};
 use std::sync::ledger::{Blank, Ledger};
-use std::test::Fail;
 use std::thread::{Threads, join, yield_now};
 
 // Two clients that said their last word, and how their calls were answered.
@@ -49,60 +48,81 @@ struct Staff<L: Ledger> {
 }
 
 // Opens a mailbox for two vehicles.
-fn opened<L: Ledger, R: Wait>(
+fn opened<L: Ledger, R: Wait + Abort>(
     rt: &R,
     alloc: Global,
     layout: &Layout,
     room: u32,
     blank: Blank,
-) -> Result<Staff<L>, Fail>
+) -> Staff<L>
     requires name { blank.name ≡ L.name }
     requires parts { blank.parts ≡ L.parts }
     requires some { 0 < blank.parts }
-    ensures own { IfOk result (λ s. IsOfMail s.server s.first × IsOfMail s.server s.second) }
-    ensures layout { IfOk result (λ s. s.server.setting.layout ≡ layout.now) }
+    ensures own { IsOfMail result.server result.first × IsOfMail result.server result.second }
+    ensures layout { result.server.setting.layout ≡ layout.now }
 {
+    let layout = layout.copy().expect(rt, "no memory for a layout");
+    let mail = Mailbox::open::<L, R>(rt, alloc, layout, 2, room, blank).expect(rt, "no mailbox");
     let OpenedMail {
         server,
         mut clients,
-    } = Mailbox::open::<L, R>(rt, alloc, layout.copy()?, 2, room, blank)?;
+    } = mail;
     let Some(second) = clients.pop() else {
         unreachable!()
     };
     let Some(first) = clients.pop() else {
         unreachable!()
     };
-    Ok(Staff {
+    Staff {
         server,
         first,
         second,
-    })
+    }
 }
 
-// The first client calls. Then it calls again, or else the second one calls. Then they say their last words.
+// The first client calls. Then it calls again, or else the second one calls.
+fn two_answers<R: Wait + Abort>(
+    rt: &R,
+    first: &mut Client,
+    second: &mut Client,
+    layout: &Layout,
+    alloc: Global,
+    alone: bool,
+    answered: &AtomicU64,
+) -> (Result<Reply, Full>, Result<Reply, Full>)
+    requires first { IfSome first.old.setting (λ s. s.layout ≡ layout.now) }
+    requires second { IfSome second.old.setting (λ s. s.layout ≡ layout.now) }
+    ensures { IsSameClient first.old first.new × IsSameClient second.old second.new }
+{
+    let mut pool = Pool::new(alloc, 6, 4096).expect(rt, "no memory for a pool");
+    let one = called(rt, first, layout, &mut pool, 0, &request(1, 0, 10));
+    answered.store(1, Ordering::SeqCst);
+    let two = if alone {
+        called(rt, first, layout, &mut pool, 0, &request(2, 0, 40))
+    } else {
+        called(rt, second, layout, &mut pool, 0, &request(1, 1, 40))
+    };
+    (one, two)
+}
+
+// The clients call, and then say their last words.
 fn in_turn<R: Wait + Abort>(
     rt: &R,
     mut first: Client,
     mut second: Client,
     layout: &Layout,
-    mut pool: Pool,
+    alloc: Global,
     alone: bool,
     answered: &AtomicU64,
 ) -> Left
     requires layouts { IfSome first.setting (λ s. s.layout ≡ layout.now) × IfSome second.setting (λ s. s.layout ≡ layout.now) }
     ensures { IsSameClient first result.first × IsSameClient second result.second }
 {
-    let one = called(rt, &mut first, layout, &mut pool, 0, &request(1, 0, 10));
-    answered.store(1, Ordering::SeqCst);
-    let two = if alone {
-        called(rt, &mut first, layout, &mut pool, 0, &request(2, 0, 40))
-    } else {
-        called(rt, &mut second, layout, &mut pool, 0, &request(1, 1, 40))
-    };
+    let replies = two_answers(rt, &mut first, &mut second, layout, alloc, alone, answered);
     Left {
         first: first.finish(rt),
         second: second.finish(rt),
-        replies: (one, two),
+        replies,
     }
 }
 
@@ -111,6 +131,18 @@ fn in_turn<R: Wait + Abort>(
 struct Late<L: Ledger> {
     served: Served<L>,
     early: bool,
+}
+
+// Lets so many turns go by, and tells whether a call was answered meanwhile.
+fn is_answered_within(turns: u32, answered: &AtomicU64) -> bool {
+    let mut early = false;
+    for _ in 0..turns {
+        if answered.load(Ordering::SeqCst) == 1 {
+            early = true;
+        }
+        yield_now();
+    }
+    early
 }
 
 // Lets so many turns go by, and then serves.
@@ -122,13 +154,7 @@ fn run_late<L: Ledger, R: Wait>(
 ) -> Late<L>
     ensures { result.served ≡ server }
 {
-    let mut early = false;
-    for _ in 0..turns {
-        if answered.load(Ordering::SeqCst) == 1 {
-            early = true;
-        }
-        yield_now();
-    }
+    let early = is_answered_within(turns, answered);
     Late {
         served: server.run(rt),
         early,
@@ -140,7 +166,7 @@ fn beside<L: Ledger + Send + Sync, R: Threads + Wait + Abort + Sync>(
     rt: &R,
     staff: Staff<L>,
     layout: &Layout,
-    pool: Pool,
+    alloc: Global,
     alone: bool,
     turns: u32,
     answered: &AtomicU64,
@@ -163,7 +189,7 @@ fn beside<L: Ledger + Send + Sync, R: Threads + Wait + Abort + Sync>(
         move || -> Left
             requires { IsSync R.row × IfSome first.setting (λ s. s.layout ≡ layout.now) × IfSome second.setting (λ s. s.layout ≡ layout.now) }
             ensures { IsSameClient first result.first × IsSameClient second result.second }
-        { in_turn(rt, first, second, layout, pool, alone, answered) },
+        { in_turn(rt, first, second, layout, alloc, alone, answered) },
     )
 }
 
@@ -183,79 +209,82 @@ fn two_calls<L: Ledger + Send + Sync, R: Threads + Wait + Abort + Sync>(
     room: u32,
     alone: bool,
     turns: u32,
-) -> Result<Outcome, Fail>
+) -> Outcome
     requires name { blank.name ≡ L.name }
     requires parts { blank.parts ≡ L.parts }
     requires some { 0 < blank.parts }
 {
-    let layout = crossing(alloc)?;
-    let staff = opened::<L, R>(rt, alloc, &layout, room, blank)?;
-    let pool = Pool::new(alloc, 6, 4096)?;
+    let layout = crossing(rt, alloc);
+    let staff = opened::<L, R>(rt, alloc, &layout, room, blank);
     let answered = AtomicU64::new(0);
-    let (late, left) = beside(rt, staff, &layout, pool, alone, turns, &answered);
-    let Left {
-        first,
-        second,
-        replies,
-    } = left;
-    Ok(Outcome {
-        journal: settled(alloc, late.served, first, second)?,
-        replies,
+    let (late, left) = beside(rt, staff, &layout, alloc, alone, turns, &answered);
+    Outcome {
+        journal: settled(rt, alloc, late.served, left.first, left.second),
+        replies: left.replies,
         early: late.early,
-    })
-}
-
-#[test]
-fn two_clients_are_answered_in_turn(rt: HostRuntime) -> Result<(), Fail> {
-    let outcome = two_calls::<Brand, HostRuntime>(&rt, rt.alloc(), Blank::new(1), 2, false, 0)?;
-    assert!(rt; outcome.replies == (confirmed(0, 10), confirmed(1, 40)));
-    assert_eq!(rt; outcome.journal.len(), 2);
-    for (entry, caller) in outcome.journal.iter().zip([0, 1]) {
-        assert_eq!(rt; entry.caller, caller);
     }
-    Ok(())
+}
+
+// The journal has to have as many entries as there are callers, of these callers in this order.
+fn check_callers(rt: &impl Abort, journal: &[Entry], callers: &[u32]) {
+    assert!(rt; journal.len() == callers.len());
+    for (entry, caller) in journal.iter().zip(callers) {
+        assert!(rt; entry.caller == *caller);
+    }
 }
 
 #[test]
-fn the_second_call_finds_no_room(rt: HostRuntime) -> Result<(), Fail> {
-    let outcome = two_calls::<Brand, HostRuntime>(&rt, rt.alloc(), Blank::new(1), 1, true, 0)?;
+fn two_clients_are_answered_in_turn(rt: HostRuntime) {
+    let outcome = two_calls::<Brand, HostRuntime>(&rt, rt.alloc(), Blank::new(1), 2, false, 0);
+    assert!(rt; outcome.replies == (confirmed(0, 10), confirmed(1, 40)));
+    check_callers(&rt, &outcome.journal, &[0, 1]);
+}
+
+#[test]
+fn the_second_call_finds_no_room(rt: HostRuntime) {
+    let outcome = two_calls::<Brand, HostRuntime>(&rt, rt.alloc(), Blank::new(1), 1, true, 0);
     assert!(rt; outcome.replies == (confirmed(0, 10), Err(Full)));
-    assert_eq!(rt; outcome.journal.len(), 1);
-    Ok(())
+    assert!(rt; outcome.journal.len() == 1);
 }
 
 #[test]
-fn no_answer_before_the_server_runs(rt: HostRuntime) -> Result<(), Fail> {
-    let outcome = two_calls::<Brand, HostRuntime>(
-        &rt,
-        rt.alloc(),
-        Blank::new(1),
-        2,
-        false,
-        1_000_000,
-    )?;
+fn no_answer_before_the_server_runs(rt: HostRuntime) {
+    let turns = 1_000_000;
+    let outcome = two_calls::<Brand, HostRuntime>(&rt, rt.alloc(), Blank::new(1), 2, false, turns);
     assert!(rt; !outcome.early, "answered without the server");
     assert!(rt; outcome.replies == (confirmed(0, 10), confirmed(1, 40)));
-    Ok(())
 }
 
-// Makes as many requests as `count`, with the numbers from 1 on, and says the last word.
+// Makes fifty requests with a pool of its own.
+fn fifty_requests<R: Wait + Abort>(
+    rt: &R,
+    client: &mut Client,
+    layout: &Layout,
+    alloc: Global,
+    lane: u8,
+)
+    requires layout { IfSome client.old.setting (λ s. s.layout ≡ layout.now) }
+    ensures { IsSameClient client.old client.new }
+{
+    let mut pool = Pool::new(alloc, 3, 4096).expect(rt, "no memory for a pool");
+    for place in 0..50 {
+        let message = request(place + 1, lane, place + 10);
+        let _reply = called(rt, client, layout, &mut pool, place, &message);
+    }
+}
+
+// Makes fifty requests, and says the last word.
 fn requests<R: Wait + Abort>(
     rt: &R,
     mut client: Client,
     layout: &Layout,
-    mut pool: Pool,
+    alloc: Global,
     lane: u8,
-    count: u32,
 ) -> Ended
     requires layout { IfSome client.setting (λ s. s.layout ≡ layout.now) }
-    requires count { count ≤ 1000 }
     ensures { IsSameClient client result }
 {
-    for place in 0..count {
-        let message = request(place + 1, lane, place + 10);
-        let _reply = called(rt, &mut client, layout, &mut pool, place, &message);
-    }
+    fifty_requests(rt, &mut client, layout, alloc, lane);
     client.finish(rt)
 }
 
@@ -265,8 +294,7 @@ fn fifty_each<R: Threads + Wait + Abort + Sync>(
     first: Client,
     second: Client,
     layout: &Layout,
-    left: Pool,
-    right: Pool,
+    alloc: Global,
 ) -> (Ended, Ended)
     requires layouts { IfSome first.setting (λ s. s.layout ≡ layout.now) × IfSome second.setting (λ s. s.layout ≡ layout.now) }
     ensures { IsSameClient first result.0 × IsSameClient second result.1 }
@@ -276,11 +304,11 @@ fn fifty_each<R: Threads + Wait + Abort + Sync>(
         move || -> Ended
             requires { IsSync R.row × IfSome first.setting (λ s. s.layout ≡ layout.now) }
             ensures { IsSameClient first result }
-        { requests(rt, first, layout, left, 0, 50) },
+        { requests(rt, first, layout, alloc, 0) },
         move || -> Ended
             requires { IsSync R.row × IfSome second.setting (λ s. s.layout ≡ layout.now) }
             ensures { IsSameClient second result }
-        { requests(rt, second, layout, right, 1, 50) },
+        { requests(rt, second, layout, alloc, 1) },
     )
 }
 
@@ -289,8 +317,7 @@ fn three<L: Ledger + Send + Sync, R: Threads + Wait + Abort + Sync>(
     rt: &R,
     staff: Staff<L>,
     layout: &Layout,
-    left: Pool,
-    right: Pool,
+    alloc: Global,
 ) -> (Served<L>, (Ended, Ended))
     requires layouts { IfSome staff.first.setting (λ s. s.layout ≡ layout.now) × IfSome staff.second.setting (λ s. s.layout ≡ layout.now) }
     ensures served { result.0 ≡ staff.server }
@@ -310,7 +337,7 @@ fn three<L: Ledger + Send + Sync, R: Threads + Wait + Abort + Sync>(
         move || -> (Ended, Ended)
             requires { IsSync R.row × IfSome first.setting (λ s. s.layout ≡ layout.now) × IfSome second.setting (λ s. s.layout ≡ layout.now) }
             ensures { IsSameClient first result.0 × IsSameClient second result.1 }
-        { fifty_each(rt, first, second, layout, left, right) },
+        { fifty_each(rt, first, second, layout, alloc) },
     )
 }
 
@@ -318,24 +345,21 @@ fn hundred_calls<L: Ledger + Send + Sync, R: Threads + Wait + Abort + Sync>(
     rt: &R,
     alloc: Global,
     blank: Blank,
-) -> Result<Vec<Entry>, Fail>
+) -> Vec<Entry>
     requires name { blank.name ≡ L.name }
     requires parts { blank.parts ≡ L.parts }
     requires some { 0 < blank.parts }
 {
-    let layout = crossing(alloc)?;
-    let staff = opened::<L, R>(rt, alloc, &layout, 100, blank)?;
-    let left = Pool::new(alloc, 3, 4096)?;
-    let right = Pool::new(alloc, 3, 4096)?;
-    let (served, (first, second)) = three(rt, staff, &layout, left, right);
-    Ok(settled(alloc, served, first, second)?)
+    let layout = crossing(rt, alloc);
+    let staff = opened::<L, R>(rt, alloc, &layout, 100, blank);
+    let (served, (first, second)) = three(rt, staff, &layout, alloc);
+    settled(rt, alloc, served, first, second)
 }
 
 #[test]
-fn three_threads_keep_each_clients_calls(rt: HostRuntime) -> Result<(), Fail> {
-    let journal = hundred_calls::<Brand, HostRuntime>(&rt, rt.alloc(), Blank::new(1))?;
-    assert_eq!(rt; journal.len(), 100);
-    assert_eq!(rt; numbered(&journal, 0), Some(50));
-    assert_eq!(rt; numbered(&journal, 1), Some(50));
-    Ok(())
+fn three_threads_keep_each_clients_calls(rt: HostRuntime) {
+    let journal = hundred_calls::<Brand, HostRuntime>(&rt, rt.alloc(), Blank::new(1));
+    assert!(rt; journal.len() == 100);
+    assert!(rt; numbered(&journal, 0) == Some(50));
+    assert!(rt; numbered(&journal, 1) == Some(50));
 }

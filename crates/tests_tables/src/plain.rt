@@ -20,7 +20,12 @@ fn has_column(span: &Span, column: u8) -> bool {
 
 // Whether the spans have this cell.
 fn have_cell(spans: &[Span], step: u32, row: u8, column: u8) -> bool {
-    spans.iter().any(|span| span.step == step && span.row == row && has_column(span, column))
+    for span in spans {
+        if span.step == step && span.row == row && has_column(span, column) {
+            return true;
+        }
+    }
+    false
 }
 
 impl Plain {
@@ -45,23 +50,25 @@ impl Plain {
     }
 
     fn is_taken(&self, step: u32, row: u8, column: u8) -> bool {
-        let number = self.numbers.get(self.place(step, row, column)).copied();
-        self.has_step(step) && number == Some(step.wrapping_add(1))
+        let place = self.place(step, row, column);
+        self.has_step(step)
+            && place < self.numbers.len()
+            && self.numbers[place] == step.wrapping_add(1)
     }
 
-    fn write(&mut self, spans: &[Span], is_taken: bool) {
-        for span in spans {
-            for column in 0..64u8 {
-                if has_column(span, column) && self.has_step(span.step) {
-                    let place = self.place(span.step, span.row, column);
-                    if let Some(number) = self.numbers.get_mut(place) {
-                        *number = if is_taken {
-                            span.step.wrapping_add(1)
-                        } else {
-                            0
-                        };
-                    }
-                }
+    // Writes the number at a cell.
+    fn put(&mut self, span: &Span, column: u8, number: u32) {
+        let place = self.place(span.step, span.row, column);
+        if place < self.numbers.len() {
+            self.numbers[place] = number;
+        }
+    }
+
+    // Writes the number at all cells of the span.
+    fn write(&mut self, span: &Span, number: u32) {
+        for column in 0..64u8 {
+            if has_column(span, column) && self.has_step(span.step) {
+                self.put(span, column, number);
             }
         }
     }
@@ -71,22 +78,34 @@ impl Plain {
     }
 
     pub fn claim(&mut self, spans: &[Span]) {
-        self.write(spans, true);
+        for span in spans {
+            self.write(span, span.step.wrapping_add(1));
+        }
     }
 
     pub fn release(&mut self, spans: &[Span]) {
-        self.write(spans, false);
+        for span in spans {
+            self.write(span, 0);
+        }
+    }
+
+    // The least column of the span that is taken, where the cell isn't one's own.
+    fn first_column(&self, span: &Span, own: &[Span]) -> Option<u8> {
+        for column in 0..64u8 {
+            if has_column(span, column)
+                && self.is_taken(span.step, span.row, column)
+                && !have_cell(own, span.step, span.row, column)
+            {
+                return Some(column);
+            }
+        }
+        None
     }
 
     pub fn first_taken(&self, spans: &[Span], own: &[Span]) -> Option<(u32, u8, u8)> {
         for span in spans {
-            for column in 0..64u8 {
-                if has_column(span, column)
-                    && self.is_taken(span.step, span.row, column)
-                    && !have_cell(own, span.step, span.row, column)
-                {
-                    return Some((span.step, span.row, column));
-                }
+            if let Some(column) = self.first_column(span, own) {
+                return Some((span.step, span.row, column));
             }
         }
         None

@@ -9,16 +9,21 @@ use std::alloc::Global;
 use std::marker::Brand;
 use std::process::Abort;
 use std::sync::ledger::{Blank, Ledger};
-use std::test::Fail;
+
+// Rows of words, and the first place in which they meet.
+const WORDS: [(&[u64], &[u64], Option<usize>); 4] = [
+    (&[], &[], None),
+    (&[1, 2, 4], &[2, 2, 4], Some(1)),
+    (&[1; 9], &[2, 2, 2, 2, 2, 2, 2, 2, 1], Some(8)),
+    (&[4, 1, 2, 8, 16], &[8, 2, 4, 16, 32], None),
+];
 
 #[test]
 fn words_that_meet(rt: HostRuntime) {
-    let ones = [1; 9];
-    let late = [2, 2, 2, 2, 2, 2, 2, 2, 1];
-    assert_eq!(rt; first_meeting(&[], &[]), None);
-    assert_eq!(rt; first_meeting(&[1, 2, 4], &[2, 2, 4]), Some(1));
-    assert_eq!(rt; first_meeting(&ones, &late), Some(8));
-    assert_eq!(rt; first_meeting(&[4, 1, 2, 8, 16], &[8, 2, 4, 16, 32]), None);
+    for (left, right, want) in WORDS {
+        assert!(rt; left.len() == right.len());
+        assert!(rt; first_meeting(left, right) == want);
+    }
 }
 
 // Fills a sheet with these spans.
@@ -58,39 +63,94 @@ fn first<L: Ledger>(
     table.first_taken(sheet, own, steps)
 }
 
+// The least taken cell of the sheet that isn't one's own has to be this one.
+fn check_first<L: Ledger>(
+    rt: &impl Abort,
+    table: &Table<L>,
+    sheet: &Sheet,
+    own: Option<&Sheet>,
+    steps: &mut Steps<L>,
+    want: Option<(u32, u8, u8)>,
+) {
+    let found = first(rt, table, sheet, own, steps);
+    assert_eq!(rt; found, want);
+}
+
 fn span(step: u32, row: u8, mask: u64) -> Span {
     Span { step, row, mask }
 }
 
-fn come_and_go<L: Ledger>(rt: &impl Abort, alloc: Global, blank: Blank) -> Result<(), Fail>
+const TWO_STEPS: [Span; 2] = [
+    Span {
+        step: 1,
+        row: 2,
+        mask: 0b0110,
+    },
+    Span {
+        step: 2,
+        row: 0,
+        mask: 0b1000,
+    },
+];
+
+const THREE_STEPS: [Span; 3] = [
+    Span {
+        step: 0,
+        row: 3,
+        mask: 0b1111,
+    },
+    Span {
+        step: 1,
+        row: 2,
+        mask: 0b1100,
+    },
+    Span {
+        step: 2,
+        row: 0,
+        mask: 0b1000,
+    },
+];
+
+// The first sheet's cells are taken, some of them go with the second's, and the rest with the time.
+fn take_and_release<L: Ledger>(
+    rt: &impl Abort,
+    table: &mut Table<L>,
+    one: &Sheet,
+    two: &Sheet,
+    steps: &mut Steps<L>,
+) {
+    claim(rt, table, one, steps);
+    check_first(rt, table, two, None, steps, Some((1, 2, 2)));
+    check_first(rt, table, two, Some(one), steps, None);
+    release(rt, table, two, steps);
+    check_first(rt, table, one, None, steps, Some((1, 2, 1)));
+    advance(rt, table, 2, steps);
+    check_first(rt, table, one, None, steps, None);
+}
+
+// Takes a sheet out of the pool, and fills it.
+fn filled(rt: &impl Abort, pool: &mut Pool, spans: &[Span]) -> Sheet {
+    let mut sheet = pool.take().expect(rt, "no sheet");
+    fill(rt, &mut sheet, spans);
+    sheet
+}
+
+fn come_and_go<L: Ledger>(rt: &impl Abort, alloc: Global, blank: Blank)
     requires name { blank.name ≡ L.name }
     requires parts { blank.parts ≡ L.parts }
     requires some { 0 < blank.parts }
 {
     let mut steps = Steps::<L>::new(blank);
-    let mut pool = Pool::new(alloc, 2, 8)?;
-    let mut one = pool.take()?;
-    let mut two = pool.take()?;
-    let mut table = Table::<L>::new(alloc, 4, 3)?;
-    fill(rt, &mut one, &[span(1, 2, 0b0110), span(2, 0, 0b1000)]);
-    claim(rt, &mut table, &one, &mut steps);
-    fill(
-        rt,
-        &mut two,
-        &[span(0, 3, 0b1111), span(1, 2, 0b1100), span(2, 0, 0b1000)],
-    );
-    assert_eq!(rt; first(rt, &table, &two, None, &mut steps), Some((1, 2, 2)));
-    assert_eq!(rt; first(rt, &table, &two, Some(&one), &mut steps), None);
-    release(rt, &mut table, &two, &mut steps);
-    assert_eq!(rt; first(rt, &table, &one, None, &mut steps), Some((1, 2, 1)));
-    advance(rt, &mut table, 2, &mut steps);
-    assert_eq!(rt; first(rt, &table, &one, None, &mut steps), None);
-    Ok(())
+    let mut pool = Pool::new(alloc, 2, 8).expect(rt, "no memory for a pool");
+    let one = filled(rt, &mut pool, &TWO_STEPS);
+    let two = filled(rt, &mut pool, &THREE_STEPS);
+    let mut table = Table::<L>::new(alloc, 4, 3).expect(rt, "no memory for a table");
+    take_and_release(rt, &mut table, &one, &two, &mut steps);
 }
 
 #[test]
-fn cells_come_and_go(rt: HostRuntime) -> Result<(), Fail> {
-    come_and_go::<Brand>(&rt, rt.alloc(), Blank::new(1))
+fn cells_come_and_go(rt: HostRuntime) {
+    come_and_go::<Brand>(&rt, rt.alloc(), Blank::new(1));
 }
 
 // Claims the sheet in a ledger of the table's own, and says what the sheet meets afterwards.
@@ -112,26 +172,60 @@ fn claimed_apart<L: Ledger>(
 }
 
 #[test]
-fn a_table_joins_ledger_after_ledger(rt: HostRuntime) -> Result<(), Fail> {
-    let alloc: Global = rt.alloc();
-    let mut sheet = Pool::new(alloc, 1, 1)?.take()?;
-    fill(&rt, &mut sheet, &[span(1, 2, 0b0110)]);
-    let table = IdleTable::new(alloc, 4, 3)?;
+fn a_table_joins_ledger_after_ledger(rt: HostRuntime) {
+    let mut pool = Pool::new(rt.alloc(), 1, 1).expect(&rt, "no memory for a pool");
+    let sheet = filled(&rt, &mut pool, &[span(1, 2, 0b0110)]);
+    let table = IdleTable::new(rt.alloc(), 4, 3).expect(&rt, "no memory for a table");
     let (table, none) = claimed_apart::<Brand>(&rt, table, &sheet, Blank::new(1));
     let (_, some) = claimed_apart::<Brand>(&rt, table, &sheet, Blank::new(1));
     assert_eq!(rt; none, None);
     assert_eq!(rt; some, Some((1, 2, 1)));
-    Ok(())
+}
+
+// Claims a corner's cell in this step, which has to be free before and taken afterwards.
+fn take_corner<L: Ledger>(
+    rt: &impl Abort,
+    table: &mut Table<L>,
+    sheet: &mut Sheet,
+    steps: &mut Steps<L>,
+    step: u32,
+    corner: u8,
+) {
+    assert!(rt; corner < 64);
+    fill(rt, sheet, &[span(step, corner, 1 << corner)]);
+    check_first(rt, table, sheet, None, steps, None);
+    claim(rt, table, sheet, steps);
+    check_first(rt, table, sheet, None, steps, Some((step, corner, corner)));
+}
+
+// The table's now goes on to the greatest step.
+fn go_on<L: Ledger>(
+    rt: &impl Abort,
+    table: &mut Table<L>,
+    sheet: &mut Sheet,
+    steps: &mut Steps<L>,
+    corner: u8,
+    horizon: u32,
+)
+    requires some { 0 < horizon }
+    requires near { horizon ≤ 8192 }
+{
+    take_corner(rt, table, sheet, steps, horizon - 1, corner);
+    advance(rt, table, horizon, steps);
+    check_first(rt, table, sheet, None, steps, None);
+    advance(rt, table, 1_073_741_824, steps);
+    take_corner(
+        rt,
+        table,
+        sheet,
+        steps,
+        1_073_741_824 + (horizon - 1),
+        corner,
+    );
 }
 
 // A table of this size and horizon whose now goes on to the greatest step.
-fn go_far<L: Ledger>(
-    rt: &impl Abort,
-    alloc: Global,
-    blank: Blank,
-    size: u32,
-    horizon: u32,
-) -> Result<(), Fail>
+fn go_far<L: Ledger>(rt: &impl Abort, alloc: Global, blank: Blank, size: u32, horizon: u32)
     requires name { blank.name ≡ L.name }
     requires parts { blank.parts ≡ L.parts }
     requires some { 0 < blank.parts }
@@ -139,35 +233,24 @@ fn go_far<L: Ledger>(
     assert!(rt; 0 < size && size <= 64);
     assert!(rt; 0 < horizon && horizon <= 8192);
     let mut steps = Steps::<L>::new(blank);
-    let mut sheet = Pool::new(alloc, 1, 1)?.take()?;
-    let mut table = Table::<L>::new(alloc, size, horizon)?;
-    let corner = (size - 1) as u8;
-    let last = 1_073_741_824 + (horizon - 1);
-    fill(rt, &mut sheet, &[span(horizon - 1, corner, 1 << corner)]);
-    claim(rt, &mut table, &sheet, &mut steps);
-    assert_eq!(rt;
-        first(rt, &table, &sheet, None, &mut steps),
-        Some((horizon - 1, corner, corner))
+    let mut pool = Pool::new(alloc, 1, 1).expect(rt, "no memory for a pool");
+    let mut sheet = pool.take().expect(rt, "no sheet");
+    let mut table = Table::<L>::new(alloc, size, horizon).expect(rt, "no memory for a table");
+    go_on(
+        rt,
+        &mut table,
+        &mut sheet,
+        &mut steps,
+        (size - 1) as u8,
+        horizon,
     );
-    advance(rt, &mut table, horizon, &mut steps);
-    assert_eq!(rt; first(rt, &table, &sheet, None, &mut steps), None);
-    advance(rt, &mut table, 1_073_741_824, &mut steps);
-    fill(rt, &mut sheet, &[span(last, corner, 1 << corner)]);
-    assert_eq!(rt; first(rt, &table, &sheet, None, &mut steps), None);
-    claim(rt, &mut table, &sheet, &mut steps);
-    assert_eq!(rt;
-        first(rt, &table, &sheet, None, &mut steps),
-        Some((last, corner, corner))
-    );
-    Ok(())
 }
 
 #[test]
-fn the_ends_of_all_ranges(rt: HostRuntime) -> Result<(), Fail> {
+fn the_ends_of_all_ranges(rt: HostRuntime) {
     for (size, horizon) in [(1, 1), (1, 8192), (64, 1), (64, 8192)] {
-        go_far::<Brand>(&rt, rt.alloc(), Blank::new(1), size, horizon)?;
+        go_far::<Brand>(&rt, rt.alloc(), Blank::new(1), size, horizon);
     }
-    Ok(())
 }
 
 // Numbers that look random, and are the same each time.
@@ -201,13 +284,72 @@ impl Random {
     }
 }
 
-fn compare<L: Ledger>(
+// Both tables have to give the same answers. Tells whether some of the taken cells are one's own.
+fn same_answers<L: Ledger>(
     rt: &impl Abort,
-    alloc: Global,
-    blank: Blank,
+    table: &Table<L>,
+    plain: &Plain,
+    sheet: &Sheet,
+    own: &Sheet,
+    steps: &mut Steps<L>,
+) -> bool {
+    let taken = first(rt, table, sheet, Some(own), steps);
+    assert_eq!(rt; taken, plain.first_taken(sheet.spans(), own.spans()));
+    let any = first(rt, table, sheet, None, steps);
+    assert_eq!(rt; any, plain.first_taken(sheet.spans(), &[]));
+    taken != any
+}
+
+// Time goes on, or the sheet's cells are released or claimed, in both tables.
+fn change<L: Ledger>(
+    rt: &impl Abort,
+    table: &mut Table<L>,
+    plain: &mut Plain,
+    sheet: &Sheet,
+    steps: &mut Steps<L>,
+    random: &mut Random,
+) {
+    let choice = random.below(4);
+    if choice == 0 {
+        let now = table.now() + random.below(3);
+        advance(rt, table, now, steps);
+        plain.advance(now);
+    } else if choice == 1 {
+        release(rt, table, sheet, steps);
+        plain.release(sheet.spans());
+    } else if table.has_steps(sheet) {
+        claim(rt, table, sheet, steps);
+        plain.claim(sheet.spans());
+    }
+}
+
+// A thousand rounds of both tables, with two sheets. Tells in how many of them some of the taken cells are one's own.
+fn rounds<L: Ledger>(
+    rt: &impl Abort,
+    table: &mut Table<L>,
+    plain: &mut Plain,
+    sheet: &mut Sheet,
+    own: &mut Sheet,
+    steps: &mut Steps<L>,
     size: u32,
     horizon: u32,
-) -> Result<u32, Fail>
+) -> u32
+    requires { 0 < horizon }
+{
+    let mut random = Random(size as u64 + horizon as u64);
+    let mut found = 0u32;
+    for _ in 0..1000 {
+        let from = table.now() + random.below(horizon.min(40));
+        random.fill(rt, sheet, size, from);
+        random.fill(rt, own, size, from);
+        let is_found = same_answers(rt, table, plain, sheet, own, steps);
+        found = found.wrapping_add(is_found as u32);
+        change(rt, table, plain, sheet, steps, &mut random);
+    }
+    found
+}
+
+fn compare<L: Ledger>(rt: &impl Abort, alloc: Global, blank: Blank, size: u32, horizon: u32) -> u32
     requires name { blank.name ≡ L.name }
     requires parts { blank.parts ≡ L.parts }
     requires some { 0 < blank.parts }
@@ -215,48 +357,20 @@ fn compare<L: Ledger>(
     assert!(rt; 0 < size && size <= 64);
     assert!(rt; 0 < horizon && horizon <= 8192);
     let mut steps = Steps::<L>::new(blank);
-    let mut pool = Pool::new(alloc, 2, 16)?;
-    let mut sheet = pool.take()?;
-    let mut own = pool.take()?;
-    let mut table = Table::<L>::new(alloc, size, horizon)?;
-    let mut plain = Plain::new(alloc, size, horizon)?;
-    let mut random = Random(size as u64 + horizon as u64);
-    let mut found = 0u32;
-    for _ in 0..1000 {
-        let now = table.now();
-        let from = now + random.below(horizon.min(40));
-        random.fill(rt, &mut sheet, size, from);
-        random.fill(rt, &mut own, size, from);
-        let taken = first(rt, &table, &sheet, Some(&own), &mut steps);
-        assert_eq!(rt; taken, plain.first_taken(sheet.spans(), own.spans()));
-        let any = first(rt, &table, &sheet, None, &mut steps);
-        assert_eq!(rt; any, plain.first_taken(sheet.spans(), &[]));
-        found = found.wrapping_add((taken != any) as u32);
-        match random.below(4) {
-            0 => {
-                advance(rt, &mut table, now + random.below(3), &mut steps);
-                plain.advance(table.now());
-            }
-            1 => {
-                release(rt, &mut table, &sheet, &mut steps);
-                plain.release(sheet.spans());
-            }
-            _ => {
-                if table.has_steps(&sheet) {
-                    claim(rt, &mut table, &sheet, &mut steps);
-                    plain.claim(sheet.spans());
-                }
-            }
-        }
-    }
-    Ok(found)
+    let mut pool = Pool::new(alloc, 2, 16).expect(rt, "no memory for a pool");
+    let mut sheet = pool.take().expect(rt, "no first sheet");
+    let mut own = pool.take().expect(rt, "no second sheet");
+    let mut table = Table::<L>::new(alloc, size, horizon).expect(rt, "no memory for a table");
+    let mut plain = Plain::new(alloc, size, horizon).expect(rt, "no memory for a plain table");
+    rounds(
+        rt, &mut table, &mut plain, &mut sheet, &mut own, &mut steps, size, horizon,
+    )
 }
 
 #[test]
-fn as_the_plain_table(rt: HostRuntime) -> Result<(), Fail> {
+fn as_the_plain_table(rt: HostRuntime) {
     for (size, horizon) in [(1, 1), (3, 5), (48, 40), (64, 8192)] {
-        let found = compare::<Brand>(&rt, rt.alloc(), Blank::new(1), size, horizon)?;
+        let found = compare::<Brand>(&rt, rt.alloc(), Blank::new(1), size, horizon);
         assert!(rt; 0 < found || horizon == 1);
     }
-    Ok(())
 }

@@ -1,5 +1,5 @@
 use Rattle.aim_mailbox.specs.Calls.{IsSameClient}
-use Rattle.tests_mailbox.proofs.threads.requests.Given as goal
+use Rattle.tests_mailbox.proofs.threads.fifty_requests.Given as goal
 
 -- the client stays the same client
 abbrev pub invariant-loop-place : goal.invariant-loop-place
