@@ -77,6 +77,16 @@ fn caller_numbers(alloc: Global, vehicles: u32) -> Result<Vec<u32>, NoMemory>
     Ok(numbers)
 }
 
+// A copy of the book's layout, and the numbers of its callers.
+fn copied(alloc: Global, book: &IdleBook) -> Result<(Layout, Vec<u32>), NoMemory>
+    ensures layout { IfOk result (λ p. p.0 ≡ book.now.layout) }
+    ensures numbers { IfOk result (λ p. p.1.items ≡ callers book.now.vehicles) }
+{
+    let layout = book.layout().copy()?;
+    let numbers = caller_numbers(alloc, book.vehicles())?;
+    Ok((layout, numbers))
+}
+
 // Puts the keeper under a turn, beside a copy of its layout.
 fn shared(alloc: Global, keeper: Keeper) -> Result<Opened, NoMemory>
     requires empty { keeper.journal ≡ [] }
@@ -85,8 +95,8 @@ fn shared(alloc: Global, keeper: Keeper) -> Result<Opened, NoMemory>
     ensures passes { IfOk result (λ o. o.passes.items ≡ map (new_pass o.manager) (range_with_len 0 keeper.vehicles)) }
     ensures operator { IfOk result (λ o. o.operator ≡ new_pass o.manager OPERATOR) }
 {
-    let layout = keeper.book.layout().copy()?;
-    let numbers = caller_numbers(alloc, keeper.book.vehicles())?;
+    let parts = copied(alloc, &keeper.book)?;
+    let (layout, numbers) = parts;
     let (turnstile, mut passes) = Turnstile::open(alloc, keeper, &numbers)?;
     let Some(operator) = passes.pop() else {
         unreachable!()
