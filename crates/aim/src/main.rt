@@ -1,9 +1,13 @@
 //! An intersection manager: replays what vehicles asked, and prints what it answers.
 #![tactic(auto)]
 
+mod program;
+#[cfg(test)]
+mod tests;
+mod words;
+
 use aim_agent::Gate;
 use aim_io::{StdSink, StdSource};
-use aim_program::run;
 use std::process::ExitCode;
 use std::{env, io};
 
@@ -21,12 +25,12 @@ fn main(rt: HostRuntime) -> ExitCode {
     let status = match env::args(&rt) {
         // The first word is the program's name.
         Ok(words) => match words.skip(1).collect::<Vec<String>>(alloc) {
-            Ok(words) => run(&rt, alloc, &words, &mut source, &mut sink, &NoGate),
+            Ok(words) => program::run(&rt, alloc, &words, &mut source, &mut sink, &NoGate),
             Err(_) => 7,
         },
         Err(error) if error.kind() == io::ErrorKind::OutOfMemory => 7,
         // A word that is no text is in no table.
-        Err(_) => run(&rt, alloc, &[], &mut source, &mut sink, &NoGate),
+        Err(_) => program::run(&rt, alloc, &[], &mut source, &mut sink, &NoGate),
     };
     ExitCode::from(status)
 }

@@ -1,8 +1,8 @@
 use Rattle.std.proofs.Common.{subst, sym}
 use Rattle.aim_replay.specs.Replays.{WritesFront}
 use Rattle.aim_replay.specs.Texts.{text_by}
-use Rattle.aim_program.specs.Commands.{asked_in, spelled_in}
-use Rattle.aim_program.proofs.program.obey.Goals as goal
+use Rattle.aim.specs.Commands.{asked_in, spelled_in}
+use Rattle.aim.proofs.program.obey.Goals as goal
 
 pub returns-in-Replay-clause-front : goal.returns-in-Replay-clause-front
 returns-in-Replay-clause-front g c = λ _ h.

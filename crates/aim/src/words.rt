@@ -2,7 +2,7 @@
 
 ghost use Rattle.std.specs.Prelude.{◌≡◌, ◌≤◌, map, IfSome};
 ghost use Rattle.std.specs.String.{string_bytes};
-ghost use Rattle.aim_program.specs.Commands.{IsWithin, command_alone as command_of_one, command_of as command_in, command_with as command_of_two, command_of_numbers as command_of_three, number_in as number_of};
+ghost use Rattle.aim.specs.Commands.{IsWithin, command_alone as command_of_one, command_of as command_in, command_with as command_of_two, command_of_numbers as command_of_three, number_in as number_of};
 
 use aim_claims::number;
 use aim_msg::LATEST_MOMENT;

@@ -1,4 +1,4 @@
-//! What the words of the command line ask for, over any source and sink.
+//! The program, over any source and sink.
 
 ghost use Rattle.std.specs.Prelude.{◌≡◌, ◌⊎◌, ◌<◌, ◌≤◌, ◌↔◌, ℕ, true, false, [], None, Some, map, length, IfSome, codes};
 ghost use Rattle.std.specs.String.{string_bytes};
@@ -7,8 +7,8 @@ ghost use Rattle.aim_io.specs.Causes.{Rose};
 ghost use Rattle.aim_io.specs.Known.{AppendsFront};
 ghost use Rattle.aim_replay.specs.Replays.{LastNeededBy, ReplaysBy, StopsShortBy, TakesAtMost, WritesFront};
 ghost use Rattle.aim_replay.specs.Texts.{text_by};
-ghost use Rattle.aim_program.specs.declared.words.Command.{Command};
-ghost use Rattle.aim_program.specs.Commands.{IsWithin, asked_in, command_of as command_in, is_replay, reads_input, reads_whole, spelled_in};
+ghost use Rattle.aim.specs.declared.words.Command.{Command};
+ghost use Rattle.aim.specs.Commands.{IsWithin, asked_in, command_of as command_in, is_replay, reads_input, reads_whole, spelled_in};
 ghost use Rattle.aim_plans.specs.Scripts.{TakesAtMost as TakesAtMostOfDrive};
 ghost use Rattle.aim_plans.specs.Short.{StopsShort as StopsShortDrive};
 ghost use Rattle.aim_driving.specs.Commands.{Completes as CompletesDrive, Shows as ShowsDrive, ShowsFront as ShowsFrontOfDrive};
@@ -18,7 +18,7 @@ ghost use Rattle.aim_claims.specs.Short.{StopsShort as StopsShortClaims};
 ghost use Rattle.aim_callers.specs.Commands.{Completes as CompletesShards, Shows, ShowsFront};
 ghost use Rattle.aim_events.specs.Short.{StopsShort as StopsShortMail};
 ghost use Rattle.aim_mailing.specs.Commands.{Completes as CompletesMail, Shows as ShowsMail, ShowsFront as ShowsFrontOfMail};
-ghost use Rattle.aim_program.specs.Runs.{Completes, Generates, Reports, TellsUsage};
+ghost use Rattle.aim.specs.Runs.{Completes, Generates, Reports, TellsUsage};
 
 use crate::words::{Command, command_of};
 use aim_agent::Gate;

@@ -4,8 +4,8 @@ use Rattle.aim_msg.specs.declared.entries.TheConstants.{LATEST_MOMENT}
 use Rattle.aim_read.specs.Faults.{is_number, value_of}
 use Rattle.aim_script.specs.Spellings.{Spelled, by_words}
 use Rattle.aim_json_replay.specs.Spelling.{by_json}
-use Rattle.aim_program.specs.declared.words.Command.{Command}
-use Rattle.aim_program.specs.declared.words.Command.TheVariants.{Replay, Chart, ReplayJson, Drive, Grid, Generate, Shards, Mail}
+use Rattle.aim.specs.declared.words.Command.{Command}
+use Rattle.aim.specs.declared.words.Command.TheVariants.{Replay, Chart, ReplayJson, Drive, Grid, Generate, Shards, Mail}
 
 -- the number that the word spells, if it is one from the least to the most
 abbrev pub number_in : ℕ → ℕ → List ℕ → Option ℕ

@@ -1,7 +1,7 @@
 use Rattle.std.proofs.Common.{◌≡◌, Some, sym, ◌∙◌}
-use Rattle.aim_program.specs.declared.words.Command.{Command}
-use Rattle.aim_program.specs.declared.words.Command.TheVariants as command
-use Rattle.aim_program.proofs.program.run.Goals as goal
+use Rattle.aim.specs.declared.words.Command.{Command}
+use Rattle.aim.specs.declared.words.Command.TheVariants as command
+use Rattle.aim.proofs.program.run.Goals as goal
 
 -- the command that was told is the one of the words
 same : (a b : Command) → Some a ≡ Some b → a ≡ b
