@@ -73,7 +73,8 @@ abbrev pub reads_input : Command → Bool
 reads_input (Generate number count) = false
 reads_input _ = true
 
--- whether the command reads its script whole before it runs, and no more than the greatest input
+-- whether the command reads its script whole before it runs, and no more of it than the greatest input; `shards` reads its
+-- script whole too, but no clause bounds what it takes
 abbrev pub reads_whole : Command → Bool
 reads_whole (Drive workers) = true
 reads_whole (Grid workers) = true
