@@ -18,12 +18,23 @@ use std::sync::atomic::{AtomicU64, Ordering};
 use std::sync::ledger::{Blank, Ledger};
 use std::thread::{Threads, join, yield_now};
 
-// Two clients that said their last word, and how their calls were answered.
+// Two clients that said their last word, and how two calls of theirs were answered.
 #[derive(Drop)]
 struct Left {
     first: Ended,
     second: Ended,
-    replies: (Result<Reply, Full>, Result<Reply, Full>),
+    replies: Option<(Result<Reply, Full>, Result<Reply, Full>)>,
+}
+
+// How two clients call.
+#[derive(Clone, Copy)]
+enum Way {
+    // Each calls once, one after the other.
+    InTurn,
+    // The first one calls twice.
+    Alone,
+    // Each makes fifty requests, on a thread of its own.
+    SideBySide,
 }
 
 fn confirmed(id: u32, start: u32) -> Result<Reply, Full>
@@ -122,137 +133,8 @@ fn in_turn<R: Wait + Abort>(
     Left {
         first: first.finish(rt),
         second: second.finish(rt),
-        replies,
+        replies: Some(replies),
     }
-}
-
-// A server that has served, and whether a call was answered before it ran.
-#[derive(Drop)]
-struct Late<L: Ledger> {
-    served: Served<L>,
-    early: bool,
-}
-
-// Lets so many turns go by, and tells whether a call was answered meanwhile.
-fn is_answered_within(turns: u32, answered: &AtomicU64) -> bool {
-    let mut early = false;
-    for _ in 0..turns {
-        if answered.load(Ordering::SeqCst) == 1 {
-            early = true;
-        }
-        yield_now();
-    }
-    early
-}
-
-// Lets so many turns go by, and then serves.
-fn run_late<L: Ledger, R: Wait>(
-    rt: &R,
-    server: Server<L>,
-    turns: u32,
-    answered: &AtomicU64,
-) -> Late<L>
-    ensures { result.served ≡ server }
-{
-    let early = is_answered_within(turns, answered);
-    Late {
-        served: server.run(rt),
-        early,
-    }
-}
-
-// The server on one thread, which it begins after so many turns, and its two clients on another.
-fn beside<L: Ledger + Send + Sync, R: Threads + Wait + Abort + Sync>(
-    rt: &R,
-    staff: Staff<L>,
-    layout: &Layout,
-    alloc: Global,
-    alone: bool,
-    turns: u32,
-    answered: &AtomicU64,
-) -> (Late<L>, Left)
-    requires layouts { IfSome staff.first.setting (λ s. s.layout ≡ layout.now) × IfSome staff.second.setting (λ s. s.layout ≡ layout.now) }
-    ensures served { result.0.served ≡ staff.server }
-    ensures clients { IsSameClient staff.first result.1.first × IsSameClient staff.second result.1.second }
-{
-    let Staff {
-        server,
-        first,
-        second,
-    } = staff;
-    join(
-        rt,
-        move || -> Late<L>
-            requires { IsSync R.row }
-            ensures { result.served ≡ server }
-        { run_late(rt, server, turns, answered) },
-        move || -> Left
-            requires { IsSync R.row × IfSome first.setting (λ s. s.layout ≡ layout.now) × IfSome second.setting (λ s. s.layout ≡ layout.now) }
-            ensures { IsSameClient first result.first × IsSameClient second result.second }
-        { in_turn(rt, first, second, layout, alloc, alone, answered) },
-    )
-}
-
-// What two calls left.
-#[derive(Drop)]
-struct Outcome {
-    journal: Vec<Entry>,
-    replies: (Result<Reply, Full>, Result<Reply, Full>),
-    early: bool,
-}
-
-// Two calls beside a server that begins after so many turns.
-fn two_calls<L: Ledger + Send + Sync, R: Threads + Wait + Abort + Sync>(
-    rt: &R,
-    alloc: Global,
-    blank: Blank,
-    room: u32,
-    alone: bool,
-    turns: u32,
-) -> Outcome
-    requires name { blank.name ≡ L.name }
-    requires parts { blank.parts ≡ L.parts }
-    requires some { 0 < blank.parts }
-{
-    let layout = crossing(rt, alloc);
-    let staff = opened::<L, R>(rt, alloc, &layout, room, blank);
-    let answered = AtomicU64::new(0);
-    let (late, left) = beside(rt, staff, &layout, alloc, alone, turns, &answered);
-    Outcome {
-        journal: settled(rt, alloc, late.served, left.first, left.second),
-        replies: left.replies,
-        early: late.early,
-    }
-}
-
-// The journal has to have as many entries as there are callers, of these callers in this order.
-fn check_callers(rt: &impl Abort, journal: &[Entry], callers: &[u32]) {
-    assert!(rt; journal.len() == callers.len());
-    for (entry, caller) in journal.iter().zip(callers) {
-        assert!(rt; entry.caller == *caller);
-    }
-}
-
-#[test]
-fn two_clients_are_answered_in_turn(rt: HostRuntime) {
-    let outcome = two_calls::<Brand, HostRuntime>(&rt, rt.alloc(), Blank::new(1), 2, false, 0);
-    assert!(rt; outcome.replies == (confirmed(0, 10), confirmed(1, 40)));
-    check_callers(&rt, &outcome.journal, &[0, 1]);
-}
-
-#[test]
-fn the_second_call_finds_no_room(rt: HostRuntime) {
-    let outcome = two_calls::<Brand, HostRuntime>(&rt, rt.alloc(), Blank::new(1), 1, true, 0);
-    assert!(rt; outcome.replies == (confirmed(0, 10), Err(Full)));
-    assert!(rt; outcome.journal.len() == 1);
-}
-
-#[test]
-fn no_answer_before_the_server_runs(rt: HostRuntime) {
-    let turns = 1_000_000;
-    let outcome = two_calls::<Brand, HostRuntime>(&rt, rt.alloc(), Blank::new(1), 2, false, turns);
-    assert!(rt; !outcome.early, "answered without the server");
-    assert!(rt; outcome.replies == (confirmed(0, 10), confirmed(1, 40)));
 }
 
 // Makes fifty requests with a pool of its own.
@@ -312,16 +194,81 @@ fn fifty_each<R: Threads + Wait + Abort + Sync>(
     )
 }
 
-// The server on a third thread.
-fn three<L: Ledger + Send + Sync, R: Threads + Wait + Abort + Sync>(
+// The clients call in this way, and say their last words.
+fn clients<R: Threads + Wait + Abort + Sync>(
+    rt: &R,
+    first: Client,
+    second: Client,
+    layout: &Layout,
+    alloc: Global,
+    way: Way,
+    answered: &AtomicU64,
+) -> Left
+    requires layouts { IfSome first.setting (λ s. s.layout ≡ layout.now) × IfSome second.setting (λ s. s.layout ≡ layout.now) }
+    ensures { IsSameClient first result.first × IsSameClient second result.second }
+{
+    match way {
+        Way::InTurn => in_turn(rt, first, second, layout, alloc, false, answered),
+        Way::Alone => in_turn(rt, first, second, layout, alloc, true, answered),
+        Way::SideBySide => {
+            let (first, second) = fifty_each(rt, first, second, layout, alloc);
+            Left {
+                first,
+                second,
+                replies: None,
+            }
+        }
+    }
+}
+
+// A server that has served, and whether a call was answered before it ran.
+#[derive(Drop)]
+struct Late<L: Ledger> {
+    served: Served<L>,
+    early: bool,
+}
+
+// Lets so many turns go by, and tells whether a call was answered meanwhile.
+fn is_answered_within(turns: u32, answered: &AtomicU64) -> bool {
+    let mut early = false;
+    for _ in 0..turns {
+        if answered.load(Ordering::SeqCst) == 1 {
+            early = true;
+        }
+        yield_now();
+    }
+    early
+}
+
+// Lets so many turns go by, and then serves.
+fn run_late<L: Ledger, R: Wait>(
+    rt: &R,
+    server: Server<L>,
+    turns: u32,
+    answered: &AtomicU64,
+) -> Late<L>
+    ensures { result.served ≡ server }
+{
+    let early = is_answered_within(turns, answered);
+    Late {
+        served: server.run(rt),
+        early,
+    }
+}
+
+// The server on one thread, which it begins after so many turns, and its two clients on another.
+fn beside<L: Ledger + Send + Sync, R: Threads + Wait + Abort + Sync>(
     rt: &R,
     staff: Staff<L>,
     layout: &Layout,
     alloc: Global,
-) -> (Served<L>, (Ended, Ended))
+    way: Way,
+    turns: u32,
+    answered: &AtomicU64,
+) -> (Late<L>, Left)
     requires layouts { IfSome staff.first.setting (λ s. s.layout ≡ layout.now) × IfSome staff.second.setting (λ s. s.layout ≡ layout.now) }
-    ensures served { result.0 ≡ staff.server }
-    ensures clients { IsSameClient staff.first result.1.0 × IsSameClient staff.second result.1.1 }
+    ensures served { result.0.served ≡ staff.server }
+    ensures clients { IsSameClient staff.first result.1.first × IsSameClient staff.second result.1.second }
 {
     let Staff {
         server,
@@ -330,36 +277,91 @@ fn three<L: Ledger + Send + Sync, R: Threads + Wait + Abort + Sync>(
     } = staff;
     join(
         rt,
-        move || -> Served<L>
+        move || -> Late<L>
             requires { IsSync R.row }
-            ensures { result ≡ server }
-        { server.run(rt) },
-        move || -> (Ended, Ended)
+            ensures { result.served ≡ server }
+        { run_late(rt, server, turns, answered) },
+        move || -> Left
             requires { IsSync R.row × IfSome first.setting (λ s. s.layout ≡ layout.now) × IfSome second.setting (λ s. s.layout ≡ layout.now) }
-            ensures { IsSameClient first result.0 × IsSameClient second result.1 }
-        { fifty_each(rt, first, second, layout, alloc) },
+            ensures { IsSameClient first result.first × IsSameClient second result.second }
+        { clients(rt, first, second, layout, alloc, way, answered) },
     )
 }
 
-fn hundred_calls<L: Ledger + Send + Sync, R: Threads + Wait + Abort + Sync>(
+// What the calls left.
+#[derive(Drop)]
+struct Outcome {
+    journal: Vec<Entry>,
+    replies: Option<(Result<Reply, Full>, Result<Reply, Full>)>,
+    early: bool,
+}
+
+// Two clients call beside a server that begins after so many turns.
+fn mailed<L: Ledger + Send + Sync, R: Threads + Wait + Abort + Sync>(
     rt: &R,
     alloc: Global,
     blank: Blank,
-) -> Vec<Entry>
+    room: u32,
+    way: Way,
+    turns: u32,
+) -> Outcome
     requires name { blank.name ≡ L.name }
     requires parts { blank.parts ≡ L.parts }
     requires some { 0 < blank.parts }
 {
     let layout = crossing(rt, alloc);
-    let staff = opened::<L, R>(rt, alloc, &layout, 100, blank);
-    let (served, (first, second)) = three(rt, staff, &layout, alloc);
-    settled(rt, alloc, served, first, second)
+    let staff = opened::<L, R>(rt, alloc, &layout, room, blank);
+    let answered = AtomicU64::new(0);
+    let (late, left) = beside(rt, staff, &layout, alloc, way, turns, &answered);
+    Outcome {
+        journal: settled(rt, alloc, late.served, left.first, left.second),
+        replies: left.replies,
+        early: late.early,
+    }
+}
+
+// The journal has to have as many entries as there are callers, of these callers in this order.
+fn check_callers(rt: &impl Abort, journal: &[Entry], callers: &[u32]) {
+    assert!(rt; journal.len() == callers.len());
+    for (entry, caller) in journal.iter().zip(callers) {
+        assert!(rt; entry.caller == *caller);
+    }
+}
+
+#[test]
+fn two_clients_are_answered_in_turn(rt: HostRuntime) {
+    let outcome = mailed::<Brand, HostRuntime>(&rt, rt.alloc(), Blank::new(1), 2, Way::InTurn, 0);
+    assert!(rt; outcome.replies == Some((confirmed(0, 10), confirmed(1, 40))));
+    check_callers(&rt, &outcome.journal, &[0, 1]);
+}
+
+#[test]
+fn the_second_call_finds_no_room(rt: HostRuntime) {
+    let outcome = mailed::<Brand, HostRuntime>(&rt, rt.alloc(), Blank::new(1), 1, Way::Alone, 0);
+    assert!(rt; outcome.replies == Some((confirmed(0, 10), Err(Full))));
+    assert!(rt; outcome.journal.len() == 1);
+}
+
+#[test]
+fn no_answer_before_the_server_runs(rt: HostRuntime) {
+    let turns = 1_000_000;
+    let outcome = mailed::<Brand, HostRuntime>(
+        &rt,
+        rt.alloc(),
+        Blank::new(1),
+        2,
+        Way::InTurn,
+        turns,
+    );
+    assert!(rt; !outcome.early, "answered without the server");
+    assert!(rt; outcome.replies == Some((confirmed(0, 10), confirmed(1, 40))));
 }
 
 #[test]
 fn three_threads_keep_each_clients_calls(rt: HostRuntime) {
-    let journal = hundred_calls::<Brand, HostRuntime>(&rt, rt.alloc(), Blank::new(1));
-    assert!(rt; journal.len() == 100);
-    assert!(rt; numbered(&journal, 0) == Some(50));
-    assert!(rt; numbered(&journal, 1) == Some(50));
+    let blank = Blank::new(1);
+    let outcome = mailed::<Brand, HostRuntime>(&rt, rt.alloc(), blank, 100, Way::SideBySide, 0);
+    assert!(rt; outcome.journal.len() == 100);
+    assert!(rt; numbered(&outcome.journal, 0) == Some(50));
+    assert!(rt; numbered(&outcome.journal, 1) == Some(50));
 }
