@@ -50,9 +50,7 @@ fn adds_all(builder: &mut Builder) -> bool {
 /// Lane 0 goes east, lane 1 north, and they share the tile in row 1, column 2. The one policy has no lights.
 pub fn crossing(rt: &impl Abort, alloc: Global) -> Layout {
     let ground = Ground::build(GRID, TIMES).ok().expect(rt, "no ground");
-    let mut builder = Builder::new(alloc, ground, 2)
-        .ok()
-        .expect(rt, "no builder");
+    let mut builder = Builder::new(alloc, ground, 2).ok().expect(rt, "no builder");
     assert!(rt; adds_all(&mut builder));
     builder.finish().ok().expect(rt, "no layout")
 }

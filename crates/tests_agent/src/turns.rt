@@ -151,6 +151,12 @@ fn go_on<R: Wait + Abort, G: Gate>(
     assert!(rt; is_at(agent, stop));
 }
 
+// Whether the gate was told of the calls of the course.
+fn was_told(gate: &Tally, course: &Course) -> bool {
+    gate.calls.load(Ordering::SeqCst) == course.calls
+        && gate.steps.load(Ordering::SeqCst) == course.steps
+}
+
 fn is_log(found: &[LogItem], wanted: &[LogItem]) -> bool {
     found == wanted
 }
@@ -165,8 +171,7 @@ fn go_through<R: Wait + Abort>(rt: &R, manager: &Manager, agent: &mut Agent, cou
     go_on(rt, manager, agent, &gate, 0, &course.first);
     go_on(rt, manager, agent, &gate, course.first.step, &course.second);
     assert!(rt; is_log(agent.log(), course.log));
-    assert!(rt; gate.calls.load(Ordering::SeqCst) == course.calls);
-    assert!(rt; gate.steps.load(Ordering::SeqCst) == course.steps);
+    assert!(rt; was_told(&gate, course));
 }
 
 // The pass of an agent that ends with this log.
@@ -305,6 +310,7 @@ const GRANTED: [LogItem; 1] = [LogItem::Sent {
     step: 0,
     message: ASKS_EAST,
 }];
+
 const REFUSED: [LogItem; 2] = [
     LogItem::Sent {
         step: 0,
@@ -343,7 +349,10 @@ fn two_vehicles<R: Wait + Abort>(rt: &R, alloc: Global) {
         mut passes,
         operator,
     } = opened;
-    let (Some(second), Some(first)) = (passes.pop(), passes.pop()) else {
+    let Some(second) = passes.pop() else {
+        unreachable!()
+    };
+    let Some(first) = passes.pop() else {
         unreachable!()
     };
     let mut first = agent_of(rt, alloc, &manager, first, 0, Fate::Deliver);

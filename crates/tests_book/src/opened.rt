@@ -3,7 +3,9 @@
 ghost use Rattle.std.specs.Prelude.{◌≡◌, ◌<◌};
 
 use crate::crossing::{Site, crossing};
-use crate::serving::{Lines, VEHICLES, Way, entry, give, kept, new_pool, open_book};
+use crate::serving::{
+    Lines, VEHICLES, Way, entry, give, kept, new_pool, open_book, serve_line, serve_lines,
+};
 use aim_book::{Book, Full, OpenFault};
 use aim_pool::Pool;
 use aim_tiles::Steps;
@@ -46,12 +48,14 @@ fn not_opened(rt: HostRuntime) {
     }
 }
 
+const FIRST: &str =
+    "0 0 0 request 1 0 straight 10 500 500 0 1000 700 car -> confirm 0 10 0 0 steady 20";
+
+const STOP: &str = "7 operator 61 stop -> stopped";
+
 // The entries of a journal, and how many sheets the book keeps after each.
 const SERVED: [(&str, u32); 9] = [
-    (
-        "0 0 0 request 1 0 straight 10 500 500 0 1000 700 car -> confirm 0 10 0 0 steady 20",
-        1,
-    ),
+    (FIRST, 1),
     (
         "1 0 1 request 4 0 straight 40 500 500 0 1000 700 car -> reject holds 0 next 0 held 0",
         1,
@@ -70,27 +74,19 @@ const SERVED: [(&str, u32); 9] = [
         2,
     ),
     ("6 0 61 cancel 8 5 -> ack 5", 1),
-    ("7 operator 61 stop -> stopped", 1),
+    (STOP, 1),
     ("8 1 90 done 2 4 -> ack 4", 0),
 ];
 
-// The call of the line gets its reply, and so many sheets are kept then.
-fn is_served<L: Ledger>(
-    rt: &impl Abort,
-    book: &mut Book<L>,
-    pool: &mut Pool,
-    steps: &mut Steps<L>,
-    line: &str,
-    sheets: u32,
-) {
-    let (_, entry) = entry(rt, line);
-    if give(rt, book, Way::Prepared, &entry, pool, steps) != Ok(entry.reply) {
-        rt.panic(line);
+// Serves the lines.
+fn fill_up<L: Ledger>(rt: &impl Abort, book: &mut Book<L>, pool: &mut Pool, steps: &mut Steps<L>) {
+    for (line, sheets) in &SERVED {
+        serve_line(rt, book, Way::Prepared, line, pool, steps);
+        assert!(rt; kept(book) == *sheets);
     }
-    assert!(rt; kept(book) == sheets);
 }
 
-// Whether the journal has no room for the call of the line.
+// Whether the journal has no room for the call of the line, and stays as it is, and all sheets are in the pool.
 fn is_full<L: Ledger>(
     rt: &impl Abort,
     book: &mut Book<L>,
@@ -100,24 +96,11 @@ fn is_full<L: Ledger>(
 ) -> bool {
     let (_, entry) = entry(rt, line);
     give(rt, book, Way::Prepared, &entry, pool, steps) == Err(Full)
+        && pool.count() == VEHICLES + 2
+        && book.journal().len() == 9
 }
 
 // Serves the lines, and one call of each kind more, for which the journal has no room.
-fn fill_up<L: Ledger>(
-    rt: &impl Abort,
-    book: &mut Book<L>,
-    pool: &mut Pool,
-    steps: &mut Steps<L>,
-) {
-    for (line, sheets) in &SERVED {
-        is_served(rt, book, pool, steps, line, *sheets);
-    }
-    assert!(rt; is_full(rt, book, pool, steps, SERVED[0].0));
-    assert!(rt; is_full(rt, book, pool, steps, SERVED[7].0));
-    assert!(rt; pool.count() == VEHICLES + 2);
-    assert!(rt; book.journal().len() == 9);
-}
-
 fn fill<L: Ledger>(rt: &impl Abort, alloc: Global, blank: Blank)
     requires name { blank.name ≡ L.name }
     requires parts { blank.parts ≡ L.parts }
@@ -127,6 +110,8 @@ fn fill<L: Ledger>(rt: &impl Abort, alloc: Global, blank: Blank)
     let mut book = open_book::<L>(rt, alloc, Site::Plain, 9);
     let mut pool = new_pool(rt, alloc);
     fill_up(rt, &mut book, &mut pool, &mut steps);
+    assert!(rt; is_full(rt, &mut book, &mut pool, &mut steps, FIRST));
+    assert!(rt; is_full(rt, &mut book, &mut pool, &mut steps, STOP));
     book.leave(steps).into_journal();
 }
 
@@ -166,22 +151,16 @@ fn is_marked<L: Ledger>(
     book.chart_row(row, step) == columns
 }
 
-// Serves the calls, and compares the chart.
-fn draw_rows<L: Ledger>(
-    rt: &impl Abort,
-    book: &mut Book<L>,
-    pool: &mut Pool,
-    steps: &mut Steps<L>,
-) {
-    for line in CHARTED {
-        let (_, entry) = entry(rt, line);
-        let _ = give(rt, book, Way::Prepared, &entry, pool, steps);
-    }
+fn has_marks<L: Ledger>(rt: &impl Abort, book: &Book<L>) -> bool {
     for (row, step, held, claimed) in &MARKS {
-        assert!(rt; is_marked(rt, book, *row, *step, (*held, *claimed)));
+        if !is_marked(rt, book, *row, *step, (*held, *claimed)) {
+            return false;
+        }
     }
+    true
 }
 
+// Serves the calls, and compares the chart.
 fn draw<L: Ledger>(rt: &impl Abort, alloc: Global, blank: Blank)
     requires name { blank.name ≡ L.name }
     requires parts { blank.parts ≡ L.parts }
@@ -190,7 +169,8 @@ fn draw<L: Ledger>(rt: &impl Abort, alloc: Global, blank: Blank)
     let mut steps = Steps::<L>::new(blank);
     let mut book = open_book::<L>(rt, alloc, Site::Plain, 2);
     let mut pool = new_pool(rt, alloc);
-    draw_rows(rt, &mut book, &mut pool, &mut steps);
+    serve_lines(rt, &mut book, Way::Prepared, CHARTED, &mut pool, &mut steps);
+    assert!(rt; has_marks(rt, &book));
     book.leave(steps).into_journal();
 }
 

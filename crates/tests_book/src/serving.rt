@@ -54,7 +54,32 @@ fn operate<L: Ledger>(
     book.operate(moment, order, steps)
 }
 
-// Answers a message, with two sheets of the pool.
+// Answers a message whose cells are prepared in two sheets of the pool.
+fn serve_prepared<L: Ledger>(
+    book: &mut Book<L>,
+    caller: u32,
+    moment: u32,
+    message: &Message,
+    pool: &mut Pool,
+    steps: &mut Steps<L>,
+) -> Result<Reply, Full>
+    requires vehicle { caller < book.old.vehicles }
+    requires moment { moment ≤ LATEST_MOMENT }
+    requires two { 2 ≤ pool.old.count }
+    requires count { pool.old.count ≤ 1000000 }
+    requires room { pool.old.room ≡ book.old.layout.grid.spans }
+{
+    let Ok(first) = pool.take() else {
+        unreachable!()
+    };
+    let Ok(second) = pool.take() else {
+        unreachable!()
+    };
+    let prepared = prepare(book.layout(), message, first, second);
+    book.serve(caller, moment, prepared, pool, steps)
+}
+
+// Answers a message in that way.
 fn answer<L: Ledger>(
     rt: &impl Abort,
     book: &mut Book<L>,
@@ -69,19 +94,9 @@ fn answer<L: Ledger>(
 {
     assert!(rt; caller < book.vehicles());
     assert!(rt; pool.room() == book.layout().ground().grid().spans);
-    assert!(rt; pool.count() >= 2);
-    assert!(rt; pool.count() <= 1_000_000);
+    assert!(rt; pool.count() >= 2 && pool.count() <= 1_000_000);
     match way {
-        Way::Prepared => {
-            let Ok(first) = pool.take() else {
-                unreachable!()
-            };
-            let Ok(second) = pool.take() else {
-                unreachable!()
-            };
-            let prepared = prepare(book.layout(), message, first, second);
-            book.serve(caller, moment, prepared, pool, steps)
-        }
+        Way::Prepared => serve_prepared(book, caller, moment, message, pool, steps),
         Way::FromPool => book.serve_message(caller, moment, message, pool, steps),
     }
 }
@@ -99,7 +114,14 @@ pub fn give<L: Ledger>(
     match entry.act {
         Act::Order(order) => operate(rt, book, entry.moment, order, steps),
         Act::Message(message) => answer(
-            rt, book, way, entry.caller, entry.moment, &message, pool, steps,
+            rt,
+            book,
+            way,
+            entry.caller,
+            entry.moment,
+            &message,
+            pool,
+            steps,
         ),
     }
 }
@@ -113,13 +135,17 @@ pub fn kept<L: Ledger>(book: &Book<L>) -> u32 {
     sheets
 }
 
+// Whether the line is the text of the entry.
+fn is_spelled(rt: &impl Abort, alloc: Global, told: &Entry, line: &str) -> bool {
+    let (place, _) = entry(rt, line);
+    let mut text = Vec::new(alloc);
+    write_entry(place, told, &mut text).is_ok() && text.as_slice() == line.as_bytes()
+}
+
 // Whether the journal has these lines.
 fn is_told(rt: &impl Abort, alloc: Global, journal: &[Entry], lines: Lines) -> bool {
-    let mut told = Vec::new(alloc);
-    for (told_entry, line) in journal.iter().zip(lines) {
-        let (place, _) = entry(rt, line);
-        told.clear();
-        if write_entry(place, told_entry, &mut told).is_err() || told.as_slice() != line.as_bytes() {
+    for (told, line) in journal.iter().zip(lines) {
+        if !is_spelled(rt, alloc, told, line) {
             return false;
         }
     }
@@ -140,8 +166,8 @@ pub fn new_pool(rt: &impl Abort, alloc: Global) -> Pool {
         .expect(rt, "no sheets")
 }
 
-// The call of the line stands in its place and gets its reply, and no sheet is lost.
-fn serve_line<L: Ledger>(
+/// The call of the line stands in its place and gets its reply, and no sheet is lost.
+pub fn serve_line<L: Ledger>(
     rt: &impl Abort,
     book: &mut Book<L>,
     way: Way,
@@ -157,7 +183,8 @@ fn serve_line<L: Ledger>(
     assert!(rt; pool.count().saturating_add(kept(book)) == VEHICLES + 2);
 }
 
-fn serve_lines<L: Ledger>(
+/// Serves the lines one after another.
+pub fn serve_lines<L: Ledger>(
     rt: &impl Abort,
     book: &mut Book<L>,
     way: Way,
