@@ -101,12 +101,7 @@ fn plan_of(planned: &Planned) -> [u32; 12] {
 type Row = (usize, [u32; 12]);
 
 // Asserts the vehicles, the end and the number of plans, and what some plans say.
-fn assert_plans(
-    rt: &impl Abort,
-    script: &DriveScript,
-    counts: (u32, u32, usize),
-    rows: &[Row],
-) {
+fn assert_plans(rt: &impl Abort, script: &DriveScript, counts: (u32, u32, usize), rows: &[Row]) {
     assert_eq!(rt; (script.vehicles, script.until, script.plans.len()), counts);
     for &(place, row) in rows {
         assert!(rt; place < script.plans.len());
@@ -147,10 +142,7 @@ const WHOLE: [(&[u8], (u32, u32, usize), &[Row]); 2] = [
     (
         PHASES,
         (16, 2600, 16),
-        &[(
-            15,
-            [15, 295, 153, 40, 10, 252, 999, 999, 999, 999, 999, 0],
-        )],
+        &[(15, [15, 295, 153, 40, 10, 252, 999, 999, 999, 999, 999, 0])],
     ),
     (
         SIREN,
