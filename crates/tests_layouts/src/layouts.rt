@@ -25,32 +25,40 @@ const TIMES: Times = Times {
     edge: 0,
 };
 
-const EAST: Shape = Shape::Line {
-    x0: 0,
-    y0: 1500,
-    x1: 4000,
-    y1: 1500,
-    m: 40,
-};
+// From the west to the east in so many parts.
+fn east(m: u32) -> Shape {
+    Shape::Line {
+        x0: 0,
+        y0: 1500,
+        x1: 4000,
+        y1: 1500,
+        m,
+    }
+}
 
-const NORTH: Shape = Shape::Line {
-    x0: 2500,
-    y0: 0,
-    x1: 2500,
-    y1: 4000,
-    m: 40,
-};
+// From the south to the north in so many parts.
+fn north(m: u32) -> Shape {
+    Shape::Line {
+        x0: 2500,
+        y0: 0,
+        x1: 2500,
+        y1: 4000,
+        m,
+    }
+}
 
-// From the west to the south.
-const RIGHT: Shape = Shape::Curve {
-    x0: 0,
-    y0: 1500,
-    x1: 2500,
-    y1: 1500,
-    x2: 2500,
-    y2: 0,
-    m: 50,
-};
+// From the west to the south in so many parts.
+fn right(m: u32) -> Shape {
+    Shape::Curve {
+        x0: 0,
+        y0: 1500,
+        x1: 2500,
+        y1: 1500,
+        x2: 2500,
+        y2: 0,
+        m,
+    }
+}
 
 // Asserts what the policies are.
 fn assert_policies(rt: &impl Abort, layout: &Layout) {
@@ -79,44 +87,34 @@ fn assert_paths(rt: &impl Abort, layout: &Layout) -> Result<(), Fail> {
     Ok(())
 }
 
-// Puts the moves and the policies.
-fn fill(builder: &mut Builder) -> Option<()> {
-    builder.add_move(0, Turn::Straight, EAST).ok()?;
-    builder.add_move(1, Turn::Straight, NORTH).ok()?;
-    builder.add_move(0, Turn::Right, RIGHT).ok()?;
-    builder.add_policy(Kind::Fcfs).ok()?;
-    builder.add_policy(Kind::LightEmerg).ok()?;
-    builder.add_phase(20, 80, 1).ok()?;
-    builder.add_phase(25, 90, 2).ok()
-}
-
-// The layout of two lanes, if no part of it is refused.
-fn two_lane_layout(alloc: Global) -> Option<Layout> {
-    let ground = Ground::build(GRID, TIMES).ok()?;
-    let mut builder = Builder::new(alloc, ground, 2).ok()?;
-    fill(&mut builder)?;
-    builder.finish().ok()
-}
-
-// A copy of it.
-fn two_lane_copy(alloc: Global) -> Result<Layout, Fail> {
-    let layout = two_lane_layout(alloc).ok_or("refused")?;
-    Ok(layout.copy()?)
-}
-
-// Asserts what the copy is.
-fn assert_two_lanes(rt: &impl Abort, layout: &Layout) -> Result<(), Fail> {
-    assert_policies(rt, layout);
-    assert_tiles(rt, layout);
-    assert_paths(rt, layout)?;
-    assert_eq!(rt; layout.ground().grid().spans, 4096);
-    Ok(())
-}
-
 #[test]
 fn two_lanes(rt: HostRuntime) -> Result<(), Fail> {
-    let layout = two_lane_copy(rt.alloc())?;
-    assert_two_lanes(&rt, &layout)
+    let ground = Ground::build(GRID, TIMES).ok().ok_or("no ground")?;
+    let mut builder = Builder::new(rt.alloc(), ground, 2)
+        .ok()
+        .ok_or("no builder")?;
+    builder
+        .add_move(0, Turn::Straight, east(40))
+        .ok()
+        .ok_or("refused")?;
+    builder
+        .add_move(1, Turn::Straight, north(40))
+        .ok()
+        .ok_or("refused")?;
+    builder
+        .add_move(0, Turn::Right, right(50))
+        .ok()
+        .ok_or("refused")?;
+    builder.add_policy(Kind::Fcfs).ok().ok_or("refused")?;
+    builder.add_policy(Kind::LightEmerg).ok().ok_or("refused")?;
+    builder.add_phase(20, 80, 1).ok().ok_or("refused")?;
+    builder.add_phase(25, 90, 2).ok().ok_or("refused")?;
+    let layout = builder.finish().ok().ok_or("unfinished")?.copy()?;
+    assert_policies(&rt, &layout);
+    assert_tiles(&rt, &layout);
+    assert_paths(&rt, &layout)?;
+    assert_eq!(rt; layout.ground().grid().spans, 4096);
+    Ok(())
 }
 
 /// What a realistic lane has: its turn and shape, the greatest step of its stations, and the tiles of its set.
@@ -126,6 +124,58 @@ struct Realistic {
     shape: Shape,
     step: u32,
     tiles: u32,
+}
+
+// A left turn, in 280 parts.
+fn left_turn(x0: u32, y0: u32, x1: u32, y1: u32, x2: u32, y2: u32, step: u32) -> Realistic {
+    Realistic {
+        turn: Turn::Left,
+        shape: Shape::Curve {
+            x0,
+            y0,
+            x1,
+            y1,
+            x2,
+            y2,
+            m: 280,
+        },
+        step,
+        tiles: 316,
+    }
+}
+
+// A straight lane, in 240 parts.
+fn straight(x0: u32, y0: u32, x1: u32, y1: u32) -> Realistic {
+    Realistic {
+        turn: Turn::Straight,
+        shape: Shape::Line {
+            x0,
+            y0,
+            x1,
+            y1,
+            m: 240,
+        },
+        step: 100,
+        tiles: 288,
+    }
+}
+
+// A right turn, in 95 parts.
+fn right_turn(x0: u32, y0: u32, x1: u32, y1: u32, x2: u32, y2: u32, step: u32) -> Realistic {
+    Realistic {
+        turn: Turn::Right,
+        shape: Shape::Curve {
+            x0,
+            y0,
+            x1,
+            y1,
+            x2,
+            y2,
+            m: 95,
+        },
+        step,
+        tiles: 106,
+    }
 }
 
 // The greatest step from a station to the next, in x or in y.
@@ -153,100 +203,62 @@ fn assert_lane(rt: &impl Abort, layout: &Layout, lane: u8, wanted: &Realistic) -
     Ok(())
 }
 
-// The twelve lanes: three from each side, of which the first turns left and the third right. Of each the corners of its
-// shape, the last twice where it is straight, and the greatest step of its stations.
-const TWELVE: [([u32; 6], u32); 12] = [
-    ([0, 10500, 13500, 10500, 13500, 24000], 97),
-    ([0, 7500, 24000, 7500, 24000, 7500], 100),
-    ([0, 4500, 4500, 4500, 4500, 0], 94),
-    ([13500, 0, 13500, 13500, 0, 13500], 96),
-    ([16500, 0, 16500, 24000, 16500, 24000], 100),
-    ([19500, 0, 19500, 4500, 24000, 4500], 95),
-    ([24000, 13500, 10500, 13500, 10500, 0], 97),
-    ([24000, 16500, 0, 16500, 0, 16500], 100),
-    ([24000, 19500, 19500, 19500, 19500, 24000], 95),
-    ([10500, 24000, 10500, 10500, 24000, 10500], 97),
-    ([7500, 24000, 7500, 0, 7500, 0], 100),
-    ([4500, 24000, 4500, 19500, 0, 19500], 95),
-];
-
-// The lane at a place: a left turn in 280 parts, a straight one in 240, or a right turn in 95.
-fn lane_of(lane: usize, corners: [u32; 6], step: u32) -> Realistic {
-    let [x0, y0, x1, y1, x2, y2] = corners;
-    let (turn, m, tiles) = match lane % 3 {
-        0 => (Turn::Left, 280, 316),
-        1 => (Turn::Straight, 240, 288),
-        _ => (Turn::Right, 95, 106),
-    };
-    let shape = if lane % 3 == 1 {
-        Shape::Line { x0, y0, x1, y1, m }
-    } else {
-        Shape::Curve {
-            x0,
-            y0,
-            x1,
-            y1,
-            x2,
-            y2,
-            m,
-        }
-    };
-    Realistic {
-        turn,
-        shape,
-        step,
-        tiles,
-    }
+// The twelve lanes: three from each side, of which the first turns left and the third right.
+fn twelve() -> [Realistic; 12] {
+    [
+        left_turn(0, 10500, 13500, 10500, 13500, 24000, 97),
+        straight(0, 7500, 24000, 7500),
+        right_turn(0, 4500, 4500, 4500, 4500, 0, 94),
+        left_turn(13500, 0, 13500, 13500, 0, 13500, 96),
+        straight(16500, 0, 16500, 24000),
+        right_turn(19500, 0, 19500, 4500, 24000, 4500, 95),
+        left_turn(24000, 13500, 10500, 13500, 10500, 0, 97),
+        straight(24000, 16500, 0, 16500),
+        right_turn(24000, 19500, 19500, 19500, 19500, 24000, 95),
+        left_turn(10500, 24000, 10500, 10500, 24000, 10500, 97),
+        straight(7500, 24000, 7500, 0),
+        right_turn(4500, 24000, 4500, 19500, 0, 19500, 95),
+    ]
 }
 
-// A ground of 48 by 48 tiles.
-const WIDE: Grid = Grid {
-    side: 24000,
-    n: 48,
-    spacing: 100,
-    fixed: 250,
-    half: 1200,
-    spans: 8192,
-};
-
-const LONG: Times = Times {
-    horizon: 3000,
-    longest: 100,
-    clearance: 100,
-    early: 2,
-    late: 2,
-    edge: 5,
-};
-
-// Puts the twelve lanes and a policy.
-fn fill_twelve(builder: &mut Builder) -> Option<()> {
-    for (lane, (corners, step)) in TWELVE.iter().enumerate() {
-        let wanted = lane_of(lane, *corners, *step);
+// The layout of these lanes on a ground of 48 by 48 tiles.
+fn twelve_lane_layout(alloc: Global, lanes: &[Realistic; 12]) -> Result<Layout, Fail> {
+    let grid = Grid {
+        side: 24000,
+        n: 48,
+        spacing: 100,
+        fixed: 250,
+        half: 1200,
+        spans: 8192,
+    };
+    let times = Times {
+        horizon: 3000,
+        longest: 100,
+        clearance: 100,
+        early: 2,
+        late: 2,
+        edge: 5,
+    };
+    let ground = Ground::build(grid, times).ok().ok_or("no ground")?;
+    let mut builder = Builder::new(alloc, ground, 12).ok().ok_or("no builder")?;
+    for (lane, wanted) in lanes.iter().enumerate() {
         builder
             .add_move(lane as u32, wanted.turn, wanted.shape)
-            .ok()?;
+            .ok()
+            .ok_or("refused")
+            .ok()
+            .ok_or("refused")?;
     }
-    builder.add_policy(Kind::Fcfs).ok()
-}
-
-// The layout of these lanes, if no part of it is refused.
-fn twelve_lane_layout(alloc: Global) -> Option<Layout> {
-    let ground = Ground::build(WIDE, LONG).ok()?;
-    let mut builder = Builder::new(alloc, ground, 12).ok()?;
-    fill_twelve(&mut builder)?;
-    builder.finish().ok()
-}
-
-// Asserts what the lanes have.
-fn assert_lanes(rt: &impl Abort, layout: &Layout) -> Result<(), Fail> {
-    for (lane, (corners, step)) in TWELVE.iter().enumerate() {
-        assert_lane(rt, layout, lane as u8, &lane_of(lane, *corners, *step))?;
-    }
-    Ok(())
+    builder.add_policy(Kind::Fcfs).ok().ok_or("refused")?;
+    Ok(builder.finish().ok().ok_or("unfinished")?)
 }
 
 #[test]
 fn twelve_lanes(rt: HostRuntime) -> Result<(), Fail> {
-    let layout = twelve_lane_layout(rt.alloc()).ok_or("refused")?;
-    assert_lanes(&rt, &layout)
+    let lanes = twelve();
+    let layout = twelve_lane_layout(rt.alloc(), &lanes)?;
+    for (lane, wanted) in lanes.iter().enumerate() {
+        assert_lane(&rt, &layout, lane as u8, wanted)?;
+    }
+    Ok(())
 }

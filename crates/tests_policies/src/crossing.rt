@@ -40,38 +40,32 @@ const NORTH: Shape = Shape::Line {
     m: 40,
 };
 
-// Puts sixteen phases to the policy, in which the lanes take turns, each with a green that is longer by one step.
-fn add_sixteen(builder: &mut Builder) -> Option<()> {
-    for number in 0..16u32 {
-        let lanes = if number % 2 == 0 { 1 } else { 2 };
-        builder.add_phase(20, 10 + number, lanes).ok()?;
-    }
-    Some(())
-}
-
-// Puts the moves and the policies.
-fn fill(builder: &mut Builder) -> Option<()> {
-    builder.add_move(0, Turn::Straight, EAST).ok()?;
-    builder.add_move(1, Turn::Straight, NORTH).ok()?;
-    builder.add_policy(Kind::Fcfs).ok()?;
-    builder.add_policy(Kind::Light).ok()?;
-    builder.add_phase(20, 80, 1).ok()?;
-    builder.add_phase(20, 80, 2).ok()?;
-    builder.add_policy(Kind::LightEmerg).ok()?;
-    add_sixteen(builder)
-}
-
-// The layout, if no part of it is refused.
-fn built(alloc: Global) -> Option<Layout> {
-    let ground = Ground::build(GRID, TIMES).ok()?;
-    let mut builder = Builder::new(alloc, ground, 2).ok()?;
-    fill(&mut builder)?;
-    builder.finish().ok()
-}
-
 /// Lane 0 goes east, lane 1 north, and they share the tile in row 1, column 2. Policy 0 has no lights; policy 1 has
 /// each lane green for 80 steps after 20 of red, in turn; policy 2, for emergencies too, has sixteen phases in which the
 /// lanes take turns, each with 20 of red and a green that is longer by one step than the last, the first of 10.
 pub fn crossing(alloc: Global) -> Result<Layout, Fail> {
-    Ok(built(alloc).ok_or("refused")?)
+    let ground = Ground::build(GRID, TIMES).ok().ok_or("no ground")?;
+    let mut builder = Builder::new(alloc, ground, 2).ok().ok_or("no builder")?;
+    let refused = "a line is refused";
+    builder
+        .add_move(0, Turn::Straight, EAST)
+        .ok()
+        .ok_or(refused)?;
+    builder
+        .add_move(1, Turn::Straight, NORTH)
+        .ok()
+        .ok_or(refused)?;
+    builder.add_policy(Kind::Fcfs).ok().ok_or(refused)?;
+    builder.add_policy(Kind::Light).ok().ok_or(refused)?;
+    builder.add_phase(20, 80, 1).ok().ok_or(refused)?;
+    builder.add_phase(20, 80, 2).ok().ok_or(refused)?;
+    builder.add_policy(Kind::LightEmerg).ok().ok_or(refused)?;
+    for number in 0..16u32 {
+        let lanes = if number % 2 == 0 { 1 } else { 2 };
+        builder
+            .add_phase(20, 10 + number, lanes)
+            .ok()
+            .ok_or(refused)?;
+    }
+    Ok(builder.finish().ok().ok_or("unfinished")?)
 }

@@ -2,7 +2,6 @@
 
 use crate::crossing::crossing;
 use aim_light::{Plan, green_at, green_within};
-use aim_paths::Layout;
 use aim_switch::Timeline;
 use std::process::Abort;
 use std::test::Fail;
@@ -12,72 +11,54 @@ fn first_rows(rows: &[u64; 64]) -> [u64; 4] {
     [rows[0], rows[1], rows[2], rows[3]]
 }
 
-// Offsets, and the lanes that are green at each.
-const OFFSETS: [(u32, u16); 9] = [
-    (0, 0),
-    (19, 0),
-    (20, 1),
-    (99, 1),
-    (100, 0),
-    (120, 2),
-    (199, 2),
-    (200, 0),
-    (1_000_000_020, 1),
-];
-
-const OFFSETS_OF_SIXTEEN: [(u32, u16); 13] = [
-    (19, 0),
-    (20, 1),
-    (29, 1),
-    (30, 0),
-    (50, 2),
-    (60, 2),
-    (61, 0),
-    (574, 0),
-    (575, 2),
-    (599, 2),
-    (600, 0),
-    (620, 1),
-    (1_000_000_175, 2),
-];
-
-// Asserts the lanes that are green at each offset.
-fn assert_greens(rt: &impl Abort, plan: &Plan, offsets: &[(u32, u16)]) {
-    for &(offset, lanes) in offsets {
-        assert_eq!(rt; green_at(plan, offset), lanes, "at {offset}");
-    }
-}
-
-// Asserts what the light policy has.
-fn assert_phases(rt: &impl Abort, layout: &Layout) {
-    assert!(rt; Plan::of(layout, 0).is_none());
-    assert!(rt; Plan::of(layout, 3).is_none());
-    let plan = Plan::of(layout, 1).expect(rt, "a light policy");
-    assert_greens(rt, &plan, &OFFSETS);
-    assert_eq!(rt; green_within(&plan, 0, 19), 0);
-    assert_eq!(rt; green_within(&plan, 99, 119), 1);
-    assert_eq!(rt; green_within(&plan, 199, 220), 3);
-}
-
 #[test]
 fn phases_go_round(rt: HostRuntime) -> Result<(), Fail> {
     let layout = crossing(rt.alloc())?;
-    assert_phases(&rt, &layout);
+    assert!(rt; Plan::of(&layout, 0).is_none());
+    assert!(rt; Plan::of(&layout, 3).is_none());
+    let plan = Plan::of(&layout, 1).expect(&rt, "a light policy");
+    for (offset, lanes) in [
+        (0, 0),
+        (19, 0),
+        (20, 1),
+        (99, 1),
+        (100, 0),
+        (120, 2),
+        (199, 2),
+        (200, 0),
+        (1_000_000_020, 1),
+    ] {
+        assert_eq!(rt; green_at(&plan, offset), lanes, "at {offset}");
+    }
+    assert_eq!(rt; green_within(&plan, 0, 19), 0);
+    assert_eq!(rt; green_within(&plan, 99, 119), 1);
+    assert_eq!(rt; green_within(&plan, 199, 220), 3);
     Ok(())
-}
-
-// Asserts what the policy of sixteen phases has.
-fn assert_sixteen(rt: &impl Abort, layout: &Layout) {
-    let plan = Plan::of(layout, 2).expect(rt, "a light policy");
-    assert_greens(rt, &plan, &OFFSETS_OF_SIXTEEN);
-    assert_eq!(rt; green_within(&plan, 570, 619), 2);
-    assert_eq!(rt; green_within(&plan, 570, 620), 3);
 }
 
 #[test]
 fn sixteen_phases(rt: HostRuntime) -> Result<(), Fail> {
     let layout = crossing(rt.alloc())?;
-    assert_sixteen(&rt, &layout);
+    let plan = Plan::of(&layout, 2).expect(&rt, "a light policy");
+    for (offset, lanes) in [
+        (19, 0),
+        (20, 1),
+        (29, 1),
+        (30, 0),
+        (50, 2),
+        (60, 2),
+        (61, 0),
+        (574, 0),
+        (575, 2),
+        (599, 2),
+        (600, 0),
+        (620, 1),
+        (1_000_000_175, 2),
+    ] {
+        assert_eq!(rt; green_at(&plan, offset), lanes, "at {offset}");
+    }
+    assert_eq!(rt; green_within(&plan, 570, 619), 2);
+    assert_eq!(rt; green_within(&plan, 570, 620), 3);
     Ok(())
 }
 

@@ -8,7 +8,6 @@ use aim_io::{
     CleanSource, Failed, LineFault, LineReader, MemSink, MemSource, Sink, Source, StdSink,
     StdSource, put_all,
 };
-use std::alloc::{AllocError, Global};
 use std::io::{self, ErrorKind, Read, Write};
 use std::process::Abort;
 use std::test::Fail;
@@ -153,31 +152,19 @@ fn dripping(bytes: &'static [u8], failing: Option<u64>) -> Drip {
     }
 }
 
-// Asserts that so many lines come before the read that fails, and no read after it.
-fn assert_failing(rt: &impl Abort, call: u64, lines: u32) {
-    let mut source = dripping(b"ab\ncd", Some(call));
-    let mut reader = LineReader::new();
-    for _ in 0..lines {
-        assert_eq!(rt; reader.advance(&mut source), Ok(true));
-    }
-    let read = Err(LineFault::Read);
-    assert_eq!(rt; reader.advance(&mut source), read, "at {call}");
-    assert_eq!(rt; reader.advance(&mut source), read, "again at {call}");
-    assert_eq!(rt;
-        source.call,
-        call.saturating_add(1),
-        "a read after the fault at {call}"
-    );
-}
-
-// The read that fails, and the lines before it.
-const FAILING: [(u64, u32); 6] = [(0, 0), (1, 0), (2, 0), (3, 1), (4, 1), (5, 1)];
-
 // Of `ab`, byte 10, `cd`: the third byte ends the first line, and the sixth read finds the end.
 #[test]
 fn each_read_fails_in_turn(rt: HostRuntime) {
-    for (call, lines) in &FAILING {
-        assert_failing(&rt, *call, *lines);
+    let read = Err(LineFault::Read);
+    for (call, lines) in [(0, 0), (1, 0), (2, 0), (3, 1), (4, 1), (5, 1)] {
+        let mut source = dripping(b"ab\ncd", Some(call));
+        let mut reader = LineReader::new();
+        for _ in 0..lines {
+            assert_eq!(rt; reader.advance(&mut source), Ok(true));
+        }
+        assert_eq!(rt; reader.advance(&mut source), read, "at {call}");
+        assert_eq!(rt; reader.advance(&mut source), read, "again at {call}");
+        assert_eq!(rt; source.call, call + 1, "a read after the fault at {call}");
     }
     assert_eq!(rt;
         count_lines(&mut dripping(b"ab\ncd", Some(6))),
@@ -212,56 +199,22 @@ fn the_limits(rt: HostRuntime) {
     }
 }
 
-// A source that fails at its second read and at its fourth.
-fn failing_source(alloc: Global) -> Result<MemSource, AllocError> {
-    Ok(MemSource::new(b"abcde".to_vec(alloc)?, [1, 3].to_vec(alloc)?))
-}
-
-// What each read gives: none where it fails.
-const READS: [Option<usize>; 5] = [Some(3), None, Some(2), None, Some(0)];
-
-// Asserts what the source gives.
-fn assert_source(rt: &impl Abort, source: &mut MemSource) {
+#[test]
+fn sources_and_sinks_in_memory(rt: HostRuntime) -> Result<(), Fail> {
+    let alloc = rt.alloc();
+    let mut source = MemSource::new(b"abcde".to_vec(alloc)?, [1, 3].to_vec(alloc)?);
     let mut buf = [0; 3];
-    for want in &READS {
-        assert_eq!(rt; source.read(&mut buf).ok(), *want);
+    for want in [Ok(3), Err(Failed), Ok(2), Err(Failed), Ok(0)] {
+        assert_eq!(rt; source.read(&mut buf), want);
     }
     assert_eq!(rt; buf, *b"dec");
-}
-
-// A sink with room for so many bytes, of which these writes fail.
-fn failing_sink(alloc: Global, room: u32, failing: &[u64]) -> Result<MemSink, Fail> {
-    Ok(MemSink::new(alloc, room, failing.to_vec(alloc)?)?)
-}
-
-// What is written, and how much of it is taken: none where the write fails.
-const WRITES: [(&[u8], Option<usize>); 5] = [
-    (b"abc", Some(3)),
-    (b"x", None),
-    (b"", Some(0)),
-    (b"defg", Some(2)),
-    (b"h", None),
-];
-
-// Asserts what the sink takes.
-fn assert_sink(rt: &impl Abort, sink: &mut MemSink) {
-    for (bytes, want) in &WRITES {
-        assert_eq!(rt; sink.write(bytes).ok(), *want);
-    }
+    let mut sink = MemSink::new(alloc, 5, [1].to_vec(alloc)?)?;
+    assert_eq!(rt; sink.write(b"abc"), Ok(3));
+    assert_eq!(rt; sink.write(b"x"), Err(Failed));
+    assert_eq!(rt; sink.write(b""), Ok(0));
+    assert_eq!(rt; sink.write(b"defg"), Ok(2));
+    assert_eq!(rt; sink.write(b"h"), Err(Failed));
     assert_eq!(rt; sink.bytes(), b"abcde".as_slice());
-}
-
-#[test]
-fn sources_in_memory(rt: HostRuntime) -> Result<(), Fail> {
-    let mut source = failing_source(rt.alloc())?;
-    assert_source(&rt, &mut source);
-    Ok(())
-}
-
-#[test]
-fn sinks_in_memory(rt: HostRuntime) -> Result<(), Fail> {
-    let mut sink = failing_sink(rt.alloc(), 5, &[1])?;
-    assert_sink(&rt, &mut sink);
     Ok(())
 }
 
@@ -275,17 +228,13 @@ const PUTS: [(u32, &[u64], bool, &[u8]); 4] = [
 
 #[test]
 fn all_is_put_or_a_front(rt: HostRuntime) -> Result<(), Fail> {
-    for (room, failing, whole, held) in &PUTS {
-        let mut sink = failing_sink(rt.alloc(), *room, failing)?;
-        assert_eq!(rt; put_all(&mut sink, b"abcdef").is_ok(), *whole);
-        assert_eq!(rt; sink.bytes(), *held);
+    let alloc = rt.alloc();
+    for (room, failing, whole, held) in PUTS {
+        let mut sink = MemSink::new(alloc, room, failing.to_vec(alloc)?)?;
+        assert_eq!(rt; put_all(&mut sink, b"abcdef").is_ok(), whole);
+        assert_eq!(rt; sink.bytes(), held);
     }
-    Ok(())
-}
-
-#[test]
-fn all_is_put_into_a_vector(rt: HostRuntime) -> Result<(), Fail> {
-    let mut buffer = Vec::new(rt.alloc());
+    let mut buffer = Vec::new(alloc);
     put_all(&mut StdSink::new(&mut buffer), b"ab")?;
     assert_eq!(rt; buffer.as_slice(), b"ab".as_slice());
     Ok(())

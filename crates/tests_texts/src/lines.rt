@@ -5,7 +5,6 @@ use aim_msg::{LineKind, write_line};
 use aim_read::laws::line_is_spelled_so;
 use aim_read::read_line;
 use std::alloc::Global;
-use std::process::Abort;
 use std::test::Fail;
 
 const FORMS_1: [&[u8]; 21] = [
@@ -53,20 +52,15 @@ fn comes_back(alloc: Global, text: &[u8], version: u8) -> Result<bool, Fail>
     Ok(out.as_slice() == text)
 }
 
-// Asserts that each of these comes back.
-fn assert_forms(rt: &impl Abort, alloc: Global, forms: &[&[u8]], version: u8) -> Result<(), Fail>
-    requires { (0 < version) × (version ≤ 3) }
-{
-    for &text in forms {
-        assert!(rt; comes_back(alloc, text, version)?);
-    }
-    Ok(())
-}
-
 #[test]
 fn each_form_comes_back(rt: HostRuntime) -> Result<(), Fail> {
-    assert_forms(&rt, rt.alloc(), &FORMS_1, 1)?;
-    assert_forms(&rt, rt.alloc(), &FORMS_3, 3)
+    for text in FORMS_1 {
+        assert!(rt; comes_back(rt.alloc(), text, 1)?);
+    }
+    for text in FORMS_3 {
+        assert!(rt; comes_back(rt.alloc(), text, 3)?);
+    }
+    Ok(())
 }
 
 const FAULTS: [(&[u8], LineKind); 24] = [
@@ -104,8 +98,8 @@ const FAULTS: [(&[u8], LineKind); 24] = [
 
 #[test]
 fn first_fault_is_told(rt: HostRuntime) -> Result<(), Fail> {
-    for (text, kind) in &FAULTS {
-        assert!(rt; matches!(read_line(text, 1), Err(told) if told == *kind));
+    for (text, kind) in FAULTS {
+        assert!(rt; matches!(read_line(text, 1), Err(told) if told == kind));
     }
     Ok(())
 }

@@ -4,7 +4,6 @@ use aim_msg::{
     entry_text, put_number, write_entry, write_line, write_message, write_reply,
 };
 use aim_read::read_entry;
-use std::alloc::Global;
 use std::test::Fail;
 
 const ENTRIES: [&[u8]; 4] = [
@@ -14,30 +13,23 @@ const ENTRIES: [&[u8]; 4] = [
     b"4294967295 1 3 done 1 6 -> reject distance 18446744073709551615 next 6 held 9",
 ];
 
-// The text of the entry that is read from this one: none where none is.
-fn rewritten(alloc: Global, text: &[u8]) -> Result<Vec<u8>, Fail> {
-    let mut out = Vec::new(alloc);
-    if let Ok((position, entry)) = read_entry(text) {
-        write_entry(position, &entry, &mut out)?;
-    }
-    Ok(out)
-}
-
 #[test]
 fn entries_come_back(rt: HostRuntime) -> Result<(), Fail> {
-    for text in &ENTRIES {
-        let out = rewritten(rt.alloc(), text)?;
-        assert_eq!(rt; out.as_slice(), *text);
+    for text in ENTRIES {
+        let mut out = Vec::new(rt.alloc());
+        if let Ok((position, entry)) = read_entry(text) {
+            write_entry(position, &entry, &mut out)?;
+        }
+        assert_eq!(rt; out.as_slice(), text);
     }
+    assert!(rt;
+        matches!(
+            read_entry(b"1 65536 2 stop -> stopped"),
+            Err(LineKind::Range)
+        )
+    );
+    assert!(rt; matches!(read_entry(b"1 1 2 stop -> stopped"), Err(LineKind::Words)));
     Ok(())
-}
-
-#[test]
-fn entries_out_of_form_are_refused(rt: HostRuntime) {
-    let range = read_entry(b"1 65536 2 stop -> stopped");
-    assert!(rt; matches!(range, Err(LineKind::Range)));
-    let words = read_entry(b"1 1 2 stop -> stopped");
-    assert!(rt; matches!(words, Err(LineKind::Words)));
 }
 
 const CHANGE: Message = Message {
