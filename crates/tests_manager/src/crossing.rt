@@ -4,7 +4,7 @@ use aim_geometry::{Grid, Ground, Times};
 use aim_msg::{Body, Message, Params, Turn};
 use aim_paths::{Builder, Kind, Layout, Shape};
 use std::alloc::Global;
-use std::test::Fail;
+use std::process::Abort;
 
 const GRID: Grid = Grid {
     side: 4000,
@@ -41,19 +41,13 @@ const NORTH: Shape = Shape::Line {
 };
 
 /// Lane 0 goes east, lane 1 north, and they share the tile in row 1, column 2. The one policy has no lights.
-pub fn crossing(alloc: Global) -> Result<Layout, Fail> {
-    let ground = Ground::build(GRID, TIMES).ok().ok_or("no ground")?;
-    let mut builder = Builder::new(alloc, ground, 2).ok().ok_or("no builder")?;
-    builder
-        .add_move(0, Turn::Straight, EAST)
-        .ok()
-        .ok_or("no move east")?;
-    builder
-        .add_move(1, Turn::Straight, NORTH)
-        .ok()
-        .ok_or("no move north")?;
-    builder.add_policy(Kind::Fcfs).ok().ok_or("no policy")?;
-    Ok(builder.finish().ok().ok_or("no layout")?)
+pub fn crossing(rt: &impl Abort, alloc: Global) -> Layout {
+    let ground = Ground::build(GRID, TIMES).ok().expect(rt, "no ground");
+    let mut builder = Builder::new(alloc, ground, 2).ok().expect(rt, "no builder");
+    assert!(rt; builder.add_move(0, Turn::Straight, EAST).is_ok());
+    assert!(rt; builder.add_move(1, Turn::Straight, NORTH).is_ok());
+    assert!(rt; builder.add_policy(Kind::Fcfs).is_ok());
+    builder.finish().ok().expect(rt, "no layout")
 }
 
 /// A request for a crossing of 11 steps.

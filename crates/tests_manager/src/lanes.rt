@@ -5,47 +5,7 @@ use aim_geometry::{Grid, Ground, Times};
 use aim_msg::Turn;
 use aim_paths::{Builder, Kind, Layout, Shape};
 use std::alloc::Global;
-use std::test::Fail;
-
-fn line(x0: u32, y0: u32, x1: u32, y1: u32) -> Shape {
-    Shape::Line {
-        x0,
-        y0,
-        x1,
-        y1,
-        m: 240,
-    }
-}
-
-fn curve(from: (u32, u32), by: (u32, u32), to: (u32, u32), m: u32) -> Shape {
-    Shape::Curve {
-        x0: from.0,
-        y0: from.1,
-        x1: by.0,
-        y1: by.1,
-        x2: to.0,
-        y2: to.1,
-        m,
-    }
-}
-
-// The path of a lane. The next side's paths are those of this side, turned by a quarter to the left.
-fn path(lane: u32) -> Shape {
-    match lane {
-        0 => curve((0, 10500), (13500, 10500), (13500, 24000), 280),
-        1 => line(0, 7500, 24000, 7500),
-        2 => curve((0, 4500), (4500, 4500), (4500, 0), 95),
-        3 => curve((13500, 0), (13500, 13500), (0, 13500), 280),
-        4 => line(16500, 0, 16500, 24000),
-        5 => curve((19500, 0), (19500, 4500), (24000, 4500), 95),
-        6 => curve((24000, 13500), (10500, 13500), (10500, 0), 280),
-        7 => line(24000, 16500, 0, 16500),
-        8 => curve((24000, 19500), (19500, 19500), (19500, 24000), 95),
-        9 => curve((10500, 24000), (10500, 10500), (24000, 10500), 280),
-        10 => line(7500, 24000, 7500, 0),
-        _ => curve((4500, 24000), (4500, 19500), (0, 19500), 95),
-    }
-}
+use std::process::Abort;
 
 const GRID: Grid = Grid {
     side: 24000,
@@ -65,21 +25,100 @@ const TIMES: Times = Times {
     edge: 5,
 };
 
-/// The layout, with a policy without lights.
-pub fn twelve_lanes(alloc: Global) -> Result<Layout, Fail> {
-    let ground = Ground::build(GRID, TIMES).ok().ok_or("no ground")?;
-    let mut builder = Builder::new(alloc, ground, 12).ok().ok_or("no builder")?;
-    for lane in 0..12 {
-        let turn = match lane % 3 {
-            0 => Turn::Left,
-            1 => Turn::Straight,
-            _ => Turn::Right,
-        };
-        builder
-            .add_move(lane, turn, path(lane))
-            .ok()
-            .ok_or("no move")?;
+const LEFT: Shape = Shape::Curve {
+    x0: 0,
+    y0: 10500,
+    x1: 13500,
+    y1: 10500,
+    x2: 13500,
+    y2: 24000,
+    m: 280,
+};
+
+const STRAIGHT: Shape = Shape::Line {
+    x0: 0,
+    y0: 7500,
+    x1: 24000,
+    y1: 7500,
+    m: 240,
+};
+
+const RIGHT: Shape = Shape::Curve {
+    x0: 0,
+    y0: 4500,
+    x1: 4500,
+    y1: 4500,
+    x2: 4500,
+    y2: 0,
+    m: 95,
+};
+
+/// The turn of a lane.
+pub fn turn(lane: u32) -> Turn {
+    match lane % 3 {
+        0 => Turn::Left,
+        1 => Turn::Straight,
+        _ => Turn::Right,
     }
-    builder.add_policy(Kind::Fcfs).ok().ok_or("no policy")?;
-    Ok(builder.finish().ok().ok_or("no layout")?)
+}
+
+// The place on the other axis, where the square is turned by a quarter to the left.
+fn across(place: u32) -> u32 {
+    24000u32.saturating_sub(place)
+}
+
+// The shape, turned by a quarter to the left.
+fn turned(shape: Shape) -> Shape {
+    match shape {
+        Shape::Line { x0, y0, x1, y1, m } => Shape::Line {
+            x0: across(y0),
+            y0: x0,
+            x1: across(y1),
+            y1: x1,
+            m,
+        },
+        Shape::Curve {
+            x0,
+            y0,
+            x1,
+            y1,
+            x2,
+            y2,
+            m,
+        } => Shape::Curve {
+            x0: across(y0),
+            y0: x0,
+            x1: across(y1),
+            y1: x1,
+            x2: across(y2),
+            y2: x2,
+            m,
+        },
+    }
+}
+
+// The path of a lane. The next side's paths are those of this side, turned by a quarter to the left.
+fn path(lane: u32) -> Shape {
+    let mut shape = match lane % 3 {
+        0 => LEFT,
+        1 => STRAIGHT,
+        _ => RIGHT,
+    };
+    for _ in 0..lane / 3 {
+        shape = turned(shape);
+    }
+    shape
+}
+
+/// The layout, with a policy without lights.
+pub fn twelve_lanes(rt: &impl Abort, alloc: Global) -> Layout {
+    let ground = Ground::build(GRID, TIMES).ok().expect(rt, "no ground");
+    let mut builder = Builder::new(alloc, ground, 12)
+        .ok()
+        .expect(rt, "no builder");
+    for lane in 0..12 {
+        assert!(rt; builder.add_move(lane, turn(lane), path(lane)).is_ok());
+    }
+    assert!(rt; builder.add_policy(Kind::Fcfs).is_ok());
+    builder.finish().ok().expect(rt, "no layout")
 }

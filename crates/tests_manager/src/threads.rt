@@ -1,164 +1,224 @@
-//! Callers on threads of their own, over a crossing of two lanes.
+//! Callers on threads of their own. Over the crossing of two lanes each makes a hundred requests, one at each step; over
+//! the twelve lanes it has fifty messages, one at each tenth step.
 
-ghost use Rattle.std.specs.Prelude.{◌<◌, ◌≤◌};
-ghost use Rattle.std.specs.Thread.{IsSync};
+ghost use Rattle.std.specs.Prelude.{◌≡◌, ◌<◌, ◌≤◌, All, length};
 ghost use Rattle.aim_turn.specs.Models.{IsPassOf, IsSamePass};
 
-use crate::again::{numbered, serve_again};
-use crate::calls::served;
+use crate::again::{has_confirm, numbered, serve_again};
+use crate::calls::{opened, served};
 use crate::crossing::{crossing, request};
-use aim_manager::{Manager, ManagerFront, ManagerPass, Opened};
-use aim_msg::Entry;
+use crate::four::{MESSAGES, held_after, message};
+use crate::lanes::twelve_lanes;
+use aim_manager::{Manager, ManagerPass, Opened};
+use aim_msg::{Entry, Message};
+use aim_paths::Layout;
 use aim_pool::Pool;
 use std::alloc::Global;
 use std::marker::Brand;
 use std::process::Abort;
 use std::sync::Wait;
-use std::sync::ledger::Blank;
-use std::test::Fail;
-use std::thread::{Threads, join};
+use std::sync::atomic::{AtomicU64, Ordering};
+use std::sync::ledger::{Blank, Ledger};
+use std::thread;
+use std::thread::Threads;
 
-// A pass, and how many of its calls made an entry.
+// How many requests each caller makes over the crossing.
+const REQUESTS: u32 = 100;
+
+// What callers share beside the manager: whether they drive over the twelve lanes, how many entries the first of them
+// counted, and how many all others.
 #[derive(Drop)]
-struct Called {
-    pass: ManagerPass,
-    entries: u32,
+struct Counts {
+    twelve: bool,
+    first: AtomicU64,
+    others: AtomicU64,
 }
 
-// Makes as many requests as `count`, one at each step, with the numbers from 1 on. Behind a `Full` none makes an entry.
-fn requests<R: Wait + Abort>(
+impl Counts {
+    // Adds the number of a caller's entries.
+    fn add(&self, caller: u32, entries: u32) {
+        let count = if caller == 0 {
+            &self.first
+        } else {
+            &self.others
+        };
+        count.fetch_add(entries as u64, Ordering::SeqCst);
+    }
+}
+
+// How many messages a caller has.
+fn count(twelve: bool) -> u32 {
+    if twelve { MESSAGES } else { REQUESTS }
+}
+
+// The moment of a caller's message.
+fn moment(twelve: bool, place: u32) -> u32
+    ensures { result ≤ 1000 }
+{
+    if twelve {
+        place % MESSAGES * 10
+    } else {
+        place % REQUESTS
+    }
+}
+
+// A caller's message, whose number is one more than its place.
+fn message_at(twelve: bool, caller: u32, place: u32, held: Option<u32>) -> Message {
+    if twelve {
+        message(caller, place, held)
+    } else {
+        request(
+            place.wrapping_add(1),
+            (caller % 2) as u8,
+            place.wrapping_add(10),
+        )
+    }
+}
+
+// Makes the calls of one caller, and tells how many of them made an entry. Behind a `Full` none makes an entry.
+fn entries<R: Wait + Abort>(
     rt: &R,
     manager: &Manager,
-    mut pass: ManagerPass,
-    mut pool: Pool,
-    lane: u8,
-    count: u32,
-) -> Called
-    requires own { IsPassOf manager.now pass }
-    requires vehicle { pass.number < manager.now.setting.vehicles }
-    requires count { count ≤ 1000 }
-    ensures same { IsSamePass pass result.pass }
+    pass: &mut ManagerPass,
+    pool: &mut Pool,
+    twelve: bool,
+) -> u32
+    requires own { IsPassOf manager.now pass.old }
+    requires vehicle { pass.old.number < manager.now.setting.vehicles }
+    ensures same { IsSamePass pass.old pass.new }
 {
+    let caller = pass.number();
     let mut entries = 0u32;
-    for place in 0..count {
-        let message = request(place + 1, lane, place + 10);
-        let reply = served(rt, manager, &mut pass, &mut pool, place, &message);
-        if reply.is_ok() {
+    let mut held = None;
+    for place in 0..count(twelve) {
+        let message = message_at(twelve, caller, place, held);
+        let reply = served(rt, manager, pass, pool, moment(twelve, place), &message);
+        if let Ok(reply) = reply {
             assert!(rt; entries == place, "an entry behind a Full");
             entries = place + 1;
+            held = held_after(&reply);
         }
     }
-    Called { pass, entries }
+    entries
 }
 
-// Two callers make as many requests each as `count`, each in a thread of its own.
-fn side_by_side<R: Threads + Wait + Abort + Sync>(
+// Makes the calls of one caller, and counts their entries.
+fn calls<R: Wait + Abort>(
     rt: &R,
+    alloc: Global,
     manager: &Manager,
-    first: (ManagerPass, Pool),
-    second: (ManagerPass, Pool),
-    count: u32,
-) -> (Called, Called)
-    requires own { IsPassOf manager.now first.0 × IsPassOf manager.now second.0 }
-    requires first { first.0.number < manager.now.setting.vehicles }
-    requires second { second.0.number < manager.now.setting.vehicles }
-    requires count { count ≤ 1000 }
-    ensures { IsSamePass first.0 result.0.pass × IsSamePass second.0 result.1.pass }
+    mut pass: ManagerPass,
+    counts: &Counts,
+) -> ManagerPass
+    requires own { IsPassOf manager.now pass }
+    requires vehicle { pass.number < manager.now.setting.vehicles }
+    ensures same { IsSamePass pass result }
 {
-    join(
+    let spans = manager.layout().ground().grid().spans;
+    let mut pool = Pool::new(alloc, 3, spans).expect(rt, "no memory for a pool");
+    let entries = entries(rt, manager, &mut pass, &mut pool, counts.twelve);
+    counts.add(pass.number(), entries);
+    pass
+}
+
+// Makes the calls of all callers, each on a thread of its own.
+fn all_calls<R: Threads + Wait + Abort + Sync>(
+    rt: &R,
+    alloc: Global,
+    manager: &Manager,
+    passes: Vec<ManagerPass>,
+    counts: &Counts,
+) -> Vec<ManagerPass>
+    requires own { All (λ p. IsPassOf manager.now p × (p.number < manager.now.setting.vehicles)) passes.items }
+    ensures table { All (λ p. p.table ≡ manager.now.table) result.items }
+    ensures count { length result.items ≡ length passes.items }
+{
+    thread::map_vec(
         rt,
-        move || -> Called
-            requires { IsSync R.row × IsPassOf manager.now first.0 × (first.0.number < manager.now.setting.vehicles) × (count ≤ 1000) }
-            ensures { IsSamePass first.0 result.pass }
-        { requests(rt, manager, first.0, first.1, 0, count) },
-        move || -> Called
-            requires { IsSync R.row × IsPassOf manager.now second.0 × (second.0.number < manager.now.setting.vehicles) × (count ≤ 1000) }
-            ensures { IsSamePass second.0 result.pass }
-        { requests(rt, manager, second.0, second.1, 1, count) },
+        passes,
+        &|pass: ManagerPass| -> ManagerPass
+            requires { IsPassOf manager.now pass × (pass.number < manager.now.setting.vehicles) }
+            ensures { IsSamePass pass result }
+        { calls(rt, alloc, manager, pass, counts) },
+    )
+    .expect(rt, "no memory for threads")
+}
+
+// The journal of callers on threads, and how many entries the first of them counted, and all others.
+fn on_threads<R: Threads + Wait + Abort + Sync>(
+    rt: &R,
+    alloc: Global,
+    layout: Layout,
+    vehicles: u32,
+    room: u32,
+    twelve: bool,
+) -> (Vec<Entry>, u64, u64) {
+    let counts = Counts {
+        twelve,
+        first: AtomicU64::new(0),
+        others: AtomicU64::new(0),
+    };
+    let opened = opened(rt, alloc, layout, vehicles, room);
+    let Opened {
+        manager,
+        passes,
+        operator,
+    } = opened;
+    let passes = all_calls(rt, alloc, &manager, passes, &counts);
+    let journal = manager.close(passes, operator).journal;
+    (
+        journal,
+        counts.first.load(Ordering::SeqCst),
+        counts.others.load(Ordering::SeqCst),
     )
 }
 
-// What two callers left: the journal, and how many entries each of them counted.
-#[derive(Drop)]
-struct Left {
-    journal: Vec<Entry>,
-    first: u32,
-    second: u32,
-}
-
-// Two callers make a hundred requests each, on two threads.
-fn hundred_each<R: Threads + Wait + Abort + Sync>(
+// Two callers make a hundred requests each, with room for so many entries: the journal has as many of each caller as it
+// counted, and is what a book answers on one thread. Gives what they counted.
+fn two_callers<L: Ledger, R: Threads + Wait + Abort + Sync>(
     rt: &R,
     alloc: Global,
     room: u32,
-) -> Result<Left, Fail> {
-    let Opened {
-        manager,
-        mut passes,
-        operator,
-    } = Manager::open(alloc, crossing(alloc)?, 2, room)?;
-    let Some(second) = passes.pop() else {
-        unreachable!()
-    };
-    let Some(first) = passes.pop() else {
-        unreachable!()
-    };
-    let left = Pool::new(alloc, 3, 4096)?;
-    let right = Pool::new(alloc, 3, 4096)?;
-    let (first, second) = side_by_side(rt, &manager, (first, left), (second, right), 100);
-    passes.push_reserved(first.pass);
-    passes.push_reserved(second.pass);
-    Ok(Left {
-        journal: manager.close(passes, operator).journal,
-        first: first.entries,
-        second: second.entries,
-    })
-}
-
-#[test]
-fn two_threads_keep_their_own_order(rt: HostRuntime) -> Result<(), Fail> {
-    let alloc: Global = rt.alloc();
-    let left = hundred_each(&rt, alloc, 200)?;
-    assert_eq!(rt; (left.first, left.second), (100, 100));
-    assert_eq!(rt; left.journal.len(), 200);
-    assert_eq!(rt; numbered(&left.journal, 0), Some(100));
-    assert_eq!(rt; numbered(&left.journal, 1), Some(100));
-    serve_again::<Brand, HostRuntime>(
-        &rt,
-        alloc,
-        crossing(alloc)?,
-        2,
-        &left.journal,
-        Blank::new(1),
-    )
-}
-
-#[test]
-fn the_room_ends_under_two_threads(rt: HostRuntime) -> Result<(), Fail> {
-    let alloc: Global = rt.alloc();
-    let left = hundred_each(&rt, alloc, 150)?;
-    assert_eq!(rt;
-        left.journal.len(),
-        150,
+    blank: Blank,
+) -> (u64, u64)
+    requires name { blank.name ≡ L.name }
+    requires parts { blank.parts ≡ L.parts }
+    requires some { 0 < blank.parts }
+{
+    let (journal, first, second) = on_threads(rt, alloc, crossing(rt, alloc), 2, room, false);
+    assert!(rt;
+        journal.len() == room as usize,
         "Full comes just where the room ends"
     );
-    assert_eq!(rt;
-        numbered(&left.journal, 0),
-        Some(left.first),
-        "nothing is lost"
-    );
-    assert_eq!(rt;
-        numbered(&left.journal, 1),
-        Some(left.second),
-        "nothing is lost"
-    );
-    assert_eq!(rt; left.first.saturating_add(left.second), 150);
-    serve_again::<Brand, HostRuntime>(
-        &rt,
-        alloc,
-        crossing(alloc)?,
-        2,
-        &left.journal,
-        Blank::new(1),
-    )
+    assert!(rt; numbered(&journal, 0) == Some(first), "nothing is lost");
+    assert!(rt; numbered(&journal, 1) == Some(second), "nothing is lost");
+    serve_again::<L, R>(rt, alloc, crossing(rt, alloc), 2, &journal, blank);
+    (first, second)
+}
+
+#[test]
+fn two_threads_keep_their_own_order(rt: HostRuntime) {
+    let (first, second) = two_callers::<Brand, HostRuntime>(&rt, rt.alloc(), 200, Blank::new(1));
+    assert!(rt; first == 100 && second == 100);
+}
+
+#[test]
+fn the_room_ends_under_two_threads(rt: HostRuntime) {
+    let (first, second) = two_callers::<Brand, HostRuntime>(&rt, rt.alloc(), 150, Blank::new(1));
+    assert!(rt; first.saturating_add(second) == 150);
+}
+
+#[test]
+fn four_threads_are_answered_as_one(rt: HostRuntime) {
+    let alloc: Global = rt.alloc();
+    let layout = twelve_lanes(&rt, alloc);
+    let (journal, first, others) = on_threads(&rt, alloc, layout, 4, 200, true);
+    assert!(rt; first == 50 && others == 150);
+    assert!(rt; journal.len() == 200);
+    for caller in 0..4 {
+        assert!(rt; numbered(&journal, caller) == Some(50));
+    }
+    assert!(rt; has_confirm(&journal));
+    let layout = twelve_lanes(&rt, alloc);
+    serve_again::<Brand, HostRuntime>(&rt, alloc, layout, 4, &journal, Blank::new(1));
 }

@@ -1,4 +1,4 @@
 use Rattle.tests_manager.proofs.threads.the_room_ends_under_two_threads.Given as goal
 
-abbrev pub ghosts-serve_again : goal.ghosts-serve_again
-ghosts-serve_again g a = record { name = a.blank.name; parts = a.blank.parts }
+abbrev pub ghosts-two_callers : goal.ghosts-two_callers
+ghosts-two_callers g a = record { name = a.blank.name; parts = a.blank.parts }

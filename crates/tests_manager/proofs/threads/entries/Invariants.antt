@@ -1,5 +1,5 @@
 use Rattle.aim_turn.specs.Models.{IsSamePass}
-use Rattle.tests_manager.proofs.threads.requests.Given as goal
+use Rattle.tests_manager.proofs.threads.entries.Given as goal
 
 -- the pass stays the same pass
 abbrev pub invariant-loop-place : goal.invariant-loop-place
