@@ -73,12 +73,13 @@ judge 'the log that it names' 'a goal is open' "$(cat "$(sed -n 's/.* aim_io fai
 judge 'what began above it' no "$(grep -q '^begin aim$' "$RT_NOTES" && echo yes || echo no)"
 judge 'what is left of a failure' 1 "$(ls "$copy/temporary" | wc -l)"
 
-# An interrupt: no process and no file is left.
+# An interrupt: no process and no file is left. It is sent until it is heeded: bash can lose one that comes as it begins
+# to wait.
 clean
 (trap - INT; RT_SLEEP=31.4 exec "$copy/repository/aim" < /dev/null > /dev/null 2>&1) &
 builder=$!
 until [ -s "$RT_NOTES" ]; do sleep 0.1; done
-kill -TERM "$builder"
+while kill -TERM "$builder" 2> /dev/null; do sleep 0.2; done
 wait "$builder"
 judge 'an interrupt' 143 $?
 judge 'processes after it' 0 "$(pgrep -c -f 'sleep 31.4')"
