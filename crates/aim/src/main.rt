@@ -8,6 +8,7 @@ mod words;
 
 use aim_agent::Gate;
 use aim_io::{StdSink, StdSource};
+use std::alloc::Global;
 use std::process::ExitCode;
 use std::{env, io};
 
@@ -18,19 +19,23 @@ impl Gate for NoGate {
     fn before(&self, _vehicle: u32, _step: u32) {}
 }
 
+// The words after the program's name: none where one of them is no text, since such a word is in no table. `None` is where
+// memory runs out.
+fn words_of(rt: &HostRuntime, alloc: Global) -> Option<Vec<String>> {
+    match env::args(rt) {
+        Ok(words) => words.skip(1).collect::<Vec<String>>(alloc).ok(),
+        Err(error) if error.kind() == io::ErrorKind::OutOfMemory => None,
+        Err(_) => Some(Vec::new(alloc)),
+    }
+}
+
 fn main(rt: HostRuntime) -> ExitCode {
     let alloc = rt.alloc();
+    let Some(words) = words_of(&rt, alloc) else {
+        return ExitCode::from(7);
+    };
     let mut source = StdSource::new(rt.reader());
     let mut sink = StdSink::new(io::writer(&rt));
-    let status = match env::args(&rt) {
-        // The first word is the program's name.
-        Ok(words) => match words.skip(1).collect::<Vec<String>>(alloc) {
-            Ok(words) => program::run(&rt, alloc, &words, &mut source, &mut sink, &NoGate),
-            Err(_) => 7,
-        },
-        Err(error) if error.kind() == io::ErrorKind::OutOfMemory => 7,
-        // A word that is no text is in no table.
-        Err(_) => program::run(&rt, alloc, &[], &mut source, &mut sink, &NoGate),
-    };
+    let status = program::run(&rt, alloc, &words, &mut source, &mut sink, &NoGate);
     ExitCode::from(status)
 }

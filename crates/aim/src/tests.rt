@@ -1,10 +1,10 @@
 use crate::program::run;
 use aim_agent::Gate;
 use aim_io::{MemSink, MemSource};
-use std::alloc::{AllocError, Global};
+use std::alloc::Global;
+use std::process::Abort;
 use std::sync::Wait;
 use std::sync::atomic::{AtomicU64, Ordering};
-use std::test::Fail;
 use std::thread::{Threads, yield_now};
 
 // A crossing of two straight lanes under FCFS, for eight vehicles.
@@ -113,23 +113,27 @@ const OUTSIDE: [&[&str]; 26] = [
     &["mail", "1", "1"],
 ];
 
-/// A gate at which nobody waits.
-struct Open;
-
-impl Gate for Open {
-    fn before(&self, _vehicle: u32, _step: u32) {}
-}
-
-/// Vehicle 1 waits here, at its first call, until vehicle 0 has come, and vehicle 0 until vehicle 1 has come twice, the
-/// second time after its first call was answered. Each waits for a while only, and counts where that was in vain.
+/// A gate at which nobody waits, or at which two vehicles meet: vehicle 1 waits there, at its first call, until vehicle 0
+/// has come, and vehicle 0 until vehicle 1 has come twice, the second time after its first call was answered. Each waits
+/// for a while only, and counts where that was in vain.
 #[derive(Drop)]
 struct Meeting {
+    is_open: bool,
     first: AtomicU64,
     second: AtomicU64,
     missed: AtomicU64,
 }
 
 impl Meeting {
+    fn new(is_open: bool) -> Meeting {
+        Meeting {
+            is_open,
+            first: AtomicU64::new(0),
+            second: AtomicU64::new(0),
+            missed: AtomicU64::new(0),
+        }
+    }
+
     fn wait_for(&self, calls: &AtomicU64, least: u64) {
         for _ in 0..LOOKS {
             if calls.load(Ordering::SeqCst) >= least {
@@ -143,6 +147,9 @@ impl Meeting {
 
 impl Gate for Meeting {
     fn before(&self, vehicle: u32, _step: u32) {
+        if self.is_open {
+            return;
+        }
         if vehicle == 0 {
             if self.first.fetch_add(1, Ordering::SeqCst) == 0 {
                 self.wait_for(&self.second, 2);
@@ -153,80 +160,109 @@ impl Gate for Meeting {
     }
 }
 
-// A sink that has got what the program writes, and its status.
-fn answer<G: Gate>(
-    rt: &(impl Threads + Wait + Sync),
-    alloc: Global,
-    words: &[&str],
-    script: Vec<u8>,
-    reads: &[u64],
-    writes: &[u64],
-    gate: &G,
-) -> Result<(u8, MemSink), AllocError> {
+// The words, as the program gets them.
+fn owned(rt: &impl Abort, alloc: Global, words: &[&str]) -> Vec<String> {
     let mut texts = Vec::new(alloc);
     for word in words {
-        texts.push(String::from_str(alloc, word)?)?;
+        let text = String::from_str(alloc, word).expect(rt, "memory for a word");
+        texts.push(text).expect(rt, "memory for the words");
     }
-    let mut source = MemSource::new(script, reads.to_vec(alloc)?);
-    let mut sink = MemSink::new(alloc, 8192, writes.to_vec(alloc)?)?;
-    let status = run(rt, alloc, &texts, &mut source, &mut sink, gate);
-    Ok((status, sink))
+    texts
 }
 
-// A script's first lines with others behind them.
-fn behind(alloc: Global, first: &[u8], others: &[u8]) -> Result<Vec<u8>, AllocError> {
-    let mut script = first.to_vec(alloc)?;
-    script.extend_from_slice(others)?;
-    Ok(script)
+// The parts of a script, one behind the other.
+fn script_of(rt: &impl Abort, alloc: Global, parts: &[&[u8]]) -> Vec<u8> {
+    let mut script = Vec::new(alloc);
+    for part in parts {
+        script
+            .extend_from_slice(part)
+            .expect(rt, "memory for the script");
+    }
+    script
+}
+
+// The status of the program, given these words and this script, and the sink that has what it wrote. The reads and
+// writes of these numbers fail.
+fn ran(
+    rt: &(impl Threads + Wait + Sync + Abort),
+    alloc: Global,
+    words: &[&str],
+    script: &[&[u8]],
+    (reads, writes): (&[u64], &[u64]),
+    gate: &Meeting,
+) -> (u8, MemSink) {
+    let reads = reads.to_vec(alloc).expect(rt, "memory for the reads");
+    let writes = writes.to_vec(alloc).expect(rt, "memory for the writes");
+    let mut source = MemSource::new(script_of(rt, alloc, script), reads);
+    let mut sink = MemSink::new(alloc, 8192, writes).expect(rt, "memory for the sink");
+    let words = owned(rt, alloc, words);
+    let status = run(rt, alloc, &words, &mut source, &mut sink, gate);
+    (status, sink)
+}
+
+// Asserts the status and what is written, where nobody waits at the gate.
+fn assert_run(
+    rt: &(impl Threads + Wait + Sync + Abort),
+    alloc: Global,
+    words: &[&str],
+    script: &[&[u8]],
+    faults: (&[u64], &[u64]),
+    (status, text): (u8, &[u8]),
+) {
+    let gate = Meeting::new(true);
+    let (ended, sink) = ran(rt, alloc, words, script, faults, &gate);
+    assert_eq!(rt; ended, status);
+    assert_eq!(rt; sink.bytes(), text);
 }
 
 #[test]
-fn words_outside_the_table(rt: HostRuntime) -> Result<(), Fail> {
-    let alloc = rt.alloc();
+fn words_outside_the_table(rt: HostRuntime) {
     for words in OUTSIDE {
-        let (status, sink) = answer(&rt, alloc, words, Vec::new(alloc), &[], &[], &Open)?;
-        assert_eq!(rt; status, 2);
-        assert_eq!(rt; sink.bytes(), b"usage\n".as_slice());
+        assert_run(&rt, rt.alloc(), words, &[], (&[], &[]), (2, b"usage\n"));
     }
-    Ok(())
 }
 
 #[test]
-fn faults_of_the_source_and_the_sink(rt: HostRuntime) -> Result<(), Fail> {
-    let alloc = rt.alloc();
+fn faults_of_the_source_and_the_sink(rt: HostRuntime) {
+    let script = [HEADER, FIRST, b"end\n".as_slice()];
     for (reads, writes, status, text) in FAULTS {
-        let mut script = behind(alloc, HEADER, FIRST)?;
-        script.extend_from_slice(b"end\n")?;
-        let (answered, sink) = answer(&rt, alloc, &["replay"], script, reads, writes, &Open)?;
-        assert_eq!(rt; answered, status);
-        assert_eq!(rt; sink.bytes(), text);
+        assert_run(
+            &rt,
+            rt.alloc(),
+            &["replay"],
+            &script,
+            (reads, writes),
+            (status, text),
+        );
     }
-    Ok(())
 }
 
 #[test]
-fn faults_of_the_sink_in_a_chart(rt: HostRuntime) -> Result<(), Fail> {
-    let alloc = rt.alloc();
+fn faults_of_the_sink_in_a_chart(rt: HostRuntime) {
+    let script = [HEADER, FIRST, b"end\n".as_slice()];
     for (writes, status, text) in CHART_FAULTS {
-        let mut script = behind(alloc, HEADER, FIRST)?;
-        script.extend_from_slice(b"end\n")?;
-        let (answered, sink) = answer(&rt, alloc, &["chart", "15"], script, &[], writes, &Open)?;
-        assert_eq!(rt; answered, status);
-        assert_eq!(rt; sink.bytes(), text);
+        assert_run(
+            &rt,
+            rt.alloc(),
+            &["chart", "15"],
+            &script,
+            (&[], writes),
+            (status, text),
+        );
     }
-    Ok(())
 }
 
 #[test]
-fn two_drivers_call_at_once(rt: HostRuntime) -> Result<(), Fail> {
-    let alloc = rt.alloc();
-    let gate = Meeting {
-        first: AtomicU64::new(0),
-        second: AtomicU64::new(0),
-        missed: AtomicU64::new(0),
-    };
-    let script = DRIVE.to_vec(alloc)?;
-    let (status, sink) = answer(&rt, alloc, &["drive", "2"], script, &[], &[], &gate)?;
+fn two_drivers_call_at_once(rt: HostRuntime) {
+    let gate = Meeting::new(false);
+    let (status, sink) = ran(
+        &rt,
+        rt.alloc(),
+        &["drive", "2"],
+        &[DRIVE],
+        (&[], &[]),
+        &gate,
+    );
     assert_eq!(rt; status, 0);
     assert_eq!(rt;
         gate.missed.load(Ordering::SeqCst),
@@ -234,39 +270,38 @@ fn two_drivers_call_at_once(rt: HostRuntime) -> Result<(), Fail> {
         "the runs didn't go side by side"
     );
     assert!(rt; sink.bytes().ends_with(b"end 3\n"));
-    Ok(())
 }
 
 #[test]
-fn clients_of_a_run_are_answered_in_turn(rt: HostRuntime) -> Result<(), Fail> {
-    let alloc = rt.alloc();
-    let mut script = behind(alloc, HEADER, FIRST)?;
-    script.extend_from_slice(SECOND)?;
-    script.extend_from_slice(b"end\n")?;
-    let (status, sink) = answer(&rt, alloc, &["mail", "1"], script, &[], &[], &Open)?;
-    assert_eq!(rt; status, 0);
-    assert_eq!(rt; sink.bytes(), ANSWERED);
-    Ok(())
+fn clients_of_a_run_are_answered_in_turn(rt: HostRuntime) {
+    let script = [HEADER, FIRST, SECOND, b"end\n".as_slice()];
+    assert_run(
+        &rt,
+        rt.alloc(),
+        &["mail", "1"],
+        &script,
+        (&[], &[]),
+        (0, ANSWERED),
+    );
 }
 
 #[test]
-fn a_route_goes_on_behind_the_answer(rt: HostRuntime) -> Result<(), Fail> {
-    let alloc = rt.alloc();
+fn a_route_goes_on_behind_the_answer(rt: HostRuntime) {
     for workers in ["1", "2"] {
-        let script = ROUTE.to_vec(alloc)?;
-        let (status, sink) = answer(&rt, alloc, &["grid", workers], script, &[], &[], &Open)?;
-        assert_eq!(rt; status, 0);
-        assert_eq!(rt; sink.bytes(), TRAVELLED);
+        let words = ["grid", workers];
+        assert_run(
+            &rt,
+            rt.alloc(),
+            &words,
+            &[ROUTE],
+            (&[], &[]),
+            (0, TRAVELLED),
+        );
     }
-    Ok(())
 }
 
 #[test]
-fn traffic_is_counted(rt: HostRuntime) -> Result<(), Fail> {
-    let alloc = rt.alloc();
+fn traffic_is_counted(rt: HostRuntime) {
     let words = ["generate", "1", "1"];
-    let (status, sink) = answer(&rt, alloc, &words, Vec::new(alloc), &[], &[], &Open)?;
-    assert_eq!(rt; status, 0);
-    assert_eq!(rt; sink.bytes(), GENERATED);
-    Ok(())
+    assert_run(&rt, rt.alloc(), &words, &[], (&[], &[]), (0, GENERATED));
 }

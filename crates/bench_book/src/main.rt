@@ -7,9 +7,6 @@
 
 ghost use Rattle.std.specs.Prelude.{◌≡◌, ◌<◌};
 
-mod day;
-mod lanes;
-
 use aim_book::Book;
 use aim_buffers::prepare;
 use aim_msg::{LATEST_MOMENT, Message, Reply};
@@ -17,8 +14,7 @@ use aim_paths::Kind;
 use aim_pool::Pool;
 use aim_tiles::Steps;
 use anyhow::{Result, bail};
-use day::{held_after, message, moment};
-use lanes::twelve_lanes;
+use bench_day::{CALLS, SPANS, held_after, message, moment, twelve_lanes};
 use std::alloc::Global;
 use std::env;
 use std::marker::Brand;
@@ -115,17 +111,17 @@ fn pass_day<L: Ledger>(
         prepare: 0,
         serve: 0,
     };
-    let mut pool = Pool::new(alloc, vehicles.min(65_536) + 2, 8192)?;
+    let mut pool = Pool::new(alloc, vehicles.min(65_536) + 2, SPANS)?;
     let mut steps = Steps::<L>::new(blank);
     let Ok(mut book) = Book::<L>::open(alloc, twelve_lanes(alloc, kind)?, vehicles, 262_144) else {
         bail!("the book isn't opened");
     };
     let mut held = vec![in alloc; None; vehicles as usize]?;
-    for number in 0..turns.saturating_mul(4) {
-        let turn = number / 4;
+    for number in 0..turns.saturating_mul(CALLS) {
+        let turn = number / CALLS;
         let vehicle = turn.checked_rem(vehicles).unwrap_or(0);
         let own = held.get(vehicle as usize).copied().unwrap_or(None);
-        if let Some(message) = message(turn, number % 4, own) {
+        if let Some(message) = message(turn, number % CALLS, own) {
             let reply = call(
                 rt,
                 &mut book,

@@ -5,14 +5,12 @@
 
 ghost use Rattle.std.specs.Prelude.{◌≡◌, ◌<◌, ◌≤◌};
 
-mod lanes;
-
 use aim_buffers::{Prepared, prepare};
 use aim_msg::{Body, Message, Params, Turn};
-use aim_paths::Layout;
+use aim_paths::{Kind, Layout};
 use aim_pool::Pool;
 use anyhow::{Result, bail};
-use lanes::twelve_lanes;
+use bench_day::twelve_lanes;
 use std::alloc::Global;
 use std::env;
 use std::rt::Runtime;
@@ -83,7 +81,7 @@ fn main(rt: HostRuntime) -> Result<()> {
         Some(word) => word.parse::<u64>()?,
         None => 0,
     };
-    let layout = twelve_lanes(rt.alloc())?;
+    let layout = twelve_lanes(rt.alloc(), Kind::Fcfs)?;
     let (spans, nanos) = measure(&rt, rt.alloc(), &layout, rounds.max(12))?;
     println!(&rt; "spans: {spans}")?;
     if rounds > 0 {

@@ -4,14 +4,14 @@ ghost use Rattle.std.specs.Prelude.{◌≡◌, ◌<◌, All, IfOk, IfSome};
 ghost use Rattle.std.specs.Thread.{IsSync};
 ghost use Rattle.aim_mailbox.specs.Calls.{IsOfMail, IsSameClient, ServerModel};
 
-use crate::day::{CALLS, ROOM, SHEETS, Taken, Turns, held_after, message, moment};
-use crate::lanes::{SPANS, twelve_lanes};
+use crate::day::{ROOM, SHEETS, Taken, Turns};
 use aim_buffers::prepare;
 use aim_mailbox::{Client, Ended, Mailbox, OpenedMail, Served, Server, settle};
 use aim_msg::{LATEST_MOMENT, Message, Reply};
-use aim_paths::Layout;
+use aim_paths::{Kind, Layout};
 use aim_pool::Pool;
 use anyhow::{Result, bail};
+use bench_day::{CALLS, SPANS, held_after, message, moment, twelve_lanes};
 use std::alloc::{AllocError, Global};
 use std::sync::Wait;
 use std::sync::ledger::{Blank, Ledger};
@@ -159,7 +159,7 @@ pub fn over_mailbox<L: Ledger + Send + Sync, R: Threads + Wait + Sync + Clock>(
     requires parts { blank.parts ≡ L.parts }
     requires some { 0 < blank.parts }
 {
-    let layout = twelve_lanes(alloc)?;
+    let layout = twelve_lanes(alloc, Kind::Fcfs)?;
     let Ok(opened) = Mailbox::open::<L, R>(rt, alloc, layout.copy()?, callers, ROOM, blank) else {
         bail!("the mailbox isn't opened");
     };

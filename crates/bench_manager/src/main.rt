@@ -7,7 +7,6 @@
 #![tactic(auto)]
 
 mod day;
-mod lanes;
 mod mailbox;
 mod turns;
 

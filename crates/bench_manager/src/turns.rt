@@ -3,13 +3,14 @@
 ghost use Rattle.std.specs.Prelude.{◌≡◌, ◌<◌, All, length, IfOk};
 ghost use Rattle.aim_turn.specs.Models.{IsPassOf, IsSamePass};
 
-use crate::day::{CALLS, ROOM, SHEETS, Taken, Turns, held_after, message, moment};
-use crate::lanes::{SPANS, twelve_lanes};
+use crate::day::{ROOM, SHEETS, Taken, Turns};
 use aim_buffers::prepare;
 use aim_manager::{Manager, ManagerPass, Opened};
 use aim_msg::{LATEST_MOMENT, Message, Reply};
+use aim_paths::Kind;
 use aim_pool::Pool;
 use anyhow::{Result, bail};
+use bench_day::{CALLS, SPANS, held_after, message, moment, twelve_lanes};
 use std::alloc::Global;
 use std::sync::Wait;
 use std::thread::{self, Threads};
@@ -114,7 +115,7 @@ pub fn over_manager<R: Threads + Wait + Sync + Clock>(
     callers: u32,
     day: &Turns,
 ) -> Result<Taken> {
-    let layout = twelve_lanes(alloc)?;
+    let layout = twelve_lanes(alloc, Kind::Fcfs)?;
     let Ok(opened) = Manager::open(alloc, layout, callers, ROOM) else {
         bail!("the manager isn't opened");
     };

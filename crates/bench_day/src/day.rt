@@ -2,6 +2,9 @@
 
 use aim_msg::{Body, Message, Params, Reply, Turn};
 
+/// How many calls a turn has at most.
+pub const CALLS: u32 = 4;
+
 /// How many steps pass from turn to turn.
 const GAP: u32 = 40;
 

@@ -7,6 +7,9 @@ use aim_paths::{Builder, Kind, Layout, Shape};
 use anyhow::{Result, bail};
 use std::alloc::Global;
 
+/// How many spans a sheet of the layout has room for.
+pub const SPANS: u32 = 8192;
+
 fn line(x0: u32, y0: u32, x1: u32, y1: u32) -> Shape {
     Shape::Line {
         x0,
@@ -47,15 +50,15 @@ fn path(lane: u32) -> Shape {
     }
 }
 
-/// The layout.
-pub fn twelve_lanes(alloc: Global) -> Result<Layout> {
+// The ground, with its buffers.
+fn ground() -> Result<Ground> {
     let grid = Grid {
         side: 24000,
         n: 48,
         spacing: 100,
         fixed: 250,
         half: 1200,
-        spans: 8192,
+        spans: SPANS,
     };
     let times = Times {
         horizon: 3000,
@@ -65,12 +68,14 @@ pub fn twelve_lanes(alloc: Global) -> Result<Layout> {
         late: 2,
         edge: 5,
     };
-    let Ok(ground) = Ground::build(grid, times) else {
-        bail!("the ground has a fault");
-    };
-    let Ok(mut builder) = Builder::new(alloc, ground, 12) else {
-        bail!("the layout finds no memory");
-    };
+    match Ground::build(grid, times) {
+        Ok(ground) => Ok(ground),
+        Err(_) => bail!("the ground has a fault"),
+    }
+}
+
+// Adds the lanes' paths.
+fn add_paths(builder: &mut Builder) -> Result<()> {
     for lane in 0..12 {
         let turn = match lane % 3 {
             0 => Turn::Left,
@@ -81,8 +86,24 @@ pub fn twelve_lanes(alloc: Global) -> Result<Layout> {
             bail!("a path has a fault");
         }
     }
-    if builder.add_policy(Kind::Fcfs).is_err() {
+    Ok(())
+}
+
+/// The layout with one policy. Where that has lights, the lanes of each side are green in turn.
+pub fn twelve_lanes(alloc: Global, kind: Kind) -> Result<Layout> {
+    let Ok(mut builder) = Builder::new(alloc, ground()?, 12) else {
+        bail!("the layout finds no memory");
+    };
+    add_paths(&mut builder)?;
+    if builder.add_policy(kind).is_err() {
         bail!("the policy has a fault");
+    }
+    if kind.has_lights() {
+        for lanes in [0b111, 0b111_000, 0b111_000_000, 0b111_000_000_000] {
+            if builder.add_phase(100, 400, lanes).is_err() {
+                bail!("a phase has a fault");
+            }
+        }
     }
     let Ok(layout) = builder.finish() else {
         bail!("the layout has a fault");
