@@ -73,15 +73,16 @@ judge 'the log that it names' 'a goal is open' "$(cat "$(sed -n 's/.* aim_io fai
 judge 'what began above it' no "$(grep -q '^begin aim$' "$RT_NOTES" && echo yes || echo no)"
 judge 'what is left of a failure' 1 "$(ls "$copy/temporary" | wc -l)"
 
-# An interrupt: no process and no file is left. It is sent until it is heeded: of some fifty runs there was one in which a
-# single one was not.
+# An interrupt: it is heeded at once, and no process and no file is left.
 clean
 (trap - INT; RT_SLEEP=31.4 exec "$copy/repository/aim" < /dev/null > /dev/null 2>&1) &
 builder=$!
 until [ -s "$RT_NOTES" ]; do sleep 0.1; done
-while kill -TERM "$builder" 2> /dev/null; do sleep 0.2; done
+begun=$SECONDS
+kill -TERM "$builder"
 wait "$builder"
 judge 'an interrupt' 143 $?
+judge 'how soon it is heeded' yes "$([ $((SECONDS - begun)) -lt 10 ] && echo yes || echo no)"
 judge 'processes after it' 0 "$(pgrep -c -f 'sleep 31.4')"
 judge 'files after it' lock "$(ls "$copy/temporary" "$copy/repository/.build" | grep -v : | sort -u | xargs)"
 
