@@ -4,7 +4,7 @@ use Rattle.std.proofs.lemmas.List.{append-nil}
 use Rattle.aim_msg.specs.declared.replies.Reply.{Reply}
 use Rattle.aim_driver.specs.declared.plans.DrivePlan.{DrivePlan}
 use Rattle.aim_driver.specs.Models.{enters, acts, with_entered}
-use Rattle.aim_driver.specs.Links.{under_way, delivered}
+use Rattle.aim_links.specs.Links.{under_way, delivered}
 use Rattle.aim_driver.specs.Turns.{State, heard, hears, entering, sending, acting, begun}
 use Rattle.aim_driver.specs.Follows.{Call, Course, running, calling, turn, turns}
 use Rattle.aim_driver.proofs.TurnLemmas.{no_calls, calls_end}

@@ -7,7 +7,7 @@ use Rattle.aim_msg.specs.declared.entries.Entry.{Entry}
 use Rattle.aim_msg.specs.declared.messages.Message.{Message}
 use Rattle.aim_msg.specs.declared.replies.Reply.{Reply}
 use Rattle.aim_driver.specs.Models.{step_of}
-use Rattle.aim_driver.specs.Links.{delivered, after_delivery}
+use Rattle.aim_links.specs.Links.{delivered, after_delivery}
 use Rattle.aim_driver.specs.Turns.{state, begun}
 use Rattle.aim_driver.specs.Follows.{Call, Course, running, halted, call, taken, answered, calling, turn, turns}
 use Rattle.aim_driver.specs.Fits.{reply_of}

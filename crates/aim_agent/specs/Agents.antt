@@ -6,7 +6,7 @@ use Rattle.aim_msg.specs.declared.replies.Reply.{Reply}
 use Rattle.aim_pool.specs.Pools.{Stock}
 use Rattle.aim_book.specs.Sheets.{sheets_kept}
 use Rattle.aim_driver.specs.Models.{DriverModel}
-use Rattle.aim_driver.specs.Links.{LinkModel}
+use Rattle.aim_links.specs.Links.{LinkModel}
 use Rattle.aim_driver.specs.Turns.{State, state}
 use Rattle.aim_turn.specs.History.{entries_of}
 use Rattle.aim_turn.specs.Models.{PassModel, FrontModel, TurnstileModel, IsPassOf}

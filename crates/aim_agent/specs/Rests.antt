@@ -3,7 +3,7 @@ use Rattle.std.specs.Prelude.{◌≡◌, ℕ, ◌<◌, ◌≤◌, None}
 use Rattle.aim_msg.specs.declared.messages.Message.{Message}
 use Rattle.aim_msg.specs.declared.replies.Reply.{Reply}
 use Rattle.aim_driver.specs.Models.{DriverModel, enters, acts}
-use Rattle.aim_driver.specs.Links.{LinkModel, delivered}
+use Rattle.aim_links.specs.Links.{LinkModel, delivered}
 
 -- at the step nothing comes on either link, and the driver neither enters nor sends
 pub record IsStill (d : DriverModel) (up : LinkModel Message) (down : LinkModel (ℕ × Reply)) (step : ℕ) : Type 0 where

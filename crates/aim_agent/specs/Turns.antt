@@ -5,7 +5,7 @@ use Rattle.aim_msg.specs.declared.entries.Entry.{Entry}
 use Rattle.aim_msg.specs.declared.messages.Message.{Message}
 use Rattle.aim_msg.specs.declared.replies.Reply.{Reply}
 use Rattle.aim_driver.specs.Models.{step_of}
-use Rattle.aim_driver.specs.Links.{LinkModel, sent_on}
+use Rattle.aim_links.specs.Links.{LinkModel, sent_on}
 use Rattle.aim_driver.specs.Follows.{Call, Course, running, halted}
 use Rattle.aim_turn.specs.Models.{IsSamePass}
 use Rattle.aim_manager.specs.Seen.{Extends, FindsFull}

@@ -5,7 +5,7 @@ use Rattle.aim_msg.specs.declared.messages.Message.{Message}
 use Rattle.aim_msg.specs.declared.replies.Reply.{Reply}
 use Rattle.aim_pool.specs.Pools.{Stock}
 use Rattle.aim_driver.specs.Models.{DriverModel, step_of}
-use Rattle.aim_driver.specs.Links.{LinkModel}
+use Rattle.aim_links.specs.Links.{LinkModel}
 use Rattle.aim_driver.specs.Follows.{Call, Course, running, halted, turns}
 use Rattle.aim_driver.specs.Fits.{call_of, reply_of}
 use Rattle.aim_turn.specs.History.{Begins}

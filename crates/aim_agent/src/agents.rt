@@ -4,7 +4,7 @@ ghost use Rattle.std.specs.Prelude.{◌≡◌, ℕ, ◌+◌, ◌<◌, ◌≤◌,
 ghost use Rattle.aim_msg.specs.declared.entries.TheConstants.{LATEST_MOMENT};
 ghost use Rattle.aim_driver.specs.Models.{step_of};
 ghost use Rattle.aim_driver.specs.Keeps.{keeps};
-ghost use Rattle.aim_driver.specs.Links.{delivered, after_delivery};
+ghost use Rattle.aim_links.specs.Links.{delivered, after_delivery};
 ghost use Rattle.aim_driver.specs.Turns.{begun};
 ghost use Rattle.aim_driver.specs.Follows.{calling, turn};
 ghost use Rattle.aim_turn.specs.Models.{IsPassOf};
@@ -16,7 +16,8 @@ ghost use Rattle.aim_agent.specs.Turns.{Called, Tried};
 
 use aim_book::laws::sheets_are_those_of_own_entries;
 use aim_buffers::prepare;
-use aim_driver::{Driver, Link, LogItem, NoMemory, begin_turn};
+use aim_driver::{Driver, LogItem, NoMemory, begin_turn};
+use aim_links::Link;
 use aim_manager::{Full, Manager, ManagerFront, ManagerPass};
 use aim_msg::{LATEST_MOMENT, Message, Reply};
 use aim_pool::Pool;

@@ -9,10 +9,10 @@ use Rattle.aim_paths.specs.Intersection.{Intersection}
 use Rattle.aim_driver.specs.declared.plans.DrivePlan.{DrivePlan}
 use Rattle.aim_driver.specs.declared.logs.LogItem.{LogItem}
 use Rattle.aim_driver.specs.declared.logs.LogItem.TheVariants as item
-use Rattle.aim_driver.specs.declared.links.Fate.{Fate}
+use Rattle.aim_links.specs.declared.links.Fate.{Fate}
 use Rattle.aim_driver.specs.Fits.{replies_of}
 use Rattle.aim_driver.specs.Models.{acts, enters, with_entered}
-use Rattle.aim_driver.specs.Links.{under_way, delivered}
+use Rattle.aim_links.specs.Links.{under_way, delivered}
 use Rattle.aim_driver.specs.Turns.{State, heard, hears, hears_all, entering, sending, begun}
 use Rattle.aim_driver.specs.Follows.{Call, Course, running, fresh, called, calls_with, one_call, some_calls, calling, turn, turns, follows_from}
 use Rattle.aim_plans.specs.declared.scripts.Ordered.{Ordered}

@@ -6,7 +6,8 @@ ghost use Rattle.aim_drive.specs.Making.{AreAgentsFor, AreLeft, ArePlans, IsMade
 
 use crate::NoMemory;
 use aim_agent::Agent;
-use aim_driver::{Driver, Link};
+use aim_driver::Driver;
+use aim_links::Link;
 use aim_manager::{Manager, ManagerPass};
 use aim_plans::Planned;
 use aim_pool::Pool;

@@ -12,15 +12,15 @@ use Rattle.aim_msg.specs.declared.entries.Entry.{Entry}
 use Rattle.aim_driver.specs.declared.plans.DrivePlan.{DrivePlan}
 use Rattle.aim_driver.specs.declared.logs.LogItem.{LogItem}
 use Rattle.aim_driver.specs.declared.logs.LogItem.TheVariants as item
-use Rattle.aim_driver.specs.declared.links.Fate.{Fate}
-use Rattle.aim_driver.specs.declared.links.Sending.{Sending}
+use Rattle.aim_links.specs.declared.links.Fate.{Fate}
+use Rattle.aim_links.specs.declared.links.Sending.{Sending}
 use Rattle.aim_driver.specs.Models.{acts, enters, with_entered}
-use Rattle.aim_driver.specs.Links.{LinkModel, under_way, next_place, delivered, came_again, after_coming, after_delivery, fate_at}
+use Rattle.aim_links.specs.Links.{LinkModel, under_way, next_place, delivered, came_again, after_coming, after_delivery, fate_at}
 use Rattle.aim_driver.specs.Turns.{State, heard, hears, hears_all, entering, sending, begun}
 use Rattle.aim_driver.specs.Follows.{Call, Course, running, fresh, call, called, calls_with, one_call, some_calls, calling, turn, turns, follows_from}
 use Rattle.aim_driver.specs.Fits.{WasSent, CarriesSent, IsAnswered, EachGot, Fits, entries_of, call_at, call_of, reply_of, replies_of, AreCallsOf}
 use Rattle.aim_driver.proofs.SmallFacts.{some_is, none_some, never}
-use Rattle.aim_driver.proofs.LinkLemmas.{delivered_is, due_later}
+use Rattle.aim_links.proofs.LinkLemmas.{delivered_is, due_later}
 
 -- lists
 

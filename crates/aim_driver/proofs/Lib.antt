@@ -1,7 +1,6 @@
 pub mod PlanLemmas
 pub mod FollowLemmas
 pub mod Rows
-pub mod LinkLemmas
 pub mod SmallFacts
 pub mod GotLemmas
 pub mod SentLemmas

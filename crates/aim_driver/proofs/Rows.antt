@@ -13,7 +13,6 @@ use Rattle.aim_driver.specs.declared.logs.LogItem.TheVariants as item
 -- the rows' files
 pub mod Acts
 pub mod Rules
-pub mod Sendings
 pub mod Runs
 pub mod Fitting
 pub mod Journal

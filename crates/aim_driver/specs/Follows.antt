@@ -4,9 +4,9 @@ use Rattle.aim_msg.specs.declared.messages.Message.{Message}
 use Rattle.aim_msg.specs.declared.replies.Reply.{Reply}
 use Rattle.aim_driver.specs.declared.plans.DrivePlan.{DrivePlan}
 use Rattle.aim_driver.specs.declared.logs.LogItem.{LogItem}
-use Rattle.aim_driver.specs.declared.links.Fate.{Fate}
+use Rattle.aim_links.specs.declared.links.Fate.{Fate}
 use Rattle.aim_driver.specs.Turns.{State, begun}
-use Rattle.aim_driver.specs.Links.{under_way, new_link, sent_on, delivered, after_delivery}
+use Rattle.aim_links.specs.Links.{under_way, new_link, sent_on, delivered, after_delivery}
 
 -- a call of the manager
 pub record Call : Type 0 where

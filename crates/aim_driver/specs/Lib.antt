@@ -6,7 +6,6 @@ pub mod Own
 pub mod Steps
 pub mod Idle
 pub mod Models
-pub mod Links
 pub mod Turns
 pub mod Follows
 pub mod Fits

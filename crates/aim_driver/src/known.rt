@@ -2,15 +2,20 @@
 
 ghost use Rattle.std.specs.Prelude.{◌≡◌, ◌+◌, ◌<◌, ◌≤◌, ◌&&◌, ◌||◌, Some, None, [], is_some, if◌then◌else◌, IfSome};
 ghost use Rattle.aim_msg.specs.declared.entries.TheConstants.{LATEST_MOMENT};
-ghost use Rattle.aim_driver.specs.Logs.{is, is_above, is_waiting_with, counts_with, changed, active_sent, active_told, is_emergency_stop, is_done};
+ghost use Rattle.aim_replies.specs.Bodies.{is_cancel, is_change};
+ghost use Rattle.aim_driver.specs.Logs.{is_above, is_waiting_with, counts_with};
 ghost use Rattle.aim_driver.specs.Keeps.{is_over};
-ghost use Rattle.aim_driver.specs.Rules.{number, message, is_shut_out, is_crossing, finish, reserved, cancel, is_due, is_cancelling, next_change, is_changing, change, again, is_too_late, leave, held, may_request, request, act_by, entered_on, is_open, params_at, is_cancel, is_change, steps_for, lead_for, lead_told, next_told};
+ghost use Rattle.aim_driver.specs.Rules.{number, message, is_shut_out, is_crossing, finish, reserved, cancel, is_due, is_cancelling, next_change, is_changing, change, again, is_too_late, leave, may_request, request, act_by, entered_on, is_open, params_at};
 ghost use Rattle.aim_driver.specs.Own.{window_told, kept};
 ghost use Rattle.aim_driver.specs.Steps.{known_got, known_sent, known_entered};
 
 use crate::logs::{Entrance, Window};
 use crate::plans::DrivePlan;
-use aim_msg::{Body, Message, Params, Reason, Reply};
+use aim_msg::{Body, Message, Params, Reply};
+use aim_replies::{
+    active_after_answer, active_after_sending, changed_by, held_in, is_a_cancel, is_a_change,
+    is_a_done, is_stop, lead_after_answer, next_after_answer,
+};
 
 /// What the rules ask of a log.
 #[derive(Clone, Copy)]
@@ -35,31 +40,6 @@ pub struct Known {
     pub lead: u32,
     pub changes_used: usize,
     pub is_cancel_used: bool,
-}
-
-// The message's CHANGE-REQUEST would change that reservation.
-fn changed_by(latest: Option<Message>) -> Option<u32>
-    ensures { result ≡ changed latest }
-{
-    match latest {
-        Some(
-            Message {
-                body: Body::Change(id, _),
-                ..
-            },
-        ) => Some(id),
-        _ => None,
-    }
-}
-
-// What the reply says is still held.
-fn held_in(answer: Option<Reply>) -> Option<u32>
-    ensures { result ≡ held answer }
-{
-    match answer {
-        Some(Reply::Reject { held, .. }) => held,
-        _ => None,
-    }
 }
 
 fn is_window_open(plan: &DrivePlan, window: Option<Window>, step: u32) -> bool
@@ -110,32 +90,6 @@ fn arriving(plan: &DrivePlan, arrive: u32) -> Params
     }
 }
 
-fn is_stop(reply: Reply) -> bool
-    ensures { result ≡ is_emergency_stop reply }
-{
-    matches!(reply, Reply::EmergencyStop)
-}
-
-// On what the driver is active after the answer to its latest message, which would change `change`.
-fn active_after_answer(change: Option<u32>, reply: Reply, active: Option<u32>) -> Option<u32>
-    ensures { result ≡ active_told change reply active }
-{
-    match reply {
-        Reply::Confirm { id, .. } => Some(id),
-        Reply::Reject { held: Some(id), .. } => if_changed(change, id, active),
-        _ => active,
-    }
-}
-
-fn if_changed(change: Option<u32>, id: u32, active: Option<u32>) -> Option<u32>
-    ensures { result ≡ if is change id then Some id else active }
-{
-    match change {
-        Some(changed) if changed == id => Some(id),
-        _ => active,
-    }
-}
-
 fn window_after_answer(reply: Reply, window: Option<Window>) -> Option<Window>
     ensures { result ≡ window_told reply window }
 {
@@ -154,71 +108,6 @@ fn window_after_answer(reply: Reply, window: Option<Window>) -> Option<Window>
         }),
         _ => window,
     }
-}
-
-fn next_after_answer(reply: Reply, before: u32) -> u32
-    ensures { result ≡ next_told reply before }
-{
-    match reply {
-        Reply::Reject { next, .. } => next,
-        _ => before,
-    }
-}
-
-// In how many steps a vehicle of that speed comes a distance nearer, 65,536 at most.
-fn step_count(distance: u64, speed: u32) -> u32
-    ensures { result ≡ steps_for distance speed }
-{
-    if speed == 0 {
-        return 65_536;
-    }
-    (distance / speed as u64).min(65_536) as u32
-}
-
-fn lead_after_reason(speed: u32, reason: Reason, before: u32) -> u32
-    ensures { result ≡ lead_for speed reason before }
-{
-    match reason {
-        Reason::Distance(distance) => before.min(step_count(distance, speed).max(1)),
-        _ => before,
-    }
-}
-
-fn lead_after_answer(speed: u32, reply: Reply, before: u32) -> u32
-    ensures { result ≡ lead_told speed reply before }
-{
-    match reply {
-        Reply::Reject { reason, .. } => lead_after_reason(speed, reason, before),
-        _ => before,
-    }
-}
-
-// On what the driver is active after it has sent a message.
-fn active_after_sending(body: Body, active: Option<u32>) -> Option<u32>
-    ensures { result ≡ active_sent body active }
-{
-    match body {
-        Body::Request(_) => active,
-        Body::Change(_, _) | Body::Cancel(_) | Body::Done(_) => None,
-    }
-}
-
-fn is_a_done(body: Body) -> bool
-    ensures { result ≡ is_done body }
-{
-    matches!(body, Body::Done(_))
-}
-
-fn is_a_cancel(body: Body) -> bool
-    ensures { result ≡ is_cancel body }
-{
-    matches!(body, Body::Cancel(_))
-}
-
-fn is_a_change(body: Body) -> bool
-    ensures { result ≡ is_change body }
-{
-    matches!(body, Body::Change(_, _))
 }
 
 impl Known {

@@ -7,10 +7,10 @@ use Rattle.aim_msg.specs.declared.replies.Reply.{Reply}
 use Rattle.aim_driver.specs.declared.plans.DrivePlan.{DrivePlan}
 use Rattle.aim_driver.specs.declared.logs.LogItem.{LogItem}
 use Rattle.aim_driver.specs.declared.logs.LogItem.TheVariants as item
-use Rattle.aim_driver.specs.declared.links.Fate.{Fate}
+use Rattle.aim_links.specs.declared.links.Fate.{Fate}
 use Rattle.aim_driver.specs.Logs.{item_step, is_above, latest, answer, counts}
 use Rattle.aim_driver.specs.Models.{enters, acts, with_entered}
-use Rattle.aim_driver.specs.Links.{under_way, delivered}
+use Rattle.aim_links.specs.Links.{under_way, delivered}
 use Rattle.aim_driver.specs.Turns.{State, heard, hears, hears_all, entering, sending, begun}
 use Rattle.aim_driver.specs.Follows.{Course, running, fresh, called, calls_with, one_call, some_calls, calling, turn, turns, follows}
 use Rattle.aim_driver.proofs.TurnLemmas.{course_later}

@@ -12,17 +12,19 @@ use Rattle.aim_msg.specs.declared.replies.Reply.TheVariants as reply
 use Rattle.aim_driver.specs.declared.plans.DrivePlan.{DrivePlan}
 use Rattle.aim_driver.specs.declared.logs.LogItem.{LogItem}
 use Rattle.aim_driver.specs.declared.logs.LogItem.TheVariants as item
-use Rattle.aim_driver.specs.declared.links.Fate.TheVariants as fate
-use Rattle.aim_driver.specs.declared.links.Sending.{Sending}
+use Rattle.aim_links.specs.declared.links.Fate.TheVariants as fate
+use Rattle.aim_links.specs.declared.links.Sending.{Sending}
 use Rattle.aim_driver.specs.declared.known.Known.{Known}
-use Rattle.aim_driver.specs.Logs.{has_number, is_above, latest, answer, counts, is_waiting_with, changed, active, active_sent, active_told, is_done}
+use Rattle.aim_replies.specs.Bodies.{changed, active_sent, is_done}
+use Rattle.aim_replies.specs.Replies.{active_told}
+use Rattle.aim_driver.specs.Logs.{has_number, is_above, latest, answer, counts, is_waiting_with, active}
 use Rattle.aim_driver.specs.Rules.{known, is_done_sent, is_crossing, reserved, is_due, is_due_change, is_cancelling, next_change, is_changing, act_by, is_open, entered_on}
 use Rattle.aim_driver.specs.Models.{enters, acts, with_entered}
-use Rattle.aim_driver.specs.Links.{LinkModel, under_way, new_link, sent_on, dues, fate_at, next_due, next_place, item_of, came_again, after_coming, delivered, after_delivery}
+use Rattle.aim_links.specs.Links.{LinkModel, under_way, new_link, sent_on, dues, fate_at, next_due, next_place, item_of, came_again, after_coming, delivered, after_delivery}
 use Rattle.aim_driver.specs.Turns.{State, heard, hears, hears_all, entering, sending, acting, begun}
 use Rattle.aim_driver.specs.Follows.{Call, Course, running, fresh, called, calls_with, one_call, some_calls, calling, turn, turns, course}
 use Rattle.aim_driver.proofs.SmallFacts.{and_left, and_right, either_left, either_right, some_is, none_some, is_none_of}
-use Rattle.aim_driver.proofs.LinkLemmas.{next_is, none_comes, nothing_found, fewer}
+use Rattle.aim_links.proofs.LinkLemmas.{next_is, none_comes, nothing_found, fewer}
 use Rattle.aim_driver.proofs.TurnLemmas.{course_then, fewer_up, halted_call, no_call, still}
 use Rattle.aim_legs.specs.Acked.{acks, is_ack, is_leaving, answered_at, acked_with, acked_in, acked}
 use Rattle.aim_legs.proofs.Logs.{newest, some_log}

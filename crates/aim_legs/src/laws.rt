@@ -3,7 +3,7 @@
 ghost use Rattle.std.specs.Prelude.{◌≡◌, ℕ, ◌≤◌, true, List, [], Some, None};
 ghost use Rattle.aim_msg.specs.declared.replies.Reply.{Reply};
 ghost use Rattle.aim_driver.specs.declared.plans.DrivePlan.{DrivePlan};
-ghost use Rattle.aim_driver.specs.declared.links.Fate.{Fate};
+ghost use Rattle.aim_links.specs.declared.links.Fate.{Fate};
 ghost use Rattle.aim_driver.specs.Follows.{Course, turn, course, follows};
 ghost use Rattle.aim_legs.specs.Acked.{acked};
 ghost use Rattle.aim_legs.specs.Route.{EachStep};

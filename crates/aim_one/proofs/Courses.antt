@@ -4,8 +4,8 @@ use Rattle.std.proofs.lemmas.List.{append-nil, append_assoc, length_push}
 use Rattle.aim_msg.specs.declared.messages.Message.{Message}
 use Rattle.aim_msg.specs.declared.replies.Reply.{Reply}
 use Rattle.aim_driver.specs.declared.plans.DrivePlan.{DrivePlan}
-use Rattle.aim_driver.specs.declared.links.Fate.{Fate}
-use Rattle.aim_driver.specs.Links.{under_way, delivered}
+use Rattle.aim_links.specs.declared.links.Fate.{Fate}
+use Rattle.aim_links.specs.Links.{under_way, delivered}
 use Rattle.aim_driver.specs.Turns.{State, begun}
 use Rattle.aim_driver.specs.Follows.{Call, Course, running, halted, call, taken, answered, called, calls_with, one_call, some_calls, calling, turn, turns, fresh, follows}
 use Rattle.aim_one.proofs.Lists.{get_within}

@@ -7,7 +7,7 @@ ghost use Rattle.aim_msg.specs.declared.replies.Reply.{Reply};
 ghost use Rattle.aim_msg.specs.declared.script.Line.{Line};
 ghost use Rattle.aim_paths.specs.Intersection.{Intersection};
 ghost use Rattle.aim_driver.specs.declared.plans.DrivePlan.{DrivePlan};
-ghost use Rattle.aim_driver.specs.declared.links.Fate.{Fate};
+ghost use Rattle.aim_links.specs.declared.links.Fate.{Fate};
 ghost use Rattle.aim_driver.specs.Follows.{follows};
 ghost use Rattle.aim_script.specs.declared.decisions.Decision.{Decision};
 ghost use Rattle.aim_plans.specs.declared.scripts.Ordered.{Ordered};

@@ -5,7 +5,7 @@ use Rattle.std.specs.Fmt.{digits}
 use Rattle.aim_io.specs.Lines.{outcomes_from}
 use Rattle.aim_msg.specs.declared.entries.Order.TheVariants as order
 use Rattle.aim_msg.specs.declared.script.LineKind.TheVariants as read
-use Rattle.aim_driver.specs.declared.links.Fate.TheVariants as fate
+use Rattle.aim_links.specs.declared.links.Fate.TheVariants as fate
 use Rattle.aim_script.specs.declared.decisions.Decision.{Decision}
 use Rattle.aim_script.specs.declared.decisions.Decision.TheVariants as decision
 use Rattle.aim_script.specs.declared.decisions.Kind.TheVariants as why

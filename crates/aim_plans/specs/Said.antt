@@ -7,8 +7,8 @@ use Rattle.aim_msg.specs.declared.script.Line.{Line}
 use Rattle.aim_msg.specs.declared.script.Line.TheVariants as line
 use Rattle.aim_msg.specs.Lines.{name_word}
 use Rattle.aim_geometry.specs.Bounded.{last, find_map}
-use Rattle.aim_driver.specs.declared.links.Fate.{Fate}
-use Rattle.aim_driver.specs.declared.links.Fate.TheVariants as fate
+use Rattle.aim_links.specs.declared.links.Fate.{Fate}
+use Rattle.aim_links.specs.declared.links.Fate.TheVariants as fate
 use Rattle.aim_driver.specs.declared.plans.DrivePlan.{DrivePlan}
 use Rattle.aim_driver.specs.declared.plans.PlannedChange.{PlannedChange}
 use Rattle.aim_script.specs.Said.{names_of, number_of}

@@ -11,7 +11,8 @@ ghost use Rattle.aim_plans.specs.Drafts.{AreNamed, IsOpened, MayAdd};
 
 use crate::questions::{cancel_of, change_in, down_of, until_of, up_of};
 use crate::scripts::{DriveScript, Ordered, Planned};
-use aim_driver::{Changes, DrivePlan, Fate, PlannedChange};
+use aim_driver::{Changes, DrivePlan, PlannedChange};
+use aim_links::Fate;
 use aim_msg::{FateList, Line, Name, Order};
 use aim_script::Setting;
 use std::alloc::{AllocError as NoMemory, Global};

@@ -1,6 +1,7 @@
 //! A drive script as a value.
 
-use aim_driver::{DrivePlan, Fate};
+use aim_driver::DrivePlan;
+use aim_links::Fate;
 use aim_msg::Order;
 use aim_paths::Layout;
 use aim_script::{Kind, Limit};

@@ -7,7 +7,8 @@ ghost use Rattle.aim_agent.specs.Agents.{IsAgentOf};
 
 use crate::crossing::{ASKS_EAST, ASKS_NORTH, CONFIRM, DONE, TAKEN_BY_0, car, crossing};
 use aim_agent::{Agent, Gate, Trouble};
-use aim_driver::{Changes, DrivePlan, Driver, Fate, Link, LogItem};
+use aim_driver::{Changes, DrivePlan, Driver, LogItem};
+use aim_links::{Fate, Link};
 use aim_manager::{Manager, ManagerPass, Opened};
 use aim_msg::{Entry, Reply};
 use aim_pool::Pool;

@@ -1,7 +1,8 @@
 //! A driver and a link, call by call.
 
 use crate::words::{car, confirm, message, plan, reject, request};
-use aim_driver::{Changes, Driver, Fate, Link};
+use aim_driver::{Changes, Driver};
+use aim_links::{Fate, Link};
 use aim_msg::{Body, Message, Reason, Reply};
 use std::alloc::Global;
 use std::process::Abort;

@@ -3,7 +3,8 @@
 ghost use Rattle.std.specs.Prelude.{◌≤◌};
 
 use crate::words::{confirm, message, plan, reject, request, taken};
-use aim_driver::{Changes, DrivePlan, Driver, Fate, Link, LogItem, begin_turn};
+use aim_driver::{Changes, DrivePlan, Driver, LogItem, begin_turn};
+use aim_links::{Fate, Link};
 use aim_msg::{Body, Message, Reason, Reply};
 use std::alloc::Global;
 use std::process::Abort;

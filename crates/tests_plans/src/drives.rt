@@ -1,8 +1,8 @@
 //! Scripts read to their end or to the line that decides, where memory is ample.
 
 use crate::scripts::{LOSSY, OPENING, PHASES, SCRIPTS, SIREN};
-use aim_driver::Fate;
 use aim_io::MemSource;
+use aim_links::Fate;
 use aim_msg::{Order, Turn};
 use aim_paths::{Layout, Path};
 use aim_plans::{DriveScript, Ending, Planned, read_drive};

@@ -9,7 +9,7 @@ use Rattle.aim_msg.specs.declared.entries.Order.TheVariants as order
 use Rattle.aim_msg.specs.declared.entries.Act.TheVariants as act
 use Rattle.aim_msg.specs.declared.entries.Entry.{Entry}
 use Rattle.aim_driver.specs.declared.plans.DrivePlan.{DrivePlan}
-use Rattle.aim_driver.specs.declared.links.Fate.TheVariants as fate
+use Rattle.aim_links.specs.declared.links.Fate.TheVariants as fate
 use Rattle.aim_driver.specs.Follows.{follows}
 use Rattle.aim_driver.specs.Fits.{Fits, AreCallsOf, replies_of}
 use Rattle.aim_driver.proofs.FollowLemmas.{follows_fits}

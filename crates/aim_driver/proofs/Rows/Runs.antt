@@ -7,7 +7,7 @@ use Rattle.aim_msg.specs.declared.replies.Reply.{Reply}
 use Rattle.aim_msg.specs.declared.replies.Reply.TheVariants as reply
 use Rattle.aim_driver.specs.declared.plans.DrivePlan.{DrivePlan}
 use Rattle.aim_driver.specs.declared.logs.LogItem.TheVariants as item
-use Rattle.aim_driver.specs.declared.links.Fate.TheVariants as fate
+use Rattle.aim_links.specs.declared.links.Fate.TheVariants as fate
 use Rattle.aim_driver.specs.Follows.{Call, follows, follows_from}
 use Rattle.aim_driver.proofs.Rows.{car, sent, granted, plain}
 

@@ -4,7 +4,7 @@ use Rattle.aim_msg.specs.declared.messages.Body.TheVariants as body
 use Rattle.aim_msg.specs.declared.entries.Entry.{Entry}
 use Rattle.aim_rules.specs.Journals.{journal}
 use Rattle.aim_rules.proofs.Rows.{small, car, ask, steady}
-use Rattle.aim_driver.specs.declared.links.Fate.TheVariants as fate
+use Rattle.aim_links.specs.declared.links.Fate.TheVariants as fate
 use Rattle.aim_driver.specs.declared.plans.DrivePlan.{DrivePlan}
 use Rattle.aim_driver.specs.declared.logs.LogItem.TheVariants as item
 use Rattle.aim_driver.specs.Fits.{Fits}

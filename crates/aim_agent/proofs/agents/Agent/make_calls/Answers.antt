@@ -1,9 +1,9 @@
 use Rattle.std.proofs.Common.{◌≡◌, ◌+◌, ◌<◌, ◌≤◌, Err, sym, ap, ◌∙◌, subst, arith}
 use Rattle.std.proofs.lemmas.Result.{err_from_is_err_and}
 use Rattle.aim_msg.specs.declared.messages.Message.{Message}
-use Rattle.aim_driver.specs.Links.{LinkModel, under_way, after_delivery}
+use Rattle.aim_links.specs.Links.{LinkModel, under_way, after_delivery}
 use Rattle.aim_driver.specs.Follows.{calling}
-use Rattle.aim_driver.proofs.LinkLemmas.{fewer}
+use Rattle.aim_links.proofs.LinkLemmas.{fewer}
 use Rattle.aim_agent.specs.Turns.{Tried}
 use Rattle.aim_agent.proofs.Turns.{none_made, one_more, all_made, not_made}
 use Rattle.aim_agent.proofs.agents.Agent.make_calls.Goals as goal

@@ -1,4 +1,4 @@
-use Rattle.aim_driver.specs.Links.{under_way}
+use Rattle.aim_links.specs.Links.{under_way}
 use Rattle.aim_agent.proofs.Turns.{Making}
 use Rattle.aim_agent.proofs.agents.Agent.make_calls.Given as goal
 

@@ -2,7 +2,7 @@
 
 ghost use Rattle.std.specs.Prelude.{◌≡◌, ℕ, ◌+◌, ◌^◌, ◌<◌, ◌≤◌, [], ◌∷◌, Some, None, length, slice_get, option_map, OnOk, OnErr, IfNone};
 ghost use Rattle.std.specs.Option.{ForSome};
-ghost use Rattle.aim_driver.specs.Links.{new_link, sent_on, sooner, is_step, next_due, fate_at, earliest, first_at, first_by, item_of, came_again, delivered, after_delivery};
+ghost use Rattle.aim_links.specs.Links.{new_link, sent_on, sooner, is_step, next_due, fate_at, earliest, first_at, first_by, item_of, came_again, delivered, after_delivery};
 
 use crate::NoMemory;
 use std::alloc::Global;
@@ -42,7 +42,7 @@ pub struct Link<T> {
 }
 
 impl<T> Model for Link<T> {
-    ghost use Rattle.aim_driver.specs.Links.{LinkModel};
+    ghost use Rattle.aim_links.specs.Links.{LinkModel};
 
     ghost Value = { LinkModel T };
 

@@ -1,8 +1,8 @@
 use Rattle.std.proofs.Common.{◌≡◌, Some, slice_get, List, subst}
-use Rattle.aim_driver.specs.declared.links.Sending.{Sending}
-use Rattle.aim_driver.specs.Links.{LinkModel, next_place, first_by, earliest}
-use Rattle.aim_driver.proofs.LinkLemmas.{few_before}
-use Rattle.aim_driver.proofs.links.Link.deliver.Goals as goal
+use Rattle.aim_links.specs.declared.links.Sending.{Sending}
+use Rattle.aim_links.specs.Links.{LinkModel, next_place, first_by, earliest}
+use Rattle.aim_links.proofs.LinkLemmas.{few_before}
+use Rattle.aim_links.proofs.links.Link.deliver.Goals as goal
 
 pub take-requires-clause-few : goal.take-requires-clause-few
 take-requires-clause-few g c = λ s at.

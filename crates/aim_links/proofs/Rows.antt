@@ -1,7 +1,7 @@
 -- Worked rows: what a link delivers. The items a, b, c are 7, 8, 9.
 use Rattle.std.proofs.Common.{◌≡◌, ℕ, [], ◌∷◌, Some, None, refl}
-use Rattle.aim_driver.specs.declared.links.Fate.TheVariants as fate
-use Rattle.aim_driver.specs.Links.{LinkModel, new_link, sent_on, delivered, after_delivery, under_way}
+use Rattle.aim_links.specs.declared.links.Fate.TheVariants as fate
+use Rattle.aim_links.specs.Links.{LinkModel, new_link, sent_on, delivered, after_delivery, under_way}
 
 -- repeated, lost and delayed by 4
 abbrev loaded : LinkModel ℕ

@@ -5,11 +5,11 @@ use Rattle.std.proofs.lemmas.Bool.Decides.{nat_tests}
 use Rattle.std.proofs.lemmas.Option.{slice_get_within, slice_get-get_or, get_or_from_slice_get}
 use Rattle.std.proofs.lemmas.List.Quantifiers.{position-Some}
 use Rattle.std.proofs.lemmas.List.Sums.{sum_by-set}
-use Rattle.aim_driver.specs.declared.links.Fate.{Fate}
-use Rattle.aim_driver.specs.declared.links.Fate.TheVariants as fate
-use Rattle.aim_driver.specs.declared.links.Sending.{Sending}
-use Rattle.aim_driver.specs.Links.{LinkModel, dues, sooner, is_step, next_due, copies_left, under_way, earliest, first_at, first_by, next_place, item_of, delivered, came_again, after_coming, after_delivery, IsNext, NoneComes}
-use Rattle.aim_driver.proofs.SmallFacts.{true_le, some_is, none_some, never}
+use Rattle.aim_links.specs.declared.links.Fate.{Fate}
+use Rattle.aim_links.specs.declared.links.Fate.TheVariants as fate
+use Rattle.aim_links.specs.declared.links.Sending.{Sending}
+use Rattle.aim_links.specs.Links.{LinkModel, dues, sooner, is_step, next_due, copies_left, under_way, earliest, first_at, first_by, next_place, item_of, delivered, came_again, after_coming, after_delivery, IsNext, NoneComes}
+use Rattle.aim_links.proofs.SmallFacts.{true_le, some_is, none_some, never}
 
 length_dues : (at at' : ℕ) (f : Fate) → length (dues at f) ≡ length (dues at' f)
 length_dues at at' fate.Deliver = refl

@@ -1,8 +1,8 @@
 -- What was sent on a link, which fate each sending took, how often it came since, and what comes next.
 use Rattle.std.specs.Prelude.{◌≡◌, ◌⊎◌, ℕ, ◌+◌, ◌-◌, ◌<◌, ◌≤◌, min, Bool, false, ◌==◌, nat_le, List, [], ◌∷◌, ◌++◌, length, fold, sum_by, position, slice_get, slice_set, Option, Some, None, option_and_then, option_map, unwrap_or, if◌then◌else◌}
-use Rattle.aim_driver.specs.declared.links.Fate.{Fate}
-use Rattle.aim_driver.specs.declared.links.Fate.TheVariants as fate
-use Rattle.aim_driver.specs.declared.links.Sending.{Sending}
+use Rattle.aim_links.specs.declared.links.Fate.{Fate}
+use Rattle.aim_links.specs.declared.links.Fate.TheVariants as fate
+use Rattle.aim_links.specs.declared.links.Sending.{Sending}
 
 -- a link: the lag, the fates of its first sendings, and all that was sent, in order
 pub record LinkModel (T : Type 0) : Type 0 where

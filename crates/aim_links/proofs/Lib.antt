@@ -1,0 +1,3 @@
+pub mod SmallFacts
+pub mod LinkLemmas
+pub mod Rows
