@@ -1,6 +1,6 @@
 //! The turnstile: a ticket lock with one history.
-ghost use Rattle.std.specs.Prelude.{◌≡◌, ◌≢◌, ℕ, List, [], ◌∷◌, ◌++◌, ◌+◌, ◌<◌, length, map, sum_by, Contains, IsPermutation, All, AllPairs, IfOk, Some};
-ghost use Rattle.aim_turn.specs.Turned.{meaning, Rests, Entered, Leaves, Left, opening_view, Gathers, Ends};
+ghost use Rattle.std.specs.Prelude.{◌≡◌, ◌≢◌, ℕ, List, [], ◌∷◌, ◌++◌, ◌+◌, ◌^◌, ◌<◌, ◌≤◌, length, map, sum_by, vec_capacity, Contains, IsPermutation, All, AllPairs, IfOk, Some};
+ghost use Rattle.aim_turn.specs.Turned.{meaning, Rests, Drew, Entered, Leaves, Left, opening_view, Gathers, Ends};
 ghost use Rattle.aim_turn.specs.History.{entries_of};
 ghost use Rattle.aim_turn.specs.Models.{IsPassOf, IsSamePass, MakesCall, HasPass, MeetsFront, PassModel, new_pass};
 
@@ -42,14 +42,26 @@ fn take<K: Kept>(desk: &Desk<K>, seat: &mut Chair<K>) -> K
     kept
 }
 
-// Rests between two looks, where `ahead` callers come first. The next in line looks again soon, for a while, since a
-// turn is short. All others, and those that have looked long, give their processor away.
-fn pause(ahead: u64, looks: u32) {
+// Rests between two looks, where the ticket `serving` has its turn. The next in line looks again soon, for a while,
+// since a turn is short. All others, and those that have looked long, give their processor away.
+fn pause(ticket: u64, serving: u64, looks: u32) {
+    let ahead = ticket.wrapping_sub(serving);
     if ahead == 1 && looks < SOON {
         hint::spin_loop();
     } else {
         thread::yield_now();
     }
+}
+
+// Draws a ticket.
+fn draw<K: Kept>(desk: &Desk<K>, seat: &mut Chair<K>) -> u64
+    requires desk { (seat.old.table_id ≡ desk.now.shared.table_id) × (desk.now.shared.table_id.words ≡ 3) }
+    requires rests { (number : ℕ) × Rests (meaning K.setting K.entries K.caller_of K.is_lawful)
+        (K.setting desk.now.shared.key.kept.value) number seat.old.me }
+    ensures seat { (seat.new.table_id ≡ seat.old.table_id) × (seat.new.id ≡ seat.old.id) }
+    ensures drew { Drew (meaning K.setting K.entries K.caller_of K.is_lawful) seat.old.me result seat.new.me }
+{
+    desk.shared.fetch_add::<Draw>(seat, TICKET, 1)
 }
 
 // Draws a ticket, waits for its turn, and takes the kept value.
@@ -61,14 +73,14 @@ fn enter<K: Kept, R: Wait>(rt: &R, desk: &Desk<K>, seat: &mut Chair<K>, number: 
     ensures entered { Entered (meaning K.setting K.entries K.caller_of K.is_lawful)
         (K.setting desk.now.shared.key.kept.value) number seat.old.me result seat.new.me }
 {
-    let ticket = desk.shared.fetch_add::<Draw>(seat, TICKET, 1);
+    let ticket = draw(desk, seat);
     let mut looks = 0u32;
     for _ in rt.forever() {
         let serving = desk.shared.load::<Look>(seat, SERVING);
         if serving == ticket {
             return take(desk, seat);
         }
-        pause(ticket.wrapping_sub(serving), looks);
+        pause(ticket, serving, looks);
         looks = looks.saturating_add(1);
     }
     unreachable!()
@@ -92,6 +104,47 @@ fn leave<K: Kept>(desk: &Desk<K>, seat: &mut Chair<K>, number: u32, kept: K, mad
     desk.shared.fetch_add::<ServeNext>(seat, SERVING, 1);
 }
 
+// What the rule is told at the opening.
+fn opening<K: Kept>(alloc: Global, kept: &K, numbers: &[u32]) -> Result<Opening<K>, NoMemory>
+    ensures { IfOk result (λ o. (o.kept.value ≡ kept.now) × (o.numbers.value.items ≡ numbers.now)) }
+{
+    let list = Vec::from_slice(alloc, numbers)?;
+    Ok(Opening {
+        kept: Snapshot::of(kept),
+        numbers: Snapshot::of(&list),
+    })
+}
+
+// The one slot, with the kept value in it.
+fn one_slot<K: Kept>(alloc: Global, kept: K) -> Result<Vec<Option<K>>, NoMemory>
+    ensures { IfOk result (λ slots. slots.items ≡ Some kept ∷ []) }
+{
+    let mut slots = Vec::with_capacity(alloc, 1)?;
+    slots.push_reserved(Some(kept));
+    Ok(slots)
+}
+
+// The table under the rule that was told so, with the seat that has all numbers to give.
+fn ruled<K: Kept>(
+    alloc: Global,
+    kept: K,
+    about: &Opening<K>,
+) -> Result<(Desk<K>, Chair<K>), NoMemory>
+    requires kept { about.now.kept.value ≡ kept }
+    requires few { length about.now.numbers.value.items < 2 ^ 64 }
+    requires distinct { AllPairs (λ m n. m ≢ n) about.now.numbers.value.items }
+    requires empty { K.entries kept ≡ [] }
+    ensures counts { IfOk result (λ r. (r.0.shared.table_id.words ≡ 3) × (r.0.shared.table_id.slots ≡ 1)) }
+    ensures key { IfOk result (λ r. (r.0.shared.key.kept.value ≡ kept) × (r.0.shared.key.numbers.value.items ≡ about.now.numbers.value.items)) }
+    ensures seat { IfOk result (λ r. (r.1.table_id ≡ r.0.shared.table_id) × (r.1.me ≡ (opening_view (K.setting kept) about.now.numbers.value.items, []))) }
+{
+    let slots = one_slot(alloc, kept)?;
+    match Table::new(alloc, &[0, 0, 0], slots, about) {
+        Ok(ruled) => Ok(ruled),
+        Err(_) => Err(NoMemory),
+    }
+}
+
 // The table, with the seat that has all numbers to give.
 fn laid<K: Kept>(alloc: Global, kept: K, numbers: &[u32]) -> Result<(Desk<K>, Chair<K>), NoMemory>
     requires distinct { AllPairs (λ m n. m ≢ n) numbers.now }
@@ -100,17 +153,35 @@ fn laid<K: Kept>(alloc: Global, kept: K, numbers: &[u32]) -> Result<(Desk<K>, Ch
     ensures key { IfOk result (λ r. (r.0.shared.key.kept.value ≡ kept) × (r.0.shared.key.numbers.value.items ≡ numbers.now)) }
     ensures seat { IfOk result (λ r. (r.1.table_id ≡ r.0.shared.table_id) × (r.1.me ≡ (opening_view (K.setting kept) numbers.now, []))) }
 {
-    let list = Vec::from_slice(alloc, numbers)?;
-    let mut slots = Vec::with_capacity(alloc, 1)?;
-    let about = Opening {
-        kept: Snapshot::of(&kept),
-        numbers: Snapshot::of(&list),
-    };
-    slots.push_reserved(Some(kept));
-    match Table::new(alloc, &[0, 0, 0], slots, &about) {
-        Ok((desk, seat)) => Ok((desk, seat)),
-        Err(_) => Err(NoMemory),
+    let about = opening(alloc, &kept, numbers)?;
+    ruled(alloc, kept, &about)
+}
+
+// Deals a pass to each number, in their order, from the seat that has them all to give.
+fn deal<K: Kept>(
+    desk: &Desk<K>,
+    mut root: Chair<K>,
+    numbers: &[u32],
+    mut passes: Vec<Pass<K>>,
+) -> Vec<Pass<K>>
+    requires desk { (root.table_id ≡ desk.now.shared.table_id) × (desk.now.shared.table_id.words ≡ 3) }
+    requires root { root.me ≡ (opening_view (K.setting desk.now.shared.key.kept.value) numbers.now, []) }
+    requires room { length numbers.now ≤ vec_capacity passes }
+    requires none { passes.items ≡ [] }
+    ensures { result.items ≡ map (new_pass (record {
+      table = desk.now.shared.table_id;
+      setting = K.setting desk.now.shared.key.kept.value;
+      numbers = numbers.now;
+    })) numbers.now }
+{
+    for number in numbers {
+        let seat = desk.shared.split_seat::<Deal>(&mut root);
+        passes.push_reserved(Pass {
+            number: *number,
+            seat,
+        });
     }
+    passes
 }
 
 // Takes all passes into one seat.
@@ -179,15 +250,9 @@ impl<K: Kept> Turnstile<K> {
         ensures turnstile { IfOk result (λ r. (r.0.setting ≡ K.setting kept) × (r.0.numbers ≡ numbers.now)) }
         ensures passes { IfOk result (λ r. r.1.items ≡ map (new_pass r.0) numbers.now) }
     {
-        let mut passes = Vec::with_capacity(alloc, numbers.len())?;
-        let (desk, mut root) = laid(alloc, kept, numbers)?;
-        for number in numbers {
-            let seat = desk.shared.split_seat::<Deal>(&mut root);
-            passes.push_reserved(Pass {
-                number: *number,
-                seat,
-            });
-        }
+        let passes = Vec::with_capacity(alloc, numbers.len())?;
+        let (desk, root) = laid(alloc, kept, numbers)?;
+        let passes = deal(&desk, root, numbers, passes);
         Ok((Turnstile { desk }, passes))
     }
 

@@ -2,7 +2,7 @@ use Rattle.std.proofs.Common.{◌≡◌, [], ◌≤◌, length, map, take, drop}
 use Rattle.std.specs.Prelude.{vec_len, vec_capacity}
 use Rattle.aim_turn.specs.Models.{new_pass}
 use Rattle.aim_turn.specs.Turned.{dealing_view}
-use Rattle.aim_turn.proofs.turnstile.Turnstile.open.Given as goal
+use Rattle.aim_turn.proofs.turnstile.deal.Given as goal
 
 abbrev pub invariant-loop-number : goal.invariant-loop-number
 invariant-loop-number g l = record {
