@@ -1,7 +1,7 @@
 -- The table of the words that the program takes.
 use Rattle.std.specs.Prelude.{ℕ, ◌<◌, ◌≤◌, Bool, true, false, ◌&&◌, nat_le, List, [], ◌∷◌, Option, Some, None, option_map, codes, bytes_eq, if◌then◌else◌}
 use Rattle.aim_msg.specs.declared.entries.TheConstants.{LATEST_MOMENT}
-use Rattle.aim_read.specs.Faults.{is_number, value_of}
+use Rattle.aim_words.specs.Faults.{is_number, value_of}
 use Rattle.aim_script.specs.Spellings.{Spelled, by_words}
 use Rattle.aim_json_replay.specs.Spelling.{by_json}
 use Rattle.aim.specs.declared.words.Command.{Command}

@@ -1,7 +1,7 @@
 -- Numbers and the digits that write them.
 use Rattle.std.proofs.Common.{◌≡◌, ◌==◌, ◌+◌, ◌-◌, ◌*◌, ◌≤◌, ℕ, List, [], ◌∷◌, count_by, length, arith}
 use Rattle.std.proofs.lemmas.List.Splits.{length-slice_split}
-use Rattle.aim_read.specs.Faults.{value_after, words_of}
+use Rattle.aim_words.specs.Faults.{value_after, words_of}
 
 -- digits that follow make it no smaller
 pub value_grows : (n : ℕ) (digits : List ℕ) → n ≤ value_after n digits

@@ -2,7 +2,7 @@
 use Rattle.std.specs.Prelude.{ℕ, List, [], Option, Some, None}
 use Rattle.std.specs.Borrow.{Bor}
 use Rattle.aim_msg.specs.Texts.{Words}
-use Rattle.aim_read.specs.Faults.{words_of}
+use Rattle.aim_words.specs.Faults.{words_of}
 
 -- the words of what is left, where something is left
 abbrev pub words_left : Option (Bor (List ℕ)) → Words

@@ -4,9 +4,9 @@ use Rattle.std.specs.Option.{option_or}
 use Rattle.aim_msg.specs.declared.script.LineKind.{LineKind}
 use Rattle.aim_msg.specs.declared.script.LineKind.TheVariants as kind
 use Rattle.aim_msg.specs.Texts.{Words}
-use Rattle.aim_read.specs.Faults.{first, number_fault, rest, value_of, words_of}
-use Rattle.aim_read.specs.Reading.{unless}
-use Rattle.aim_read.specs.Tables.{look_up}
+use Rattle.aim_words.specs.Faults.{first, number_fault, rest, value_of, words_of}
+use Rattle.aim_words.specs.Reading.{unless}
+use Rattle.aim_words.specs.Tables.{look_up}
 use Rattle.aim_claims.specs.declared.lines.ShardForm.{ShardForm}
 use Rattle.aim_claims.specs.declared.lines.ShardForm.TheVariants as form
 use Rattle.aim_claims.specs.declared.lines.ShardLine.{ShardLine}

@@ -1,7 +1,7 @@
 //! The lines of scripts of claims.
 
 ghost use Rattle.std.specs.Prelude.{◌≡◌, ◌≤◌, ◌==◌, Some, None, count_by, length, map, MatchResult};
-ghost use Rattle.aim_read.specs.Faults.{value_of, words_of};
+ghost use Rattle.aim_words.specs.Faults.{value_of, words_of};
 ghost use Rattle.aim_claims.specs.Lines.{form_of, line_of, numbers_fault, numbers_of, shard_line_at};
 
 use crate::numbers::number;

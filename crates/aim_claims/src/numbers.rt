@@ -2,8 +2,8 @@
 
 ghost use Rattle.std.specs.Prelude.{◌≡◌, None, Some, if◌then◌else◌, nat_lt, true};
 ghost use Rattle.std.specs.List.{list_all};
-ghost use Rattle.aim_read.specs.Faults.{is_digit, is_number, number_fault, value_of};
-ghost use Rattle.aim_read.specs.Reading.{unless};
+ghost use Rattle.aim_words.specs.Faults.{is_digit, is_number, number_fault, value_of};
+ghost use Rattle.aim_words.specs.Reading.{unless};
 
 use aim_msg::LineKind;
 

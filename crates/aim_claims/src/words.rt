@@ -1,7 +1,7 @@
 //! The words of a line, one after the other.
 
 ghost use Rattle.std.specs.Prelude.{◌≡◌, ◌≢◌, ◌<◌, ◌≤◌, ℕ, [], ◌∷◌, length, slice_index, MatchOption};
-ghost use Rattle.aim_read.specs.Faults.{words_of};
+ghost use Rattle.aim_words.specs.Faults.{words_of};
 
 use std::marker::Model;
 

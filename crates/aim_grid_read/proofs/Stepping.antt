@@ -4,11 +4,11 @@ use Rattle.aim_msg.specs.Texts.{Words}
 use Rattle.aim_msg.specs.declared.messages.Params.{Params}
 use Rattle.aim_msg.specs.declared.messages.Turn.{Turn}
 use Rattle.aim_msg.specs.declared.script.LineKind.{LineKind}
-use Rattle.aim_read.specs.Faults.{first_fault, from, rest, word_at}
-use Rattle.aim_read.specs.Forms.{vehicle_places}
-use Rattle.aim_read.specs.Reading.{at, is_emergency, unless}
-use Rattle.aim_read.specs.Steps.{◌>>=◌, numbers_in, vehicle_in}
-use Rattle.aim_read.proofs.StepLaws.{bind_assoc, bind_more, bind_read, faults_then, numbers_step}
+use Rattle.aim_words.specs.Faults.{first_fault, from, rest, word_at}
+use Rattle.aim_words.specs.Forms.{vehicle_places}
+use Rattle.aim_words.specs.Reading.{at, is_emergency, unless}
+use Rattle.aim_words.specs.Steps.{◌>>=◌, numbers_in, vehicle_in}
+use Rattle.aim_words.proofs.StepLaws.{bind_assoc, bind_more, bind_read, faults_then, numbers_step}
 use Rattle.aim_grid_read.specs.declared.lines.GridForm.TheVariants as form
 use Rattle.aim_grid_read.specs.declared.lines.GridLine.TheVariants as line
 use Rattle.aim_grid_read.specs.Legs.{crossings_places, leg_places, line_with, plan_at}

@@ -12,19 +12,22 @@ use Rattle.aim_msg.specs.declared.script.LineKind.{LineKind}
 use Rattle.aim_msg.specs.declared.script.LineKind.TheVariants as kind
 use Rattle.aim_msg.specs.Texts.{IsOneLine, Words, class_word, spaced, turn_word, vehicle_words}
 use Rattle.aim_msg.specs.Lines.{line_text}
-use Rattle.aim_read.specs.Faults.{Place, first, first_fault, from, rest, words_of}
+use Rattle.aim_words.specs.Faults.{Place, first, first_fault, from, rest, words_of}
 use Rattle.aim_read.specs.Forms.{line_form}
-use Rattle.aim_read.specs.Ranges.{AreParams, Is32}
-use Rattle.aim_read.specs.Reading.{at, line_at, line_in, unless}
-use Rattle.aim_read.specs.Steps.{numbers_in, vehicle_in}
-use Rattle.aim_read.proofs.Again.{n32, n8, turn_again, vehicle_again}
+use Rattle.aim_words.specs.Ranges.{AreParams, Is32}
+use Rattle.aim_words.specs.Reading.{at, unless}
+use Rattle.aim_read.specs.Reading.{line_at, line_in}
+use Rattle.aim_words.specs.Steps.{numbers_in, vehicle_in}
+use Rattle.aim_words.proofs.Again.{n32, n8, turn_again, vehicle_again}
 use Rattle.aim_read.proofs.LineAgain.{line_again}
-use Rattle.aim_read.proofs.LineSpelled.{in32, in8, line_was_spelled}
-use Rattle.aim_read.proofs.LineWords.{w32, w8}
-use Rattle.aim_read.proofs.NoFaults.{NoFaults, no_faults}
-use Rattle.aim_read.proofs.OneLine.{line_is_one_line, words_end_none}
-use Rattle.aim_read.proofs.Spelled.{class_back, respelled_is, same_word, turn_back}
-use Rattle.aim_read.proofs.WordLaws.{AreWords, IsWord, words_spaced}
+use Rattle.aim_words.proofs.Spelled.{in32, in8}
+use Rattle.aim_read.proofs.LineSpelled.{line_was_spelled}
+use Rattle.aim_words.proofs.MessageWords.{w32, w8}
+use Rattle.aim_words.proofs.NoFaults.{NoFaults, no_faults}
+use Rattle.aim_read.proofs.OneLine.{line_is_one_line}
+use Rattle.aim_words.proofs.OneLine.{words_end_none}
+use Rattle.aim_words.proofs.Spelled.{class_back, respelled_is, same_word, turn_back}
+use Rattle.aim_words.proofs.WordLaws.{AreWords, IsWord, words_spaced}
 use Rattle.aim_grid_read.specs.declared.lines.GridForm.TheVariants as form
 use Rattle.aim_grid_read.specs.declared.lines.GridLine.{GridLine}
 use Rattle.aim_grid_read.specs.declared.lines.GridLine.TheVariants as line

@@ -5,9 +5,10 @@ use Rattle.aim_msg.specs.Texts.{Words}
 use Rattle.aim_msg.specs.declared.script.Line.{Line}
 use Rattle.aim_msg.specs.declared.script.LineKind.{LineKind}
 use Rattle.aim_msg.specs.declared.script.LineKind.TheVariants as kind
-use Rattle.aim_read.specs.Faults.{Place, chosen, first, first_fault, number8, number32, turns, words_of}
-use Rattle.aim_read.specs.Forms.{vehicle_places}
-use Rattle.aim_read.specs.Reading.{at, line_at, params_at, unless}
+use Rattle.aim_words.specs.Faults.{Place, chosen, first, first_fault, number8, number32, turns, words_of}
+use Rattle.aim_words.specs.Forms.{vehicle_places}
+use Rattle.aim_words.specs.Reading.{at, params_at, unless}
+use Rattle.aim_read.specs.Reading.{line_at}
 use Rattle.aim_grid_read.specs.declared.lines.GridForm.{GridForm}
 use Rattle.aim_grid_read.specs.declared.lines.GridForm.TheVariants as form
 use Rattle.aim_grid_read.specs.declared.lines.GridLine.{GridLine}

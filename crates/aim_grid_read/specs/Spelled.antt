@@ -4,7 +4,8 @@ use Rattle.aim_driver.specs.declared.plans.DrivePlan.{DrivePlan}
 use Rattle.aim_msg.specs.Texts.{Words, spaced, turn_word, vehicle_words}
 use Rattle.aim_msg.specs.declared.messages.Params.{Params}
 use Rattle.aim_msg.specs.Lines.{KeepsRanges, line_words}
-use Rattle.aim_read.specs.Ranges.{AreParams, Is32, IsLine}
+use Rattle.aim_words.specs.Ranges.{AreParams, Is32}
+use Rattle.aim_read.specs.Ranges.{IsLine}
 use Rattle.aim_grid_read.specs.declared.lines.GridLine.{GridLine}
 use Rattle.aim_grid_read.specs.declared.lines.GridLine.TheVariants as line
 

@@ -2,9 +2,9 @@
 use Rattle.std.specs.Prelude.{false, [], None, Result, Ok, get_or}
 use Rattle.aim_msg.specs.Texts.{Words}
 use Rattle.aim_msg.specs.declared.script.LineKind.{LineKind}
-use Rattle.aim_read.specs.Faults.{number8, turns, value_of}
-use Rattle.aim_read.specs.Reading.{turn_of}
-use Rattle.aim_read.specs.Steps.{◌>>=◌, number_in, numbers_in, read_in, vehicle_in}
+use Rattle.aim_words.specs.Faults.{number8, turns, value_of}
+use Rattle.aim_words.specs.Reading.{turn_of}
+use Rattle.aim_words.specs.Steps.{◌>>=◌, number_in, numbers_in, read_in, vehicle_in}
 use Rattle.aim_grid_read.specs.declared.lines.GridLine.{GridLine}
 use Rattle.aim_grid_read.specs.declared.lines.GridLine.TheVariants as line
 

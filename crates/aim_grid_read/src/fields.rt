@@ -1,16 +1,16 @@
 //! The fields of lines.
 
 ghost use Rattle.std.specs.Prelude.{◌≡◌, [], bytes_eq, codes};
-ghost use Rattle.aim_read.specs.Faults.{classes, number8, number32, turns, value_of};
-ghost use Rattle.aim_read.specs.Reading.{is_emergency, turn_of};
-ghost use Rattle.aim_read.specs.Steps.{Gives, numbers_in, read_in, vehicle_in};
+ghost use Rattle.aim_words.specs.Faults.{classes, number8, number32, turns, value_of};
+ghost use Rattle.aim_words.specs.Reading.{is_emergency, turn_of};
+ghost use Rattle.aim_words.specs.Steps.{Gives, numbers_in, read_in, vehicle_in};
 
 use crate::numbers::number;
 use crate::words::Words;
 use aim_msg::{LineKind, Params, Turn};
 
 /// A number of 32 bits.
-#[tactic(auto, unfolding(aim_read::specs::Steps::read_in))]
+#[tactic(auto, unfolding(aim_words::specs::Steps::read_in))]
 pub fn number32(words: &mut Words<'_>) -> Result<u32, LineKind>
     ensures { Gives result words.new (read_in number32 value_of words.old) }
 {
@@ -20,7 +20,7 @@ pub fn number32(words: &mut Words<'_>) -> Result<u32, LineKind>
 }
 
 /// So many numbers of 32 bits.
-#[tactic(auto, unfolding(aim_read::specs::Steps::numbers_in))]
+#[tactic(auto, unfolding(aim_words::specs::Steps::numbers_in))]
 pub fn numbers<const N: usize>(words: &mut Words<'_>) -> Result<[u32; N], LineKind>
     ensures { Gives result words.new (numbers_in [] N words.old) }
 {
@@ -32,7 +32,7 @@ pub fn numbers<const N: usize>(words: &mut Words<'_>) -> Result<[u32; N], LineKi
 }
 
 /// A number of a byte.
-#[tactic(auto, unfolding(aim_read::specs::Steps::read_in))]
+#[tactic(auto, unfolding(aim_words::specs::Steps::read_in))]
 pub fn number8(words: &mut Words<'_>) -> Result<u8, LineKind>
     ensures { Gives result words.new (read_in number8 value_of words.old) }
 {
@@ -42,7 +42,7 @@ pub fn number8(words: &mut Words<'_>) -> Result<u8, LineKind>
 }
 
 /// A turn.
-#[tactic(auto, unfolding(aim_read::specs::Steps::read_in))]
+#[tactic(auto, unfolding(aim_words::specs::Steps::read_in))]
 pub fn turn(words: &mut Words<'_>) -> Result<Turn, LineKind>
     ensures { Gives result words.new (read_in turns turn_of words.old) }
 {
@@ -59,7 +59,7 @@ pub fn turn(words: &mut Words<'_>) -> Result<Turn, LineKind>
 }
 
 // Whether a vehicle of the class is an emergency vehicle.
-#[tactic(auto, unfolding(aim_read::specs::Steps::read_in))]
+#[tactic(auto, unfolding(aim_words::specs::Steps::read_in))]
 fn is_emergency(words: &mut Words<'_>) -> Result<bool, LineKind>
     ensures { Gives result words.new (read_in classes is_emergency words.old) }
 {
@@ -74,7 +74,7 @@ fn is_emergency(words: &mut Words<'_>) -> Result<bool, LineKind>
 }
 
 /// SPEED MAX ACCEL LENGTH WIDTH CLASS, behind the lane and the turn.
-#[tactic(auto, unfolding(aim_read::specs::Steps::vehicle_in))]
+#[tactic(auto, unfolding(aim_words::specs::Steps::vehicle_in))]
 pub fn params(words: &mut Words<'_>, lane: u8, turn: Turn) -> Result<Params, LineKind>
     ensures { Gives result words.new (vehicle_in lane turn 0 words.old) }
 {

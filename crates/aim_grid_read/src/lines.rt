@@ -1,7 +1,7 @@
 //! The lines of scripts of several crossings.
 
 ghost use Rattle.std.specs.Prelude.{◌≡◌, ◌<◌, ◌≤◌, ◌==◌, count_by, length};
-ghost use Rattle.aim_read.specs.Faults.{words_of};
+ghost use Rattle.aim_words.specs.Faults.{words_of};
 ghost use Rattle.aim_grid_read.specs.Legs.{form_of, grid_line_at, plain_at};
 ghost use Rattle.aim_grid_read.specs.Steps.{crossings_in, leg_in};
 
@@ -55,7 +55,7 @@ fn spaces(line: &[u8]) -> usize
 }
 
 // How many words the line has.
-#[tactic(auto, using(aim_read::proofs::Splits::words_counted))]
+#[tactic(auto, using(aim_words::proofs::Splits::words_counted))]
 fn count(line: &[u8]) -> usize
     ensures { result ≡ length (words_of line.now) }
 {

@@ -2,8 +2,8 @@
 
 ghost use Rattle.std.specs.Prelude.{◌≡◌, None, Some, if◌then◌else◌, nat_lt, true};
 ghost use Rattle.std.specs.List.{list_all};
-ghost use Rattle.aim_read.specs.Faults.{is_digit, is_number, number_fault, value_of};
-ghost use Rattle.aim_read.specs.Reading.{unless};
+ghost use Rattle.aim_words.specs.Faults.{is_digit, is_number, number_fault, value_of};
+ghost use Rattle.aim_words.specs.Reading.{unless};
 
 use aim_msg::LineKind;
 
@@ -30,7 +30,7 @@ fn is_number(word: &[u8]) -> bool
 }
 
 // The number that the digits write, where it is at most `high`.
-#[tactic(auto, using(aim_read::proofs::NumberLaws::value_grows))]
+#[tactic(auto, using(aim_words::proofs::NumberLaws::value_grows))]
 fn value_up_to(word: &[u8], high: u64) -> Option<u64>
     requires { list_all is_digit word.now ≡ true }
     ensures { result ≡ (if nat_lt high (value_of word.now) then None else Some (value_of word.now)) }

@@ -2,7 +2,7 @@
 
 ghost use Rattle.std.specs.Prelude.{◌≡◌, ◌≢◌, ◌<◌, ◌≤◌, ℕ, [], ◌∷◌, length, slice_index, MatchOption, MatchResult};
 ghost use Rattle.aim_msg.specs.declared.script.LineKind.{LineKind};
-ghost use Rattle.aim_read.specs.Faults.{first, rest, words_of};
+ghost use Rattle.aim_words.specs.Faults.{first, rest, words_of};
 
 use aim_msg::LineKind;
 use std::marker::Model;
@@ -30,7 +30,7 @@ pub struct Words<'a> {
 
 impl<'a> Model for Words<'a> {
     ghost use Rattle.std.specs.Prelude.{List, ℕ};
-    ghost use Rattle.aim_read.specs.Steps.{words_left};
+    ghost use Rattle.aim_words.specs.Steps.{words_left};
 
     ghost Value = { List (List ℕ) };
 

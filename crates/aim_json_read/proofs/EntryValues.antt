@@ -14,8 +14,9 @@ use Rattle.aim_msg.specs.declared.replies.Reply.{Reply}
 use Rattle.aim_msg.specs.declared.replies.Reply.TheVariants as reply
 use Rattle.aim_msg.specs.Actors.{IsCallerOf}
 use Rattle.aim_msg.specs.Texts.{Words, spaced, body_words, act_words, reason_words, held_word, reply_words, caller_word, entry_words}
-use Rattle.aim_read.specs.Ranges.{Is32, IsEntry}
-use Rattle.aim_read.proofs.EntryAgain.{entry_alone}
+use Rattle.aim_words.specs.Ranges.{Is32}
+use Rattle.aim_read_entries.specs.Ranges.{IsEntry}
+use Rattle.aim_read_entries.proofs.EntryAgain.{entry_alone}
 use Rattle.aim_json.specs.Lines.{body_json}
 use Rattle.aim_json.specs.Entries.{act_json, caller_json, reason_json, held_json, reply_json, entry_json}
 use Rattle.aim_json_read.specs.Spelling.{Names, plain_words, value_words, member_words, members_words}

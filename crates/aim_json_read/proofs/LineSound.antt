@@ -16,7 +16,8 @@ use Rattle.aim_msg.specs.declared.script.Line.TheVariants as line
 use Rattle.aim_msg.specs.declared.script.MoveShape.TheVariants as shape
 use Rattle.aim_msg.specs.Texts.{turn_word, class_word}
 use Rattle.aim_msg.specs.Lines.{kind_word, window_word, has_lane, all_lanes, KeepsRanges}
-use Rattle.aim_read.specs.Ranges.{Is8, Is32, AreParams, IsBody, IsLine}
+use Rattle.aim_words.specs.Ranges.{Is8, Is32, AreParams, IsBody}
+use Rattle.aim_read.specs.Ranges.{IsLine}
 use Rattle.aim_json.specs.Members.{count}
 use Rattle.aim_json.specs.Lines.{body_json, fate_json, json_of, json_text}
 use Rattle.aim_json.proofs.Names.{name_is_utf8}

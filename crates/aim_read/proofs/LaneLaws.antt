@@ -9,13 +9,14 @@ use Rattle.std.proofs.Common.{length, subst, pow-add}
 use Rattle.std.proofs.lemmas.Bool.{cases_Bool, eqb-true, eq-eqb, le-ltb}
 use Rattle.aim_msg.specs.Texts.{Words}
 use Rattle.aim_msg.specs.Lines.{has_lane, all_lanes, lane_words}
-use Rattle.aim_read.specs.Faults.{value_of, number_fault}
+use Rattle.aim_words.specs.Faults.{value_of, number_fault}
 use Rattle.aim_read.specs.Forms.{lane_places}
-use Rattle.aim_read.specs.Reading.{unless, lanes_of}
+use Rattle.aim_words.specs.Reading.{unless}
+use Rattle.aim_read.specs.Reading.{lanes_of}
 use Rattle.aim_read.specs.Steps.{lanes_in}
-use Rattle.aim_read.proofs.NumberLaws.{number_good, value_decimal, IsNumberIn, number_in_from, decimal_value}
+use Rattle.aim_words.proofs.NumberLaws.{number_good, value_decimal, IsNumberIn, number_in_from, decimal_value}
 use Rattle.aim_read.proofs.ListLaws.{lanes_next, twice}
-use Rattle.aim_read.proofs.NoFaults.{NoFaults}
+use Rattle.aim_words.proofs.NoFaults.{NoFaults}
 
 -- the bits from a lane on
 quotient : (lanes i m q : ℕ) → lanes ≡ q * 2 ^ i + m → m < 2 ^ i → lanes / 2 ^ i ≡ q

@@ -13,21 +13,26 @@ use Rattle.aim_msg.specs.declared.script.FateList.{FateList}
 use Rattle.aim_msg.specs.declared.script.Line.{Line}
 use Rattle.aim_msg.specs.declared.script.Line.TheVariants as line
 use Rattle.aim_msg.specs.declared.script.LineKind.{LineKind}
-use Rattle.aim_read.specs.declared.forms.OrderForm.TheVariants as order
+use Rattle.aim_words.specs.declared.forms.OrderForm.TheVariants as order
 use Rattle.aim_read.specs.declared.forms.LineForm.{LineForm}
 use Rattle.aim_read.specs.declared.forms.LineForm.TheVariants as form
 use Rattle.aim_msg.specs.Texts.{Words, spaced, vehicle_words, body_words, message_words, message_text}
 use Rattle.aim_msg.specs.Lines.{fate_word, fate_words, window_words, has_lane, all_lanes, lane_words, shape_words, line_words, line_text, IsFateList, KeepsRanges}
-use Rattle.aim_read.specs.Faults.{words_of, first, rest, begins_with_digit}
-use Rattle.aim_read.specs.Forms.{message_form, shape_form, plan_form, line_form, has_count}
+use Rattle.aim_words.specs.Faults.{words_of, first, rest, begins_with_digit}
+use Rattle.aim_words.specs.Forms.{message_form}
+use Rattle.aim_read.specs.Forms.{shape_form, plan_form, line_form, has_count}
 use Rattle.aim_read.specs.Reading.{line_in, line_at}
-use Rattle.aim_read.specs.Ranges.{Is32, AreParams, IsMessage, IsLine}
-use Rattle.aim_read.specs.Steps.{vehicle_in, message_in, numbers_in, grid_in, times_in, times6_in, move_in, policy_in, lanes_in, phase_in, event_in, switch_in, stop_in, plan_in, change_plan_in, cancel_plan_in, up_in, down_in, behind_keyword, steps_in}
-use Rattle.aim_read.proofs.NumberLaws.{decimal_number, number_begins}
-use Rattle.aim_read.proofs.WordLaws.{AreWords, words_spaced}
-use Rattle.aim_read.proofs.LineWords.{message_are_words, line_are_words}
+use Rattle.aim_words.specs.Ranges.{Is32, AreParams, IsMessage}
+use Rattle.aim_read.specs.Ranges.{IsLine}
+use Rattle.aim_words.specs.Steps.{vehicle_in, message_in, numbers_in}
+use Rattle.aim_read.specs.Steps.{grid_in, times_in, times6_in, move_in, policy_in, lanes_in, phase_in, event_in, switch_in, stop_in, plan_in, change_plan_in, cancel_plan_in, up_in, down_in, behind_keyword, steps_in}
+use Rattle.aim_words.proofs.NumberLaws.{decimal_number, number_begins}
+use Rattle.aim_words.proofs.WordLaws.{AreWords, words_spaced}
+use Rattle.aim_words.proofs.MessageWords.{message_are_words}
+use Rattle.aim_read.proofs.LineWords.{line_are_words}
 use Rattle.aim_read.proofs.LaneLaws.{lanes_again}
-use Rattle.aim_read.proofs.Again.{n32, n8, turn_again, window_again, vehicle_again, form_of_body, message_again, form_of_shape, shape_again, name_again}
+use Rattle.aim_words.proofs.Again.{n32, n8, turn_again, vehicle_again, form_of_body, message_again}
+use Rattle.aim_read.proofs.Again.{window_again, form_of_shape, shape_again, name_again}
 use Rattle.aim_read.proofs.ListsAgain.{kind_again, fates_again}
 use Rattle.aim_read.proofs.StepLaws.{steps_are}
 

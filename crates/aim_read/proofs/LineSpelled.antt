@@ -9,70 +9,26 @@ use Rattle.std.proofs.Math.Seq.{take-append_seam, drop-append_seam}
 use Rattle.aim_msg.specs.declared.script.Line.{Line}
 use Rattle.aim_msg.specs.declared.script.LineKind.{LineKind}
 use Rattle.aim_msg.specs.declared.script.LineKind.TheVariants as kind
-use Rattle.aim_read.specs.declared.forms.MessageForm.{MessageForm}
-use Rattle.aim_read.specs.declared.forms.MessageForm.TheVariants as message
-use Rattle.aim_read.specs.declared.forms.OrderForm.{OrderForm}
-use Rattle.aim_read.specs.declared.forms.OrderForm.TheVariants as order
+use Rattle.aim_words.specs.declared.forms.MessageForm.TheVariants as message
+use Rattle.aim_words.specs.declared.forms.OrderForm.TheVariants as order
 use Rattle.aim_read.specs.declared.forms.ShapeForm.{ShapeForm}
 use Rattle.aim_read.specs.declared.forms.ShapeForm.TheVariants as way
 use Rattle.aim_read.specs.declared.forms.LineForm.{LineForm}
 use Rattle.aim_read.specs.declared.forms.LineForm.TheVariants as form
 use Rattle.aim_msg.specs.Texts.{Words, spaced}
 use Rattle.aim_msg.specs.Lines.{fate_word, fate_words, line_words, line_text, IsFateList, KeepsRanges}
-use Rattle.aim_read.specs.Faults.{Place, first, rest, from, word_at, words_of, begins_with_digit, value_of, number_fault, word_fault, fault_at, first_fault, number32, number8}
-use Rattle.aim_read.specs.Tables.{look_up}
-use Rattle.aim_read.specs.Forms.{message_forms, order_forms, shape_forms, plain_forms, message_form, order_form, shape_form, plain_form, times_form, plan_form, line_form, map_ok, fate, fate_places, line_places, has_count}
-use Rattle.aim_read.specs.Reading.{unless, kind_of, fate_of, fates_of, line_of, form_fault, line_in, line_at}
-use Rattle.aim_read.specs.Ranges.{Is32, Is8, IsLine}
-use Rattle.aim_read.proofs.NumberLaws.{IsNumberIn, number_in_from, decimal_value}
-use Rattle.aim_read.proofs.NoFaults.{NoFaults, no_faults}
-use Rattle.aim_read.proofs.Spelled.{respelled_is, number_at_place, same_word, turn_back, class_back, window_back, kind_back, kind_most, name_is}
+use Rattle.aim_words.specs.Faults.{Place, first, rest, from, word_at, words_of, begins_with_digit, value_of, number_fault, word_fault, first_fault}
+use Rattle.aim_words.specs.Forms.{message_form, order_form}
+use Rattle.aim_read.specs.Forms.{shape_forms, plain_forms, shape_form, plain_form, times_form, plan_form, line_form, map_ok, fate, fate_places, line_places, has_count}
+use Rattle.aim_words.specs.Reading.{unless}
+use Rattle.aim_read.specs.Reading.{kind_of, fate_of, fates_of, line_of, form_fault, line_in, line_at}
+use Rattle.aim_read.specs.Ranges.{IsLine}
+use Rattle.aim_words.proofs.NumberLaws.{IsNumberIn, number_in_from, decimal_value}
+use Rattle.aim_words.proofs.NoFaults.{NoFaults, no_faults}
+use Rattle.aim_words.proofs.Spelled.{respelled_is, same_word, turn_back, class_back, in32, in8, d32}
+use Rattle.aim_read.proofs.Spelled.{window_back, kind_back, kind_most, name_is}
 use Rattle.aim_read.proofs.LaneLaws.{lanes_are_spelled}
-
-pub in32 : (ws : Words) → fault_at number32 ws ≡ None → Is32 (value_of (first ws))
-in32 ws h = let is = number_at_place 0 4294967295 ws h in let most = is.most in omega arith
-
-pub in8 : (ws : Words) → fault_at number8 ws ≡ None → Is8 (value_of (first ws))
-in8 ws h = let is = number_at_place 0 255 ws h in let most = is.most in omega arith
-
-pub d32 : (ws : Words) → fault_at number32 ws ≡ None → decimal (value_of (first ws)) ≡ first ws
-d32 ws h = let is = number_at_place 0 4294967295 ws h in let most = is.most in decimal_value (first ws) is.number (omega arith)
-
--- what a row's word and form have in common, a word and the form that it chooses have
-abbrev AllRows : {F : Type 0} → (List ℕ → F → Type 0) → List (List ℕ × F) → Type 0
-AllRows P [] = Unit {0}
-AllRows P (row ∷ rows) = P row.0 row.1 × AllRows P rows
-
-pub look_up_has : {F : Type 0} (P : List ℕ → F → Type 0) (fault : LineKind) (rows : List (List ℕ × F)) (w : List ℕ) (f : F)
-    → AllRows P rows → look_up fault rows w ≡ Ok f → P w f
-look_up_has P fault [] w f all h = absurd cc
-look_up_has P fault (row ∷ rows) w f all h = elim (cases_Bool (bytes_eq w row.0)) [
-  | inl is ↦
-      let here : P w row.1 = subst (λ v. P v row.1) (sym (same_word w row.0 is)) all.0 in
-      subst (λ g. P w g) (ok_same (look_up fault (row ∷ rows) w) row.1 f (rw is refl) h) here
-  | inr not ↦ look_up_has P fault rows w f all.1 (rw not at h)
-]
-  where
-    ok_same : {F : Type 0} (r : Result F LineKind) (a b : F) → r ≡ Ok a → r ≡ Ok b → a ≡ b
-    ok_same r a b g h = cc
-
-unfoldable pub message_key : MessageForm → List ℕ
-message_key message.Request = codes "request"
-message_key message.Change = codes "change"
-message_key message.Cancel = codes "cancel"
-message_key message.Done = codes "done"
-
-pub message_chosen : (w : List ℕ) (m : MessageForm) → message_form w ≡ Ok m → w ≡ message_key m
-unfolding message_key
-message_chosen w m h = look_up_has (λ v f. v ≡ message_key f) kind.Words message_forms w m (refl, (refl, (refl, (refl, tt)))) h
-
-unfoldable pub order_key : OrderForm → List ℕ
-order_key order.Switch = codes "switch"
-order_key order.Stop = codes "stop"
-
-pub order_chosen : (w : List ℕ) (o : OrderForm) → order_form w ≡ Ok o → w ≡ order_key o
-unfolding order_key
-order_chosen w o h = look_up_has (λ v f. v ≡ order_key f) kind.Words order_forms w o (refl, (refl, tt)) h
+use Rattle.aim_words.proofs.Chosen.{look_up_has, message_key, message_chosen, order_key, order_chosen}
 
 shape_key : ShapeForm → List ℕ
 shape_key way.Line = codes "line"

@@ -1,53 +1,18 @@
--- The words of lines and entries have no space.
+-- The words of lines have no space.
 use Rattle.std.proofs.Common.{◌≡◌, ℕ, zero, suc, ◌+◌, ◌≤◌, ◌==◌, nat_le, Bool, true, false, not, List, [], ◌∷◌, map, filter, take, decimal, refl, arith, inl, inr}
 use Rattle.std.specs.List.{list_all, range_with_len}
 use Rattle.std.proofs.lemmas.Bool.{cases_Bool, and_parts, eqb-true, leb-true, lt-ltb}
-use Rattle.aim_msg.specs.declared.messages.Turn.{Turn}
-use Rattle.aim_msg.specs.declared.messages.Turn.TheVariants.{Left, Straight, Right}
-use Rattle.aim_msg.specs.declared.messages.Params.{Params}
-use Rattle.aim_msg.specs.declared.messages.Body.{Body}
-use Rattle.aim_msg.specs.declared.messages.Body.TheVariants as body
-use Rattle.aim_msg.specs.declared.messages.Message.{Message}
 use Rattle.aim_msg.specs.declared.script.MoveShape.{MoveShape}
 use Rattle.aim_msg.specs.declared.script.MoveShape.TheVariants as shape
 use Rattle.aim_msg.specs.declared.script.Name.{Name}
 use Rattle.aim_msg.specs.declared.script.Line.{Line}
 use Rattle.aim_msg.specs.declared.script.Line.TheVariants as line
-use Rattle.aim_msg.specs.Texts.{turn_word, class_word, vehicle_words, params_words, body_words, message_words}
+use Rattle.aim_msg.specs.Texts.{vehicle_words}
 use Rattle.aim_msg.specs.Lines.{name_word, kind_word, fate_word, window_word, window_words, has_lane, all_lanes, lane_words, shape_words, line_words, IsName, is_name_byte, KeepsRanges}
-use Rattle.aim_read.specs.Ranges.{Is32, Is8, AreParams, IsBody, IsMessage, IsShape, IsLine}
-use Rattle.aim_read.proofs.NumberLaws.{is_visible, decimal_visible}
-use Rattle.aim_read.proofs.WordLaws.{IsWord, AreWords, words_append}
-
-pub w32 : (n : ℕ) → Is32 n → IsWord (decimal n)
-w32 n is = decimal_visible n (omega arith)
-
-pub w8 : (n : ℕ) → Is8 n → IsWord (decimal n)
-w8 n is = decimal_visible n (omega arith)
-
-turn_is_word : (t : Turn) → IsWord (turn_word t)
-turn_is_word Left = refl
-turn_is_word Straight = refl
-turn_is_word Right = refl
-
-class_is_word : (emergency : Bool) → IsWord (class_word emergency)
-class_is_word true = refl
-class_is_word false = refl
-
-vehicle_are_words : (p : Params) → AreParams p → AreWords (vehicle_words p)
-vehicle_are_words p r = (w32 p.speed r.speed, (w32 p.max_speed r.max_speed, (w32 p.accel r.accel, (w32 p.length r.len, (w32 p.width r.width, (class_is_word p.emergency, tt))))))
-
-params_are_words : (p : Params) → AreParams p → AreWords (params_words p)
-params_are_words p r = (w8 p.lane r.lane, (turn_is_word p.turn, (w32 p.arrive r.arrive, vehicle_are_words p r)))
-
-body_are_words : (seq : ℕ) (b : Body) → Is32 seq → IsBody b → AreWords (body_words seq b)
-body_are_words seq (body.Request p) s r = (refl, (w32 seq s, params_are_words p r))
-body_are_words seq (body.Change id p) s r = (refl, (w32 seq s, (w32 id r.0, params_are_words p r.1)))
-body_are_words seq (body.Cancel id) s r = (refl, (w32 seq s, (w32 id r, tt)))
-body_are_words seq (body.Done id) s r = (refl, (w32 seq s, (w32 id r, tt)))
-
-pub message_are_words : (m : Message) → IsMessage m → AreWords (message_words m)
-message_are_words m r = body_are_words m.seq m.body r.seq r.body
+use Rattle.aim_read.specs.Ranges.{IsShape, IsLine}
+use Rattle.aim_words.proofs.NumberLaws.{is_visible, decimal_visible}
+use Rattle.aim_words.proofs.WordLaws.{IsWord, AreWords, words_append}
+use Rattle.aim_words.proofs.MessageWords.{w32, w8, turn_is_word, vehicle_are_words, message_are_words}
 
 shape_are_words : (s : MoveShape) → IsShape s → AreWords (shape_words s)
 shape_are_words (shape.Line x0 y0 x1 y1 m) r = (refl, (w32 x0 r.0, (w32 y0 r.1, (w32 x1 r.2, (w32 y1 r.3, (w32 m r.4, tt))))))

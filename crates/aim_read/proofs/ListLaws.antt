@@ -1,15 +1,17 @@
 -- Lists of lanes and of fates, element by element.
-use Rattle.std.proofs.Common.{◌≡◌, ℕ, suc, ◌+◌, ◌-◌, ◌*◌, ◌%◌, ◌^◌, ◌<◌, ◌≤◌, Bool, true, false, ◌||◌, not, nat_lt, List, [], ◌∷◌, length, take, drop, set, replicate, Option, Some, None, Ok, Err, refl, sym, ap, ◌∙◌, arith, add-one, cond, ltb-false, drop-drop, length-take-le}
+use Rattle.std.proofs.Common.{◌≡◌, ℕ, ◌+◌, ◌-◌, ◌*◌, ◌%◌, ◌^◌, ◌<◌, ◌≤◌, Bool, true, false, ◌||◌, not, nat_lt, List, [], ◌∷◌, length, take, drop, set, replicate, Option, Some, None, Ok, Err, refl, sym, ap, ◌∙◌, arith, add-one, cond, ltb-false, drop-drop, length-take-le}
 use Rattle.std.proofs.Math.Nat.{mod-eq_of_lt, pow-suc}
 use Rattle.std.proofs.Math.Pow.{pow_mono}
 use Rattle.std.proofs.lemmas.List.{take_more_set, drop-set-lt, drop-replicate, take-append-drop}
 use Rattle.aim_msg.specs.declared.script.LineKind.{LineKind}
 use Rattle.aim_msg.specs.declared.script.LineKind.TheVariants as kind
 use Rattle.aim_msg.specs.Texts.{Words}
-use Rattle.aim_read.specs.Faults.{value_of, is_number, number_fault, word_fault, number32}
+use Rattle.aim_words.specs.Faults.{value_of, is_number, number_fault, word_fault, number32}
 use Rattle.aim_read.specs.Forms.{fate}
-use Rattle.aim_read.specs.Reading.{unless, fate_of}
-use Rattle.aim_read.specs.Steps.{Read, with_rest, read_in, numbers_in, lanes_in, fates_in}
+use Rattle.aim_words.specs.Reading.{unless}
+use Rattle.aim_read.specs.Reading.{fate_of}
+use Rattle.aim_words.specs.Steps.{Read, with_rest, read_in}
+use Rattle.aim_read.specs.Steps.{lanes_in, fates_in}
 
 -- a number that is read is the word's, and within the bounds
 pub record IsWithin (low high : ℕ) (word : List ℕ) (n : ℕ) : Type 0 where
@@ -42,14 +44,6 @@ number_shorter (w ∷ ws) n left h = by_fault (number_fault 0 4294967295 w) h
     by_fault : (fault : Option LineKind) → with_rest ws (unless (value_of w) fault) ≡ Ok (n, left) → length left + 1 ≡ length (w ∷ ws)
     by_fault None h = omega (arith, ap (λ r. length (rest_of r)) h)
     by_fault (Some k) h = absurd cc
-
--- one number more stands in its place
-pub numbers_next : (numbers : List ℕ) (i count : ℕ) (ws : Words) (n : ℕ) (left : Words) → i < length numbers → i < count → read_in number32 value_of ws ≡ Ok (n, left)
-    → numbers_in (take i numbers) (count - i) ws ≡ numbers_in (take (i + 1) (set numbers i n)) (count - (i + 1)) left
-unfolding numbers_in
-numbers_next numbers i count ws n left inside below h =
-    let more : count - i ≡ suc (count - (i + 1)) = omega arith in
-    rw (more, h, take_more_set numbers i n inside) refl
 
 pub lane_bit : (lane : ℕ) → lane ≤ 15 → 1 * 2 ^ lane % 65536 ≡ 2 ^ lane
 lane_bit lane small = let below : 2 ^ lane ≤ 2 ^ 15 = pow_mono small in let fits : 1 * 2 ^ lane < 65536 = omega arith in mod-eq_of_lt fits ∙ (omega arith)

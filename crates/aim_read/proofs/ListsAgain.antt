@@ -1,17 +1,19 @@
 -- Reading gives back kinds of policies and lists of fates.
 use Rattle.std.proofs.Common.{◌≡◌, ℕ, zero, suc, ◌-◌, ◌^◌, ◌<◌, ◌≤◌, ◌==◌, nat_le, true, false, not, List, [], ◌∷◌, ◌++◌, length, map, take, replicate, Ok, decimal, codes, refl, sym, ap, ◌∙◌, arith, inl, inr, append_assoc, append-nil, length-take-le}
-use Rattle.std.specs.Prelude.{bytes_eq, if◌then◌else◌}
+use Rattle.std.specs.Prelude.{if◌then◌else◌}
 use Rattle.std.specs.List.{list_all}
-use Rattle.std.proofs.lemmas.Bool.{cases_Bool, and_parts, eqb-true, eq-eqb, ne_eqb, leb-true}
+use Rattle.std.proofs.lemmas.Bool.{cases_Bool, and_parts, eqb-true, eq-eqb, leb-true}
 use Rattle.std.proofs.lemmas.List.{take-append-drop}
 use Rattle.aim_msg.specs.declared.script.FateList.{FateList}
 use Rattle.aim_msg.specs.Texts.{Words}
 use Rattle.aim_msg.specs.Lines.{fate_word, fate_words, kind_word, IsFateList}
-use Rattle.aim_read.specs.Faults.{keyword, begins_with_digit, word_fault}
+use Rattle.aim_words.specs.Faults.{keyword, word_fault}
 use Rattle.aim_read.specs.Forms.{fate, kinds}
-use Rattle.aim_read.specs.Reading.{unless, kind_of, fate_of}
-use Rattle.aim_read.specs.Steps.{read_in, fates_in}
-use Rattle.aim_read.proofs.NumberLaws.{number_good, value_decimal, decimal_number, number_begins}
+use Rattle.aim_words.specs.Reading.{unless}
+use Rattle.aim_read.specs.Reading.{kind_of, fate_of}
+use Rattle.aim_words.specs.Steps.{read_in}
+use Rattle.aim_read.specs.Steps.{fates_in}
+use Rattle.aim_words.proofs.NumberLaws.{number_good, value_decimal, decimal_number, number_begins, not_letter}
 
 kinds_2 : (kind : ℕ) (ws : Words) → kind ≤ 2 → read_in (keyword (codes "fcfs" ∷ codes "emerg" ∷ codes "light" ∷ [])) kind_of (kind_word kind ∷ ws) ≡ Ok (kind, ws)
 unfolding read_in
@@ -33,13 +35,6 @@ kind_again version kind ws h = elim (cases_Bool (version == 3)) [
   | inl is ↦ rw is (kinds_3 kind ws (rw is at h))
   | inr not ↦ rw not (kinds_2 kind ws (rw not at h))
 ]
-
--- a word that begins with a digit is none that begins with a letter
-pub not_letter : (w : List ℕ) (letter : ℕ) (more : List ℕ) → begins_with_digit w ≡ true → 57 < letter → bytes_eq w (letter ∷ more) ≡ false
-not_letter [] letter more digit above = absurd cc
-not_letter (b ∷ bs) letter more digit above =
-    let most : b ≤ 57 = leb-true b 57 (and_parts (nat_le 48 b) (nat_le b 57) digit).1 in
-    rw (ne_eqb b letter (λ is. absurd (omega (arith, is)))) refl
 
 delay_again : (f : ℕ) → 1 ≤ f → f ≤ 255 → unless (fate_of (decimal f)) (word_fault fate (decimal f)) ≡ Ok f
 delay_again f least most =

@@ -2,74 +2,15 @@
 use Rattle.std.specs.Prelude.{ℕ, ◌+◌, ◌==◌, Bool, List, [], ◌∷◌, ◌++◌, length, Result, Ok, Err, codes, nat_le, ◌&&◌, if◌then◌else◌, bytes_eq}
 use Rattle.aim_msg.specs.declared.script.LineKind.{LineKind}
 use Rattle.aim_msg.specs.declared.script.LineKind.TheVariants as kind
-use Rattle.aim_read.specs.declared.forms.MessageForm.{MessageForm}
-use Rattle.aim_read.specs.declared.forms.MessageForm.TheVariants as message
-use Rattle.aim_read.specs.declared.forms.OrderForm.{OrderForm}
-use Rattle.aim_read.specs.declared.forms.OrderForm.TheVariants as order
-use Rattle.aim_read.specs.declared.forms.ReplyForm.{ReplyForm}
-use Rattle.aim_read.specs.declared.forms.ReplyForm.TheVariants as reply
-use Rattle.aim_read.specs.declared.forms.ReasonForm.{ReasonForm}
-use Rattle.aim_read.specs.declared.forms.ReasonForm.TheVariants as reason
+use Rattle.aim_words.specs.declared.forms.OrderForm.TheVariants as order
 use Rattle.aim_read.specs.declared.forms.ShapeForm.{ShapeForm}
 use Rattle.aim_read.specs.declared.forms.ShapeForm.TheVariants as shape
 use Rattle.aim_read.specs.declared.forms.LineForm.{LineForm}
 use Rattle.aim_read.specs.declared.forms.LineForm.TheVariants as form
 use Rattle.aim_msg.specs.Texts.{Words}
-use Rattle.aim_read.specs.Tables.{look_up}
-use Rattle.aim_read.specs.Faults.{Place, chosen, keyword, name, number, either, from, word_at, begins_with_digit, value_of, number32, number8, turns, classes}
-
--- by the first word of a message
-abbrev pub message_forms : List (List ℕ × MessageForm)
-message_forms =
-    (codes "request", message.Request) ∷ (codes "change", message.Change) ∷ (codes "cancel", message.Cancel) ∷ (codes "done", message.Done) ∷ []
-
-abbrev pub message_form : List ℕ → Result MessageForm LineKind
-message_form word = look_up kind.Words message_forms word
-
--- by the first word of an order
-abbrev pub order_forms : List (List ℕ × OrderForm)
-order_forms =
-    (codes "switch", order.Switch)
-    ∷ (codes "stop", order.Stop)
-    ∷ []
-
-abbrev pub order_form : List ℕ → Result OrderForm LineKind
-order_form word = look_up kind.Words order_forms word
-
--- by the first word of a reply
-abbrev pub reply_forms : List (List ℕ × ReplyForm)
-reply_forms =
-    (codes "confirm", reply.Confirm)
-    ∷ (codes "reject", reply.Reject)
-    ∷ (codes "ack", reply.Ack)
-    ∷ (codes "emergency-stop", reply.EmergencyStop)
-    ∷ (codes "stale", reply.Stale)
-    ∷ (codes "switched", reply.Switched)
-    ∷ (codes "stopped", reply.Stopped)
-    ∷ []
-
-abbrev pub reply_form : List ℕ → Result ReplyForm LineKind
-reply_form word = look_up kind.Words reply_forms word
-
--- by the first word of a reason
-abbrev pub reason_forms : List (List ℕ × ReasonForm)
-reason_forms =
-    (codes "holds", reason.Holds)
-    ∷ (codes "no-reservation", reason.NoReservation)
-    ∷ (codes "begun", reason.Begun)
-    ∷ (codes "too-soon", reason.TooSoon)
-    ∷ (codes "bad", reason.Bad)
-    ∷ (codes "late", reason.Late)
-    ∷ (codes "far", reason.Far)
-    ∷ (codes "distance", reason.Distance)
-    ∷ (codes "emergency", reason.Emergency)
-    ∷ (codes "green", reason.Green)
-    ∷ (codes "taken", reason.Taken)
-    ∷ (codes "reused", reason.Reused)
-    ∷ []
-
-abbrev pub reason_form : List ℕ → Result ReasonForm LineKind
-reason_form word = look_up kind.Words reason_forms word
+use Rattle.aim_words.specs.Tables.{look_up}
+use Rattle.aim_words.specs.Faults.{Place, chosen, keyword, name, number, either, from, word_at, begins_with_digit, value_of, number32, number8, turns}
+use Rattle.aim_words.specs.Forms.{message_form, order_form, vehicle_places, message_places}
 
 -- by the fourth word of a move
 abbrev pub shape_forms : List (List ℕ × ShapeForm)
@@ -127,14 +68,6 @@ line_form version words =
     else if bytes_eq (word_at words 0) (codes "move") then map_ok form.Move (shape_form (word_at words 3))
     else plain_form version (word_at words 0)
 
--- SPEED MAX ACCEL LENGTH WIDTH CLASS
-abbrev pub vehicle_places : List Place
-vehicle_places = number32 ∷ number32 ∷ number32 ∷ number32 ∷ number32 ∷ classes ∷ []
-
--- LANE TURN ARRIVE and those
-abbrev pub params_places : List Place
-params_places = number8 ∷ turns ∷ number32 ∷ vehicle_places
-
 -- lanes of a phase: each below 16 and above the one before it
 abbrev pub lane_places : ℕ → Words → List Place
 lane_places low [] = []
@@ -158,13 +91,6 @@ windows = keyword (codes "early" ∷ codes "start" ∷ [])
 -- V FIRST LEAD RESEND LANE TURN and those of the vehicle
 abbrev pub plan_places : List Place
 plan_places = chosen ∷ number32 ∷ number32 ∷ number32 ∷ number32 ∷ number8 ∷ turns ∷ vehicle_places
-
--- the places of a message's words behind the first
-abbrev pub message_places : MessageForm → List Place
-message_places message.Request = number32 ∷ params_places
-message_places message.Change = number32 ∷ number32 ∷ params_places
-message_places message.Cancel = number32 ∷ number32 ∷ []
-message_places message.Done = number32 ∷ number32 ∷ []
 
 -- of a move's words behind the shape's
 abbrev pub shape_places : ShapeForm → List Place

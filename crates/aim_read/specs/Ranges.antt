@@ -1,17 +1,5 @@
--- Which values the types of the code have: a field of 32 bits is below 2 ^ 32, and so on.
-use Rattle.std.specs.Prelude.{◌≡◌, ℕ, ◌<◌, ◌^◌, length, IfSome}
-use Rattle.aim_msg.specs.declared.messages.Params.{Params}
-use Rattle.aim_msg.specs.declared.messages.Body.{Body}
-use Rattle.aim_msg.specs.declared.messages.Body.TheVariants as body
-use Rattle.aim_msg.specs.declared.messages.Message.{Message}
-use Rattle.aim_msg.specs.declared.entries.Act.{Act}
-use Rattle.aim_msg.specs.declared.entries.Act.TheVariants as act
-use Rattle.aim_msg.specs.declared.entries.Order.TheVariants as order
-use Rattle.aim_msg.specs.declared.entries.Entry.{Entry}
-use Rattle.aim_msg.specs.declared.replies.Reason.{Reason}
-use Rattle.aim_msg.specs.declared.replies.Reason.TheVariants as reason
-use Rattle.aim_msg.specs.declared.replies.Reply.{Reply}
-use Rattle.aim_msg.specs.declared.replies.Reply.TheVariants as reply
+-- Which values the types of lines have: a field of 32 bits is below 2 ^ 32, and so on.
+use Rattle.std.specs.Prelude.{◌≡◌, ◌<◌, ◌^◌, length}
 use Rattle.aim_msg.specs.declared.script.Grid6.{Grid6}
 use Rattle.aim_msg.specs.declared.script.Times5.{Times5}
 use Rattle.aim_msg.specs.declared.script.Times6.{Times6}
@@ -19,31 +7,7 @@ use Rattle.aim_msg.specs.declared.script.MoveShape.{MoveShape}
 use Rattle.aim_msg.specs.declared.script.MoveShape.TheVariants as shape
 use Rattle.aim_msg.specs.declared.script.Line.{Line}
 use Rattle.aim_msg.specs.declared.script.Line.TheVariants as line
-
-abbrev pub Is32 : ℕ → Type 0
-Is32 n = n < 2 ^ 32
-
-abbrev pub Is8 : ℕ → Type 0
-Is8 n = n < 2 ^ 8
-
-pub record AreParams (p : Params) : Type 0 where
-  pub lane : Is8 p.lane
-  pub arrive : Is32 p.arrive
-  pub speed : Is32 p.speed
-  pub max_speed : Is32 p.max_speed
-  pub accel : Is32 p.accel
-  pub len : Is32 p.length
-  pub width : Is32 p.width
-
-abbrev pub IsBody : Body → Type 0
-IsBody (body.Request p) = AreParams p
-IsBody (body.Change id p) = Is32 id × AreParams p
-IsBody (body.Cancel id) = Is32 id
-IsBody (body.Done id) = Is32 id
-
-pub record IsMessage (m : Message) : Type 0 where
-  pub seq : Is32 m.seq
-  pub body : IsBody m.body
+use Rattle.aim_words.specs.Ranges.{Is32, Is8, AreParams, IsMessage}
 
 pub record IsGrid6 (g : Grid6) : Type 0 where
   pub side : Is32 g.side
@@ -94,37 +58,3 @@ IsLine (line.CancelAt vehicle step) = Is32 vehicle × Is32 step
 IsLine (line.Up vehicle fates) = Is32 vehicle × (length fates.fates ≡ 64)
 IsLine (line.Down vehicle fates) = Is32 vehicle × (length fates.fates ≡ 64)
 IsLine line.End = Unit {0}
-
-abbrev pub IsAct : Act → Type 0
-IsAct (act.Message m) = IsMessage m
-IsAct (act.Order (order.Switch policy)) = Is8 policy
-IsAct (act.Order order.Stop) = Unit {0}
-
-abbrev pub IsReason : Reason → Type 0
-IsReason (reason.Holds id) = Is32 id
-IsReason reason.NoReservation = Unit {0}
-IsReason (reason.Begun step) = Is32 step
-IsReason (reason.TooSoon next) = Is32 next
-IsReason (reason.Bad f) = Unit {0}
-IsReason (reason.Late now) = Is32 now
-IsReason (reason.Far reach) = Is32 reach
-IsReason (reason.Distance d) = d < 2 ^ 64
-IsReason (reason.Emergency lane) = Is8 lane
-IsReason (reason.Green row col step lane) = Is8 row × Is8 col × Is32 step × Is8 lane
-IsReason (reason.Taken row col step by) = Is8 row × Is8 col × Is32 step × Is32 by
-IsReason (reason.Reused seq) = Is32 seq
-
-abbrev pub IsReply : Reply → Type 0
-IsReply (reply.Confirm id start before after accelerate end) = Is32 id × Is32 start × Is32 before × Is32 after × Is32 end
-IsReply (reply.Reject why next held) = IsReason why × Is32 next × IfSome held Is32
-IsReply (reply.Ack id) = Is32 id
-IsReply reply.EmergencyStop = Unit {0}
-IsReply (reply.Stale seq) = Is32 seq
-IsReply (reply.Switched from) = Is32 from
-IsReply reply.Stopped = Unit {0}
-
-pub record IsEntry (e : Entry) : Type 0 where
-  pub caller : Is32 e.caller
-  pub moment : Is32 e.moment
-  pub act : IsAct e.act
-  pub reply : IsReply e.reply

@@ -1,10 +1,5 @@
 -- The script line that bytes spell, or why they spell none.
-use Rattle.std.specs.Prelude.{ℕ, ◌+◌, ◌-◌, ◌^◌, Bool, false, List, ◌++◌, length, map, replicate, sum_by, Option, Some, None, Result, Ok, Err, codes, if◌then◌else◌, bytes_eq}
-use Rattle.aim_msg.specs.declared.messages.Turn.{Turn}
-use Rattle.aim_msg.specs.declared.messages.Turn.TheVariants.{Left, Straight, Right}
-use Rattle.aim_msg.specs.declared.messages.Params.{Params}
-use Rattle.aim_msg.specs.declared.messages.Body.{Body}
-use Rattle.aim_msg.specs.declared.messages.Body.TheVariants as body
+use Rattle.std.specs.Prelude.{ℕ, ◌-◌, ◌^◌, Bool, false, List, ◌++◌, length, map, replicate, sum_by, Option, Some, None, Result, Ok, Err, codes, if◌then◌else◌, bytes_eq}
 use Rattle.aim_msg.specs.declared.script.MoveShape.TheVariants as shape
 use Rattle.aim_msg.specs.declared.script.Name.{Name}
 use Rattle.aim_msg.specs.declared.script.FateList.{FateList}
@@ -12,45 +7,19 @@ use Rattle.aim_msg.specs.declared.script.Line.{Line}
 use Rattle.aim_msg.specs.declared.script.Line.TheVariants as line
 use Rattle.aim_msg.specs.declared.script.LineKind.{LineKind}
 use Rattle.aim_msg.specs.declared.script.LineKind.TheVariants as kind
-use Rattle.aim_msg.specs.declared.messages.Message.{Message}
 use Rattle.aim_msg.specs.declared.script.MoveShape.{MoveShape}
-use Rattle.aim_read.specs.declared.forms.MessageForm.{MessageForm}
-use Rattle.aim_read.specs.declared.forms.MessageForm.TheVariants as message
-use Rattle.aim_read.specs.declared.forms.OrderForm.TheVariants as order
+use Rattle.aim_words.specs.declared.forms.OrderForm.TheVariants as order
 use Rattle.aim_read.specs.declared.forms.ShapeForm.{ShapeForm}
 use Rattle.aim_read.specs.declared.forms.ShapeForm.TheVariants as way
 use Rattle.aim_read.specs.declared.forms.LineForm.{LineForm}
 use Rattle.aim_read.specs.declared.forms.LineForm.TheVariants as form
 use Rattle.aim_msg.specs.Texts.{Words}
-use Rattle.aim_read.specs.Faults.{words_of, word_at, from, value_of, first_fault}
+use Rattle.aim_words.specs.Faults.{words_of, word_at, from, value_of, first_fault}
 use Rattle.aim_read.specs.Forms.{line_form, line_places, has_count}
-
--- the number at a place
-abbrev pub at : Words → ℕ → ℕ
-at words i = value_of (word_at words i)
-
-abbrev pub turn_of : List ℕ → Turn
-turn_of word = if bytes_eq word (codes "left") then Left else if bytes_eq word (codes "straight") then Straight else Right
-
-abbrev pub is_emergency : List ℕ → Bool
-is_emergency word = bytes_eq word (codes "emergency")
+use Rattle.aim_words.specs.Reading.{at, turn_of, params_at, message_of, unless}
 
 abbrev pub is_early : List ℕ → Bool
 is_early word = bytes_eq word (codes "early")
-
--- LANE and TURN from one place on, ARRIVE, and the rest from another
-abbrev pub params_at : Words → ℕ → ℕ → ℕ → Params
-params_at words i arrive j = record {
-  lane = at words i;
-  turn = turn_of (word_at words (i + 1));
-  arrive = arrive;
-  speed = at words j;
-  max_speed = at words (j + 1);
-  accel = at words (j + 2);
-  length = at words (j + 3);
-  width = at words (j + 4);
-  emergency = is_emergency (word_at words (j + 5));
-}
 
 abbrev pub name_of : List ℕ → Name
 name_of word = record { bytes = word ++ replicate (16 - length word) 0; len = length word }
@@ -71,16 +40,6 @@ fates_of words = record { fates = map fate_of words ++ replicate (64 - length wo
 -- the lanes as bits
 abbrev pub lanes_of : Words → ℕ
 lanes_of words = sum_by (λ w. 2 ^ value_of w) words
-
--- a message, of the words behind its first
-abbrev pub body_of : MessageForm → Words → Body
-body_of message.Request words = body.Request (params_at words 1 (at words 3) 4)
-body_of message.Change words = body.Change (at words 1) (params_at words 2 (at words 4) 5)
-body_of message.Cancel words = body.Cancel (at words 1)
-body_of message.Done words = body.Done (at words 1)
-
-abbrev pub message_of : MessageForm → Words → Message
-message_of m words = record { seq = at words 0; body = body_of m words }
 
 -- a move's way, of the words behind the shape's
 abbrev pub shape_of : ShapeForm → Words → MoveShape
@@ -113,11 +72,6 @@ line_of form.CancelPlan words = line.CancelAt (at words 1) (at words 2)
 line_of form.Up words = line.Up (at words 1) (fates_of (from 2 words))
 line_of form.Down words = line.Down (at words 1) (fates_of (from 2 words))
 line_of form.End words = line.End
-
--- a value that has no fault, or its fault
-abbrev pub unless : {A : Type 0} → A → Option LineKind → Result A LineKind
-unless a None = Ok a
-unless a (Some k) = Err k
 
 -- the first fault of the words of a form: their number comes before each of them
 abbrev pub form_fault : ℕ → LineForm → Words → Option LineKind

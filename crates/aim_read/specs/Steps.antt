@@ -1,106 +1,24 @@
 -- Reading word by word: a value and the words behind it, or the kind of the first fault. Only contracts of private
 -- functions cite it.
-use Rattle.std.specs.Prelude.{ℕ, zero, suc, get_or, ◌+◌, ◌-◌, ◌^◌, ◌≡◌, Bool, true, false, List, [], ◌∷◌, ◌++◌, length, replicate, Option, Some, None, Result, Ok, Err, if◌then◌else◌}
-use Rattle.std.specs.Borrow.{Bor}
-use Rattle.aim_msg.specs.declared.messages.Turn.{Turn}
-use Rattle.aim_msg.specs.declared.messages.Params.{Params}
-use Rattle.aim_msg.specs.declared.messages.Body.{Body}
-use Rattle.aim_msg.specs.declared.messages.Body.TheVariants as body
-use Rattle.aim_msg.specs.declared.messages.Message.{Message}
+use Rattle.std.specs.Prelude.{ℕ, get_or, ◌+◌, ◌-◌, ◌^◌, Bool, true, false, List, [], ◌∷◌, ◌++◌, length, replicate, Result, Ok, if◌then◌else◌}
 use Rattle.aim_msg.specs.declared.script.MoveShape.{MoveShape}
 use Rattle.aim_msg.specs.declared.script.MoveShape.TheVariants as shape
 use Rattle.aim_msg.specs.declared.script.FateList.{FateList}
 use Rattle.aim_msg.specs.declared.script.Line.{Line}
 use Rattle.aim_msg.specs.declared.script.Line.TheVariants as line
 use Rattle.aim_msg.specs.declared.script.LineKind.{LineKind}
-use Rattle.aim_msg.specs.declared.script.LineKind.TheVariants as kind
-use Rattle.aim_read.specs.declared.forms.MessageForm.{MessageForm}
-use Rattle.aim_read.specs.declared.forms.MessageForm.TheVariants as message
-use Rattle.aim_read.specs.declared.forms.OrderForm.TheVariants as order
+use Rattle.aim_words.specs.declared.forms.MessageForm.{MessageForm}
+use Rattle.aim_words.specs.declared.forms.OrderForm.TheVariants as order
 use Rattle.aim_read.specs.declared.forms.ShapeForm.{ShapeForm}
 use Rattle.aim_read.specs.declared.forms.ShapeForm.TheVariants as way
 use Rattle.aim_read.specs.declared.forms.LineForm.{LineForm}
 use Rattle.aim_read.specs.declared.forms.LineForm.TheVariants as form
 use Rattle.aim_msg.specs.Texts.{Words}
-use Rattle.aim_read.specs.Faults.{words_of, first, rest, Place, name, number32, number8, turns, classes, fault_at, word_fault, number_fault, value_of}
-use Rattle.aim_read.specs.Tables.{look_up}
+use Rattle.aim_words.specs.Faults.{rest, name, number8, turns, word_fault, number_fault, value_of}
 use Rattle.aim_read.specs.Forms.{fate, kinds, windows}
-use Rattle.aim_read.specs.Reading.{unless, turn_of, is_emergency, is_early, name_of, kind_of, fate_of}
-
-infixl 10 ◌>>=◌
-abbrev pub ◌>>=◌ : {A B : Type 0} → Result A LineKind → (A → Result B LineKind) → Result B LineKind
-(Ok a) >>= f = f a
-(Err k) >>= f = Err k
-
-abbrev pub Read : Type 0 → Type 0
-Read A = Result (A × Words) LineKind
-
-abbrev pub with_rest : {A : Type 0} → Words → Result A LineKind → Read A
-with_rest words (Ok a) = Ok (a, words)
-with_rest words (Err k) = Err k
-
--- the first word, where it may stand in that place
-unfoldable pub read_in : {A : Type 0} → Place → (List ℕ → A) → Words → Read A
-read_in p value words = with_rest (rest words) (unless (value (first words)) (fault_at p words))
-
--- what a function answered, and the words that it left, are what reading gives
-abbrev pub Gives : {A : Type 0} → Result A LineKind → Words → Read A → Type 0
-Gives (Ok a) left read = read ≡ Ok (a, left)
-Gives (Err k) left read = read ≡ Err k
-
--- the words of what is left, where something is left
-abbrev pub words_left : Option (Bor (List ℕ)) → Words
-words_left None = []
-words_left (Some bytes) = words_of bytes.now
-
-abbrev pub number_in : Words → Read ℕ
-number_in words = read_in number32 value_of words
-
--- so many numbers, behind those that are there
-unfoldable pub numbers_in : List ℕ → ℕ → Words → Read (List ℕ)
-numbers_in numbers zero words = Ok (numbers, words)
-numbers_in numbers (suc count) words = do
-  n ← number_in words
-  numbers_in (numbers ++ n.0 ∷ []) count n.1
-
--- what the row of the first word says
-unfoldable pub choice_in : {A : Type 0} → List (List ℕ × A) → Words → Read A
-choice_in rows [] = Err kind.Words
-choice_in rows (w ∷ ws) = with_rest ws (look_up kind.Words rows w)
-
-unfoldable pub vehicle_in : ℕ → Turn → ℕ → Words → Read Params
-vehicle_in lane turn arrive words = do
-  n ← numbers_in [] 5 words
-  class ← read_in classes is_emergency n.1
-  Ok (record { lane = lane; turn = turn; arrive = arrive; speed = get_or n.0 0 0; max_speed = get_or n.0 1 0; accel = get_or n.0 2 0; length = get_or n.0 3 0; width = get_or n.0 4 0; emergency = class.0 }, class.1)
-
-unfoldable pub params_in : Words → Read Params
-params_in words = do
-  lane ← read_in number8 value_of words
-  turn ← read_in turns turn_of lane.1
-  arrive ← number_in turn.1
-  vehicle_in lane.0 turn.0 arrive.0 arrive.1
-
-unfoldable pub body_in : MessageForm → Words → Read Body
-body_in message.Request words = do
-  params ← params_in words
-  Ok (body.Request params.0, params.1)
-body_in message.Change words = do
-  id ← number_in words
-  params ← params_in id.1
-  Ok (body.Change id.0 params.0, params.1)
-body_in message.Cancel words = do
-  id ← number_in words
-  Ok (body.Cancel id.0, id.1)
-body_in message.Done words = do
-  id ← number_in words
-  Ok (body.Done id.0, id.1)
-
-unfoldable pub message_in : MessageForm → Words → Read Message
-message_in m words = do
-  seq ← number_in words
-  body ← body_in m seq.1
-  Ok (record { seq = seq.0; body = body.0 }, body.1)
+use Rattle.aim_words.specs.Reading.{unless, turn_of}
+use Rattle.aim_read.specs.Reading.{is_early, name_of, kind_of, fate_of}
+use Rattle.aim_words.specs.Steps.{◌>>=◌, Read, read_in, number_in, numbers_in, vehicle_in, message_in}
 
 unfoldable pub shape_in : ShapeForm → Words → Result MoveShape LineKind
 shape_in way.Line words = do

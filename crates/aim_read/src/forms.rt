@@ -1,57 +1,14 @@
-// The forms that texts have, each of which a word chooses.
+// The forms of script lines, each of which words choose.
 ghost use Rattle.std.specs.Prelude.{◌≡◌, ◌==◌, ◌&&◌, ◌+◌, ◌<◌, ◌^◌, count_by, nat_le, length, bytes_eq, codes};
-ghost use Rattle.aim_read.specs.Faults.{words_of};
-ghost use Rattle.aim_read.specs.Forms.{message_form, order_form, reply_form, reason_form, shape_form, times_form, plan_form, in_version, plain_form, line_form, has_count};
+ghost use Rattle.aim_words.specs.Faults.{words_of};
+ghost use Rattle.aim_words.specs.Forms.{message_form, order_form};
+ghost use Rattle.aim_read.specs.Forms.{shape_form, times_form, plan_form, in_version, plain_form, line_form, has_count};
 
-use crate::numbers::begins_with_digit;
-use crate::tables::look_up;
-use crate::words::Words;
 use aim_msg::LineKind;
-
-/// The forms of messages.
-#[derive(Clone, Copy)]
-pub enum MessageForm {
-    Request,
-    Change,
-    Cancel,
-    Done,
-}
-
-/// The forms of orders.
-#[derive(Clone, Copy)]
-pub enum OrderForm {
-    Switch,
-    Stop,
-}
-
-/// The forms of replies.
-#[derive(Clone, Copy)]
-pub enum ReplyForm {
-    Confirm,
-    Reject,
-    Ack,
-    EmergencyStop,
-    Stale,
-    Switched,
-    Stopped,
-}
-
-/// The forms of reasons.
-#[derive(Clone, Copy)]
-pub enum ReasonForm {
-    Holds,
-    NoReservation,
-    Begun,
-    TooSoon,
-    Bad,
-    Late,
-    Far,
-    Distance,
-    Emergency,
-    Green,
-    Taken,
-    Reused,
-}
+use aim_words::forms::{MessageForm, OrderForm, message_form, order_form};
+use aim_words::numbers::begins_with_digit;
+use aim_words::tables::look_up;
+use aim_words::words::Words;
 
 /// The forms of a move's way.
 #[derive(Clone, Copy)]
@@ -85,43 +42,6 @@ pub enum LineForm {
     End,
 }
 
-const MESSAGES: [(&[u8], MessageForm); 4] = [
-    (b"request", MessageForm::Request),
-    (b"change", MessageForm::Change),
-    (b"cancel", MessageForm::Cancel),
-    (b"done", MessageForm::Done),
-];
-
-const ORDERS: [(&[u8], OrderForm); 2] = [
-    (b"switch", OrderForm::Switch),
-    (b"stop", OrderForm::Stop),
-];
-
-const REPLIES: [(&[u8], ReplyForm); 7] = [
-    (b"confirm", ReplyForm::Confirm),
-    (b"reject", ReplyForm::Reject),
-    (b"ack", ReplyForm::Ack),
-    (b"emergency-stop", ReplyForm::EmergencyStop),
-    (b"stale", ReplyForm::Stale),
-    (b"switched", ReplyForm::Switched),
-    (b"stopped", ReplyForm::Stopped),
-];
-
-const REASONS: [(&[u8], ReasonForm); 12] = [
-    (b"holds", ReasonForm::Holds),
-    (b"no-reservation", ReasonForm::NoReservation),
-    (b"begun", ReasonForm::Begun),
-    (b"too-soon", ReasonForm::TooSoon),
-    (b"bad", ReasonForm::Bad),
-    (b"late", ReasonForm::Late),
-    (b"far", ReasonForm::Far),
-    (b"distance", ReasonForm::Distance),
-    (b"emergency", ReasonForm::Emergency),
-    (b"green", ReasonForm::Green),
-    (b"taken", ReasonForm::Taken),
-    (b"reused", ReasonForm::Reused),
-];
-
 const SHAPES: [(&[u8], ShapeForm); 2] = [(b"line", ShapeForm::Line), (b"curve", ShapeForm::Curve)];
 
 // The lines of version 1 that only their first word chooses.
@@ -142,34 +62,6 @@ const LINES: [(&[u8], LineForm); 15] = [
     (b"down", LineForm::Down),
     (b"end", LineForm::End),
 ];
-
-/// The form of a message that begins with that word.
-pub fn message_form(word: &[u8]) -> Result<MessageForm, LineKind>
-    ensures { result ≡ message_form word.now }
-{
-    look_up(&MESSAGES, LineKind::Words, word)
-}
-
-/// The form of an order that begins with that word.
-pub fn order_form(word: &[u8]) -> Result<OrderForm, LineKind>
-    ensures { result ≡ order_form word.now }
-{
-    look_up(&ORDERS, LineKind::Words, word)
-}
-
-/// The form of a reply that begins with that word.
-pub fn reply_form(word: &[u8]) -> Result<ReplyForm, LineKind>
-    ensures { result ≡ reply_form word.now }
-{
-    look_up(&REPLIES, LineKind::Words, word)
-}
-
-/// The form of a reason that begins with that word.
-pub fn reason_form(word: &[u8]) -> Result<ReasonForm, LineKind>
-    ensures { result ≡ reason_form word.now }
-{
-    look_up(&REASONS, LineKind::Words, word)
-}
 
 fn shape_form(word: &[u8]) -> Result<ShapeForm, LineKind>
     ensures { result ≡ shape_form word.now }
@@ -248,7 +140,7 @@ fn spaces(line: &[u8]) -> usize
 }
 
 /// How many words a line has.
-#[tactic(auto, using(crate::proofs::Splits::words_counted))]
+#[tactic(auto, using(aim_words::proofs::Splits::words_counted))]
 pub fn count(line: &[u8]) -> usize
     ensures { result ≡ length (words_of line.now) }
 {

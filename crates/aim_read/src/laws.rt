@@ -1,18 +1,13 @@
-//! Laws of the texts: what is spelled is read again, what is read is spelled so, and no two values have one spelling.
-//! Each is the contract of a function that does nothing.
-ghost use Rattle.std.specs.Prelude.{◌≡◌, ℕ, List, Ok, Err};
+//! Laws of the texts of lines and messages: what is spelled is read again, what is read is spelled so, and no two
+//! values have one spelling. Each is the contract of a function that does nothing.
+ghost use Rattle.std.specs.Prelude.{◌≡◌, ℕ, List, Ok};
 ghost use Rattle.aim_msg.specs.declared.messages.Message.{Message};
 ghost use Rattle.aim_msg.specs.declared.script.Line.{Line};
 ghost use Rattle.aim_msg.specs.Lines.{line_text, KeepsRanges};
-ghost use Rattle.aim_msg.specs.declared.replies.Reply.{Reply};
-ghost use Rattle.aim_msg.specs.declared.entries.Entry.{Entry};
-ghost use Rattle.aim_msg.specs.Texts.{message_text, reply_text, entry_text, IsOneLine};
-ghost use Rattle.aim_msg.specs.Actors.{IsCallerOf};
-ghost use Rattle.aim_read.specs.Entries.{entry_at};
-ghost use Rattle.aim_read.specs.Ranges.{Is32, IsMessage, IsLine, IsReply, IsEntry};
+ghost use Rattle.aim_msg.specs.Texts.{message_text, IsOneLine};
+ghost use Rattle.aim_words.specs.Ranges.{IsMessage};
+ghost use Rattle.aim_read.specs.Ranges.{IsLine};
 ghost use Rattle.aim_read.specs.Reading.{line_at};
-
-use aim_msg::LineKind;
 
 /// Reading the text of a line that keeps its ranges gives the line back.
 pub fn line_is_read_again()
@@ -29,27 +24,6 @@ pub fn line_has_one_text()
     ensures { (version : ℕ) (a b : Line) → IsLine a → KeepsRanges version a → IsLine b → KeepsRanges version b → line_text version a ≡ line_text version b → a ≡ b }
 {}
 
-/// No two replies have one text.
-pub fn reply_has_one_text()
-    ensures { (a b : Reply) → IsReply a → IsReply b → reply_text a ≡ reply_text b → a ≡ b }
-{}
-
-/// Reading the text of an entry gives its position and the entry back.
-pub fn entry_is_read_again()
-    ensures { (position : ℕ) (entry : Entry) → Is32 position → IsEntry entry → IsCallerOf entry.caller entry.act → entry_at (entry_text position entry) ≡ Ok (position, entry) }
-{}
-
-/// Bytes that are read as an entry are its text. Its caller is `OPERATOR` where its act is an order, and a vehicle
-/// below 65,536 where its act is a message.
-pub fn entry_is_spelled_so()
-    ensures { (bytes : List ℕ) (position : ℕ) (entry : Entry) → entry_at bytes ≡ Ok (position, entry) → Is32 position × IsEntry entry × IsCallerOf entry.caller entry.act × (bytes ≡ entry_text position entry) }
-{}
-
-/// No two entries have one text.
-pub fn entry_has_one_text()
-    ensures { (i j : ℕ) (a b : Entry) → Is32 i → Is32 j → IsEntry a → IsEntry b → IsCallerOf a.caller a.act → IsCallerOf b.caller b.act → entry_text i a ≡ entry_text j b → (i ≡ j) × (a ≡ b) }
-{}
-
 /// No two messages have one text.
 pub fn message_has_one_text()
     ensures { (m n : Message) → IsMessage m → IsMessage n → message_text m ≡ message_text n → m ≡ n }
@@ -58,12 +32,5 @@ pub fn message_has_one_text()
 /// No text has a byte 10 in it.
 pub fn text_is_one_line()
     ensures message { (m : Message) → IsMessage m → IsOneLine (message_text m) }
-    ensures reply { (reply : Reply) → IsReply reply → IsOneLine (reply_text reply) }
-    ensures entry { (position : ℕ) (entry : Entry) → Is32 position → IsEntry entry → IsOneLine (entry_text position entry) }
     ensures line { (version : ℕ) (line : Line) → IsLine line → KeepsRanges version line → IsOneLine (line_text version line) }
-{}
-
-/// Bytes that spell no entry are never of the kind `Unknown`.
-pub fn entry_is_never_unknown()
-    ensures { (bytes : List ℕ) → entry_at bytes ≡ Err LineKind.Unknown → ⊥ }
 {}

@@ -1,27 +1,21 @@
-//! Reads the lines of scripts and the entries of journals, whose types and texts `aim_msg` has.
+//! Reads the lines of scripts, whose types and texts `aim_msg` has.
 #![tactic(auto)]
 
 ghost use Rattle.std.specs.Prelude.{◌≡◌, ◌<◌, ◌≤◌, length};
 ghost use Rattle.aim_read.specs.Forms.{has_count};
 ghost use Rattle.aim_read.specs.Reading.{line_at};
-ghost use Rattle.aim_read.specs.Entries.{entry_at};
 ghost use Rattle.aim_read.specs.Steps.{behind_keyword, steps_in};
 
-mod entries;
-mod fields;
 mod forms;
 pub mod laws;
 mod lines;
 mod lists;
-mod numbers;
-mod replies;
-mod tables;
-mod words;
 
-use aim_msg::{Entry, Line, LineKind};
-use fields::number32;
-use forms::{LineForm, OrderForm, count, has_count, line_form};
-use words::Words;
+use aim_msg::{Line, LineKind};
+use aim_words::fields::number32;
+use aim_words::forms::OrderForm;
+use aim_words::words::Words;
+use forms::{LineForm, count, has_count, line_form};
 
 // Passes the keyword with which each line but an event begins.
 fn skip_keyword(words: &mut Words<'_>, form: LineForm)
@@ -83,18 +77,4 @@ pub fn read_line(line: &[u8], version: u8) -> Result<Line, LineKind>
     let mut words = Words::new(line);
     skip_keyword(&mut words, form);
     line_in(&mut words, form, version)
-}
-
-/// Reads an entry and its position: both for the text of an entry whose caller is `OPERATOR` where its act is an
-/// order, and a vehicle below 65,536 where its act is a message. Else the first wrong word from the left decides.
-///
-/// - `Words`: a word is missing, or stands where none or another may stand. Such are a word in the caller's place
-///   and one behind `held` that are neither the one word allowed there nor begin with a digit.
-/// - `Number`: a word in a number's place isn't spelled as a number.
-/// - `Range`: the number is too great for its field, or the caller isn't below 65,536.
-#[tactic(auto, using(crate::proofs::EntryStepLaws::entry_is))]
-pub fn read_entry(line: &[u8]) -> Result<(u32, Entry), LineKind>
-    ensures { result ≡ entry_at line.now }
-{
-    entries::entry(line)
 }

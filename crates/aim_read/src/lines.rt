@@ -2,15 +2,17 @@
 ghost use Rattle.std.specs.Prelude.{◌≡◌, ◌<◌, ◌≤◌, ◌&&◌, false, true, length, nat_lt, nat_le, bytes_eq, codes};
 ghost use Rattle.std.specs.List.{list_all};
 ghost use Rattle.aim_msg.specs.Lines.{is_name_byte};
-ghost use Rattle.aim_read.specs.Faults.{value_of, name, is_name};
+ghost use Rattle.aim_words.specs.Faults.{value_of, name, is_name};
 ghost use Rattle.aim_read.specs.Forms.{kinds, windows};
 ghost use Rattle.aim_read.specs.Reading.{name_of, kind_of, is_early};
-ghost use Rattle.aim_read.specs.Steps.{Gives, read_in, shape_in, grid_in, times_in, times6_in, move_in, policy_in, event_in, switch_in, stop_in, window_in, plan_in, change_plan_in, cancel_plan_in};
+ghost use Rattle.aim_words.specs.Steps.{Gives, read_in};
+ghost use Rattle.aim_read.specs.Steps.{shape_in, grid_in, times_in, times6_in, move_in, policy_in, event_in, switch_in, stop_in, window_in, plan_in, change_plan_in, cancel_plan_in};
 
-use crate::fields::{choice, message, number8, number32, numbers, turn, vehicle};
-use crate::forms::{MessageForm, ShapeForm};
-use crate::words::Words;
+use crate::forms::ShapeForm;
 use aim_msg::{Grid6, Line, LineKind, MoveShape, Name, Times5, Times6};
+use aim_words::fields::{choice, message, number8, number32, numbers, turn, vehicle};
+use aim_words::forms::MessageForm;
+use aim_words::words::Words;
 
 fn is_name_byte(b: u8) -> bool
     ensures { result ≡ is_name_byte b }
@@ -32,7 +34,7 @@ fn is_name(word: &[u8]) -> bool
 }
 
 // A name of 1 to 16 bytes.
-#[tactic(auto, unfolding(crate::specs::Steps::read_in))]
+#[tactic(auto, unfolding(aim_words::specs::Steps::read_in))]
 fn name(words: &mut Words<'_>) -> Result<Name, LineKind>
     ensures { Gives result words.new (read_in name name_of words.old) }
 {

@@ -1,14 +1,15 @@
 // The lines that end with a list.
 ghost use Rattle.std.specs.Prelude.{◌≡◌, ◌≤◌, ◌+◌, [], length, bytes_eq, codes};
-ghost use Rattle.aim_read.specs.Faults.{word_fault};
+ghost use Rattle.aim_words.specs.Faults.{word_fault};
 ghost use Rattle.aim_read.specs.Forms.{fate};
-ghost use Rattle.aim_read.specs.Reading.{unless, fate_of};
+ghost use Rattle.aim_words.specs.Reading.{unless};
+ghost use Rattle.aim_read.specs.Reading.{fate_of};
 ghost use Rattle.aim_read.specs.Steps.{lanes_in, phase_in, fates_in, up_in, down_in};
 
-use crate::fields::number32;
-use crate::numbers::{begins_with_digit, number};
-use crate::words::Words;
 use aim_msg::{FateList, Line, LineKind};
+use aim_words::fields::number32;
+use aim_words::numbers::{begins_with_digit, number};
+use aim_words::words::Words;
 
 // Lanes below 16, each above the one before it, as bits.
 #[tactic(auto, unfolding(crate::specs::Steps::lanes_in))]

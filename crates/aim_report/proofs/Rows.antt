@@ -13,7 +13,7 @@ use Rattle.aim_msg.specs.declared.entries.TheConstants.{OPERATOR}
 use Rattle.aim_msg.specs.declared.replies.Reason.TheVariants as reason
 use Rattle.aim_msg.specs.declared.replies.Reply.{Reply}
 use Rattle.aim_msg.specs.declared.replies.Reply.TheVariants as reply
-use Rattle.aim_read.specs.Ranges.{AreParams, IsMessage}
+use Rattle.aim_words.specs.Ranges.{AreParams, IsMessage}
 use Rattle.aim_geometry.specs.Cells.{Cell}
 use Rattle.aim_driver.specs.declared.logs.LogItem.{LogItem}
 use Rattle.aim_driver.specs.declared.logs.LogItem.TheVariants as item

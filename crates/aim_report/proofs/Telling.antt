@@ -8,14 +8,15 @@ use Rattle.std.proofs.lemmas.List.Elements.{All-head, All-tail}
 use Rattle.std.proofs.lemmas.Fmt.{decimal_injective}
 use Rattle.aim_msg.specs.declared.entries.Entry.{Entry}
 use Rattle.aim_msg.specs.Texts.{Words, spaced, entry_words, entry_text, IsOneLine}
-use Rattle.aim_read.specs.Faults.{first, rest, words_of, begins_with_digit}
-use Rattle.aim_read.specs.Ranges.{Is32}
-use Rattle.aim_read.proofs.NumberLaws.{decimal_number, number_begins}
-use Rattle.aim_read.proofs.WordLaws.{AreWords, words_spaced}
-use Rattle.aim_read.proofs.LineWords.{w32, message_are_words}
-use Rattle.aim_read.proofs.EntryAgain.{reply_are_words, entry_alone, reply_alone}
+use Rattle.aim_words.specs.Faults.{first, rest, words_of, begins_with_digit}
+use Rattle.aim_words.specs.Ranges.{Is32}
+use Rattle.aim_words.proofs.NumberLaws.{decimal_number, number_begins}
+use Rattle.aim_words.proofs.WordLaws.{AreWords, words_spaced}
+use Rattle.aim_words.proofs.MessageWords.{w32, message_are_words}
+use Rattle.aim_read_entries.proofs.EntryAgain.{reply_are_words, entry_alone, reply_alone}
 use Rattle.aim_read.proofs.LineAgain.{message_one}
-use Rattle.aim_read.proofs.OneLine.{words_end_none, entry_is_one_line}
+use Rattle.aim_words.proofs.OneLine.{words_end_none}
+use Rattle.aim_read_entries.proofs.OneLine.{entry_is_one_line}
 use Rattle.aim_script.specs.Decided.{printed}
 use Rattle.aim_paths.specs.Intersection.{Intersection}
 use Rattle.aim_driver.specs.declared.logs.LogItem.{LogItem}

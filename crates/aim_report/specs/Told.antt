@@ -2,7 +2,8 @@
 use Rattle.std.specs.Prelude.{◌≢◌, ℕ, ◌≤◌, ◌==◌, List, [], ◌∷◌, length, All, AllPairs, if◌then◌else◌}
 use Rattle.aim_msg.specs.declared.entries.Entry.{Entry}
 use Rattle.aim_msg.specs.Actors.{IsCallerOf}
-use Rattle.aim_read.specs.Ranges.{Is32, IsMessage, IsReply, IsEntry}
+use Rattle.aim_words.specs.Ranges.{Is32, IsMessage}
+use Rattle.aim_read_entries.specs.Ranges.{IsReply, IsEntry}
 use Rattle.aim_driver.specs.declared.logs.LogItem.{LogItem}
 use Rattle.aim_driver.specs.declared.logs.LogItem.TheVariants as item
 use Rattle.aim_report.specs.Reports.{Logged}

@@ -8,7 +8,7 @@ use aim_book::{Book, Full};
 use aim_buffers::prepare;
 use aim_msg::{Act, Entry, LATEST_MOMENT, Message, Order, Reply, write_entry};
 use aim_pool::Pool;
-use aim_read::read_entry;
+use aim_read_entries::read_entry;
 use aim_tiles::Steps;
 use std::alloc::Global;
 use std::marker::Brand;

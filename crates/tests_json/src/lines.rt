@@ -5,7 +5,8 @@ use aim_json::{write_json_entry, write_json_line};
 use aim_json_read::{JsonFault, read_json_line};
 use aim_msg::write_line;
 use aim_read::laws::line_is_spelled_so;
-use aim_read::{read_entry, read_line};
+use aim_read::read_line;
+use aim_read_entries::read_entry;
 use std::alloc::Global;
 use std::test::Fail;
 

@@ -3,7 +3,7 @@ use aim_msg::{
     Act, Body, Entry, Line, LineKind, Message, Name, OPERATOR, Order, Params, Reason, Reply, Turn,
     entry_text, put_number, write_entry, write_line, write_message, write_reply,
 };
-use aim_read::read_entry;
+use aim_read_entries::read_entry;
 use std::test::Fail;
 
 const ENTRIES: [&[u8]; 4] = [

@@ -1,5 +1,5 @@
 use Rattle.std.proofs.Common.{◌≡◌, ◌≤◌, ◌+◌, ◌++◌, length, map}
-use Rattle.aim_read.specs.Faults.{value_of}
+use Rattle.aim_words.specs.Faults.{value_of}
 use Rattle.aim_claims.specs.Lines.{numbers_fault}
 use Rattle.aim_claims.proofs.lines.numbers.Given as goal
 

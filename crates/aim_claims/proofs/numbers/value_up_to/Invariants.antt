@@ -1,6 +1,6 @@
 use Rattle.std.proofs.Common.{◌≡◌, true, length}
 use Rattle.std.specs.List.{list_all}
-use Rattle.aim_read.specs.Faults.{is_digit, value_after, value_of}
+use Rattle.aim_words.specs.Faults.{is_digit, value_after, value_of}
 use Rattle.aim_claims.proofs.numbers.value_up_to.Given as goal
 
 abbrev pub invariant-loop-digits : goal.invariant-loop-digits

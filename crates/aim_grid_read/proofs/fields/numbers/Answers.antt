@@ -1,8 +1,8 @@
 use Rattle.std.proofs.Common.{ℕ, subst, sym, ◌∙◌, arith}
 use Rattle.std.proofs.Math.ListN.{length-set}
-use Rattle.aim_read.specs.Faults.{number32, value_of}
-use Rattle.aim_read.specs.Steps.{Gives, read_in}
-use Rattle.aim_read.proofs.ListLaws.{numbers_next}
+use Rattle.aim_words.specs.Faults.{number32, value_of}
+use Rattle.aim_words.specs.Steps.{Gives, read_in}
+use Rattle.aim_words.proofs.ListLaws.{numbers_next}
 use Rattle.aim_grid_read.proofs.fields.numbers.Goals as goal
 
 pub loop-i-preserved : goal.loop-i-preserved

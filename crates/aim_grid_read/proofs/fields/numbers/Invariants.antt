@@ -1,5 +1,5 @@
 use Rattle.std.proofs.Common.{◌≡◌, ◌-◌, length, take, []}
-use Rattle.aim_read.specs.Steps.{numbers_in}
+use Rattle.aim_words.specs.Steps.{numbers_in}
 use Rattle.aim_grid_read.proofs.fields.numbers.Given as goal
 
 abbrev pub invariant-loop-i : goal.invariant-loop-i

@@ -1,5 +1,5 @@
 use Rattle.std.proofs.Common.{sym, ap, ◌∙◌, ◌==◌}
-use Rattle.aim_read.specs.Faults.{first, rest, words_of}
+use Rattle.aim_words.specs.Faults.{first, rest, words_of}
 use Rattle.aim_grid_read.specs.Legs.{form_of, line_with}
 use Rattle.aim_grid_read.specs.Steps.{crossings_in, leg_in}
 use Rattle.aim_grid_read.proofs.Stepping.{crossings_read, leg_read}

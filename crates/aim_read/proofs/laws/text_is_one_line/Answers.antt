@@ -1,5 +1,5 @@
-use Rattle.aim_read.proofs.OneLine.{message_is_one_line, reply_is_one_line, entry_is_one_line, line_is_one_line}
+use Rattle.aim_read.proofs.OneLine.{message_is_one_line, line_is_one_line}
 use Rattle.aim_read.proofs.laws.text_is_one_line.Goals as goal
 
 pub returns : goal.returns
-returns c = record { message = message_is_one_line; reply = reply_is_one_line; entry = entry_is_one_line; line = line_is_one_line }
+returns c = record { message = message_is_one_line; line = line_is_one_line }

@@ -1,5 +1,5 @@
 use Rattle.std.proofs.Common.{arith, ap}
-use Rattle.aim_read.proofs.Splits.{word_alone, word_before}
+use Rattle.aim_words.proofs.Splits.{word_alone, word_before}
 use Rattle.aim_claims.specs.Left.{words_left}
 use Rattle.aim_claims.proofs.words.Words.next.Goals as goal
 

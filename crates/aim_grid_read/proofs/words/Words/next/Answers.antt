@@ -1,6 +1,6 @@
 use Rattle.std.proofs.Common.{arith, ap}
-use Rattle.aim_read.proofs.Splits.{word_alone, word_before}
-use Rattle.aim_read.specs.Steps.{words_left}
+use Rattle.aim_words.proofs.Splits.{word_alone, word_before}
+use Rattle.aim_words.specs.Steps.{words_left}
 use Rattle.aim_grid_read.proofs.words.Words.next.Goals as goal
 
 pub returns-then-i-bytes : goal.returns-then-i-bytes

@@ -1,0 +1,12 @@
+pub mod Splits
+pub mod NumberLaws
+pub mod TableLaws
+pub mod StepLaws
+pub mod ListLaws
+pub mod WordLaws
+pub mod Again
+pub mod NoFaults
+pub mod MessageWords
+pub mod Spelled
+pub mod Chosen
+pub mod OneLine
