@@ -2,6 +2,7 @@
 
 ghost use Rattle.std.specs.Prelude.{◌≡◌, ℕ, ◌<◌, ◌≤◌, ◌+◌, ◌-◌, ◌*◌, ◌&&◌, min, nat_le, true, [], length, OnErr, OnOk, IfOk, Some, None, if◌then◌else◌};
 ghost use Rattle.aim_geometry.specs.Bounded.{ceil_div};
+ghost use Rattle.aim_geometry.specs.Sites.{IsTimes};
 ghost use Rattle.aim_paths.specs.Intersection.{path as path_of, stations};
 ghost use Rattle.aim_rules.specs.Bad.{span_count};
 ghost use Rattle.aim_rules.specs.Footprint.{crossing_steps};
@@ -58,7 +59,8 @@ fn move_on(
     window.move_to(rects, is_steady, first as usize, last as usize);
 }
 
-// Moves the outer window on to the crossing steps within the edge buffer of step t.
+// Moves the outer window on to the crossing steps within the edge buffer of step t, and says between which rows its
+// tiles then lie.
 #[inline]
 fn move_outer(
     outer: &mut Window,
@@ -67,7 +69,7 @@ fn move_outer(
     reaches: &[Reach],
     edge: usize,
     t: usize,
-)
+) -> (u8, u8)
     requires rects { AreRects rects.now }
     requires steady { is_steady ≡ true → AreSteady rects.now }
     requires reaches { AreReaches (length rects.now) reaches.now }
@@ -78,6 +80,9 @@ fn move_outer(
     requires may { MayMove rects.now reaches.now outer.old (t - (edge + edge)) (min (t + edge - edge) (length reaches.now - 1)) }
     ensures moved { IsMoved rects.now reaches.now outer.new (t - (edge + edge)) (min (t + edge - edge) (length reaches.now - 1)) }
     ensures may { MayMove rects.now reaches.now outer.new (t + 1 - (edge + edge)) (min (t + 1 + edge - edge) (length reaches.now - 1)) }
+    ensures order { result.0 ≤ result.1 }
+    ensures last { result.1 < 64 }
+    ensures rows { (row col : ℕ) → row < 64 → is_under rects.now outer.new.low outer.new.next row col ≡ true → (result.0 ≤ row) × (row ≤ result.1) }
 {
     let high = t.min(reaches.len() - 1);
     move_on(
@@ -88,6 +93,7 @@ fn move_outer(
         t.saturating_sub(2 * edge),
         high,
     );
+    hull(rects, is_steady, outer)
 }
 
 // Moves the inner window on to the crossing steps within the early and late buffers of step t, if there are any.
@@ -143,6 +149,16 @@ fn rows_or<'a>(shown: bool, rows: &'a [u64; 64], none: &'a [u64; 64]) -> &'a [u6
     if shown { rows } else { none }
 }
 
+// How many tiles a side of the layout's grid has, and the layout's times.
+fn side_and_times(layout: &Layout) -> (u8, Times)
+    ensures n { result.0 ≡ layout.now.grid.n }
+    ensures times { result.1 ≡ layout.now.times }
+    ensures valid { IsTimes result.1 }
+{
+    let ground = layout.ground();
+    (ground.grid().n as u8, ground.times())
+}
+
 // Writes the cells of a trial into an empty sheet, step by step.
 fn write_cells(
     sheet: &mut Sheet,
@@ -161,18 +177,15 @@ fn write_cells(
     ensures full { OnErr result (sheet.old.room < span_count layout.now params.now fast) }
     ensures room { sheet.new.room ≡ sheet.old.room }
 {
-    let ground = layout.ground();
-    let n = ground.grid().n as u8;
-    let times = ground.times();
+    let (n, times) = side_and_times(layout);
     let edge = times.edge as usize;
     let arrive = params.arrive as usize;
     let none = [0; 64];
     let mut inner = Window::first(rects);
     let mut outer = Window::first(rects);
     for t in edge.saturating_sub(arrive)..reaches.len() + 2 * edge {
-        move_outer(&mut outer, rects, is_steady, reaches, edge, t);
+        let (first, last) = move_outer(&mut outer, rects, is_steady, reaches, edge, t);
         let shown = move_inner(&mut inner, rects, is_steady, reaches, &times, t);
-        let (first, last) = hull(rects, is_steady, &outer);
         let rows = rows_or(shown, &inner.rows, &none);
         let step = (arrive + t - edge) as u32;
         write_step(sheet, n, step, first, last, rows, &outer.rows)?;
