@@ -2,6 +2,7 @@
 
 ghost use Rattle.std.specs.Prelude.{◌≡◌, ℕ, ◌+◌, ◌<◌, ◌≤◌, [], true, Some, IfNone, OnOk};
 ghost use Rattle.aim_msg.specs.declared.entries.TheConstants.{LATEST_MOMENT};
+ghost use Rattle.aim_buffers.specs.Requests.{IsPreparedFor};
 ghost use Rattle.aim_driver.specs.Models.{step_of};
 ghost use Rattle.aim_driver.specs.Keeps.{keeps};
 ghost use Rattle.aim_links.specs.Links.{delivered, after_delivery};
@@ -15,12 +16,13 @@ ghost use Rattle.aim_agent.specs.Followed.{IsNew};
 ghost use Rattle.aim_agent.specs.Turns.{Called, Tried};
 
 use aim_book::laws::sheets_are_those_of_own_entries;
-use aim_buffers::prepare;
+use aim_buffers::{Prepared, prepare};
 use aim_driver::{Driver, LogItem, NoMemory, begin_turn};
 use aim_links::Link;
 use aim_manager::{Full, Manager, ManagerFront, ManagerPass};
 use aim_msg::{LATEST_MOMENT, Message, Reply};
-use aim_pool::Pool;
+use aim_paths::Layout;
+use aim_pool::{Pool, Sheet};
 use std::marker::Model;
 use std::sync::Wait;
 
@@ -69,6 +71,33 @@ struct Rest {
 
 // No step.
 const NO_REST: Rest = Rest { first: 0, last: 0 };
+
+// Takes a sheet out of the pool, which has one.
+fn take_sheet(pool: &mut Pool) -> Sheet
+    requires { 0 < pool.old.count }
+    ensures sheet { result ≡ record { spans = []; room = pool.old.room } }
+    ensures count { pool.new.count + 1 ≡ pool.old.count }
+    ensures room { pool.new.room ≡ pool.old.room }
+{
+    let Ok(sheet) = pool.take() else {
+        unreachable!()
+    };
+    sheet
+}
+
+// The message, prepared for a manager over the layout on two sheets of the pool.
+fn prepare_on(pool: &mut Pool, layout: &Layout, message: &Message) -> Prepared
+    requires some { 2 ≤ pool.old.count }
+    requires fit { pool.old.room ≡ layout.now.grid.spans }
+    ensures message { result.message ≡ message.now }
+    ensures prepared { IsPreparedFor layout.now result }
+    ensures count { pool.new.count + 2 ≡ pool.old.count }
+    ensures room { pool.new.room ≡ pool.old.room }
+{
+    let first = take_sheet(pool);
+    let second = take_sheet(pool);
+    prepare(layout, message, first, second)
+}
 
 /// A driver with its two links, a pass of a manager and three sheets.
 ///
@@ -224,10 +253,7 @@ impl Agent {
     {
         self.rest = NO_REST;
         gate.before(self.pass.number(), step);
-        let (Ok(first), Ok(second)) = (self.pool.take(), self.pool.take()) else {
-            unreachable!()
-        };
-        let prepared = prepare(manager.layout(), message, first, second);
+        let prepared = prepare_on(&mut self.pool, manager.layout(), message);
         let reply = manager.serve(rt, &mut self.pass, step, prepared, &mut self.pool)?;
         self.down.send(step, (message.seq, reply))?;
         Ok(())

@@ -1,5 +1,5 @@
 -- The numbers of all callers.
-use Rattle.std.proofs.Common.{◌≡◌, ◌≢◌, ℕ, ◌+◌, ◌<◌, ◌≤◌, List, [], ◌∷◌, length, get_or, AllPairs, arith, sym, ap, ◌∙◌, length-append}
+use Rattle.std.proofs.Common.{◌≡◌, ◌≢◌, ℕ, ◌+◌, ◌<◌, ◌≤◌, List, [], ◌∷◌, ◌++◌, length, get_or, AllPairs, arith, refl, sym, ap, ◌∙◌, length-append}
 use Rattle.std.specs.List.{range_with_len}
 use Rattle.std.proofs.Math.Decide.{dec_lt}
 use Rattle.std.proofs.Math.Seq.{get_or-append_seam}
@@ -36,3 +36,14 @@ callers_distinct n most i j d before l same =
       | yes b ↦ absurd (omega (arith, vehicle_at n i d first, vehicle_at n j d b))
       | no b ↦ (let last : j ≡ n = omega arith in absurd (omega (arith, vehicle_at n i d first, operator_at n j d last)))
     ]
+
+-- what comes last, and what stands before it
+pub last_is : {A : Type 0} (xs ys : List A) (x y : A) → xs ++ x ∷ [] ≡ ys ++ y ∷ [] → (xs ≡ ys) × (x ≡ y)
+last_is [] [] x y e = (refl, cc e)
+last_is [] (b ∷ ys) x y e = absurd (omega (arith, ap length e, length-append ys (y ∷ [])))
+last_is (a ∷ xs) [] x y e = absurd (omega (arith, ap length e, length-append xs (x ∷ [])))
+last_is (a ∷ xs) (b ∷ ys) x y e =
+    let h : a ≡ b = cc e in
+    let t : xs ++ x ∷ [] ≡ ys ++ y ∷ [] = cc e in
+    let r = last_is xs ys x y t in
+    ((λ i. h i ∷ r.0 i), r.1)

@@ -87,7 +87,54 @@ fn copied(alloc: Global, book: &IdleBook) -> Result<(Layout, Vec<u32>), NoMemory
     Ok((layout, numbers))
 }
 
-// Puts the keeper under a turn, beside a copy of its layout.
+// Takes out the last pass.
+fn last_pass(passes: &mut Vec<ManagerPass>) -> ManagerPass
+    requires { 0 < length passes.old.items }
+    ensures { passes.old.items ≡ passes.new.items ++ result ∷ [] }
+{
+    let Some(pass) = passes.pop() else {
+        unreachable!()
+    };
+    pass
+}
+
+// The manager of a turn, beside a copy of its layout, with the passes of its callers, of which the last is the operator's.
+fn seated(turnstile: Turnstile<Keeper>, layout: Layout, mut passes: Vec<ManagerPass>) -> Opened
+    requires layout { layout ≡ turnstile.setting.layout }
+    requires numbers { turnstile.numbers ≡ callers turnstile.setting.vehicles }
+    requires passes { passes.items ≡ map (new_pass turnstile) turnstile.numbers }
+    ensures manager { result.manager ≡ turnstile }
+    ensures passes { result.passes.items ≡ map (new_pass result.manager) (range_with_len 0 turnstile.setting.vehicles) }
+    ensures operator { result.operator ≡ new_pass result.manager OPERATOR }
+{
+    let operator = last_pass(&mut passes);
+    Opened {
+        manager: Manager { turnstile, layout },
+        passes,
+        operator,
+    }
+}
+
+// Puts the keeper under a turn of these callers, beside a copy of its layout.
+fn turned(
+    alloc: Global,
+    keeper: Keeper,
+    layout: Layout,
+    numbers: &[u32],
+) -> Result<Opened, NoMemory>
+    requires empty { keeper.journal ≡ [] }
+    requires most { keeper.vehicles ≤ MOST_VEHICLES }
+    requires layout { layout ≡ keeper.layout }
+    requires numbers { numbers.now ≡ callers keeper.vehicles }
+    ensures manager { IfOk result (λ o. o.manager.setting ≡ record { layout = keeper.layout; vehicles = keeper.vehicles; room = keeper.room }) }
+    ensures passes { IfOk result (λ o. o.passes.items ≡ map (new_pass o.manager) (range_with_len 0 keeper.vehicles)) }
+    ensures operator { IfOk result (λ o. o.operator ≡ new_pass o.manager OPERATOR) }
+{
+    let (turnstile, passes) = Turnstile::open(alloc, keeper, numbers)?;
+    Ok(seated(turnstile, layout, passes))
+}
+
+// Puts the keeper under a turn of its callers, beside a copy of its layout.
 fn shared(alloc: Global, keeper: Keeper) -> Result<Opened, NoMemory>
     requires empty { keeper.journal ≡ [] }
     requires most { keeper.vehicles ≤ MOST_VEHICLES }
@@ -97,16 +144,7 @@ fn shared(alloc: Global, keeper: Keeper) -> Result<Opened, NoMemory>
 {
     let parts = copied(alloc, &keeper.book)?;
     let (layout, numbers) = parts;
-    let (turnstile, mut passes) = Turnstile::open(alloc, keeper, &numbers)?;
-    let Some(operator) = passes.pop() else {
-        unreachable!()
-    };
-    let manager = Manager { turnstile, layout };
-    Ok(Opened {
-        manager,
-        passes,
-        operator,
-    })
+    turned(alloc, keeper, layout, &numbers)
 }
 
 impl Manager {

@@ -1,5 +1,5 @@
 -- The tiles that a visitor saw are those on which the crossing is.
-use Rattle.std.proofs.Common.{◌≡◌, ℕ, zero, suc, ◌+◌, ◌-◌, ◌<◌, ◌≤◌, Bool, true, false, ◌&&◌, cond, List, [], ◌∷◌, ◌++◌, length, get_or, filter, map, Some, None, arith, refl, sym, ap, ◌∙◌, length-append, add-one}
+use Rattle.std.proofs.Common.{◌≡◌, ℕ, zero, suc, ◌+◌, ◌-◌, ◌<◌, ◌≤◌, Bool, true, false, ◌&&◌, cond, List, [], ◌∷◌, ◌++◌, length, get_or, filter, Some, None, arith, refl, sym, ap, ◌∙◌, length-append, add-one}
 use Rattle.std.specs.Prelude.{◌==◌, flat_map, if◌then◌else◌, Result, Ok, Err, OnOk}
 use Rattle.std.specs.Result.{result_err}
 use Rattle.std.specs.List.{range_with_len}
@@ -26,8 +26,7 @@ use Rattle.aim_simulate.proofs.FieldLemmas.{fields}
 use Rattle.aim_simulate.proofs.GoodLemmas.{good_crossing}
 use Rattle.aim_safety.specs.declared.traces.Trace.{Trace}
 use Rattle.aim_safety.specs.Occupied.{is_on}
-use Rattle.aim_safety.specs.declared.cells.Cell.{Cell}
-use Rattle.aim_safety.specs.Tiles.{cell_of, of_tile, of_row, of_rows}
+use Rattle.aim_safety.specs.Tiles.{of_tile, of_row, of_rows}
 use Rattle.aim_safety.specs.Traces.{IsTraced, AreFootprints, is_traced}
 use Rattle.aim_safety.proofs.TraceLemmas.{parts_more}
 
@@ -117,12 +116,10 @@ shown_cells i p fast steps first a few =
     same_tile (is_traced steps first) q first row col count (λ k m. shown_is_on i p fast steps first (record { row = row; col = col; step = first + k }) a (omega arith) (omega arith) (omega arith) (omega arith))))
 
 -- the cells that a loop appends to an empty list, where it reads the masks, are those on which the crossing is
-pub passage_shown : (i : Intersection) (p : Params) (fast : Bool) (first n : ℕ) (cells none : List Cell) (seen steps : List (List ℕ)) → none ≡ [] → seen ≡ steps → n ≡ i.grid.n → i.grid.n ≤ 64 → AreFootprints i p fast (crossing_steps i p fast) steps →
-    map cell_of cells ≡ map cell_of none ++ filter (is_traced seen first) (of_rows first (length seen) n n) →
-    map cell_of cells ≡ filter (is_on i (record { step = first; grant = record { params = p; fast = fast } })) (of_rows first (crossing_steps i p fast) i.grid.n i.grid.n)
-passage_shown i p fast first n cells none seen steps empty same wide few a made =
-    made ∙ ap (λ xs. map cell_of xs ++ filter (is_traced seen first) (of_rows first (length seen) n n)) empty
-    ∙ ap (λ ms. filter (is_traced ms first) (of_rows first (length ms) n n)) same
+pub passage_shown : (i : Intersection) (p : Params) (fast : Bool) (first n : ℕ) (seen steps : List (List ℕ)) → seen ≡ steps → n ≡ i.grid.n → i.grid.n ≤ 64 → AreFootprints i p fast (crossing_steps i p fast) steps →
+    filter (is_traced seen first) (of_rows first (length seen) n n) ≡ filter (is_on i (record { step = first; grant = record { params = p; fast = fast } })) (of_rows first (crossing_steps i p fast) i.grid.n i.grid.n)
+passage_shown i p fast first n seen steps same wide few a =
+    ap (λ ms. filter (is_traced ms first) (of_rows first (length ms) n n)) same
     ∙ ap (λ k. filter (is_traced steps first) (of_rows first (length steps) k k)) wide
     ∙ shown_cells i p fast steps first a few
 

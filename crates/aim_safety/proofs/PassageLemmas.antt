@@ -1,8 +1,7 @@
 -- The crossing that a driver makes, found step by step.
-use Rattle.std.proofs.Common.{◌≤◌, arith, ◌≡◌, ℕ, Bool, true, false, List, [], ◌∷◌, Option, Some, None, is_none, ap, ◌∙◌, slice_get}
+use Rattle.std.proofs.Common.{◌≤◌, arith, ◌≡◌, ℕ, Bool, true, false, List, [], ◌∷◌, Option, Some, None, is_none, refl, sym, ap, subst, ◌∙◌, slice_get}
 use Rattle.std.specs.Prelude.{◌&&◌, if◌then◌else◌, option_map}
 use Rattle.aim_msg.specs.declared.messages.Params.{Params}
-use Rattle.aim_msg.specs.declared.replies.Reply.{Reply}
 use Rattle.aim_msg.specs.declared.entries.Entry.{Entry}
 use Rattle.aim_paths.specs.Intersection.{Intersection}
 use Rattle.aim_rules.specs.Bad.{bad}
@@ -12,29 +11,63 @@ use Rattle.aim_driver.specs.declared.logs.Entrance.{Entrance}
 use Rattle.aim_driver.specs.declared.logs.LogItem.{LogItem}
 use Rattle.aim_driver.specs.declared.logs.LogItem.TheVariants as item
 use Rattle.aim_safety.specs.Tiles.{EntersBy}
-use Rattle.aim_safety.specs.Occupied.{Grant, entrance, params_in, grant_with, grant_of, passage_from, passage}
+use Rattle.aim_safety.specs.Occupied.{Grant, Passage, entrance, params_in, grant_with, grant_of, passage_from, passage}
+use Rattle.aim_safety.specs.Begun.{grant_as}
+use Rattle.aim_safety.specs.declared.grants.Grant.{Grant as Granted}
 use Rattle.aim_safety.proofs.PlaceLemmas.{some_same}
+use Rattle.aim_safety.proofs.OccupiedLemmas.{passage_at}
 
 -- the first step at which the driver entered is one of those
-pub entrance_by : (most : ℕ) (log : List LogItem) (t : Entrance) → EntersBy most log → entrance log ≡ Some t → t.step ≤ most
+entrance_by : (most : ℕ) (log : List LogItem) (t : Entrance) → EntersBy most log → entrance log ≡ Some t → t.step ≤ most
 entrance_by most [] t h e = absurd (cc)
 entrance_by most (item.Sent step m ∷ xs) t h e = entrance_by most xs t h e
 entrance_by most (item.Got step seq r ∷ xs) t h e = entrance_by most xs t h e
 entrance_by most (item.Entered step id ∷ xs) t h e = let l = h.0 in let s : step ≡ t.step = ap (λ (t : Entrance). t.step) (some_same (record { step = step; id = id }) t e) in omega arith
 
-granted : (i : Intersection) (r : Reply) (p : Params) (fast : Bool) → (if is_confirm r then Some (is_fast r) else None) ≡ Some fast → bad i p ≡ None → grant_with i r (Some p) ≡ Some (record { params = p; fast = fast })
-granted i r p fast trial good = go (is_confirm r) trial
+none_where : {X : Type 0} (o : Option X) → is_none o ≡ true → o ≡ None
+none_where None h = refl
+none_where (Some x) h = absurd (cc)
+
+-- what a Confirm of good params grants
+pub grant_found : (i : Intersection) (e : Entry) (p : Params) (fast good : Bool) → params_in e ≡ Some p → (if is_confirm e.reply then Some (is_fast e.reply) else None) ≡ Some fast → good ≡ is_none (bad i p) →
+    grant_of i (Some e) ≡ (if good then Some (record { params = p; fast = fast }) else None)
+grant_found i e p fast good asks trial same = ap (grant_with i e.reply) asks ∙ ap (λ b. if is_confirm e.reply && b then trial_of (is_fast e.reply) else None) (sym same) ∙ go (is_confirm e.reply) good trial
   where
     trial_of : Bool → Option Grant
     trial_of f = Some (record { params = p; fast = f })
 
-    go : (b : Bool) → (if b then Some (is_fast r) else None) ≡ Some fast → (if b && is_none (bad i p) then trial_of (is_fast r) else None) ≡ trial_of fast
-    go true t = rw good (ap trial_of (some_same (is_fast r) fast t))
-    go false t = absurd (cc)
+    go : (b good : Bool) → (if b then Some (is_fast e.reply) else None) ≡ Some fast → (if b && good then trial_of (is_fast e.reply) else None) ≡ (if good then trial_of fast else None)
+    go true true t = ap trial_of (some_same (is_fast e.reply) fast t)
+    go true false t = refl
+    go false good t = absurd (cc)
 
--- the crossing of a driver that entered on what an entry grants
-pub passage_found : (i : Intersection) (h : List Entry) (log : List LogItem) (t : Entrance) (e : Entry) (p : Params) (fast : Bool) → entrance log ≡ Some t → slice_get h t.id ≡ Some e → params_in e ≡ Some p →
-    (if is_confirm e.reply then Some (is_fast e.reply) else None) ≡ Some fast → bad i p ≡ None → passage i h log ≡ Some (record { step = t.step; grant = record { params = p; fast = fast } })
-passage_found i h log t e p fast entered at asks trial good =
-    let g : grant_of i (slice_get h t.id) ≡ Some (record { params = p; fast = fast }) = ap (grant_of i) at ∙ ap (grant_with i e.reply) asks ∙ granted i e.reply p fast trial good in
-    ap (passage_from i h) entered ∙ ap (option_map (λ g. record { step = t.step; grant = g })) g
+-- the crossing of a driver that entered, from what the entry of that id grants
+pub passage_on : (i : Intersection) (h : List Entry) (log : List LogItem) (t : Entrance) (e : Entry) (o : Option Granted) → entrance log ≡ Some t → slice_get h t.id ≡ Some e → option_map grant_as o ≡ grant_of i (Some e) →
+    option_map (λ g. record { step = t.step; grant = g }) (option_map grant_as o) ≡ passage i h log
+passage_on i h log t e o entered at granted =
+    let begin : Option Grant → Option Passage = option_map (λ g. record { step = t.step; grant = g }) in
+    ap begin granted ∙ sym (ap (passage_from i h) entered ∙ ap (λ o. begin (grant_of i o)) at)
+
+-- a crossing begins at a step at which the driver entered, on good params
+pub passage_good : (i : Intersection) (h : List Entry) (log : List LogItem) (x : Passage) → passage i h log ≡ Some x → bad i x.grant.params ≡ None
+passage_good i h log x is = let at = passage_at i h log x is in granted (slice_get h at.0.id) at.3
+  where
+    test : (e : Entry) (p : Params) (b n : Bool) → is_none (bad i p) ≡ n → (if b && n then Some (record { params = p; fast = is_fast e.reply }) else None) ≡ Some x.grant → bad i x.grant.params ≡ None
+    test e p true true good is = subst (λ (g : Grant). bad i g.params ≡ None) (some_same (record { params = p; fast = is_fast e.reply }) x.grant is) (none_where (bad i p) good)
+    test e p true false good is = absurd (cc)
+    test e p false n good is = absurd (cc)
+
+    asked : (e : Entry) (o : Option Params) → grant_with i e.reply o ≡ Some x.grant → bad i x.grant.params ≡ None
+    asked e None is = absurd (cc)
+    asked e (Some p) is = test e p (is_confirm e.reply) (is_none (bad i p)) refl is
+
+    granted : (o : Option Entry) → grant_of i o ≡ Some x.grant → bad i x.grant.params ≡ None
+    granted None is = absurd (cc)
+    granted (Some e) is = asked e (params_in e) is
+
+pub passage_by : (most : ℕ) (i : Intersection) (h : List Entry) (log : List LogItem) (x : Passage) → EntersBy most log → passage i h log ≡ Some x → x.step ≤ most
+passage_by most i h log x by is =
+    let at = passage_at i h log x is in
+    let l = entrance_by most log at.0 by at.1 in
+    let s : at.0.step ≡ x.step = at.2 in
+    omega arith

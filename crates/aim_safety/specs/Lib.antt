@@ -1,3 +1,4 @@
+pub mod Begun
 pub mod Occupied
 pub mod Tiles
 pub mod Traces

@@ -1,18 +1,33 @@
-//! What a driver enters on.
+//! What a driver enters on, and the crossing that begins there.
 
-ghost use Rattle.std.specs.Prelude.{◌≡◌, ℕ, IfOk, None, Some, if◌then◌else◌, is_none};
+ghost use Rattle.std.specs.Prelude.{◌≡◌, ℕ, [], IfOk, None, Some, if◌then◌else◌, is_none, option_map};
 ghost use Rattle.aim_rules.specs.Bad.{bad as bad_of};
 ghost use Rattle.aim_rules.specs.History.{is_confirm};
 ghost use Rattle.aim_rules.specs.Holds.{is_fast};
-ghost use Rattle.aim_safety.specs.Occupied.{entrance as entrance_of, params_in as params_of_entry};
+ghost use Rattle.aim_safety.specs.Occupied.{entrance as entrance_of, grant_of, params_in as params_of_entry, passage};
+ghost use Rattle.aim_safety.specs.Begun.{grant_as, passage_as};
 
 use crate::NoMemory;
 use aim_buffers::prepare;
 use aim_driver::{Entrance, LogItem};
 use aim_msg::{Act, Body, Entry, Message, Params, Reply};
 use aim_paths::Layout;
-use aim_pool::Pool;
+use aim_pool::{Pool, Sheet};
 use std::alloc::Global;
+
+/// What an entry grants: the params, and which trial.
+#[derive(Clone, Copy)]
+pub struct Grant {
+    pub params: Params,
+    pub fast: bool,
+}
+
+/// A crossing: the step at which it began, and what was granted for it.
+#[derive(Clone, Copy)]
+pub struct Passage {
+    pub step: u32,
+    pub grant: Grant,
+}
 
 /// Where the driver entered first.
 pub fn entrance(log: &[LogItem]) -> Option<Entrance>
@@ -51,18 +66,66 @@ pub fn granted_trial(reply: &Reply) -> Option<bool>
     }
 }
 
-/// Whether no field of the params is wrong.
-pub fn are_good(alloc: Global, layout: &Layout, params: &Params) -> Result<bool, NoMemory>
-    ensures { IfOk result (λ good. good ≡ is_none (bad_of layout.now params.now)) }
+// Whether no field of the params is wrong, where there are two empty sheets to prepare them in.
+fn are_good_on(layout: &Layout, params: &Params, first: Sheet, second: Sheet) -> bool
+    requires first { first ≡ record { spans = []; room = layout.now.grid.spans } }
+    requires second { second ≡ record { spans = []; room = layout.now.grid.spans } }
+    ensures { result ≡ is_none (bad_of layout.now params.now) }
 {
-    let mut pool = Pool::new(alloc, 2, layout.ground().grid().spans)?;
-    let (Ok(first), Ok(second)) = (pool.take(), pool.take()) else {
-        unreachable!();
-    };
     let message = Message {
         seq: 0,
         body: Body::Request(*params),
     };
     let prepared = prepare(layout, &message, first, second);
-    Ok(prepared.bad().is_none())
+    prepared.bad().is_none()
+}
+
+/// Whether no field of the params is wrong.
+pub fn are_good(alloc: Global, layout: &Layout, params: &Params) -> Result<bool, NoMemory>
+    ensures { IfOk result (λ good. good ≡ is_none (bad_of layout.now params.now)) }
+{
+    let mut pool = Pool::new(alloc, 2, layout.ground().grid().spans)?;
+    let Ok(first) = pool.take() else {
+        unreachable!();
+    };
+    let Ok(second) = pool.take() else {
+        unreachable!();
+    };
+    Ok(are_good_on(layout, params, first, second))
+}
+
+/// What an entry grants, if its reply is a Confirm of params of which no field is wrong.
+pub fn granted(alloc: Global, layout: &Layout, entry: &Entry) -> Result<Option<Grant>, NoMemory>
+    ensures { IfOk result (λ grant. option_map grant_as grant ≡ grant_of layout.now (Some entry.now)) }
+{
+    let (Some(params), Some(fast)) = (params_in(entry), granted_trial(&entry.reply)) else {
+        return Ok(None);
+    };
+    if are_good(alloc, layout, &params)? {
+        Ok(Some(Grant { params, fast }))
+    } else {
+        Ok(None)
+    }
+}
+
+/// The crossing that a driver makes: it begins where the driver entered first, on what the entry of that id grants.
+pub fn begun(
+    alloc: Global,
+    layout: &Layout,
+    journal: &[Entry],
+    log: &[LogItem],
+) -> Result<Option<Passage>, NoMemory>
+    ensures { IfOk result (λ crossing. option_map passage_as crossing ≡ passage layout.now journal.now log.now) }
+{
+    let Some(entrance) = entrance(log) else {
+        return Ok(None);
+    };
+    let Some(entry) = journal.get(entrance.id as usize) else {
+        return Ok(None);
+    };
+    let step = entrance.step;
+    match granted(alloc, layout, entry)? {
+        Some(grant) => Ok(Some(Passage { step, grant })),
+        None => Ok(None),
+    }
 }

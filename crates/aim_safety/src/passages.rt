@@ -8,8 +8,8 @@ ghost use Rattle.aim_rules.specs.Footprint.{crossing_steps};
 
 use crate::NoMemory;
 use crate::cells::Cell;
-use crate::grants::{are_good, entrance, granted_trial, params_in};
-use crate::traces::{Trace, push_tiles};
+use crate::grants::{Grant, begun};
+use crate::traces::{Trace, shown_tiles};
 use aim_driver::LogItem;
 use aim_msg::{Entry, Params};
 use aim_paths::Layout;
@@ -50,9 +50,7 @@ fn passage_cells(
         (Some (record { step = step; grant = record { params = params.now; fast = fast } }))) }
 {
     let steps = footprints(alloc, layout, params, fast)?;
-    let mut cells = Vec::new(alloc);
-    push_tiles(&mut cells, &steps, step, layout.ground().grid().n as u8)?;
-    Ok(cells)
+    shown_tiles(alloc, &steps, step, layout.ground().grid().n as u8)
 }
 
 /// The tiles on which a driver is, and the steps in which it is on each, in order of row, column and step: those
@@ -67,17 +65,9 @@ pub fn occupied(
     requires { EntersBy 2147483648 log.now }
     ensures { IfOk result (λ cells. map cell_of cells.items ≡ occupied_cells layout.now journal.now log.now) }
 {
-    let Some(entrance) = entrance(log) else {
+    let Some(crossing) = begun(alloc, layout, journal, log)? else {
         return Ok(Vec::new(alloc));
     };
-    let Some(entry) = journal.get(entrance.id as usize) else {
-        return Ok(Vec::new(alloc));
-    };
-    let (Some(params), Some(fast)) = (params_in(entry), granted_trial(&entry.reply)) else {
-        return Ok(Vec::new(alloc));
-    };
-    if !are_good(alloc, layout, &params)? {
-        return Ok(Vec::new(alloc));
-    }
-    passage_cells(alloc, layout, &params, fast, entrance.step)
+    let Grant { params, fast } = crossing.grant;
+    passage_cells(alloc, layout, &params, fast, crossing.step)
 }

@@ -1,6 +1,6 @@
 //! The tiles under a vehicle, step by step.
 
-ghost use Rattle.std.specs.Prelude.{◌≡◌, ℕ, ◌+◌, ◌<◌, ◌≤◌, ◌++◌, Bool, true, false, length, filter, map, OnOk};
+ghost use Rattle.std.specs.Prelude.{◌≡◌, ℕ, ◌+◌, ◌<◌, ◌≤◌, ◌++◌, Bool, true, false, length, filter, map, IfOk, OnOk};
 ghost use Rattle.aim_safety.specs.Tiles.{cell_of, of_row, of_rows, of_tile};
 ghost use Rattle.aim_safety.specs.Traces.{is_traced, IsNeverShown, IsTraced};
 ghost use Rattle.aim_geometry.specs.Rects.{has_bit};
@@ -8,6 +8,7 @@ ghost use Rattle.aim_geometry.specs.Rects.{has_bit};
 use crate::NoMemory;
 use crate::cells::Cell;
 use aim_simulate::{RowRange, Visit};
+use std::alloc::Global;
 
 // The masks of each step so far: bit c of word r is tile (r, c). It is cut where memory was wanting.
 #[derive(Drop)]
@@ -100,12 +101,7 @@ fn push_row(
 }
 
 // Appends the tiles of an n by n grid, in rising order.
-pub fn push_tiles(
-    cells: &mut Vec<Cell>,
-    steps: &[[u64; 64]],
-    first: u32,
-    n: u8,
-) -> Result<(), NoMemory>
+fn push_tiles(cells: &mut Vec<Cell>, steps: &[[u64; 64]], first: u32, n: u8) -> Result<(), NoMemory>
     requires first { first ≤ 2147483648 }
     requires few { length steps.now ≤ 2048 }
     requires n { n ≤ 64 }
@@ -116,4 +112,22 @@ pub fn push_tiles(
         push_row(cells, steps, first, row, n)?;
     }
     Ok(())
+}
+
+/// The tiles of an n by n grid that the masks of each step show, in rising order.
+pub fn shown_tiles(
+    alloc: Global,
+    steps: &[[u64; 64]],
+    first: u32,
+    n: u8,
+) -> Result<Vec<Cell>, NoMemory>
+    requires first { first ≤ 2147483648 }
+    requires few { length steps.now ≤ 2048 }
+    requires n { n ≤ 64 }
+    ensures { IfOk result (λ cells. map cell_of cells.items ≡
+        filter (is_traced steps.now first) (of_rows first (length steps.now) n n)) }
+{
+    let mut cells = Vec::new(alloc);
+    push_tiles(&mut cells, steps, first, n)?;
+    Ok(cells)
 }

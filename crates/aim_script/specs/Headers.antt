@@ -1,5 +1,5 @@
 -- What is known of the lines of a header, from what is kept of them, and what a further line comes to.
-use Rattle.std.specs.Prelude.{◌≡◌, ℕ, ◌<◌, ◌==◌, true, false, List, [], ◌∷◌, ◌++◌, length, filter_map, fold, Some, None, is_some, Result, Ok, Err, bytes_eq}
+use Rattle.std.specs.Prelude.{◌≡◌, ℕ, ◌<◌, ◌==◌, Bool, true, false, List, [], ◌∷◌, ◌++◌, length, filter_map, fold, Some, None, is_some, Result, Ok, Err, bytes_eq}
 use Rattle.std.specs.List.{list_any}
 use Rattle.aim_msg.specs.declared.script.Line.{Line}
 use Rattle.aim_msg.specs.declared.script.Line.TheVariants as line
@@ -116,6 +116,13 @@ move_kind_of _ = kind.Move
 pub record SaysNoMore (l : Line) : Type 0 where
   pub version : version_in l ≡ None
   pub vehicles : vehicles_in l ≡ None
+
+-- whether the line adds to a layout
+abbrev pub adds : Line → Bool
+adds (line.Move lane turn shape) = true
+adds (line.Policy name k) = true
+adds (line.Phase red green lanes) = true
+adds _ = false
 
 -- a policy is added, if its name is new, the layout takes it, and there is memory
 abbrev pub AddsPolicy : Intersection → List (List ℕ) → Name → ℕ → Result Place Refusal → Type 0

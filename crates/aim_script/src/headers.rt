@@ -1,13 +1,13 @@
 //! How far the header of a script has come, line by line.
 
-ghost use Rattle.std.specs.Prelude.{◌≡◌, List, []};
+ghost use Rattle.std.specs.Prelude.{◌≡◌, false, List, []};
 ghost use Rattle.aim_msg.specs.declared.script.Line.{Line};
 ghost use Rattle.aim_msg.specs.declared.script.Times5.{Times5};
 ghost use Rattle.aim_msg.specs.declared.script.Times6.{Times6};
 ghost use Rattle.aim_msg.specs.Lines.{IsName};
 ghost use Rattle.aim_script.specs.Said.{grid_of as grid_from, kind_of, shape_of as shape_from, times6_of as times_from_six, times_of as times_from, version_after};
 ghost use Rattle.aim_script.specs.Versions.{version_number};
-ghost use Rattle.aim_script.specs.Headers.{AddsPolicy, Closes, Goes, HasName, Heeds, SaysNoMore, Stands, StandsAt, move_kind_of};
+ghost use Rattle.aim_script.specs.Headers.{AddsPolicy, Closes, Goes, HasName, Heeds, SaysNoMore, Stands, StandsAt, adds, move_kind_of};
 
 use crate::decisions::Kind;
 use crate::names::Names;
@@ -278,6 +278,35 @@ impl Place {
         }
     }
 
+    // Takes a line of the ground, up to the lanes on it.
+    fn ground(&self, alloc: Global, line: &Line) -> Result<Place, Refusal>
+        requires line { SaysNoMore line.now }
+        requires adds { adds line.now ≡ false }
+        ensures { (before : List Line) → StandsAt before self.now → Goes before line.now result }
+    {
+        match line {
+            Line::Grid(grid) => self.grid(grid),
+            Line::Times(times) => self.times(times_of(times)),
+            Line::Times6(times) => self.times(times_of_six(times)),
+            Line::Lanes(lanes) => self.lanes(alloc, *lanes),
+            _ => Err(Refusal::Bad(Kind::Order)),
+        }
+    }
+
+    // Takes a line that names neither a version nor the vehicles.
+    fn next(self, alloc: Global, line: &Line) -> Result<Place, Refusal>
+        requires name { HasName line.now }
+        requires line { SaysNoMore line.now }
+        ensures { (before : List Line) → StandsAt before self → Goes before line.now result }
+    {
+        match line {
+            Line::Move { lane, turn, shape } => self.turn(*lane, *turn, shape),
+            Line::Policy { name, kind } => self.policy(alloc, name, *kind),
+            Line::Phase { red, green, lanes } => self.phase(*red, *green, *lanes),
+            _ => self.ground(alloc, line),
+        }
+    }
+
     // Takes the line of the vehicles.
     fn vehicles(self, version: ScriptVersion, vehicles: u32) -> Result<Headed, Refusal>
         ensures { (before : List Line) → version_after before ≡ version_number version → StandsAt before self → Heeds before (Line.Vehicles vehicles) result }
@@ -342,15 +371,8 @@ impl Header {
         let Header { version, place } = self;
         match line {
             Line::Version(number) => place.version(*number),
-            Line::Grid(grid) => more(version, place.grid(grid)),
-            Line::Times(times) => more(version, place.times(times_of(times))),
-            Line::Times6(times) => more(version, place.times(times_of_six(times))),
-            Line::Lanes(lanes) => more(version, place.lanes(alloc, *lanes)),
-            Line::Move { lane, turn, shape } => more(version, place.turn(*lane, *turn, shape)),
-            Line::Policy { name, kind } => more(version, place.policy(alloc, name, *kind)),
-            Line::Phase { red, green, lanes } => more(version, place.phase(*red, *green, *lanes)),
             Line::Vehicles(vehicles) => place.vehicles(version, *vehicles),
-            _ => Err(Refusal::Bad(Kind::Order)),
+            _ => more(version, place.next(alloc, line)),
         }
     }
 }

@@ -1,4 +1,4 @@
-//! Tests of the calls of `aim_driver`: drivers and links that are driven by hand, and whole runs.
+//! Tests of the calls of `aim_driver` and `aim_links`: drivers and links that are driven by hand, and whole runs.
 #![tactic(auto)]
 
 #[cfg(test)]

@@ -1,0 +1,23 @@
+use Rattle.std.proofs.Common.{◌≡◌, ℕ, List, [], ◌∷◌, ◌++◌, map, sym, ap, ◌∙◌}
+use Rattle.std.specs.List.{range_with_len}
+use Rattle.std.proofs.lemmas.List.{map-append}
+use Rattle.aim_msg.specs.declared.entries.Entry.{Entry}
+use Rattle.aim_msg.specs.declared.entries.TheConstants.{OPERATOR}
+use Rattle.aim_turn.specs.Models.{PassModel, TurnstileModel, new_pass}
+use Rattle.aim_manager.specs.declared.keeper.Setting.{Setting}
+use Rattle.aim_manager.specs.Seen.{callers}
+use Rattle.aim_manager.proofs.Callers.{last_is}
+use Rattle.aim_manager.proofs.manager.seated.Goals as goal
+
+-- the passes of the vehicles, and the operator's
+taken : (m : TurnstileModel Setting) (n : ℕ) (all rest : List (PassModel Setting Entry)) (last : PassModel Setting Entry) → all ≡ map (new_pass m) m.numbers → m.numbers ≡ callers n
+    → all ≡ rest ++ last ∷ [] → (rest ≡ map (new_pass m) (range_with_len 0 n)) × (last ≡ new_pass m OPERATOR)
+taken m n all rest last is numbers cut =
+    last_is rest (map (new_pass m) (range_with_len 0 n)) last (new_pass m OPERATOR)
+    (sym cut ∙ is ∙ ap (map (new_pass m)) numbers ∙ map-append (new_pass m) (range_with_len 0 n) (OPERATOR ∷ []))
+
+pub returns-clause-passes : goal.returns-clause-passes
+returns-clause-passes c = (taken _ _ _ _ _ c.requires.passes c.requires.numbers c.last_pass-operator.ensures).0
+
+pub returns-clause-operator : goal.returns-clause-operator
+returns-clause-operator c = (taken _ _ _ _ _ c.requires.passes c.requires.numbers c.last_pass-operator.ensures).1

@@ -1,6 +1,0 @@
-use Rattle.std.proofs.Common.{subst, sym, ◌∙◌, ◌≢◌, AllPairs}
-use Rattle.aim_manager.proofs.Callers.{callers_distinct}
-use Rattle.aim_manager.proofs.manager.shared.Goals as goal
-
-pub open-requires-clause-distinct : goal.open-requires-clause-distinct
-open-requires-clause-distinct c = subst (AllPairs (λ a b. a ≢ b)) (sym (c.deref.ensures.value ∙ c.in_ok-parts.ensures.numbers)) (callers_distinct _ (rw c.keeper.view_is c.requires.most))
