@@ -7,6 +7,7 @@ ghost use Rattle.aim_io.specs.Causes.{Rose};
 ghost use Rattle.aim_io.specs.Known.{AppendsFront};
 ghost use Rattle.aim_replay.specs.Replays.{LastNeededBy, ReplaysBy, StopsShortBy, TakesAtMost, WritesFront};
 ghost use Rattle.aim_replay.specs.Texts.{text_by};
+ghost use Rattle.aim_script.specs.Spellings.{by_words};
 ghost use Rattle.aim.specs.declared.words.Command.{Command};
 ghost use Rattle.aim.specs.Commands.{IsWithin, asked_in, command_of as command_in, is_replay, reads_input, reads_whole, spelled_in};
 ghost use Rattle.aim_plans.specs.Scripts.{TakesAtMost as TakesAtMostOfDrive};
@@ -50,6 +51,56 @@ fn tell_usage<K: Sink>(sink: &mut K) -> u8
     match put_all(sink, b"usage\n") {
         Ok(()) => 2,
         Err(_) => 5,
+    }
+}
+
+// Whether the lines of the command's script are JSON text.
+fn is_by_json(command: &Command) -> bool
+    ensures json { result ≡ true → command.now ≡ Command.ReplayJson }
+    ensures words { result ≡ false → spelled_in command.now ≡ by_words }
+{
+    matches!(command, Command::ReplayJson)
+}
+
+// The step of whose chart the command asks, if it does.
+fn asked(command: &Command) -> Option<u32>
+    ensures { result ≡ asked_in command.now }
+{
+    match command {
+        Command::Chart(step) => Some(*step),
+        _ => None,
+    }
+}
+
+// Replays the script of the source, spelled as that of the command, with the chart that it asks for.
+fn replay_as<S: Source, K: Sink>(
+    alloc: Global,
+    command: Command,
+    source: &mut S,
+    sink: &mut K,
+) -> u8
+    ensures whole { (result ≡ 0) ⊎ ((result ≡ 3) ⊎ (result ≡ 6)) → IfSome (S.left source.old)
+        (λ bytes. ReplaysBy (spelled_in command) (asked_in command) bytes (K.held sink.old) (K.held sink.new) result) }
+    ensures ended { result ≡ 0 → IsAtEnd (S.left source.new) }
+    ensures most { TakesAtMost 67108865 (S.left source.old) (S.left source.new) }
+    ensures needed { (source.new ≡ source.old) ⊎ LastNeededBy (spelled_in command) (S.left source.old) (S.left source.new) (S.last_read source.new) }
+    ensures front { (result ≡ 4) ⊎ ((result ≡ 5) ⊎ (result ≡ 7))
+        → WritesFront (S.left source.old) (K.held sink.old) (K.held sink.new) (text_by (spelled_in command) (asked_in command)) }
+    ensures short { result ≡ 4 → StopsShortBy (spelled_in command) (S.left source.old) (S.left source.new) (K.held sink.old) (K.held sink.new) }
+    ensures memory { (spelled_in command).takes_memory ≡ false
+        → result ≡ 7 → Appends (K.held sink.old) (K.held sink.new) [] }
+    ensures read { result ≡ 4 → Rose (S.faults source.old) (S.faults source.new) }
+    ensures write { result ≡ 5 → Rose (K.faults sink.old) (K.faults sink.new) }
+    ensures source { S.faults source.old ≤ S.faults source.new }
+    ensures sink { K.faults sink.old ≤ K.faults sink.new }
+    ensures statuses { (result ≡ 0) ⊎ ((result ≡ 3) ⊎ ((result ≡ 4) ⊎ ((result ≡ 5) ⊎ ((result ≡ 6) ⊎ (result ≡ 7))))) }
+    ensures complete { IfSome (S.left source.old)
+        (λ bytes. Completes (spelled_in command) bytes (S.faults source.old) (S.faults source.new) (K.faults sink.old) (K.faults sink.new) result) }
+{
+    if is_by_json(&command) {
+        replay_json(alloc, source, sink)
+    } else {
+        replay(alloc, source, sink, asked(&command))
     }
 }
 
@@ -106,9 +157,9 @@ fn obey<R: Threads + Wait + Sync, S: Source, K: Sink, G: Gate>(
         (λ bytes. Completes (spelled_in command) bytes (S.faults source.old) (S.faults source.new) (K.faults sink.old) (K.faults sink.new) result) }
 {
     match command {
-        Command::Replay => replay(alloc, source, sink, None),
-        Command::ReplayJson => replay_json(alloc, source, sink),
-        Command::Chart(step) => replay(alloc, source, sink, Some(step)),
+        Command::Replay | Command::ReplayJson | Command::Chart(_) => {
+            replay_as(alloc, command, source, sink)
+        }
         Command::Drive(workers) => drive(rt, alloc, workers, source, sink, gate),
         Command::Grid(workers) => grid(rt, alloc, workers, source, sink, gate),
         Command::Generate(number, count) => generate(rt, alloc, number, count, sink),
