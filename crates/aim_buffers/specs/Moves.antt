@@ -23,6 +23,12 @@ pub record IsTrial (i : Intersection) (p : Params) (fast : Bool) (rects : List T
   pub some : 0 < length rects
   pub round : AreRectsOf i.grid (ceil_div p.width 2 + i.grid.spacing + i.grid.fixed) (stations i p.lane p.turn) rects
 
+-- the window is on the first rectangle
+pub record IsFirst (rects : List TileRect) (w : Window) : Type 0 where
+  pub window : IsWindow rects w
+  pub low : w.low ≡ 0
+  pub next : w.next ≡ 1
+
 -- the window has not come further than the crossing steps from `low` on, and those from `high` on, need
 pub record MayMove (rects : List TileRect) (reaches : List Reach) (w : Window) (low high : ℕ) : Type 0 where
   pub window : IsWindow rects w

@@ -11,7 +11,7 @@ ghost use Rattle.aim_simulate.specs.Fills.{AreRectsOf};
 ghost use Rattle.aim_simulate.specs.Windows.{AreRects, AreSteady, IsWindow, is_under};
 ghost use Rattle.aim_simulate.specs.Reaches.{AreReaches};
 ghost use Rattle.aim_buffers.specs.Cells.{HaveCells};
-ghost use Rattle.aim_buffers.specs.Moves.{IsMoved, IsTrial, MayMove};
+ghost use Rattle.aim_buffers.specs.Moves.{IsFirst, IsMoved, IsTrial, MayMove};
 
 use crate::rows::write_step;
 use aim_geometry::{Grid, TileRect, Times};
@@ -19,6 +19,13 @@ use aim_msg::Params;
 use aim_paths::{Layout, Path};
 use aim_pool::{Sheet, SheetFull};
 use aim_simulate::{Reach, Window, fill_reaches};
+
+// The windows of a step: the inner one within the early and late buffers, the outer one within the edge buffer.
+#[derive(Drop)]
+struct Windows {
+    inner: Window,
+    outer: Window,
+}
 
 // The rows between which the window's tiles lie.
 #[inline]
@@ -159,7 +166,42 @@ fn side_and_times(layout: &Layout) -> (u8, Times)
     (ground.grid().n as u8, ground.times())
 }
 
-// Writes the cells of a trial into an empty sheet, step by step.
+// Writes the cells of a trial into an empty sheet, step by step, with windows that stand on the first rectangle.
+fn write_steps(
+    sheet: &mut Sheet,
+    windows: &mut Windows,
+    layout: &Layout,
+    params: &Params,
+    fast: bool,
+    rects: &[TileRect],
+    is_steady: bool,
+    reaches: &[Reach],
+) -> Result<(), SheetFull>
+    requires inner { IsFirst rects.now windows.old.inner }
+    requires outer { IsFirst rects.now windows.old.outer }
+    requires trial { IsTrial layout.now params.now fast rects.now reaches.now }
+    requires steady { is_steady ≡ true → AreSteady rects.now }
+    requires empty { sheet.old.spans ≡ [] }
+    ensures cells { OnOk result (HaveCells layout.now params.now fast sheet.new.spans) }
+    ensures count { OnOk result (length sheet.new.spans ≡ span_count layout.now params.now fast) }
+    ensures full { OnErr result (sheet.old.room < span_count layout.now params.now fast) }
+    ensures room { sheet.new.room ≡ sheet.old.room }
+{
+    let (n, times) = side_and_times(layout);
+    let edge = times.edge as usize;
+    let arrive = params.arrive as usize;
+    let none = [0; 64];
+    for t in edge.saturating_sub(arrive)..reaches.len() + 2 * edge {
+        let (first, last) = move_outer(&mut windows.outer, rects, is_steady, reaches, edge, t);
+        let shown = move_inner(&mut windows.inner, rects, is_steady, reaches, &times, t);
+        let rows = rows_or(shown, &windows.inner.rows, &none);
+        let step = (arrive + t - edge) as u32;
+        write_step(sheet, n, step, first, last, rows, &windows.outer.rows)?;
+    }
+    Ok(())
+}
+
+// Writes the cells of a trial into an empty sheet.
 fn write_cells(
     sheet: &mut Sheet,
     layout: &Layout,
@@ -177,20 +219,20 @@ fn write_cells(
     ensures full { OnErr result (sheet.old.room < span_count layout.now params.now fast) }
     ensures room { sheet.new.room ≡ sheet.old.room }
 {
-    let (n, times) = side_and_times(layout);
-    let edge = times.edge as usize;
-    let arrive = params.arrive as usize;
-    let none = [0; 64];
-    let mut inner = Window::first(rects);
-    let mut outer = Window::first(rects);
-    for t in edge.saturating_sub(arrive)..reaches.len() + 2 * edge {
-        let (first, last) = move_outer(&mut outer, rects, is_steady, reaches, edge, t);
-        let shown = move_inner(&mut inner, rects, is_steady, reaches, &times, t);
-        let rows = rows_or(shown, &inner.rows, &none);
-        let step = (arrive + t - edge) as u32;
-        write_step(sheet, n, step, first, last, rows, &outer.rows)?;
-    }
-    Ok(())
+    let mut windows = Windows {
+        inner: Window::first(rects),
+        outer: Window::first(rects),
+    };
+    write_steps(
+        sheet,
+        &mut windows,
+        layout,
+        params,
+        fast,
+        rects,
+        is_steady,
+        reaches,
+    )
 }
 
 /// Writes the cells of a trial into an empty sheet, and says how many crossing steps it has.

@@ -5,7 +5,7 @@ use Rattle.aim_buffers.proofs.MoveLemmas.{first_may, may_later}
 use Rattle.aim_buffers.proofs.RowLemmas.{before_row, before_step, on_err}
 use Rattle.aim_buffers.proofs.StepLemmas.{is_step_at, step_cells, step_count}
 use Rattle.aim_buffers.proofs.SpanLemmas.{all_before, none_before, spans_all, spans_more, spans_most, spans_none}
-use Rattle.aim_buffers.proofs.trials.write_cells.Goals as goal
+use Rattle.aim_buffers.proofs.trials.write_steps.Goals as goal
 
 pub loop-t-init : goal.loop-t-init
 loop-t-init c =
@@ -21,13 +21,13 @@ loop-t-init c =
     let s = c.saturating_sub-t.ensures in
     let a : p.arrive + t - times.edge ≤ p.arrive - times.edge = omega arith in
     let low : p.arrive + t - times.edge ≤ p.arrive - i.times.edge = rw (← te) a in
-    let out = c.first-outer.ensures in
-    let in_ = c.first-inner.ensures in
+    let out = c.requires.outer in
+    let in_ = c.requires.inner in
     let none : length c.args.sheet.now.spans ≡ 0 = rw c.requires.empty refl in
     let zero = spans_none i p c.args.fast (p.arrive + t - times.edge) early late low in
     record {
-      outer = may_later rects reaches c.first-outer.result 0 0 _ _ (omega arith) (omega arith) (first_may rects reaches c.first-outer.result out.window out.low out.next);
-      inner = may_later rects reaches c.first-inner.result 0 0 _ _ (omega arith) (omega arith) (first_may rects reaches c.first-inner.result in_.window in_.low in_.next);
+      outer = may_later rects reaches c.args.windows.now.outer 0 0 _ _ (omega arith) (omega arith) (first_may rects reaches c.args.windows.now.outer out.window out.low out.next);
+      inner = may_later rects reaches c.args.windows.now.inner 0 0 _ _ (omega arith) (omega arith) (first_may rects reaches c.args.windows.now.inner in_.window in_.low in_.next);
       cells = λ s r k. rw c.requires.empty (sym (none_before i p c.args.fast (p.arrive + t - times.edge) s r k early late low));
       count = omega arith;
       before = λ k d l. absurd (omega arith);
