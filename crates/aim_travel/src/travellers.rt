@@ -1,6 +1,6 @@
 //! Travellers.
 
-ghost use Rattle.std.specs.Prelude.{◌≡◌, ℕ, ◌+◌, ◌<◌, ◌≤◌, [], length, map, Some, true, IfOk};
+ghost use Rattle.std.specs.Prelude.{◌≡◌, ℕ, ◌+◌, ◌++◌, ◌<◌, ◌≤◌, [], length, map, Some, true, All, IfOk, OnOk};
 ghost use Rattle.aim_msg.specs.declared.entries.TheConstants.{LATEST_MOMENT};
 ghost use Rattle.aim_agent.specs.Agents.{Idles, IsFull};
 ghost use Rattle.aim_legs.specs.Acked.{begun_at};
@@ -106,6 +106,21 @@ fn unbegun(alloc: Global, leg: Leg) -> (u32, Driver, ManagerPass)
         unreachable!()
     };
     (crossing, driver, pass)
+}
+
+// What is left of legs that aren't begun comes behind what is left of the others.
+fn append_unbegun(
+    alloc: Global,
+    over: &mut Vec<(u32, Driver, ManagerPass)>,
+    waiting: Vec<Leg>,
+) -> Result<(), NoMemory>
+    requires { All (λ l. l.plan.lead ≤ 65536) waiting.items }
+    ensures { OnOk result (map told over.new.items ≡ map told over.old.items ++ map told_unbegun waiting.items) }
+{
+    for leg in waiting {
+        over.push(unbegun(alloc, leg))?;
+    }
+    Ok(())
 }
 
 impl Traveller {
@@ -232,9 +247,7 @@ impl Traveller {
         } = self;
         let (driver, pass) = agent.into_parts();
         over.push((crossing, driver, pass))?;
-        for leg in waiting {
-            over.push(unbegun(alloc, leg))?;
-        }
+        append_unbegun(alloc, &mut over, waiting)?;
         Ok(over)
     }
 }
