@@ -35,6 +35,18 @@ impl<L: Ledger> Server<L> {
     ghost use Rattle.aim_rules.specs.Legal.{IsOfLayout};
     ghost use Rattle.aim_server.specs.Charted.{MarksRow};
 
+    // A book that was not asked yet, with room for an entry of every line.
+    fn open_book(alloc: Global, layout: Layout, vehicles: u32) -> Result<Box<Book<L>>, NoMemory>
+        requires some { 0 < vehicles }
+        requires most { vehicles ≤ MOST_VEHICLES }
+        ensures { IfOk result (λ b. b.value ≡ record { layout = layout; vehicles = vehicles; room = MOST_ENTRIES; journal = [] }) }
+    {
+        match Book::open(alloc, layout, vehicles, MOST_ENTRIES) {
+            Ok(book) => Ok(Box::new(alloc, book)?),
+            Err(_) => Err(NoMemory),
+        }
+    }
+
     /// A manager that was not asked yet. It takes all of its memory here.
     pub fn open(alloc: Global, layout: Layout, vehicles: u32) -> Result<Server<L>, NoMemory>
         requires some { 0 < vehicles }
@@ -42,12 +54,14 @@ impl<L: Ledger> Server<L> {
         ensures { IfOk result (λ s. s ≡ record { layout = layout; vehicles = vehicles; room = MOST_ENTRIES; journal = [] }) }
     {
         let spans = layout.ground().grid().spans;
-        let Ok(book) = Book::open(alloc, layout, vehicles, MOST_ENTRIES) else {
-            return Err(NoMemory);
-        };
-        let book = Box::new(alloc, book)?;
-        let pool = Pool::new(alloc, vehicles + 2, spans)?;
-        Ok(Server { book, pool })
+        let book = Server::open_book(alloc, layout, vehicles)?;
+        match Pool::new(alloc, vehicles + 2, spans) {
+            Ok(pool) => Ok(Server { book, pool }),
+            Err(error) => {
+                drop(book);
+                Err(error)
+            }
+        }
     }
 
     /// How many vehicles there are.

@@ -6,4 +6,4 @@ use Rattle.aim_server.proofs.servers.Server.open.Goals as goal
 pub invariant_of-result : goal.invariant_of-result
 invariant_of-result g c =
     let spans = ap (λ (x : Grid). x.spans) (c.grid-spans.ensures.grid ∙ c.ground.ensures.grid) in
-    served_first c.args.layout c.args.vehicles _ _ (c.in_ok-book.ensures.ok ∙ c.in-Ok.ensures.book) (rw spans at c.in_ok-pool.ensures) c.requires.most
+    served_first c.args.layout c.args.vehicles _ _ c.in_ok-book.ensures (rw spans at c.in-Ok.ensures) c.requires.most

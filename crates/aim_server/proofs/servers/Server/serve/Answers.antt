@@ -1,4 +1,4 @@
-use Rattle.std.proofs.Common.{arith, ◌∙◌}
+use Rattle.std.proofs.Common.{◌∙◌}
 use Rattle.aim_server.proofs.SheetLemmas.{two_left, served_more}
 use Rattle.aim_server.proofs.servers.Server.serve.Goals as goal
 
