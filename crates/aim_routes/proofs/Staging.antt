@@ -201,6 +201,12 @@ pub close_falls : (before : List GridLine) (b : Blocks) (n : ℕ) (k : Kind) →
     → (let p = parted before in header_kind p.block (plain.Vehicles n) ≡ Some k) → of_read before (Ok (line.Plain (plain.Vehicles n))) ≡ decides (bad before (kind.Plain k))
 close_falls before b n k a all is = falls before (line.Plain (plain.Vehicles n)) (kind.Plain k) (close_at before b n true a all ∙ ap as_plain is)
 
+-- the header doesn't take the line of the vehicles
+pub close_refused : (before : List GridLine) (b : Blocks) (n : ℕ) (refused : HeaderRefusal) → AreBlocks before b → nat_le b.count (length b.whole.items + 1) ≡ true → (let p = parted before in Heeds p.block (plain.Vehicles n) (Err refused))
+    → Takes before (line.Plain (plain.Vehicles n)) (Err (refusal_of refused))
+close_refused before b n (header_refusal.Bad k) a all is = close_falls before b n k a all is
+close_refused before b n header_refusal.NoMemory a all is = tt
+
 reached : (n m : ℕ) → nat_le n (m + 1) ≡ true → m < n → n ≡ m + 1
 reached n m h l = let most = leb-true n (m + 1) h in omega (arith, most, l)
 

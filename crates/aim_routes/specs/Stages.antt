@@ -9,9 +9,11 @@ use Rattle.aim_plans.specs.Kinds.{vehicles_limit}
 use Rattle.aim_script.specs.declared.decisions.Kind.{Kind}
 use Rattle.aim_script.specs.declared.decisions.Kind.TheVariants as why
 use Rattle.aim_script.specs.declared.headers.Header.{Header}
+use Rattle.aim_script.specs.declared.headers.Headed.TheVariants as headed
 use Rattle.aim_script.specs.declared.headers.Refusal.{Refusal as HeaderRefusal}
 use Rattle.aim_script.specs.declared.headers.Refusal.TheVariants as header_refusal
-use Rattle.aim_script.specs.Headers.{HasName, Stands as StandsAsHeader}
+use Rattle.aim_script.specs.declared.settings.Setting.{Setting}
+use Rattle.aim_script.specs.Headers.{HasName, Heeds, Stands as StandsAsHeader}
 use Rattle.aim_script.specs.Kinds.{kind_of_fault as header_kind}
 use Rattle.aim_script.specs.Said.{layout_of}
 use Rattle.aim_script.specs.Versions.{version_number}
@@ -119,6 +121,11 @@ abbrev pub EndsBlock : List Line → ℕ → Result Intersection HeaderRefusal �
 EndsBlock block n (Ok i) = (next_kind block n ≡ None) × (layout_of block ≡ i)
 EndsBlock block n (Err (header_refusal.Bad k)) = next_kind block n ≡ Some k
 EndsBlock block n (Err header_refusal.NoMemory) = Unit {0}
+
+-- the line of so many vehicles ends the last block
+abbrev pub Sets : List Line → ℕ → Result Setting HeaderRefusal → Type 0
+Sets block n (Ok s) = Heeds block (plain.Vehicles n) (Ok (headed.Whole s))
+Sets block n (Err refused) = Heeds block (plain.Vehicles n) (Err refused)
 
 -- why a line of a block isn't taken
 abbrev pub refusal_of : HeaderRefusal → Refusal

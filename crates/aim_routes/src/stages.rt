@@ -1,6 +1,6 @@
 //! How far a script has come, line by line.
 
-ghost use Rattle.std.specs.Prelude.{◌≡◌, ◌≤◌, ◌+◌, List, [], length, None, false, nat_le};
+ghost use Rattle.std.specs.Prelude.{◌≡◌, ◌≤◌, ◌+◌, ◌++◌, ◌∷◌, List, [], length, None, false, nat_le};
 ghost use Rattle.aim_msg.specs.declared.script.Line.{Line as AnyPlain};
 ghost use Rattle.aim_msg.specs.declared.script.Line.TheVariants as plain;
 ghost use Rattle.aim_script.specs.Headers.{HasName, Stands as StandsAsHeader};
@@ -12,7 +12,7 @@ ghost use Rattle.aim_grid_read.specs.Spelled.{IsBare};
 ghost use Rattle.aim_routes.specs.declared.stages.Stage.TheVariants as stage;
 ghost use Rattle.aim_routes.specs.Kinds.{leg_kind_of};
 ghost use Rattle.aim_routes.specs.Said.{begins_block, version_of};
-ghost use Rattle.aim_routes.specs.Stages.{AreBlocks, Begins, Ends, EndsBlock, IsCounted, Judged, Settles, Stands, Takes, WasRead, ending_of, is_order, refusal_of};
+ghost use Rattle.aim_routes.specs.Stages.{AreBlocks, Begins, Ends, EndsBlock, IsCounted, Judged, Sets, Settles, Stands, Takes, WasRead, ending_of, is_order, refusal_of};
 
 use crate::checks::{LAST_STEP, has_leg, is_bad_plan, is_outside, spans_in, vehicles_limit};
 use crate::decisions::GridKind;
@@ -190,6 +190,41 @@ fn settled(
     }
 }
 
+// What the last block describes, where the line of the vehicles ends it.
+fn last_setting(
+    header: Header,
+    alloc: Global,
+    vehicles: u32,
+) -> Result<Setting, aim_script::Refusal>
+    ensures { (block : List AnyPlain) → StandsAsHeader block header → Sets block vehicles result }
+{
+    match header.take(alloc, &Line::Vehicles(vehicles)) {
+        Ok(Headed::Whole(setting)) => Ok(setting),
+        Ok(Headed::More(_header)) => Err(aim_script::Refusal::Bad(Kind::Order)),
+        Err(why) => Err(why),
+    }
+}
+
+// What is kept behind the line of the vehicles, where the last block comes behind these.
+fn joined(
+    alloc: Global,
+    mut whole: Vec<Layout>,
+    setting: Setting,
+    vehicles: u32,
+) -> Result<Stage, Refusal>
+    ensures { Settles setting.version (whole.items ++ setting.layout ∷ []) vehicles result }
+{
+    let Setting {
+        version,
+        layout,
+        ..
+    } = setting;
+    match whole.push(layout) {
+        Ok(()) => settled(alloc, whole, version, vehicles),
+        Err(_) => Err(Refusal::NoMemory),
+    }
+}
+
 // Whether one block behind these is the last of so many.
 fn has_all(count: u32, whole: &[Layout]) -> bool
     ensures { result ≡ nat_le count (length whole.now + 1) }
@@ -230,27 +265,20 @@ impl Blocks {
     fn close(self, alloc: Global, vehicles: u32) -> Result<Stage, Refusal>
         ensures { (before : List AnyLine) → AreBlocks before self → Takes before (line_of.Plain (plain.Vehicles vehicles)) result }
     {
-        let Blocks {
-            count,
-            mut whole,
-            header,
-        } = self;
-        if !has_all(count, &whole) {
+        if !has_all(self.count, &self.whole) {
+            drop(self);
             return Err(OUT_OF_ORDER);
         }
-        match header.take(alloc, &Line::Vehicles(vehicles)) {
-            Err(why) => Err(told(why)),
-            Ok(Headed::More(_header)) => Err(OUT_OF_ORDER),
-            Ok(Headed::Whole(setting)) => {
-                let Setting {
-                    version,
-                    layout,
-                    ..
-                } = setting;
-                match whole.push(layout) {
-                    Ok(()) => settled(alloc, whole, version, vehicles),
-                    Err(_) => Err(Refusal::NoMemory),
-                }
+        let Blocks {
+            count: _,
+            whole,
+            header,
+        } = self;
+        match last_setting(header, alloc, vehicles) {
+            Ok(setting) => joined(alloc, whole, setting, vehicles),
+            Err(why) => {
+                drop(whole);
+                Err(told(why))
             }
         }
     }
