@@ -1,5 +1,7 @@
 -- What a script of events comes to, line after line.
-use Rattle.std.proofs.Common.{◌≡◌, ◌≢◌, ℕ, ◌+◌, List, [], ◌∷◌, ◌++◌, length, Option, Some, None, Result, Ok, Err, IfSome, refl, sym, ap, ◌∙◌, length-append, false, true}
+use Rattle.std.proofs.Common.{◌≡◌, ◌≢◌, ℕ, ◌+◌, Bool, List, [], ◌∷◌, ◌++◌, length, Option, Some, None, Result, Ok, Err, IfSome, refl, sym, ap, ◌∙◌, length-append, false, true}
+use Rattle.std.specs.Bool.{OnFalse}
+use Rattle.std.specs.Prelude.{IfOk}
 use Rattle.std.specs.Option.{unwrap_or}
 use Rattle.std.specs.Io.KnownBytes.{Consumes}
 use Rattle.aim_io.specs.declared.lines.LineFault.{LineFault}
@@ -158,3 +160,12 @@ no_read_at_end before (Err (ending.Bad number why)) e is = cc
 no_read_at_end before (Err (ending.Limit which)) e is = e
 no_read_at_end before (Err ending.Read) e is = e
 no_read_at_end before (Err ending.NoMemory) e is = cc
+
+-- what holds whatever the script is
+pub where_ok : {T E : Type 0} (P : Type 0) (r : Result T E) → P → IfOk r (λ _. P)
+where_ok P (Ok a) p = p
+where_ok P (Err e) p = tt
+
+pub on_false : {P : Type 0} (b : Bool) → b ≡ false → OnFalse b P → P
+on_false true is p = absurd (cc)
+on_false false is p = p

@@ -1,5 +1,7 @@
 -- What is known of the lines of a script so far. No public clause cites this file: only contracts of private functions.
-use Rattle.std.specs.Prelude.{◌≡◌, ℕ, ◌<◌, ◌≤◌, true, false, List, [], ◌∷◌, ◌++◌, length, Option, Some, None, Result, Ok, Err, nat_le, nat_lt, slice_get, if◌then◌else◌}
+use Rattle.std.specs.Prelude.{◌≡◌, ℕ, ◌<◌, ◌≤◌, true, false, List, [], ◌∷◌, ◌++◌, length, Option, Some, None, Result, Ok, Err, IfOk, nat_le, nat_lt, slice_get, if◌then◌else◌}
+use Rattle.std.specs.Io.KnownBytes.{IsAtEnd}
+use Rattle.aim_io.specs.Causes.{Rose}
 use Rattle.aim_io.specs.declared.lines.LineFault.{LineFault}
 use Rattle.aim_io.specs.declared.lines.LineFault.TheVariants as fault
 use Rattle.aim_io.specs.Lines.{Line as LineOf}
@@ -16,6 +18,7 @@ use Rattle.aim_script.specs.Said.{version_after, layout_of, vehicles_of, calls_o
 use Rattle.aim_script.specs.Verdicts.{decides, goes_on, number_after, at_end}
 use Rattle.aim_script.specs.Versions.{version_number}
 use Rattle.aim_plans.specs.Kinds.{vehicles_limit}
+use Rattle.aim_plans.specs.Scripts.{TakesAtMost}
 use Rattle.aim_events.specs.declared.scripts.Event.{Event}
 use Rattle.aim_events.specs.declared.scripts.EventScript.{EventScript}
 use Rattle.aim_events.specs.declared.scripts.EventEnding.{EventEnding}
@@ -27,7 +30,8 @@ use Rattle.aim_events.specs.declared.stages.Refusal.{Refusal}
 use Rattle.aim_events.specs.declared.stages.Refusal.TheVariants as refusal
 use Rattle.aim_events.specs.Said.{events_of}
 use Rattle.aim_events.specs.Fits.{FitsEvent, IsFit}
-use Rattle.aim_events.specs.Scripts.{AreEvents, IsScriptOf}
+use Rattle.aim_events.specs.Scripts.{AreEvents, IsScriptOf, Reads}
+use Rattle.aim_events.specs.Short.{StopsShort}
 use Rattle.aim_events.specs.Verdicts.{judge, of_read}
 
 -- there is a vehicle, and there are not too many
@@ -104,3 +108,13 @@ abbrev pub refused : ℕ → Refusal → EventEnding
 refused number (refusal.Bad why) = ending.Bad number why
 refused number (refusal.Limit which) = ending.Limit which
 refused number refusal.NoMemory = ending.NoMemory
+
+-- what reading a script comes to, by what the source has left and the count of its faults, before and after
+pub record Comes (result : Result EventScript EventEnding) (left_old left_new : Option (List ℕ)) (faults_old faults_new : ℕ) : Type 0 where
+  pub reads : Reads left_old result
+  pub fits : IfOk result IsFit
+  pub ended : IfOk result (λ _. IsAtEnd left_new)
+  pub short : result ≡ Err ending.Read → StopsShort left_old left_new
+  pub read : result ≡ Err ending.Read → Rose faults_old faults_new
+  pub source : faults_old ≤ faults_new
+  pub most : TakesAtMost 67108865 left_old left_new

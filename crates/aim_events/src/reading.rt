@@ -3,11 +3,12 @@
 ghost use Rattle.std.specs.Prelude.{◌≡◌, ◌≤◌, Err, IfOk};
 ghost use Rattle.std.specs.Io.KnownBytes.{IsAtEnd};
 ghost use Rattle.aim_io.specs.Causes.{Rose};
+ghost use Rattle.aim_io.specs.Reader.{fresh};
 ghost use Rattle.aim_plans.specs.Scripts.{TakesAtMost};
 ghost use Rattle.aim_events.specs.Fits.{IsFit};
 ghost use Rattle.aim_events.specs.Scripts.{Reads};
 ghost use Rattle.aim_events.specs.Short.{StopsShort};
-ghost use Rattle.aim_events.specs.Stages.{at_fault, refused};
+ghost use Rattle.aim_events.specs.Stages.{Comes, at_fault, refused};
 
 use crate::scripts::{EventEnding, EventScript};
 use crate::stages::{Refusal, Stage};
@@ -38,22 +39,15 @@ fn after_refusal(number: u32, refusal: Refusal) -> EventEnding
     }
 }
 
-/// Reads a script of events to its end, or to the line that decides. Nothing is read behind a line that decides.
-pub fn read_events<S: Source>(alloc: Global, source: &mut S) -> Result<EventScript, EventEnding>
-    // The script exactly where the bytes are a whole one, and else what decides them.
-    ensures reads { Reads (S.left source.old) result }
-    ensures fits { IfOk result IsFit }
-    ensures ended { IfOk result (λ _. IsAtEnd (S.left source.new)) }
-
-    // A failing source, before a line decides.
-    ensures short { result ≡ Err EventEnding.Read → StopsShort (S.left source.old) (S.left source.new) }
-    ensures read { result ≡ Err EventEnding.Read → Rose (S.faults source.old) (S.faults source.new) }
-    ensures source { S.faults source.old ≤ S.faults source.new }
-
-    // No more than one byte past the greatest input is taken.
-    ensures most { TakesAtMost 67108865 (S.left source.old) (S.left source.new) }
+// Reads the lines of a script by a new reader, to its end, or to the line that decides.
+fn read_lines<S: Source>(
+    alloc: Global,
+    source: &mut S,
+    reader: &mut LineReader,
+) -> Result<EventScript, EventEnding>
+    requires { reader.old ≡ fresh }
+    ensures { Comes result (S.left source.old) (S.left source.new) (S.faults source.old) (S.faults source.new) }
 {
-    let mut reader = LineReader::new();
     let mut stage = Stage::new();
     let mut number = 0u32;
     'lines: loop {
@@ -71,4 +65,23 @@ pub fn read_events<S: Source>(alloc: Global, source: &mut S) -> Result<EventScri
             Err(refusal) => return Err(after_refusal(number, refusal)),
         }
     }
+}
+
+/// Reads a script of events to its end, or to the line that decides. Nothing is read behind a line that decides.
+pub fn read_events<S: Source>(alloc: Global, source: &mut S) -> Result<EventScript, EventEnding>
+    // The script exactly where the bytes are a whole one, and else what decides them.
+    ensures reads { Reads (S.left source.old) result }
+    ensures fits { IfOk result IsFit }
+    ensures ended { IfOk result (λ _. IsAtEnd (S.left source.new)) }
+
+    // A failing source, before a line decides.
+    ensures short { result ≡ Err EventEnding.Read → StopsShort (S.left source.old) (S.left source.new) }
+    ensures read { result ≡ Err EventEnding.Read → Rose (S.faults source.old) (S.faults source.new) }
+    ensures source { S.faults source.old ≤ S.faults source.new }
+
+    // No more than one byte past the greatest input is taken.
+    ensures most { TakesAtMost 67108865 (S.left source.old) (S.left source.new) }
+{
+    let mut reader = LineReader::new();
+    read_lines(alloc, source, &mut reader)
 }

@@ -1,7 +1,7 @@
 use Rattle.std.proofs.Common.{◌≡◌, ◌-◌, ◌≤◌, None}
 use Rattle.aim_io.specs.Reader.{input, IsSound, KnowsEnd}
 use Rattle.aim_events.proofs.Deciding.{Reached}
-use Rattle.aim_events.proofs.reading.read_events.Given as goal
+use Rattle.aim_events.proofs.reading.read_lines.Given as goal
 
 abbrev pub invariant-lines : goal.invariant-lines
 invariant-lines g l = record {
