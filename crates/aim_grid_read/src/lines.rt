@@ -5,11 +5,11 @@ ghost use Rattle.aim_words.specs.Faults.{words_of};
 ghost use Rattle.aim_grid_read.specs.Legs.{form_of, grid_line_at, plain_at};
 ghost use Rattle.aim_grid_read.specs.Steps.{crossings_in, leg_in};
 
-use crate::fields::{number8, number32, numbers, params, turn};
-use crate::words::Words;
 use aim_driver::{Changes, DrivePlan};
 use aim_msg::{Line, LineKind};
 use aim_read::read_line;
+use aim_words::fields::{self, number8, number32, numbers, turn};
+use aim_words::words::Words;
 
 /// A line of a script of several crossings.
 #[derive(Drop)]
@@ -78,7 +78,7 @@ fn leg(words: &mut Words<'_>) -> Result<GridLine, LineKind>
     let [vehicle, crossing, first, lead, resend] = numbers::<5>(words)?;
     let lane = number8(words)?;
     let turn = turn(words)?;
-    let params = params(words, lane, turn)?;
+    let params = fields::vehicle(words, lane, turn, 0)?;
     let plan = DrivePlan {
         first,
         lead,

@@ -70,7 +70,7 @@ body_again (body.Change id p) ws r = rw (n32 id _ r.0, params_again p ws r.1) re
 body_again (body.Cancel id) ws r = rw (n32 id ws r) refl
 body_again (body.Done id) ws r = rw (n32 id ws r) refl
 
-pub tail_is : (seq : ℕ) (b : Body) (ws : Words) → rest (body_words seq b ++ ws) ≡ decimal seq ∷ (body_tail b ++ ws)
+tail_is : (seq : ℕ) (b : Body) (ws : Words) → rest (body_words seq b ++ ws) ≡ decimal seq ∷ (body_tail b ++ ws)
 tail_is seq (body.Request p) ws = refl
 tail_is seq (body.Change id p) ws = refl
 tail_is seq (body.Cancel id) ws = refl

@@ -22,7 +22,7 @@ turn_is_word Left = refl
 turn_is_word Straight = refl
 turn_is_word Right = refl
 
-pub class_is_word : (emergency : Bool) → IsWord (class_word emergency)
+class_is_word : (emergency : Bool) → IsWord (class_word emergency)
 class_is_word true = refl
 class_is_word false = refl
 
