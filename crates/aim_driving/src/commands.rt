@@ -16,6 +16,7 @@ use crate::reports::report_of;
 use aim_agent::Gate;
 use aim_drive::run_script;
 use aim_io::{Sink, Source, put_all};
+use aim_paths::Layout;
 use aim_plans::{DriveScript, Ending, read_drive};
 use aim_report::NoMemory;
 use aim_script::{Decision, last_line};
@@ -49,6 +50,25 @@ fn put_refused<K: Sink>(sink: &mut K, decision: Decision) -> u8
     }
 }
 
+// Runs a script over this layout, and gives the text that reports it.
+fn text_over<R: Threads + Wait + Sync, G: Gate>(
+    rt: &R,
+    alloc: Global,
+    layout: &Layout,
+    script: DriveScript,
+    workers: u32,
+    gate: &G,
+) -> Result<Vec<u8>, NoMemory>
+    requires layout { layout.now ≡ script.layout }
+    requires script { IsFit script }
+    requires workers { (0 < workers) × (workers ≤ 64) }
+    ensures { (lines : List Line) → IsScriptOf lines script → IfOk result (λ text. IsReport workers lines text.items) }
+{
+    let vehicles = script.vehicles;
+    let drove = run_script(rt, alloc, script, gate, workers)?;
+    report_of(alloc, layout, vehicles, &drove)
+}
+
 // Runs a script, and gives the text that reports it.
 fn text_of_run<R: Threads + Wait + Sync, G: Gate>(
     rt: &R,
@@ -62,9 +82,7 @@ fn text_of_run<R: Threads + Wait + Sync, G: Gate>(
     ensures { (lines : List Line) → IsScriptOf lines script → IfOk result (λ text. IsReport workers lines text.items) }
 {
     let layout = script.layout.copy()?;
-    let vehicles = script.vehicles;
-    let drove = run_script(rt, alloc, script, gate, workers)?;
-    report_of(alloc, &layout, vehicles, &drove)
+    text_over(rt, alloc, &layout, script, workers, gate)
 }
 
 // Runs a script, writes the report, and answers the status.
