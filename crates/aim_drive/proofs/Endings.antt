@@ -43,7 +43,7 @@ pub lent_driven : (s : Setting) (until workers : ℕ) (op : AgentPass) (xs l ys 
 lent_driven s until workers op xs l ys e d = subst (λ (z : List AgentModel). Driven s until (run_size (length z) workers) op z ys) e d
 
 -- a list that was lent whole, and came back
-lent_back : {A : Type 0} (n : ℕ) (ys xs : List A) → length ys ≡ n → length xs ≤ length ys → take n (ys ++ drop (length ys) xs) ≡ ys
+pub lent_back : {A : Type 0} (n : ℕ) (ys xs : List A) → length ys ≡ n → length xs ≤ length ys → take n (ys ++ drop (length ys) xs) ≡ ys
 lent_back n ys xs len le =
     ap (λ l. take n (ys ++ l)) (drop_all (length ys) xs le) ∙ ap (λ l. take n l) (append-nil ys) ∙ take_all n ys (omega (arith, len))
 
