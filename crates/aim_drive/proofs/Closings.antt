@@ -7,7 +7,6 @@ use Rattle.std.proofs.lemmas.List.{get_or_append_left, get_or-append_right, get_
 use Rattle.std.proofs.lemmas.List.Sorted.{Contains-permutation, IsPermutation-sym}
 use Rattle.std.proofs.lemmas.List.Sums.{sum_by-le, sum_by-append}
 use Rattle.aim_msg.specs.declared.entries.Entry.{Entry}
-use Rattle.aim_rules.specs.Legal.{IsLegal}
 use Rattle.aim_driver.specs.declared.logs.LogItem.{LogItem}
 use Rattle.aim_driver.specs.Follows.{Call}
 use Rattle.aim_driver.specs.Fits.{call_of}
@@ -25,6 +24,7 @@ use Rattle.aim_agent.proofs.Followed.{followed, stopped}
 use Rattle.aim_agent.proofs.Passes.{length_begins}
 use Rattle.aim_agent.proofs.Places.{none_later}
 use Rattle.aim_fleet.specs.Driven.{Closes}
+use Rattle.aim_drive.specs.Closing.{IsClosed}
 use Rattle.aim_drive.proofs.Lists.{element}
 use Rattle.aim_drive.proofs.Seats.{pass_of}
 
@@ -44,14 +44,6 @@ seek (x ∷ xs) n =
     later : (x : ℕ) (xs : List ℕ) (n : ℕ) → (x ≡ n → ⊥) → (Contains xs n → ⊥) → (k : ℕ) → k < length (x ∷ xs) → get_or (x ∷ xs) k n ≡ n → ⊥
     later x xs n ne none zero l e = ne e
     later x xs n ne none (suc k) l e = none (k, omega arith, e)
-
--- what closing tells of these passes and the operator's
-pub record IsClosed (s : Setting) (ps : List AgentPass) (op : AgentPass) (h : List Entry) : Type 0 where
-  pub legal : IsLegal s.layout s.vehicles h
-  pub passes : All (HasPass caller_of h) (ps ++ op ∷ [])
-  pub numbers : IsPermutation (map (λ (p : AgentPass). p.number) (ps ++ op ∷ [])) (callers s.vehicles)
-  pub others : (n : ℕ) → (Contains (callers s.vehicles) n → ⊥) → entries_of caller_of n h ≡ []
-  pub count : length h ≡ sum_by (λ (p : AgentPass). length p.mine) (ps ++ op ∷ [])
 
 -- the number is an agent's
 abbrev pub IsAgents : List AgentModel → ℕ → Type 0

@@ -1,5 +1,5 @@
 -- What is known when all turns are over.
-use Rattle.std.proofs.Common.{◌≡◌, ◌≢◌, ℕ, ◌+◌, ◌*◌, ◌<◌, ◌≤◌, List, [], ◌++◌, length, length-append, map, take, drop, get_or, Some, None, Result, Ok, Err, sym, ap, ◌∙◌, subst, arith}
+use Rattle.std.proofs.Common.{◌≡◌, ℕ, ◌+◌, ◌*◌, ◌<◌, ◌≤◌, List, [], ◌++◌, length, length-append, map, take, drop, get_or, None, Result, Ok, Err, sym, ap, ◌∙◌, subst, arith}
 use Rattle.std.specs.Prelude.{All, OnOk, OnErr}
 use Rattle.std.proofs.lemmas.List.{length-map, append-nil, drop_all, take_all}
 use Rattle.std.proofs.lemmas.List.Elements.{All-map, All-append}
@@ -9,16 +9,16 @@ use Rattle.aim_book.specs.declared.book.Full.{Full}
 use Rattle.aim_turn.specs.Models.{TurnstileModel}
 use Rattle.aim_manager.specs.declared.keeper.Setting.{Setting}
 use Rattle.aim_plans.specs.declared.scripts.Planned.{Planned}
-use Rattle.aim_agent.specs.declared.agents.Trouble.TheVariants as trouble
-use Rattle.aim_agent.specs.Agents.{AgentModel, AgentPass, IsFull}
+use Rattle.aim_agent.specs.Agents.{AgentModel, AgentPass}
 use Rattle.aim_agent.proofs.Passes.{length_begins}
 use Rattle.aim_agents.specs.Rounds.{run_size}
 use Rattle.aim_fleet.specs.Driven.{Driven}
 use Rattle.aim_fleet.specs.Orders.{FoundFull}
+use Rattle.aim_drive.specs.Closing.{HasMemory, IsClosed}
 use Rattle.aim_drive.specs.Making.{AreAgentsFor, AreLeft, all_passes}
 use Rattle.aim_drive.proofs.Lists.{element}
 use Rattle.aim_drive.proofs.Seats.{pass_of, left_new, count_all}
-use Rattle.aim_drive.proofs.Closings.{IsClosed, has_agents, has_operator, short, few_calls, is_calm}
+use Rattle.aim_drive.proofs.Closings.{has_agents, has_operator, short, few_calls, is_calm}
 
 -- the agents took their turns of all steps below one
 pub record Rode (s : Setting) (size : ℕ) (xs ys : List AgentModel) : Type 0 where
@@ -26,12 +26,12 @@ pub record Rode (s : Setting) (size : ℕ) (xs ys : List AgentModel) : Type 0 wh
   pub before : AgentPass
   pub driven : Driven s step size before xs ys
 
-pub rode : (s : Setting) (until size : ℕ) (op : AgentPass) (xs ys : List AgentModel) (orders : ℕ) (r : Result (Unit {0}) Full) → OnOk r (Driven s until size op xs ys) → OnErr r (FoundFull s until size op xs ys orders) → Rode s size xs ys
+rode : (s : Setting) (until size : ℕ) (op : AgentPass) (xs ys : List AgentModel) (orders : ℕ) (r : Result (Unit {0}) Full) → OnOk r (Driven s until size op xs ys) → OnErr r (FoundFull s until size op xs ys orders) → Rode s size xs ys
 rode s until size op xs ys orders (Ok u) d f = record { step = until; before = op; driven = d }
 rode s until size op xs ys orders (Err e) d f = record { step = f.step; before = f.before; driven = f.driven }
 
 -- the same, of what was lent
-pub ridden : (s : Setting) (until workers : ℕ) (op : AgentPass) (xs l ys : List AgentModel) (orders : ℕ) (r : Result (Unit {0}) Full) → l ≡ xs → OnOk r (Driven s until (run_size (length l) workers) op l ys)
+ridden : (s : Setting) (until workers : ℕ) (op : AgentPass) (xs l ys : List AgentModel) (orders : ℕ) (r : Result (Unit {0}) Full) → l ≡ xs → OnOk r (Driven s until (run_size (length l) workers) op l ys)
     → OnErr r (FoundFull s until (run_size (length l) workers) op l ys orders) → Rode s (run_size (length xs) workers) xs ys
 ridden s until workers op xs l ys orders r e d f = subst (λ (z : List AgentModel). Rode s (run_size (length z) workers) z ys) e (rode s until (run_size (length l) workers) op l ys orders r d f)
 
@@ -47,9 +47,19 @@ pub lent_back : {A : Type 0} (n : ℕ) (ys xs : List A) → length ys ≡ n → 
 lent_back n ys xs len le =
     ap (λ l. take n (ys ++ l)) (drop_all (length ys) xs le) ∙ ap (λ l. take n l) (append-nil ys) ∙ take_all n ys (omega (arith, len))
 
--- an agent found memory, and where it is in trouble the journal was full
-abbrev pub HasMemory : AgentModel → Type 0
-HasMemory a = (a.trouble ≢ Some trouble.NoMemory) × (a.trouble ≡ Some trouble.Full → IsFull a.pass)
+-- the agents rode, and came back as t
+pub record CameBack (s : Setting) (size : ℕ) (xs ys t : List AgentModel) : Type 0 where
+  pub ride : Rode s size xs ys
+  pub back : t ≡ ys
+
+pub came_back : (s : Setting) (until workers n : ℕ) (op : AgentPass) (xs l ys : List AgentModel) (orders : ℕ) (r : Result (Unit {0}) Full) → l ≡ xs → length l ≡ n
+    → OnOk r (Driven s until (run_size (length l) workers) op l ys) → OnErr r (FoundFull s until (run_size (length l) workers) op l ys orders)
+    → CameBack s (run_size (length xs) workers) xs ys (take n (ys ++ drop (length ys) xs))
+came_back s until workers n op xs l ys orders r e many d f =
+    let ride = ridden s until workers op xs l ys orders r e d f in
+    let same : length ys ≡ length xs = ride.driven.len in
+    let all : length xs ≡ n = ap (λ (z : List AgentModel). length z) (sym e) ∙ many in
+    record { ride = ride; back = lent_back n ys xs (same ∙ all) (omega arith) }
 
 module _ (m : TurnstileModel Setting) (spans size : ℕ) (plans : List Planned) (xs ys : List AgentModel) (rest : List AgentPass) (made : AreAgentsFor m spans plans xs) (left : AreLeft m xs rest) (ride : Rode m.setting size xs ys) where
   pub left_idle : All (λ (p : AgentPass). p.mine ≡ []) rest
@@ -72,13 +82,6 @@ module _ (m : TurnstileModel Setting) (spans size : ℕ) (plans : List Planned) 
       let b : length (map pass_of xs) ≡ length xs = length-map xs pass_of in
       let p : length (map pass_of xs ++ rest) ≡ length (all_passes m) = length_permutation (all_passes m) (map pass_of xs ++ rest) left in
       let n : length (all_passes m) ≡ m.setting.vehicles = count_all m in
-      omega arith
-
-  pub count_all_left : length (rest ++ map pass_of ys) ≡ m.setting.vehicles
-  count_all_left =
-      let a : length (rest ++ map pass_of ys) ≡ length rest + length (map pass_of ys) = length-append rest (map pass_of ys) in
-      let b : length (map pass_of ys) ≡ length ys = length-map ys pass_of in
-      let c = count_left in
       omega arith
 
   -- the journal is shorter than its room
@@ -112,14 +115,3 @@ module _ (m : TurnstileModel Setting) (spans size : ℕ) (plans : List Planned) 
       let b : length op.seen ≤ length h = length_begins op.seen h (has_operator m.setting rest ys op h closed).0 in
       let full : length op.seen ≡ m.setting.room = f.full in
       omega arith
-
-  -- by the list of passes that was made of them
-  pub own_passes : (ps : List AgentPass) → ps ≡ rest ++ map pass_of ys → All (λ (p : AgentPass). p.table ≡ m.table) ps
-  own_passes ps e = subst (λ (l : List AgentPass). All (λ (p : AgentPass). p.table ≡ m.table) l) (sym e) all_own
-
-  pub count_passes : (ps : List AgentPass) → ps ≡ rest ++ map pass_of ys → length ps ≡ m.setting.vehicles
-  count_passes ps e = ap (λ (l : List AgentPass). length l) e ∙ count_all_left
-
--- what closing gives, by that list
-pub closed_by : (s : Setting) (ps qs : List AgentPass) (op : AgentPass) (h : List Entry) → ps ≡ qs → IsClosed s ps op h → IsClosed s qs op h
-closed_by s ps qs op h e c = subst (λ (l : List AgentPass). IsClosed s l op h) e c

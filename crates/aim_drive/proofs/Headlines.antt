@@ -26,11 +26,12 @@ use Rattle.aim_agent.proofs.Followed.{followed}
 use Rattle.aim_fleet.specs.Driven.{Driven, InOrder}
 use Rattle.aim_fleet.specs.Orders.{CarryOrders, order_of}
 use Rattle.aim_fleet.proofs.DriveLaws.{journal_is_in_order}
+use Rattle.aim_drive.specs.Closing.{IsClosed}
 use Rattle.aim_drive.specs.Headline.{VehicleLog, IsFollowed, Headline}
 use Rattle.aim_drive.specs.Making.{ArePlans, AreAgentsFor, told_by}
 use Rattle.aim_drive.proofs.Lists.{element, reads_at, reads_of, same_maps}
 use Rattle.aim_drive.proofs.Seats.{pass_of}
-use Rattle.aim_drive.proofs.Closings.{IsClosed, has_agents, has_operator, whose, closes}
+use Rattle.aim_drive.proofs.Closings.{has_agents, has_operator, whose, closes}
 
 firsts : (ys : List AgentModel) → map (λ (x : VehicleLog). x.0) (map told_by ys) ≡ map (λ (a : AgentModel). a.pass.number) ys
 firsts [] = refl

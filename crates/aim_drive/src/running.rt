@@ -1,16 +1,16 @@
 //! A whole drive.
 
-ghost use Rattle.std.specs.Prelude.{◌≡◌, ◌≢◌, false, ◌+◌, ◌*◌, ◌<◌, ◌≤◌, ◌++◌, length, map, All, Some, None, IfOk, OnOk};
+ghost use Rattle.std.specs.Prelude.{◌≡◌, false, ◌+◌, ◌*◌, ◌<◌, ◌≤◌, ◌++◌, length, map, All, IfOk, OnOk};
 ghost use Rattle.aim_msg.specs.declared.entries.TheConstants.{OPERATOR};
 ghost use Rattle.aim_turn.specs.Models.{new_pass};
-ghost use Rattle.aim_agent.specs.declared.agents.Trouble.TheVariants as trouble;
-ghost use Rattle.aim_agent.specs.Agents.{AgentModel, IsFull};
+ghost use Rattle.aim_agent.specs.Agents.{AgentModel};
 ghost use Rattle.aim_agents.specs.Rounds.{run_size};
 ghost use Rattle.aim_safety.specs.Tiles.{EntersBy};
 ghost use Rattle.aim_plans.specs.Fits.{IsFit};
 ghost use Rattle.aim_plans.specs.Scripts.{drive_told};
+ghost use Rattle.aim_drive.specs.Closing.{HasMemory, Leaves};
 ghost use Rattle.aim_drive.specs.Headline.{Headline};
-ghost use Rattle.aim_drive.specs.Making.{all_passes, told_by, log_of};
+ghost use Rattle.aim_drive.specs.Making.{AreAgentsFor, AreLeft, ArePlans, all_passes, told_by, log_of};
 
 use crate::NoMemory;
 use crate::making::agents_of;
@@ -20,7 +20,7 @@ use aim_fleet::drive;
 use aim_manager::{Manager, ManagerPass, OpenFault, Opened};
 use aim_msg::Entry;
 use aim_paths::Layout;
-use aim_plans::DriveScript;
+use aim_plans::{DriveScript, Planned};
 use std::alloc::Global;
 use std::sync::Wait;
 use std::thread::Threads;
@@ -59,7 +59,7 @@ pub fn open(alloc: Global, layout: Layout, vehicles: u32, orders: u32) -> Result
 
 // Whether one of them found no memory.
 fn lack_memory(agents: &Vec<Agent>) -> bool
-    ensures { result ≡ false → All (λ a. (a.trouble ≢ Some trouble.NoMemory) × (a.trouble ≡ Some trouble.Full → IsFull a.pass)) agents.now.items }
+    ensures { result ≡ false → All HasMemory agents.now.items }
 {
     for agent in agents {
         if let Some(Trouble::NoMemory) = agent.trouble() {
@@ -67,6 +67,16 @@ fn lack_memory(agents: &Vec<Agent>) -> bool
         }
     }
     false
+}
+
+// The log of an agent's driver, and its pass.
+fn parted(agent: Agent) -> (Logged, ManagerPass)
+    ensures log { log_of result.0 ≡ told_by agent }
+    ensures pass { result.1 ≡ agent.pass }
+{
+    let (driver, pass) = agent.into_parts();
+    let vehicle = pass.number();
+    (Logged { vehicle, driver }, pass)
 }
 
 // The logs of the drivers, in the order of the agents. Their passes come behind the others.
@@ -79,15 +89,77 @@ fn logs_of(
     ensures passes { OnOk result (passes.new.items ≡ passes.old.items ++ map (λ (a : AgentModel). a.pass) agents.items) }
 {
     let mut logs = Vec::with_capacity(alloc, agents.len())?;
+    passes.reserve(agents.len())?;
     for agent in agents {
-        let (driver, pass) = agent.into_parts();
-        logs.push_reserved(Logged {
-            vehicle: pass.number(),
-            driver,
-        });
-        passes.push(pass)?;
+        let (logged, pass) = parted(agent);
+        logs.push_reserved(logged);
+        passes.push_reserved(pass);
     }
     Ok(logs)
+}
+
+// Closes the manager, where each agent found memory: the journal, and the logs of the agents.
+fn left_by(
+    alloc: Global,
+    manager: Manager,
+    agents: Vec<Agent>,
+    mut passes: Vec<ManagerPass>,
+    operator: ManagerPass,
+) -> Result<Drove, NoMemory>
+    requires own { All (λ p. p.table ≡ manager.table) (passes.items ++ map (λ (a : AgentModel). a.pass) agents.items) }
+    requires operator { operator.table ≡ manager.table }
+    requires all { length passes.items + length agents.items ≡ manager.setting.vehicles }
+    ensures { IfOk result (λ d. Leaves manager.setting agents.items passes.items operator d) }
+{
+    if lack_memory(&agents) {
+        return Err(NoMemory);
+    }
+    let logs = logs_of(alloc, agents, &mut passes)?;
+    let journal = manager.close(passes, operator).journal;
+    Ok(Drove { journal, logs })
+}
+
+// What is ready for a drive.
+#[derive(Drop)]
+struct Seated {
+    manager: Manager,
+    // In the order of the plans.
+    agents: Vec<Agent>,
+    // Those of the other vehicles.
+    passes: Vec<ManagerPass>,
+    operator: ManagerPass,
+}
+
+// A new manager with room for all calls and orders of a drive, and an agent for each plan.
+fn seat(
+    alloc: Global,
+    layout: Layout,
+    vehicles: u32,
+    orders: u32,
+    plans: Vec<Planned>,
+    spans: u32,
+) -> Result<Seated, NoMemory>
+    requires vehicles { (0 < vehicles) × (vehicles ≤ 256) }
+    requires orders { orders ≤ 1024 }
+    requires plans { ArePlans vehicles plans.items }
+    ensures manager { IfOk result (λ s. s.manager.setting ≡ record { layout = layout; vehicles = vehicles; room = 128 * vehicles + orders + 1 }) }
+    ensures agents { IfOk result (λ s. AreAgentsFor s.manager spans plans.items s.agents.items) }
+    ensures left { IfOk result (λ s. AreLeft s.manager s.agents.items s.passes.items) }
+    ensures operator { IfOk result (λ s. s.operator ≡ new_pass s.manager OPERATOR) }
+{
+    let opened = open(alloc, layout, vehicles, orders)?;
+    let Opened {
+        manager,
+        mut passes,
+        operator,
+    } = opened;
+    let agents = agents_of(alloc, &manager, plans, &mut passes, spans)?;
+    Ok(Seated {
+        manager,
+        agents,
+        passes,
+        operator,
+    })
 }
 
 /// Runs a whole script: an agent for each plan, their turns of all steps in rounds of that many runs side by side, and
@@ -115,13 +187,13 @@ pub fn run_script<R: Threads + Wait + Sync, G: Gate>(
         orders,
     } = script;
     let spans = layout.ground().grid().spans;
-    let opened = open(alloc, layout, vehicles, orders.len() as u32)?;
-    let Opened {
+    let seated = seat(alloc, layout, vehicles, orders.len() as u32, plans, spans)?;
+    let Seated {
         manager,
-        mut passes,
+        mut agents,
+        passes,
         mut operator,
-    } = opened;
-    let mut agents = agents_of(alloc, &manager, plans, &mut passes, spans)?;
+    } = seated;
     let went = drive(
         rt,
         &manager,
@@ -132,13 +204,9 @@ pub fn run_script<R: Threads + Wait + Sync, G: Gate>(
         until,
         workers,
     );
-    if lack_memory(&agents) {
-        return Err(NoMemory);
-    }
-    let logs = logs_of(alloc, agents, &mut passes)?;
-    let journal = manager.close(passes, operator).journal;
+    let drove = left_by(alloc, manager, agents, passes, operator)?;
     match went {
-        Ok(()) => Ok(Drove { journal, logs }),
+        Ok(()) => Ok(drove),
         Err(_full) => unreachable!(),
     }
 }

@@ -1,3 +1,4 @@
 pub mod Texts
 pub mod Refusals
 pub mod Commands
+pub mod Endings

@@ -8,7 +8,7 @@ ghost use Rattle.aim_plans.specs.Scripts.{TakesAtMost};
 ghost use Rattle.aim_grid_read.specs.declared.lines.GridLine.{GridLine};
 ghost use Rattle.aim_routes.specs.Fits.{AreRoutesOf, AreWithin};
 ghost use Rattle.aim_grid_script.specs.Short.{StopsShort};
-ghost use Rattle.aim_routing.specs.Refusals.{refusal_text, status_of};
+ghost use Rattle.aim_routing.specs.Endings.{Ends, Refuses};
 ghost use Rattle.aim_routing.specs.Commands.{Completes, IsReport, Shows, ShowsFront};
 
 use crate::refusals::{refusal_line, status_of};
@@ -26,10 +26,7 @@ use std::thread::Threads;
 
 // Writes the one line of a script that isn't whole, and answers the status.
 fn put_refused<K: Sink>(sink: &mut K, decision: GridDecision) -> u8
-    ensures whole { (result ≡ 5) ⊎ ((result ≡ status_of decision) × Appends (K.held sink.old) (K.held sink.new) (refusal_text decision)) }
-    ensures front { result ≡ 5 → AppendsFront (K.held sink.old) (K.held sink.new) (refusal_text decision) }
-    ensures write { result ≡ 5 → Rose (K.faults sink.old) (K.faults sink.new) }
-    ensures sink { K.faults sink.old ≤ K.faults sink.new }
+    ensures { Refuses decision (K.held sink.old) (K.held sink.new) (K.faults sink.old) (K.faults sink.new) result }
 {
     let mut line = [0; 400];
     let len = refusal_line(decision, &mut line);
@@ -39,15 +36,46 @@ fn put_refused<K: Sink>(sink: &mut K, decision: GridDecision) -> u8
     }
 }
 
+// Writes the one line of a script that isn't whole, where reading came to that, and answers the status.
+fn put_ending<K: Sink>(sink: &mut K, ending: GridEnding) -> u8
+    ensures { Ends ending (K.held sink.old) (K.held sink.new) (K.faults sink.old) (K.faults sink.new) result }
+{
+    match ending {
+        GridEnding::Read => 4,
+        GridEnding::NoMemory => 7,
+        GridEnding::Bad(number, why) => put_refused(sink, GridDecision::Bad(number, why)),
+        GridEnding::Limit(which) => put_refused(sink, GridDecision::Limit(which)),
+    }
+}
+
 // Equal layouts.
 fn copies_of(alloc: Global, layouts: &[Layout]) -> Result<Vec<Layout>, NoMemory>
     ensures { IfOk result (λ v. v.items ≡ layouts.now) }
 {
     let mut copies = Vec::with_capacity(alloc, layouts.len())?;
     for layout in layouts {
-        copies.push(layout.copy()?)?;
+        copies.push_reserved(layout.copy()?);
     }
     Ok(copies)
+}
+
+// Runs the routes over these layouts, and gives the text that reports the run.
+fn text_over<R: Threads + Wait + Sync, G: Gate>(
+    rt: &R,
+    alloc: Global,
+    layouts: &[Layout],
+    routes: Routes,
+    workers: u32,
+    gate: &G,
+) -> Result<Vec<u8>, NoMemory>
+    requires layouts { layouts.now ≡ routes.layouts.items }
+    requires routes { AreWithin routes }
+    requires workers { (0 < workers) × (workers ≤ 64) }
+    ensures { (lines : List GridLine) → AreRoutesOf lines routes → IfOk result (λ text. IsReport lines text.items) }
+{
+    let vehicles = routes.vehicles;
+    let left = run_routes(rt, alloc, routes, gate, workers)?;
+    report_of(alloc, layouts, vehicles, &left)
 }
 
 // Runs the routes, and gives the text that reports the run.
@@ -63,9 +91,7 @@ fn text_of_run<R: Threads + Wait + Sync, G: Gate>(
     ensures { (lines : List GridLine) → AreRoutesOf lines routes → IfOk result (λ text. IsReport lines text.items) }
 {
     let layouts = copies_of(alloc, &routes.layouts)?;
-    let vehicles = routes.vehicles;
-    let left = run_routes(rt, alloc, routes, gate, workers)?;
-    report_of(alloc, &layouts, vehicles, &left)
+    text_over(rt, alloc, &layouts, routes, workers, gate)
 }
 
 // Runs the routes, writes the report, and answers the status.
@@ -136,10 +162,7 @@ pub fn grid<R: Threads + Wait + Sync, S: Source, K: Sink, G: Gate>(
     ensures complete { IfSome (S.left source.old) (λ bytes. Completes bytes (S.faults source.old) (S.faults source.new) (K.faults sink.old) (K.faults sink.new) result) }
 {
     match read_grid(alloc, source) {
-        Err(GridEnding::Read) => 4,
-        Err(GridEnding::NoMemory) => 7,
-        Err(GridEnding::Bad(number, why)) => put_refused(sink, GridDecision::Bad(number, why)),
-        Err(GridEnding::Limit(which)) => put_refused(sink, GridDecision::Limit(which)),
         Ok(routes) => put_run(rt, alloc, routes, workers, sink, gate),
+        Err(ending) => put_ending(sink, ending),
     }
 }
