@@ -13,12 +13,12 @@ use Rattle.aim_shards.specs.Fitting.{AreSheets}
 use Rattle.aim_shards.specs.History.{IsHistory}
 use Rattle.aim_shards.specs.Models.{PassModel, ShardsModel, count_up, new_pass}
 use Rattle.aim_shards.specs.Sums.{is, total}
-use Rattle.aim_shards.specs.declared.rectangles.Rectangle.{Rectangle}
+use Rattle.aim_shards.specs.declared.opening.OpenedShards.{OpenedShards}
 use Rattle.aim_claims.specs.declared.script.Terms.{Terms}
 use Rattle.aim_claims.specs.declared.lines.ShardLine.{ShardLine}
 use Rattle.aim_claims.specs.Said.{asked_of, sets_of, terms_of}
 use Rattle.aim_callers.specs.Following.{Follows}
-use Rattle.aim_callers.specs.Running.{HasDone, IsNew, IsRun}
+use Rattle.aim_callers.specs.Running.{AreSheetsOf, HasDone, IsNew, IsOpened, IsRun}
 
 is_same : (c m : ℕ) → m ≡ c → is c m ≡ 1
 is_same c m e = rw (eq-eqb m c e) refl
@@ -85,10 +85,19 @@ pub if_ok : {A E : Type 0} (P Q R : A → Type 0) (r : Result A E) → IfOk r P 
 if_ok P Q R (Ok a) p q f = f a p q
 if_ok P Q R (Err e) p q f = tt
 
-pub made_run : (lines told : List ShardLine) (s : ShardsModel) (sheets : List Spans) (rectangles : List Rectangle) (t : Terms) (ps : List PassModel) (log : List ClaimEntry) → told ≡ lines → t ≡ terms_of lines → rectangles ≡ sets_of lines → s.sets ≡ sheets
-    → AreSheets t.n t.horizon rectangles sheets → s.numbers ≡ count_up t.callers → All (HasDone s told) ps → IsHistory s.sets log → AreMade s.numbers ps log → IsRun lines log
-made_run lines told s sheets rectangles t ps log e f r sets are numbers done history made =
-    run_is lines s sheets ps log sets
-    (subst (λ (u : Terms). AreSheets u.n u.horizon (sets_of lines) sheets) f (subst (λ rs. AreSheets t.n t.horizon rs sheets) r are))
-    (subst (λ (u : Terms). s.numbers ≡ count_up u.callers) f numbers)
-    (subst (λ ls. All (HasDone s ls) ps) e done) history made
+-- what opening shards over the sheets of a script gives
+pub opened_is : (lines : List ShardLine) (t : Terms) (sheets : List Spans) (o : OpenedShards) → t ≡ terms_of lines → AreSheetsOf (terms_of lines) (sets_of lines) sheets → o.shards.size ≡ t.n → o.shards.sets ≡ sheets
+    → o.shards.numbers ≡ count_up t.callers → o.shards.calls ≡ 1024 → o.passes.items ≡ map (new_pass o.shards) (count_up t.callers) → IsOpened lines o
+opened_is lines t sheets o e are size sets numbers calls passes = record {
+  sheets = subst (λ ss. AreSheetsOf (terms_of lines) (sets_of lines) ss) (sym sets) are;
+  size = size ∙ ap (λ (u : Terms). u.n) e;
+  numbers = numbers ∙ ap (λ (u : Terms). count_up u.callers) e;
+  calls = calls;
+  passes = passes ∙ ap (λ (u : Terms). map (new_pass o.shards) (count_up u.callers)) e;
+}
+
+-- the callers of an opening have made their calls
+pub run_opened : (lines told : List ShardLine) (o : OpenedShards) (ps : List PassModel) (log : List ClaimEntry) → told ≡ lines → IsOpened lines o → All (HasDone o.shards told) ps → IsHistory o.shards.sets log
+    → AreMade o.shards.numbers ps log → IsRun lines log
+run_opened lines told o ps log e is done history made =
+    run_is lines o.shards o.shards.sets ps log refl is.sheets is.numbers (subst (λ ls. All (HasDone o.shards ls) ps) e done) history made

@@ -1,12 +1,15 @@
 -- What a run of a script gives.
-use Rattle.std.specs.Prelude.{◌≡◌, ℕ, ◌<◌, ◌≤◌, List, []}
+use Rattle.std.specs.Prelude.{◌≡◌, ℕ, ◌<◌, ◌≤◌, List, [], map}
 use Rattle.aim_pool.specs.Sheets.{Spans}
 use Rattle.aim_shards.specs.declared.claims.ClaimEntry.{ClaimEntry}
 use Rattle.aim_shards.specs.Claims.{entries_of}
 use Rattle.aim_shards.specs.Fitting.{AreSheets}
 use Rattle.aim_shards.specs.History.{IsHistory}
-use Rattle.aim_shards.specs.Models.{IsPassOf, PassModel, ShardsModel}
+use Rattle.aim_shards.specs.Models.{IsPassOf, PassModel, ShardsModel, count_up, new_pass}
+use Rattle.aim_shards.specs.declared.opening.OpenedShards.{OpenedShards}
+use Rattle.aim_shards.specs.declared.rectangles.Rectangle.{Rectangle}
 use Rattle.aim_claims.specs.declared.lines.ShardLine.{ShardLine}
+use Rattle.aim_claims.specs.declared.script.Terms.{Terms}
 use Rattle.aim_claims.specs.Said.{asked_of, sets_of, terms_of}
 use Rattle.aim_callers.specs.declared.callers.Caller.{Caller}
 use Rattle.aim_callers.specs.Calling.{Works}
@@ -20,6 +23,18 @@ pub record IsRun (lines : List ShardLine) (log : List ClaimEntry) : Type 0 where
   pub history : IsHistory sets log
   pub acts : (c : ℕ) → (let t = terms_of lines in c < t.callers) → Follows (asked_of c lines) (entries_of c log)
   pub others : (c : ℕ) → (let t = terms_of lines in t.callers ≤ c) → entries_of c log ≡ []
+
+-- the sheets are those of the rectangles, on the grid and within the steps of the terms
+abbrev pub AreSheetsOf : Terms → List Rectangle → List Spans → Type 0
+AreSheetsOf t rectangles sheets = AreSheets t.n t.horizon rectangles sheets
+
+-- the shards are over the script's sets, with a new pass for each caller, in the order of their numbers
+pub record IsOpened (lines : List ShardLine) (o : OpenedShards) : Type 0 where
+  pub sheets : AreSheetsOf (terms_of lines) (sets_of lines) o.shards.sets
+  pub size : let t = terms_of lines in o.shards.size ≡ t.n
+  pub numbers : let t = terms_of lines in o.shards.numbers ≡ count_up t.callers
+  pub calls : o.shards.calls ≡ 1024
+  pub passes : let t = terms_of lines in o.passes.items ≡ map (new_pass o.shards) (count_up t.callers)
 
 -- a pass that is new
 pub record IsNew (s : ShardsModel) (p : PassModel) : Type 0 where

@@ -4,12 +4,13 @@ ghost use Rattle.std.specs.Prelude.{◌≡◌, ◌<◌, ◌≤◌, List, [], len
 ghost use Rattle.std.specs.Thread.{IsSync};
 ghost use Rattle.aim_claims.specs.declared.lines.ShardLine.{ShardLine};
 ghost use Rattle.aim_claims.specs.Kinds.{IsScript};
-ghost use Rattle.aim_claims.specs.Said.{sets_of};
+ghost use Rattle.aim_claims.specs.Said.{sets_of, terms_of};
 ghost use Rattle.aim_shards.specs.Models.{ShardsModel};
-ghost use Rattle.aim_callers.specs.Running.{HasCalled, HasDone, IsNew, IsReady, IsRun};
+ghost use Rattle.aim_callers.specs.Running.{AreSheetsOf, HasCalled, HasDone, IsNew, IsOpened, IsReady, IsRun};
 
 use crate::callers::{Caller, make_all};
 use aim_claims::{MOST_CALLS, Script, ShardLine};
+use aim_pool::Sheet;
 use aim_shards::{ClaimEntry, Hold, OpenedShards, ShardPass, Shards, history, sheets};
 use std::alloc::{AllocError, Global};
 use std::sync::Wait;
@@ -69,6 +70,58 @@ fn side_by_side<R: Threads + Wait + Sync, H: Hold>(
     );
 }
 
+// The sheets of the script's sets.
+fn sheets_of(alloc: Global, script: &Script) -> Result<Vec<Sheet>, AllocError>
+    requires some { 0 < length script.now }
+    ensures { IfOk result (λ v. AreSheetsOf (terms_of script.now) (sets_of script.now) v.items) }
+{
+    let terms = script.terms();
+    let rectangles = script.rectangles(alloc)?;
+    sheets(alloc, terms.n, terms.horizon, &rectangles)
+}
+
+// Shards over the script's sets, with a pass for each caller.
+fn open(alloc: Global, script: &Script) -> Result<OpenedShards, AllocError>
+    requires some { 0 < length script.now }
+    ensures { IfOk result (IsOpened script.now) }
+{
+    let terms = script.terms();
+    let sets = sheets_of(alloc, script)?;
+    match Shards::open(
+        alloc,
+        terms.n,
+        terms.horizon,
+        sets,
+        terms.callers,
+        MOST_CALLS,
+    ) {
+        Ok(opened) => Ok(opened),
+        Err(_) => Err(AllocError),
+    }
+}
+
+// Lets the callers of these passes make their calls, and gives the passes back, in their order.
+fn called<R: Threads + Wait + Sync, H: Hold>(
+    rt: &R,
+    alloc: Global,
+    shards: &Shards,
+    lines: &[ShardLine],
+    passes: Vec<ShardPass>,
+    workers: u32,
+    hold: &H,
+) -> Result<Vec<ShardPass>, AllocError>
+    requires workers { 0 < workers }
+    requires script { IsScript lines.now }
+    requires sets { length shards.now.sets ≡ length (sets_of lines.now) }
+    requires new { All (IsNew shards.now) passes.items }
+    ensures count { IfOk result (λ v. length v.items ≡ length passes.items) }
+    ensures done { IfOk result (λ v. All (HasDone shards.now lines.now) v.items) }
+{
+    let mut callers = seated(alloc, passes)?;
+    side_by_side(rt, shards, lines, &mut callers, workers, hold);
+    passes_of(alloc, callers)
+}
+
 /// Lets the callers of a script make their calls, and gives the one history.
 ///
 /// The callers are cut into runs of neighbours, as many as there are workers at most. The runs go side by side, in threads
@@ -84,22 +137,13 @@ pub fn run_script<R: Threads + Wait + Sync, H: Hold>(
     requires workers { 0 < workers }
     ensures { IfOk result (λ v. IsRun script.now v.items) }
 {
-    let terms = script.terms();
-    let rectangles = script.rectangles(alloc)?;
-    let sets = sheets(alloc, terms.n, terms.horizon, &rectangles)?;
-    let Ok(opened) = Shards::open(
-        alloc,
-        terms.n,
-        terms.horizon,
-        sets,
-        terms.callers,
-        MOST_CALLS,
-    ) else {
-        return Err(AllocError);
-    };
+    let opened = open(alloc, script)?;
     let OpenedShards { shards, passes } = opened;
-    let mut callers = seated(alloc, passes)?;
-    side_by_side(rt, &shards, script.lines(), &mut callers, workers, hold);
-    let passes = passes_of(alloc, callers)?;
-    history(alloc, shards, passes)
+    match called(rt, alloc, &shards, script.lines(), passes, workers, hold) {
+        Ok(passes) => history(alloc, shards, passes),
+        Err(error) => {
+            drop(shards);
+            Err(error)
+        }
+    }
 }

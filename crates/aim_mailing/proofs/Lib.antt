@@ -4,5 +4,6 @@ pub mod Steps
 pub mod Seats
 pub mod Totals
 pub mod Journals
+pub mod Staffing
 pub mod Crosses
 pub mod Reports

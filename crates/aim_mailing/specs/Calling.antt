@@ -1,11 +1,12 @@
 -- What holds between two calls of a caller, and what its calls are. No public clause cites this file.
-use Rattle.std.specs.Prelude.{◌≡◌, ℕ, ◌+◌, ◌<◌, ◌≤◌, List, [], ◌∷◌, ◌++◌, length, map, take, IfSome, slice_index_or}
+use Rattle.std.specs.Prelude.{◌≡◌, ℕ, ◌+◌, ◌<◌, ◌≤◌, List, [], ◌∷◌, ◌++◌, length, map, max, take, IfSome, slice_index_or}
 use Rattle.aim_msg.specs.declared.entries.Act.TheVariants as act
 use Rattle.aim_paths.specs.Intersection.{Intersection}
 use Rattle.aim_pool.specs.Pools.{Stock}
 use Rattle.aim_rules.specs.Journals.{Call}
 use Rattle.aim_events.specs.declared.scripts.Event.{Event}
-use Rattle.aim_mailbox.specs.Calls.{Call as ClientCall, ClientModel, IsSameClient}
+use Rattle.aim_events.specs.declared.scripts.EventScript.{EventScript}
+use Rattle.aim_mailbox.specs.Calls.{Call as ClientCall, ClientModel, ServerModel, IsNewClient, IsSameClient}
 use Rattle.aim_mailing.specs.declared.callers.Caller.{Caller}
 use Rattle.aim_mailing.specs.Runs.{calls_by}
 
@@ -76,3 +77,10 @@ pub record IsNewCaller (vehicle spans : ℕ) (c : Caller) : Type 0 where
   pub room : c.sheets.room ≡ spans
   pub three : c.sheets.count ≡ 3
   pub first : c.place ≡ 0
+
+-- the callers of the new mailbox of a script: one for the client of each vehicle, in their order, which has made no call
+pub record AreStaff (s : EventScript) (m : ServerModel) (callers : List Caller) : Type 0 where
+  pub setting : m.setting ≡ record { layout = s.layout; vehicles = s.vehicles; room = max 1 (length s.events.items) }
+  pub count : length callers ≡ s.vehicles
+  pub clients : (k : ℕ) (d : ClientModel) → k < s.vehicles → IsNewClient m k (slice_index_or (map (λ c. c.client) callers) k d)
+  pub seats : (k : ℕ) (d : Caller) → k < length callers → IsNewCaller k s.layout.grid.spans (slice_index_or callers k d)

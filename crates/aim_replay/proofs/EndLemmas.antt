@@ -289,6 +289,9 @@ caused_fault (fault.Long number) source_old source_mid source_new sink_old sink_
 caused_fault fault.Bytes source_old source_mid source_new sink_old sink_new first later rose sink = record { read = λ is. absurd (cc); write = λ is. absurd (cc); source = omega arith; sink = sink }
 caused_fault fault.Lines source_old source_mid source_new sink_old sink_new first later rose sink = record { read = λ is. absurd (cc); write = λ is. absurd (cc); source = omega arith; sink = sink }
 
+pub caused_end : {L : Type 0} (f : Finish L) (source_old source_new sink_old sink_new : ℕ) → source_old ≤ source_new → sink_old ≤ sink_new → Caused {T = Finish L} (Ok f) source_old source_new sink_old sink_new
+caused_end f source_old source_new sink_old sink_new source sink = record { read = λ is. absurd (cc); write = λ is. absurd (cc); source = source; sink = sink }
+
 pub caused_halt : {L : Type 0} (number : ℕ) (h : Halt) (source_old source_new sink_old sink_mid sink_new : ℕ) → source_old ≤ source_new → sink_old ≤ sink_mid → sink_mid ≤ sink_new → (h ≡ halt.Unwritten unwritten.Write → Rose sink_mid sink_new)
     → Caused {T = Finish L} (halted number h) source_old source_new sink_old sink_new
 caused_halt number (halt.Refused (refusal.Bad kind)) source_old source_new sink_old sink_mid sink_new source first later rose = record { read = λ is. absurd (cc); write = λ is. absurd (cc); source = source; sink = omega arith }

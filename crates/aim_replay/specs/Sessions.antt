@@ -142,6 +142,12 @@ pub record Caused {T : Type 0} (result : Result T Stop) (source_old source_new s
   pub source : source_old ≤ source_new
   pub sink : sink_old ≤ sink_new
 
+-- the lines of a script were read, each stop has its cause, and the last read was needed
+pub record Played {L : Type 0} (w : Spelled) (result : Result (Finish L) Stop) (needed : Type 0) (before after old now : Option (List ℕ)) (source_old source_new sink_old sink_new : ℕ) : Type 0 where
+  pub ran : Ran w result before after old now
+  pub last : needed
+  pub caused : Caused result source_old source_new sink_old sink_new
+
 abbrev pub status_for : Result Decision Stop → ℕ
 status_for (Ok d) = status_of d
 status_for (Err stop.Read) = 4

@@ -3,11 +3,12 @@
 ghost use Rattle.std.specs.Prelude.{◌≡◌, ◌⊎◌, ◌<◌, ◌≤◌, true, false, List, [], Err, IfOk, IfSome};
 ghost use Rattle.std.specs.Io.KnownBytes.{Appends, IsAtEnd};
 ghost use Rattle.aim_io.specs.Causes.{Rose};
+ghost use Rattle.aim_io.specs.Reader.{fresh};
 ghost use Rattle.aim_msg.specs.declared.script.Line.{Line};
 ghost use Rattle.aim_stages.specs.Stages.{Makes, MayTake, Stands, journal_at, stage_of};
 ghost use Rattle.aim_replay.specs.Texts.{replay_text, text_by};
 ghost use Rattle.aim_replay.specs.Replays.{LastNeeded, LastNeededBy, Replays, ReplaysBy, StopsShort, StopsShortBy, TakesAtMost, WritesFront};
-ghost use Rattle.aim_replay.specs.Sessions.{Came, Caused, Judged, Ran, Responds, at_fault, cut_by, halted, status_for};
+ghost use Rattle.aim_replay.specs.Sessions.{Came, Caused, Judged, Played, Responds, at_fault, cut_by, halted, status_for};
 
 use crate::faults::{Unread, Unwritten};
 use crate::outputs::{put_ending, put_made};
@@ -125,18 +126,18 @@ fn after_halt<L: Ledger>(number: u32, halt: Halt) -> Result<Finish<L>, Stop>
     }
 }
 
-// Reads the lines of a script, answers its events, and says what it comes to.
+// Reads the lines of a script by a new reader, answers its events, and says what it comes to.
 fn replay_lines<P: Spelling, S: Source, K: Sink, L: Ledger>(
     alloc: Global,
     source: &mut S,
+    reader: &mut LineReader,
     sink: &mut K,
     steps: &mut Steps<L>,
 ) -> Result<Finish<L>, Stop>
-    ensures ran { Ran P.spelled result (S.left source.old) (S.left source.new) (K.held sink.old) (K.held sink.new) }
-    ensures needed { (source.new ≡ source.old) ⊎ LastNeededBy P.spelled (S.left source.old) (S.left source.new) (S.last_read source.new) }
-    ensures caused { Caused result (S.faults source.old) (S.faults source.new) (K.faults sink.old) (K.faults sink.new) }
+    requires { reader.old ≡ fresh }
+    ensures { Played P.spelled result ((source.new ≡ source.old) ⊎ LastNeededBy P.spelled (S.left source.old) (S.left source.new) (S.last_read source.new)) (S.left source.old) (S.left source.new) (K.held sink.old) (K.held sink.new)
+        (S.faults source.old) (S.faults source.new) (K.faults sink.old) (K.faults sink.new) }
 {
-    let mut reader = LineReader::new();
     let mut stage = Stage::Header(Header::new());
     let mut number = 0u32;
     'lines: loop {
@@ -171,8 +172,9 @@ fn replay_script<P: Spelling, S: Source, K: Sink, L: Ledger>(
     ensures needed { (source.new ≡ source.old) ⊎ LastNeededBy P.spelled (S.left source.old) (S.left source.new) (S.last_read source.new) }
     ensures caused { Caused result (S.faults source.old) (S.faults source.new) (K.faults sink.old) (K.faults sink.new) }
 {
+    let mut reader = LineReader::new();
     let mut steps = Steps::<L>::new(blank);
-    match replay_lines::<P, S, K, L>(alloc, source, sink, &mut steps) {
+    match replay_lines::<P, S, K, L>(alloc, source, &mut reader, sink, &mut steps) {
         Err(stop) => Err(stop),
         Ok(finish) => {
             let decision = finish.decision();
