@@ -61,13 +61,34 @@ fn limit_text(limit: Limit) -> &'static str
     }
 }
 
+// The last line of a script with a line at fault.
+fn bad_value(alloc: Global, number: u32, kind: Kind) -> Result<Value, NoMemory>
+    ensures { IfOk result (λ v. view v ≡ decision_json (Decision.Bad number kind)) }
+{
+    json!(in alloc; {"bad": number, "kind": kind_text(kind)})
+}
+
+// The last line of a script that is past a limit.
+fn limit_value(alloc: Global, limit: Limit) -> Result<Value, NoMemory>
+    ensures { IfOk result (λ v. view v ≡ decision_json (Decision.Limit limit)) }
+{
+    json!(in alloc; {"limit": limit_text(limit)})
+}
+
+// The last line of a whole script.
+fn end_value(alloc: Global, entries: u32) -> Result<Value, NoMemory>
+    ensures { IfOk result (λ v. view v ≡ decision_json (Decision.Whole entries)) }
+{
+    json!(in alloc; {"end": entries})
+}
+
 fn decision_value(alloc: Global, decision: Decision) -> Result<Value, NoMemory>
     ensures { IfOk result (λ v. view v ≡ decision_json decision) }
 {
     match decision {
-        Decision::Bad(number, kind) => { json!(in alloc; {"bad": number, "kind": kind_text(kind)}) }
-        Decision::Limit(limit) => json!(in alloc; {"limit": limit_text(limit)}),
-        Decision::Whole(entries) => json!(in alloc; {"end": entries}),
+        Decision::Bad(number, kind) => bad_value(alloc, number, kind),
+        Decision::Limit(limit) => limit_value(alloc, limit),
+        Decision::Whole(entries) => end_value(alloc, entries),
     }
 }
 
