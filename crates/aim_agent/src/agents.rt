@@ -2,13 +2,15 @@
 
 ghost use Rattle.std.specs.Prelude.{◌≡◌, ℕ, ◌+◌, ◌<◌, ◌≤◌, [], true, Some, IfNone, OnOk};
 ghost use Rattle.aim_msg.specs.declared.entries.TheConstants.{LATEST_MOMENT};
+ghost use Rattle.aim_msg.specs.declared.entries.Act.TheVariants as act;
 ghost use Rattle.aim_buffers.specs.Requests.{IsPreparedFor};
 ghost use Rattle.aim_driver.specs.Models.{step_of};
 ghost use Rattle.aim_driver.specs.Keeps.{keeps};
 ghost use Rattle.aim_links.specs.Links.{delivered, after_delivery};
 ghost use Rattle.aim_driver.specs.Turns.{begun};
 ghost use Rattle.aim_driver.specs.Follows.{calling, turn};
-ghost use Rattle.aim_turn.specs.Models.{IsPassOf};
+ghost use Rattle.aim_turn.specs.Models.{IsPassOf, IsSamePass};
+ghost use Rattle.aim_manager.specs.Seen.{IsServed};
 ghost use Rattle.aim_agent.specs.Rests.{AreStill};
 ghost use Rattle.aim_agent.specs.Agents.{front_of, state_of, HasSheets, Idles, IsAgentOf, IsFull, IsWhole};
 ghost use Rattle.aim_agent.specs.Went.{new_agent, Went, Met};
@@ -97,6 +99,31 @@ fn prepare_on(pool: &mut Pool, layout: &Layout, message: &Message) -> Prepared
     let first = take_sheet(pool);
     let second = take_sheet(pool);
     prepare(layout, message, first, second)
+}
+
+// The gate is told, and the manager serves the message with an agent's pass and sheets.
+fn ask<R: Wait, G: Gate>(
+    rt: &R,
+    manager: &Manager,
+    gate: &G,
+    pass: &mut ManagerPass,
+    pool: &mut Pool,
+    step: u32,
+    message: &Message,
+) -> Result<Reply, Full>
+    requires own { IsPassOf manager.now pass.old }
+    requires vehicle { pass.old.number < manager.now.setting.vehicles }
+    requires most { step ≤ LATEST_MOMENT }
+    requires sheets { HasSheets pass.old pool.old }
+    requires fit { pool.old.room ≡ manager.now.setting.layout.grid.spans }
+    ensures same { IsSamePass pass.old pass.new }
+    ensures served { IsServed manager.now.setting step (act.Message message.now) result pass.old pass.new }
+    ensures kept { HasSheets pass.new pool.new }
+    ensures room { pool.new.room ≡ pool.old.room }
+{
+    gate.before(pass.number(), step);
+    let prepared = prepare_on(pool, manager.layout(), message);
+    manager.serve(rt, pass, step, prepared, pool)
 }
 
 /// A driver with its two links, a pass of a manager and three sheets.
@@ -252,9 +279,7 @@ impl Agent {
         ensures { Called manager.now.setting step message.now result self.old self.new }
     {
         self.rest = NO_REST;
-        gate.before(self.pass.number(), step);
-        let prepared = prepare_on(&mut self.pool, manager.layout(), message);
-        let reply = manager.serve(rt, &mut self.pass, step, prepared, &mut self.pool)?;
+        let reply = ask(rt, manager, gate, &mut self.pass, &mut self.pool, step, message)?;
         self.down.send(step, (message.seq, reply))?;
         Ok(())
     }
