@@ -6,9 +6,10 @@ ghost use Rattle.aim_turn.specs.Models.{new_pass};
 ghost use Rattle.aim_agent.specs.Agents.{AgentModel};
 ghost use Rattle.aim_agents.specs.Rounds.{run_size};
 ghost use Rattle.aim_safety.specs.Tiles.{EntersBy};
+ghost use Rattle.aim_fleet.specs.Orders.{AreOrders};
 ghost use Rattle.aim_plans.specs.Fits.{IsFit};
 ghost use Rattle.aim_plans.specs.Scripts.{drive_told};
-ghost use Rattle.aim_drive.specs.Closing.{HasMemory, Leaves};
+ghost use Rattle.aim_drive.specs.Closing.{HasMemory, HeadlineOfSeated, IsSeated, Leaves};
 ghost use Rattle.aim_drive.specs.Headline.{Headline};
 ghost use Rattle.aim_drive.specs.Making.{AreAgentsFor, AreLeft, ArePlans, all_passes, told_by, log_of};
 
@@ -20,7 +21,7 @@ use aim_fleet::drive;
 use aim_manager::{Manager, ManagerPass, OpenFault, Opened};
 use aim_msg::Entry;
 use aim_paths::Layout;
-use aim_plans::{DriveScript, Planned};
+use aim_plans::{DriveScript, Ordered, Planned};
 use std::alloc::Global;
 use std::sync::Wait;
 use std::thread::Threads;
@@ -162,6 +163,46 @@ fn seat(
     })
 }
 
+// Lets the agents take their turns of all steps, with the orders between them, and closes the manager.
+fn drive_seated<R: Threads + Wait + Sync, G: Gate>(
+    rt: &R,
+    alloc: Global,
+    seated: Seated,
+    gate: &G,
+    orders: &[Ordered],
+    until: u32,
+    workers: u32,
+) -> Result<Drove, NoMemory>
+    requires seated { IsSeated seated.manager (length orders.now) seated.agents.items seated.passes.items seated.operator }
+    requires orders { AreOrders seated.manager.setting.layout seated.manager.setting.vehicles until orders.now }
+    requires until { until ≤ 65536 }
+    requires workers { (0 < workers) × (workers ≤ 64) }
+    ensures headline { IfOk result (λ d. HeadlineOfSeated seated.manager until workers seated.agents.items orders.now d) }
+    ensures fits { IfOk result (λ d. length d.journal.items ≤ seated.manager.setting.room) }
+{
+    let Seated {
+        manager,
+        mut agents,
+        passes,
+        mut operator,
+    } = seated;
+    let went = drive(
+        rt,
+        &manager,
+        &mut operator,
+        &mut agents,
+        gate,
+        orders,
+        until,
+        workers,
+    );
+    let drove = left_by(alloc, manager, agents, passes, operator)?;
+    match went {
+        Ok(()) => Ok(drove),
+        Err(_full) => unreachable!(),
+    }
+}
+
 /// Runs a whole script: an agent for each plan, their turns of all steps in rounds of that many runs side by side, and
 /// the operator's orders between them. The journal and the logs are as the headline says, and each driver enters at a
 /// step for which its tiles can be told.
@@ -188,25 +229,5 @@ pub fn run_script<R: Threads + Wait + Sync, G: Gate>(
     } = script;
     let spans = layout.ground().grid().spans;
     let seated = seat(alloc, layout, vehicles, orders.len() as u32, plans, spans)?;
-    let Seated {
-        manager,
-        mut agents,
-        passes,
-        mut operator,
-    } = seated;
-    let went = drive(
-        rt,
-        &manager,
-        &mut operator,
-        &mut agents,
-        gate,
-        &orders,
-        until,
-        workers,
-    );
-    let drove = left_by(alloc, manager, agents, passes, operator)?;
-    match went {
-        Ok(()) => Ok(drove),
-        Err(_full) => unreachable!(),
-    }
+    drive_seated(rt, alloc, seated, gate, &orders, until, workers)
 }
