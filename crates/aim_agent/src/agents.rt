@@ -279,7 +279,15 @@ impl Agent {
         ensures { Called manager.now.setting step message.now result self.old self.new }
     {
         self.rest = NO_REST;
-        let reply = ask(rt, manager, gate, &mut self.pass, &mut self.pool, step, message)?;
+        let reply = ask(
+            rt,
+            manager,
+            gate,
+            &mut self.pass,
+            &mut self.pool,
+            step,
+            message,
+        )?;
         self.down.send(step, (message.seq, reply))?;
         Ok(())
     }

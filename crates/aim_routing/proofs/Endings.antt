@@ -7,7 +7,6 @@ use Rattle.aim_io.specs.Causes.{Rose}
 use Rattle.aim_grid_read.specs.declared.lines.GridLine.{GridLine}
 use Rattle.aim_routes.specs.declared.decisions.GridDecision.{GridDecision}
 use Rattle.aim_routes.specs.declared.decisions.GridDecision.TheVariants as decision
-use Rattle.aim_routes.specs.declared.routes.Routes.{Routes}
 use Rattle.aim_routes.specs.Verdicts.{grid_verdict}
 use Rattle.aim_grid_script.specs.declared.endings.GridEnding.{GridEnding}
 use Rattle.aim_grid_script.specs.declared.endings.GridEnding.TheVariants as ending

@@ -64,15 +64,15 @@ returns g c =
     let many_orders : c.len.result ≡ length c.args.script.orders.items = omega arith in
     let are = subst (λ (v : ℕ). ArePlans v c.args.script.plans.items) (sym (ap (λ (x : Setting). x.vehicles) e)) (are_plans c.args.script c.requires.script) in
     let told : (d : Drove) → HeadlineOfSeated c.in_ok-seated.seated.manager c.args.script.until c.args.workers c.in_ok-seated.seated.agents.items c.deref.result.now d
-        → Headline c.args.script.layout c.args.script.vehicles c.args.script.until (run_size (length c.args.script.plans.items) c.args.workers)
-        (map drive_told c.args.script.plans.items) c.args.script.orders.items d.journal.items (map log_of d.logs.items) =
+    → Headline c.args.script.layout c.args.script.vehicles c.args.script.until (run_size (length c.args.script.plans.items) c.args.workers)
+    (map drive_told c.args.script.plans.items) c.args.script.orders.items d.journal.items (map log_of d.logs.items) =
     λ d x.
-        renamed m.setting.layout c.args.script.layout m.setting.vehicles c.args.script.vehicles c.args.script.until (run_size (length xs) c.args.workers)
-        (run_size (length c.args.script.plans.items) c.args.workers) (map drive_told c.args.script.plans.items) c.args.script.orders.items d.journal.items (map log_of d.logs.items) (map log_of d.logs.items)
-        (ap (λ (x : Setting). x.layout) e) vehicles_is (ap (λ (n : ℕ). run_size n c.args.workers) made.count) (λ i. map log_of d.logs.items)
-        (subst (λ (l : List Ordered). Headline c.in_ok-seated.seated.manager.setting.layout c.in_ok-seated.seated.manager.setting.vehicles c.args.script.until
-        (run_size (length c.in_ok-seated.seated.agents.items) c.args.workers) (map drive_told c.args.script.plans.items) l d.journal.items (map log_of d.logs.items))
-        c.deref.ensures.value (x c.grid-spans.result.spans c.args.script.plans.items are made)) in
+    renamed m.setting.layout c.args.script.layout m.setting.vehicles c.args.script.vehicles c.args.script.until (run_size (length xs) c.args.workers)
+    (run_size (length c.args.script.plans.items) c.args.workers) (map drive_told c.args.script.plans.items) c.args.script.orders.items d.journal.items (map log_of d.logs.items) (map log_of d.logs.items)
+    (ap (λ (x : Setting). x.layout) e) vehicles_is (ap (λ (n : ℕ). run_size n c.args.workers) made.count) (λ i. map log_of d.logs.items)
+    (subst (λ (l : List Ordered). Headline c.in_ok-seated.seated.manager.setting.layout c.in_ok-seated.seated.manager.setting.vehicles c.args.script.until
+    (run_size (length c.in_ok-seated.seated.agents.items) c.args.workers) (map drive_told c.args.script.plans.items) l d.journal.items (map log_of d.logs.items))
+    c.deref.ensures.value (x c.grid-spans.result.spans c.args.script.plans.items are made)) in
     record {
       headline = if_ok
           (λ (d : Drove). HeadlineOfSeated c.in_ok-seated.seated.manager c.args.script.until c.args.workers c.in_ok-seated.seated.agents.items c.deref.result.now d)
