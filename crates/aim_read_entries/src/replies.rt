@@ -70,18 +70,18 @@ fn reason(words: &mut Words<'_>, form: ReasonForm) -> Result<Reason, LineKind>
     ensures { Gives result words.new (reason_in form words.old) }
 {
     match form {
-        ReasonForm::Holds => Ok(Reason::Holds(number32(words)?)),
+        ReasonForm::Holds => number32(words).map(Reason::Holds),
         ReasonForm::NoReservation => Ok(Reason::NoReservation),
-        ReasonForm::Begun => Ok(Reason::Begun(number32(words)?)),
-        ReasonForm::TooSoon => Ok(Reason::TooSoon(number32(words)?)),
-        ReasonForm::Bad => Ok(Reason::Bad(field(words)?)),
-        ReasonForm::Late => Ok(Reason::Late(number32(words)?)),
-        ReasonForm::Far => Ok(Reason::Far(number32(words)?)),
-        ReasonForm::Distance => Ok(Reason::Distance(number64(words)?)),
-        ReasonForm::Emergency => Ok(Reason::Emergency(number8(words)?)),
+        ReasonForm::Begun => number32(words).map(Reason::Begun),
+        ReasonForm::TooSoon => number32(words).map(Reason::TooSoon),
+        ReasonForm::Bad => field(words).map(Reason::Bad),
+        ReasonForm::Late => number32(words).map(Reason::Late),
+        ReasonForm::Far => number32(words).map(Reason::Far),
+        ReasonForm::Distance => number64(words).map(Reason::Distance),
+        ReasonForm::Emergency => number8(words).map(Reason::Emergency),
         ReasonForm::Green => green(words),
         ReasonForm::Taken => taken(words),
-        ReasonForm::Reused => Ok(Reason::Reused(number32(words)?)),
+        ReasonForm::Reused => number32(words).map(Reason::Reused),
     }
 }
 
