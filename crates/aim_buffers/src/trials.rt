@@ -1,6 +1,6 @@
 //! The cells of a trial, written into a sheet.
 
-ghost use Rattle.std.specs.Prelude.{◌≡◌, ℕ, ◌<◌, ◌≤◌, ◌+◌, ◌-◌, ◌*◌, ◌&&◌, min, nat_le, true, [], length, OnErr, OnOk, IfOk, Some, None, if◌then◌else◌};
+ghost use Rattle.std.specs.Prelude.{◌≡◌, ℕ, ◌<◌, ◌≤◌, ◌+◌, ◌-◌, ◌*◌, ◌&&◌, min, nat_le, true, [], length, OnErr, OnOk, IfOk, Some, None, if◌then◌else◌, replicate};
 ghost use Rattle.aim_geometry.specs.Bounded.{ceil_div};
 ghost use Rattle.aim_geometry.specs.Sites.{IsTimes};
 ghost use Rattle.aim_paths.specs.Intersection.{path as path_of, stations};
@@ -148,12 +148,14 @@ fn move_inner(
     true
 }
 
+const NO_ROWS: [u64; 64] = [0; 64];
+
 // The rows, or others that have no tile.
 #[inline]
-fn rows_or<'a>(shown: bool, rows: &'a [u64; 64], none: &'a [u64; 64]) -> &'a [u64; 64]
-    ensures { result.now ≡ (if shown then rows.now else none.now) }
+fn rows_or(shown: bool, rows: &[u64; 64]) -> &[u64; 64]
+    ensures { result.now ≡ (if shown then rows.now else replicate 64 0) }
 {
-    if shown { rows } else { none }
+    if shown { rows } else { &NO_ROWS }
 }
 
 // How many tiles a side of the layout's grid has, and the layout's times.
@@ -190,11 +192,10 @@ fn write_steps(
     let (n, times) = side_and_times(layout);
     let edge = times.edge as usize;
     let arrive = params.arrive as usize;
-    let none = [0; 64];
     for t in edge.saturating_sub(arrive)..reaches.len() + 2 * edge {
         let (first, last) = move_outer(&mut windows.outer, rects, is_steady, reaches, edge, t);
         let shown = move_inner(&mut windows.inner, rects, is_steady, reaches, &times, t);
-        let rows = rows_or(shown, &windows.inner.rows, &none);
+        let rows = rows_or(shown, &windows.inner.rows);
         let step = (arrive + t - edge) as u32;
         write_step(sheet, n, step, first, last, rows, &windows.outer.rows)?;
     }
