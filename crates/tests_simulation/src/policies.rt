@@ -1,0 +1,118 @@
+//! Policies, greens and claims.
+
+use crate::small::{TIMES, small};
+use aim_light::{Plan, green_at, green_within};
+use aim_paths::Layout;
+use aim_switch::Timeline;
+use std::process::Abort;
+
+// Offsets, and the lanes that are green there, as bits.
+const PLAIN: [(u32, u16); 9] = [
+    (0, 0),
+    (19, 0),
+    (20, 1),
+    (99, 1),
+    (100, 0),
+    (120, 2),
+    (199, 2),
+    (200, 0),
+    (1_000_000_020, 1),
+];
+
+const SIXTEEN: [(u32, u16); 13] = [
+    (19, 0),
+    (20, 1),
+    (29, 1),
+    (30, 0),
+    (50, 2),
+    (60, 2),
+    (61, 0),
+    (574, 0),
+    (575, 2),
+    (599, 2),
+    (600, 0),
+    (620, 1),
+    (1_000_000_175, 2),
+];
+
+// The plan has to have these lanes green.
+fn check_greens(rt: &impl Abort, plan: &Plan, greens: &[(u32, u16)]) {
+    for (offset, lanes) in greens {
+        assert!(rt; green_at(plan, *offset) == *lanes);
+    }
+}
+
+#[test]
+fn phases_go_round(rt: HostRuntime) {
+    let layout = small(&rt, rt.alloc(), TIMES);
+    assert!(rt; Plan::of(&layout, 0).is_none());
+    assert!(rt; Plan::of(&layout, 3).is_none());
+    let plain = Plan::of(&layout, 1).expect(&rt, "a light policy");
+    let sixteen = Plan::of(&layout, 2).expect(&rt, "a light policy");
+    drop(layout);
+    check_greens(&rt, &plain, &PLAIN);
+    check_greens(&rt, &sixteen, &SIXTEEN);
+    let within = [
+        green_within(&plain, 0, 19),
+        green_within(&plain, 99, 119),
+        green_within(&plain, 199, 220),
+        green_within(&sixteen, 570, 620),
+    ];
+    assert!(rt; within == [0, 1, 3, 3]);
+}
+
+// Steps, and the policy that is in force there, with the step of its switch.
+const IN_FORCE: [(u32, (u8, u32)); 6] = [
+    (1499, (0, 0)),
+    (1500, (1, 1500)),
+    (1559, (1, 1500)),
+    (1560, (0, 1560)),
+    (2004, (0, 1560)),
+    (2005, (1, 2005)),
+];
+
+// Steps, the lane whose own tiles don't count, and the tiles that are claimed in the first four rows.
+const CLAIMED: [(u32, Option<u8>, [u64; 4]); 6] = [
+    (1579, Some(1), [7, 15, 0, 0]),
+    (1580, Some(1), [0; 4]),
+    (2024, None, [0; 4]),
+    (2031, Some(1), [7, 15, 0, 0]),
+    (2031, Some(0), [0; 4]),
+    (2125, None, [4; 4]),
+];
+
+/// The first four rows.
+pub fn first_rows(rows: &[u64; 64]) -> [u64; 4] {
+    [rows[0], rows[1], rows[2], rows[3]]
+}
+
+// The timeline has to claim these tiles.
+fn check_claims(rt: &impl Abort, timeline: &Timeline, layout: &Layout) {
+    for (step, except, wanted) in &CLAIMED {
+        let rows = timeline.claims(layout, *step, *except);
+        assert!(rt; first_rows(&rows) == *wanted);
+    }
+}
+
+// The timeline has to have these policies in force.
+fn check_policies(rt: &impl Abort, timeline: &Timeline) {
+    for (step, policy) in &IN_FORCE {
+        assert!(rt; timeline.policy_at(*step) == *policy);
+    }
+}
+
+#[test]
+fn greens_from_the_switch_on(rt: HostRuntime) {
+    let mut timeline = Timeline::new(rt.alloc(), 4).expect(&rt, "no memory");
+    assert!(rt; timeline.policy_at(7) == (0, 0));
+    timeline.push(1500, 0);
+    timeline.push(1500, 1);
+    timeline.push(1560, 0);
+    timeline.push(2005, 1);
+    check_policies(&rt, &timeline);
+    let layout = small(&rt, rt.alloc(), TIMES);
+    assert!(rt; timeline.claimants(&layout, 1579) == 1);
+    check_claims(&rt, &timeline, &layout);
+    drop(layout);
+    drop(timeline);
+}

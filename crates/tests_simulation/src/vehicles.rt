@@ -1,0 +1,109 @@
+//! Distances, emergencies and sessions.
+
+ghost use Rattle.std.specs.Prelude.{◌≡◌, ◌<◌, length};
+
+use aim_emerg::Approaches;
+use aim_fcfs::{Distances, next_allowed};
+use aim_msg::{Body, Message, Params, Reason, Reply, Turn};
+use aim_session::{Look, Sessions};
+use std::process::Abort;
+
+#[test]
+fn least_refused_distance(rt: HostRuntime) {
+    let mut distances = Distances::new();
+    assert!(rt; distances.test(1, 1_000_000).is_ok());
+    distances.refused(1, 5000);
+    distances.refused(1, 7000);
+    assert!(rt; distances.test(1, 6000) == Err(5000));
+    assert!(rt; distances.test(1, 5000).is_ok() && distances.test(0, 6000).is_ok());
+    distances.confirmed(1);
+    assert!(rt; distances.test(1, 6000).is_ok());
+}
+
+#[test]
+fn half_of_the_way(rt: HostRuntime) {
+    let next = [
+        next_allowed(0, 10, 25),
+        next_allowed(10, 10, 25),
+        next_allowed(0, 1490, 25),
+        next_allowed(5, 1520, 25),
+    ];
+    assert!(rt; next == [5, 11, 25, 30]);
+}
+
+#[test]
+fn emergencies_until_they_are_past(rt: HostRuntime) {
+    let mut approaches = Approaches::new(rt.alloc(), 8).expect(&rt, "no memory");
+    assert!(rt; approaches.lanes(0, 1500) == 0);
+    approaches.note(1, Some((1, 10)));
+    assert!(rt; approaches.lanes(0, 1500) == 2);
+    approaches.note(1, Some((0, 18)));
+    approaches.note(2, Some((1, 40)));
+    assert!(rt; approaches.lanes(1518, 1500) == 3 && approaches.lanes(1519, 1500) == 2);
+    approaches.note(2, None);
+    assert!(rt; approaches.lanes(30, 1500) == 1);
+    drop(approaches);
+}
+
+// A request for a crossing of 11 steps.
+fn request(seq: u32, arrive: u32) -> Message {
+    Message {
+        seq,
+        body: Body::Request(Params {
+            lane: 0,
+            turn: Turn::Straight,
+            arrive,
+            speed: 500,
+            max_speed: 500,
+            accel: 0,
+            length: 1000,
+            width: 700,
+            emergency: false,
+        }),
+    }
+}
+
+const CANCEL: Message = Message {
+    seq: 3,
+    body: Body::Cancel(0),
+};
+
+const CONFIRM: Reply = Reply::Confirm {
+    id: 0,
+    start: 10,
+    early: 0,
+    late: 0,
+    accelerate: false,
+    last: 20,
+};
+
+const HOLDS: Reply = Reply::Reject {
+    reason: Reason::Holds(0),
+    next: 6,
+    held: Some(0),
+};
+
+// Keeps the message, which has to be fresh.
+fn keep(rt: &impl Abort, sessions: &mut Sessions, message: Message, reply: Reply)
+    requires { 0 < length sessions.old }
+    ensures { length sessions.new ≡ length sessions.old }
+{
+    let Look::Fresh = sessions.look(0, &message) else {
+        panic!(rt; "not fresh")
+    };
+    sessions.keep(0, message, reply);
+}
+
+#[test]
+fn numbers_and_standing_next(rt: HostRuntime) {
+    let mut sessions = Sessions::new(rt.alloc(), 8).expect(&rt, "no memory");
+    keep(&rt, &mut sessions, request(1, 10), CONFIRM);
+    let again = sessions.look(0, &request(1, 10));
+    assert!(rt; matches!(again, Look::Repeat(Reply::Confirm { last: 20, .. })));
+    assert!(rt; matches!(sessions.look(0, &request(1, 12)), Look::Reused));
+    assert!(rt; sessions.standing(0) == 0);
+    keep(&rt, &mut sessions, request(4, 40), HOLDS);
+    assert!(rt; matches!(sessions.look(0, &CANCEL), Look::Stale(4)));
+    assert!(rt; sessions.standing(0) == 6);
+    drop(sessions);
+}

@@ -1,0 +1,88 @@
+//! The words of texts: numbers, tables and fields, read as the readers of lines and entries do.
+
+use aim_msg::{LineKind, Message, Turn, write_message};
+use aim_words::fields::{choice, message, number8, number32, numbers, turn};
+use aim_words::forms::{OrderForm, message_form, order_form};
+use aim_words::numbers::{begins_with_digit, number};
+use aim_words::tables::look_up;
+use aim_words::words::Words;
+
+// Words, whether they begin with a digit, and the number from 1 to 255 that they spell.
+const NUMBERS: [(&[u8], bool, Result<u64, LineKind>); 7] = [
+    (b"", false, Err(LineKind::Number)),
+    (b"+7", false, Err(LineKind::Number)),
+    (b"07", true, Err(LineKind::Number)),
+    (b"0", true, Err(LineKind::Range)),
+    (b"1", true, Ok(1)),
+    (b"255", true, Ok(255)),
+    (b"256", true, Err(LineKind::Range)),
+];
+
+#[test]
+fn numbers_from_1_to_255(rt: HostRuntime) {
+    for (word, is_begun, want) in &NUMBERS {
+        assert!(rt; begins_with_digit(word) == *is_begun);
+        assert!(rt; number(word, 1, 255) == *want);
+    }
+}
+
+const RANKS: [(&[u8], u32); 3] = [(b"low", 0), (b"high", 2), (b"high", 3)];
+
+#[test]
+fn words_are_looked_up(rt: HostRuntime) {
+    assert!(rt; look_up(&RANKS, LineKind::Unknown, b"high") == Ok(2));
+    assert!(rt; look_up(&RANKS, LineKind::Unknown, b"hig") == Err(LineKind::Unknown));
+    assert!(rt; matches!(order_form(b"stop"), Ok(OrderForm::Stop)));
+}
+
+// The lane behind that word, three numbers and a rank, where there is a left turn behind the lane.
+fn fields(words: &mut Words<'_>) -> Result<[u32; 5], LineKind> {
+    words.keyword(b"lane")?;
+    let lane = number8(words)?;
+    if turn(words)? != Turn::Left {
+        return Err(LineKind::Unknown);
+    }
+    let first = number32(words)?;
+    let [second, third] = numbers::<2>(words)?;
+    let rank = choice(words, &RANKS)?;
+    Ok([u32::from(lane), first, second, third, rank])
+}
+
+// Two spaces have an empty word between them.
+#[test]
+fn words_come_in_turn(rt: HostRuntime) {
+    let mut words = Words::new(b"lane 255 left 4294967295 7 9 low a  b c");
+    assert!(rt; fields(&mut words) == Ok([255, 4_294_967_295, 7, 9, 0]));
+    assert!(rt; words.word().expect(&rt, "no word") == b"a".as_slice());
+    assert!(rt; words.next().expect(&rt, "no word").is_empty());
+    assert!(rt; words.take() == b"b".as_slice());
+    assert!(rt; words.end() == Err(LineKind::Words));
+    assert!(rt; words.end() == Ok(()));
+}
+
+const MESSAGES: [&[u8]; 4] = [
+    b"request 1 255 straight 10 500 501 9 1000 700 car",
+    b"change 2 0 1 left 12 500 1000 250 1000 700 emergency",
+    b"cancel 4294967295 9",
+    b"done 3 0",
+];
+
+// The message that the text spells.
+fn message_of(text: &[u8]) -> Result<Message, LineKind> {
+    let mut words = Words::new(text);
+    let form = message_form(words.take())?;
+    let message = message(&mut words, form)?;
+    words.end()?;
+    Ok(message)
+}
+
+#[test]
+fn messages_come_back(rt: HostRuntime) {
+    let mut out = Vec::new(rt.alloc());
+    for text in &MESSAGES {
+        out.clear();
+        let message = message_of(text).expect(&rt, "no message");
+        assert!(rt; write_message(&message, &mut out).is_ok());
+        assert!(rt; out.as_slice() == *text);
+    }
+}

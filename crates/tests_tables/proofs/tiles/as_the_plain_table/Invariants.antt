@@ -1,4 +1,0 @@
-use Rattle.tests_tables.proofs.tiles.as_the_plain_table.Given as goal
-
-abbrev pub ghosts-compare : goal.ghosts-compare
-ghosts-compare g a = record { name = a.blank.name; parts = a.blank.parts }
