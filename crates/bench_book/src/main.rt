@@ -13,17 +13,24 @@ use aim_msg::{LATEST_MOMENT, Message, Reply};
 use aim_paths::Kind;
 use aim_pool::Pool;
 use aim_tiles::Steps;
-use anyhow::{Result, bail};
+use anyhow::{Context, Result, bail};
 use bench_day::{CALLS, SPANS, held_after, message, moment, twelve_lanes};
 use std::alloc::Global;
-use std::env;
 use std::marker::Brand;
 use std::rt::Runtime;
 use std::sync::ledger::{Blank, Ledger};
 use std::time::Instant;
+use std::{env, io};
+
+// The days, by their policies.
+const DAYS: [(&str, Kind); 3] = [
+    ("plain", Kind::Fcfs),
+    ("lights", Kind::Light),
+    ("emergencies", Kind::Emerg),
+];
 
 /// What a day has had, and what it took, in nanoseconds.
-#[derive(Clone, Copy, Drop)]
+#[derive(Clone, Copy)]
 struct Tally {
     calls: u64,
     confirms: u64,
@@ -32,9 +39,18 @@ struct Tally {
     serve: u64,
 }
 
+// What a day has had before it begins.
+const NOTHING: Tally = Tally {
+    calls: 0,
+    confirms: 0,
+    sum: 0,
+    prepare: 0,
+    serve: 0,
+};
+
 impl Tally {
     // Counts one call.
-    fn add(&mut self, reply: &Reply, prepare: u128, serve: u128) {
+    fn add(&mut self, reply: &Reply, prepare: u64, serve: u64) {
         let number = match reply {
             Reply::Confirm { last, .. } => u64::from(*last) << 1,
             Reply::Reject { next, .. } => u64::from(*next) << 1 | 1,
@@ -45,16 +61,19 @@ impl Tally {
             .confirms
             .saturating_add(matches!(reply, Reply::Confirm { .. }) as u64);
         self.sum = self.sum.wrapping_mul(31).wrapping_add(number);
-        self.prepare = self
-            .prepare
-            .saturating_add(u64::try_from(prepare).unwrap_or(u64::MAX));
-        self.serve = self
-            .serve
-            .saturating_add(u64::try_from(serve).unwrap_or(u64::MAX));
+        self.prepare = self.prepare.saturating_add(prepare);
+        self.serve = self.serve.saturating_add(serve);
     }
 }
 
-// Prepares and serves one message, and counts it.
+// The nanoseconds between two readings of the clock.
+fn nanoseconds(start: Option<Instant>, end: Option<Instant>) -> Option<u64> {
+    let time = end?.duration_since(start?).as_nanos();
+    Some(u64::try_from(time).unwrap_or(u64::MAX))
+}
+
+// Prepares and serves one message, and counts it. None is where the call may not be made, finds no sheet or the journal
+// full, or the clock can't be read.
 fn call<L: Ledger>(
     rt: &impl Runtime,
     book: &mut Book<L>,
@@ -64,31 +83,54 @@ fn call<L: Ledger>(
     pool: &mut Pool,
     steps: &mut Steps<L>,
     tally: &mut Tally,
-) -> Result<Reply> {
+) -> Option<Reply> {
     let spans = book.layout().ground().grid().spans;
     if vehicle >= book.vehicles()
         || now > LATEST_MOMENT
         || pool.room() != spans
         || pool.count() > 1_000_000
     {
-        bail!("the call may not be made");
+        return None;
     }
-    let Ok(first) = pool.take() else {
-        bail!("no sheet is left");
-    };
-    let Ok(second) = pool.take() else {
-        bail!("no second sheet is left");
-    };
-    let start = Instant::now(rt)?;
+    let first = pool.take().ok()?;
+    let second = pool.take().ok()?;
+    let start = Instant::now(rt).ok();
     let prepared = prepare(book.layout(), message, first, second);
-    let prepare_time = start.elapsed(rt)?.as_nanos();
-    let start = Instant::now(rt)?;
-    let Ok(reply) = book.serve(vehicle, now, prepared, pool, steps) else {
-        bail!("the journal is full");
-    };
-    let serve_time = start.elapsed(rt)?.as_nanos();
-    tally.add(&reply, prepare_time, serve_time);
-    Ok(reply)
+    let middle = Instant::now(rt).ok();
+    let reply = book.serve(vehicle, now, prepared, pool, steps).ok()?;
+    let end = Instant::now(rt).ok();
+    tally.add(
+        &reply,
+        nanoseconds(start, middle)?,
+        nanoseconds(middle, end)?,
+    );
+    Some(reply)
+}
+
+// Makes the calls of all turns.
+fn make_turns<L: Ledger>(
+    rt: &impl Runtime,
+    book: &mut Book<L>,
+    pool: &mut Pool,
+    steps: &mut Steps<L>,
+    held: &mut [Option<u32>],
+    vehicles: u32,
+    turns: u32,
+) -> Option<Tally> {
+    let mut tally = NOTHING;
+    for number in 0..turns.saturating_mul(CALLS) {
+        let turn = number / CALLS;
+        let vehicle = turn.checked_rem(vehicles).unwrap_or(0);
+        let own = held.get(vehicle as usize).copied().unwrap_or(None);
+        if let Some(message) = message(turn, number % CALLS, own) {
+            let now = moment(turn);
+            let reply = call(rt, book, vehicle, now, &message, pool, steps, &mut tally)?;
+            if let Some(own) = held.get_mut(vehicle as usize) {
+                *own = held_after(&reply);
+            }
+        }
+    }
+    Some(tally)
 }
 
 // The turns of a day, under one policy.
@@ -104,44 +146,22 @@ fn pass_day<L: Ledger>(
     requires parts { blank.parts ≡ L.parts }
     requires some { 0 < blank.parts }
 {
-    let mut tally = Tally {
-        calls: 0,
-        confirms: 0,
-        sum: 0,
-        prepare: 0,
-        serve: 0,
-    };
-    let mut pool = Pool::new(alloc, vehicles.min(65_536) + 2, SPANS)?;
-    let mut steps = Steps::<L>::new(blank);
-    let Ok(mut book) = Book::<L>::open(alloc, twelve_lanes(alloc, kind)?, vehicles, 262_144) else {
+    let most = vehicles.min(65_536);
+    let mut pool = Pool::new(alloc, most + 2, SPANS)?;
+    let mut held = vec![in alloc; None; most as usize]?;
+    let layout = twelve_lanes(alloc, kind)?;
+    let Ok(mut book) = Book::<L>::open(alloc, layout, vehicles, 262_144) else {
         bail!("the book isn't opened");
     };
-    let mut held = vec![in alloc; None; vehicles as usize]?;
-    for number in 0..turns.saturating_mul(CALLS) {
-        let turn = number / CALLS;
-        let vehicle = turn.checked_rem(vehicles).unwrap_or(0);
-        let own = held.get(vehicle as usize).copied().unwrap_or(None);
-        if let Some(message) = message(turn, number % CALLS, own) {
-            let reply = call(
-                rt,
-                &mut book,
-                vehicle,
-                moment(turn),
-                &message,
-                &mut pool,
-                &mut steps,
-                &mut tally,
-            )?;
-            if let Some(own) = held.get_mut(vehicle as usize) {
-                *own = held_after(&reply);
-            }
-        }
-    }
-    Ok(tally)
+    let mut steps = Steps::<L>::new(blank);
+    let tally = make_turns(
+        rt, &mut book, &mut pool, &mut steps, &mut held, vehicles, turns,
+    );
+    tally.context("the journal is full, no sheet is left, or the clock can't be read")
 }
 
 // Prints what a day has had, and the times where they were asked for.
-fn tell(rt: &impl Runtime, name: &str, tally: &Tally, is_timed: bool) -> Result<()> {
+fn tell(rt: &impl Runtime, name: &str, tally: &Tally, is_timed: bool) -> io::Result<()> {
     println!(rt;
         "{name}: calls {} confirms {} sum {}",
         tally.calls, tally.confirms, tally.sum
@@ -157,19 +177,26 @@ fn tell(rt: &impl Runtime, name: &str, tally: &Tally, is_timed: bool) -> Result<
     Ok(())
 }
 
+// How many vehicles and turns the words ask for, if they do.
+fn read(words: &[String]) -> Result<Option<(u32, u32)>> {
+    match words {
+        [vehicles, turns, ..] => Ok(Some((vehicles.parse::<u32>()?, turns.parse::<u32>()?))),
+        _ => Ok(None),
+    }
+}
+
+// What the words behind the program's name ask for.
+fn asked(rt: &HostRuntime, alloc: Global) -> Result<Option<(u32, u32)>> {
+    let words = env::args(rt)?.skip(1).collect::<Vec<String>>(alloc)?;
+    read(&words)
+}
+
 fn main(rt: HostRuntime) -> Result<()> {
-    let mut words = env::args(&rt)?.skip(1);
-    let (vehicles, turns, is_timed) = match (words.next(), words.next()) {
-        (Some(vehicles), Some(turns)) => (vehicles.parse::<u32>()?, turns.parse::<u32>()?, true),
-        _ => (16, 40, false),
-    };
-    for (name, kind) in [
-        ("plain", Kind::Fcfs),
-        ("lights", Kind::Light),
-        ("emergencies", Kind::Emerg),
-    ] {
+    let asked = asked(&rt, rt.alloc())?;
+    let (vehicles, turns) = asked.unwrap_or((16, 40));
+    for &(name, kind) in &DAYS {
         let tally = pass_day::<Brand>(&rt, rt.alloc(), Blank::new(1), kind, vehicles, turns)?;
-        tell(&rt, name, &tally, is_timed)?;
+        tell(&rt, name, &tally, asked.is_some())?;
     }
     Ok(())
 }

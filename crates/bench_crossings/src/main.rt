@@ -9,7 +9,7 @@ use aim_buffers::{Prepared, prepare};
 use aim_msg::{Body, Message, Params, Turn};
 use aim_paths::{Kind, Layout};
 use aim_pool::Pool;
-use anyhow::{Result, bail};
+use anyhow::{Context, Result};
 use bench_day::twelve_lanes;
 use std::alloc::Global;
 use std::env;
@@ -53,36 +53,79 @@ fn count_spans(prepared: &Prepared) -> u64 {
     (fast as u64).saturating_add(steady as u64)
 }
 
-// Prepares so many requests, and gives the number of their spans, and the nanoseconds.
-fn measure(rt: &impl Runtime, alloc: Global, layout: &Layout, rounds: u64) -> Result<(u64, u64)> {
-    let mut pool = Pool::new(alloc, 2, layout.ground().grid().spans)?;
+// The nanoseconds between two readings of the clock.
+fn nanoseconds(start: Option<Instant>, end: Option<Instant>) -> Option<u64> {
+    let time = end?.duration_since(start?).as_nanos();
+    Some(u64::try_from(time).unwrap_or(u64::MAX))
+}
+
+// Prepares the request of a round: the number of its spans, and the nanoseconds. None is where the clock can't be read.
+fn prepare_one(
+    rt: &impl Runtime,
+    layout: &Layout,
+    pool: &mut Pool,
+    round: u64,
+) -> Option<(u64, u64)>
+    requires count { pool.old.count ≡ 2 }
+    requires room { pool.old.room ≡ layout.now.grid.spans }
+    ensures count { pool.new.count ≡ 2 }
+    ensures room { pool.new.room ≡ layout.now.grid.spans }
+{
+    let message = request(round);
+    let Ok(first) = pool.take() else {
+        unreachable!()
+    };
+    let Ok(second) = pool.take() else {
+        unreachable!()
+    };
+    let start = Instant::now(rt).ok();
+    let prepared = prepare(layout, &message, first, second);
+    let end = Instant::now(rt).ok();
+    let spans = count_spans(&prepared);
+    prepared.give_back(pool);
+    Some((spans, nanoseconds(start, end)?))
+}
+
+// Prepares so many requests: the number of their spans, and the nanoseconds. None is where the clock can't be read.
+fn prepare_all(
+    rt: &impl Runtime,
+    layout: &Layout,
+    pool: &mut Pool,
+    rounds: u64,
+) -> Option<(u64, u64)>
+    requires count { pool.old.count ≡ 2 }
+    requires room { pool.old.room ≡ layout.now.grid.spans }
+{
     let mut spans = 0u64;
     let mut nanos = 0u64;
     for round in 0..rounds {
-        let message = request(round);
-        let Ok(first) = pool.take() else {
-            bail!("no sheet is left");
-        };
-        let Ok(second) = pool.take() else {
-            bail!("no second sheet is left");
-        };
-        let start = Instant::now(rt)?;
-        let prepared = prepare(layout, &message, first, second);
-        let time = start.elapsed(rt)?.as_nanos();
-        spans = spans.saturating_add(count_spans(&prepared));
-        nanos = nanos.saturating_add(u64::try_from(time).unwrap_or(u64::MAX));
-        prepared.give_back(&mut pool);
+        let (more, time) = prepare_one(rt, layout, pool, round)?;
+        spans = spans.saturating_add(more);
+        nanos = nanos.saturating_add(time);
     }
-    Ok((spans, nanos))
+    Some((spans, nanos))
+}
+
+// Prepares so many requests on the twelve lanes: the number of their spans, and the nanoseconds.
+fn measure(rt: &impl Runtime, alloc: Global, rounds: u64) -> Result<(u64, u64)> {
+    let layout = twelve_lanes(alloc, Kind::Fcfs)?;
+    let mut pool = Pool::new(alloc, 2, layout.ground().grid().spans)?;
+    let measured = prepare_all(rt, &layout, &mut pool, rounds);
+    measured.context("the clock can't be read")
+}
+
+// The rounds that the word asks for, if there is one.
+fn asked(rt: &HostRuntime) -> Result<u64> {
+    let word = env::args(rt)?.nth(1);
+    match word {
+        Some(word) => Ok(word.parse::<u64>()?),
+        None => Ok(0),
+    }
 }
 
 fn main(rt: HostRuntime) -> Result<()> {
-    let rounds = match env::args(&rt)?.nth(1) {
-        Some(word) => word.parse::<u64>()?,
-        None => 0,
-    };
-    let layout = twelve_lanes(rt.alloc(), Kind::Fcfs)?;
-    let (spans, nanos) = measure(&rt, rt.alloc(), &layout, rounds.max(12))?;
+    let rounds = asked(&rt)?;
+    let (spans, nanos) = measure(&rt, rt.alloc(), rounds.max(12))?;
     println!(&rt; "spans: {spans}")?;
     if rounds > 0 {
         println!(&rt; "nanoseconds a request: {}", nanos / rounds.max(12))?;

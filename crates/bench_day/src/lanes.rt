@@ -89,24 +89,38 @@ fn add_paths(builder: &mut Builder) -> Result<()> {
     Ok(())
 }
 
+// The lanes of each side, which lights let go in turn.
+const SIDES: [u16; 4] = [0b111, 0b111_000, 0b111_000_000, 0b111_000_000_000];
+
+// Adds the policy, and the phases of lights where it has them.
+fn add_policy(builder: &mut Builder, kind: Kind) -> Result<()> {
+    if builder.add_policy(kind).is_err() {
+        bail!("the policy has a fault");
+    }
+    if kind.has_lights() {
+        for lanes in &SIDES {
+            if builder.add_phase(100, 400, *lanes).is_err() {
+                bail!("a phase has a fault");
+            }
+        }
+    }
+    Ok(())
+}
+
+// Adds the lanes' paths and the policy.
+fn fill(builder: &mut Builder, kind: Kind) -> Result<()> {
+    add_paths(builder)?;
+    add_policy(builder, kind)
+}
+
 /// The layout with one policy. Where that has lights, the lanes of each side are green in turn.
 pub fn twelve_lanes(alloc: Global, kind: Kind) -> Result<Layout> {
     let Ok(mut builder) = Builder::new(alloc, ground()?, 12) else {
         bail!("the layout finds no memory");
     };
-    add_paths(&mut builder)?;
-    if builder.add_policy(kind).is_err() {
-        bail!("the policy has a fault");
+    fill(&mut builder, kind)?;
+    match builder.finish() {
+        Ok(layout) => Ok(layout),
+        Err(_) => bail!("the layout has a fault"),
     }
-    if kind.has_lights() {
-        for lanes in [0b111, 0b111_000, 0b111_000_000, 0b111_000_000_000] {
-            if builder.add_phase(100, 400, lanes).is_err() {
-                bail!("a phase has a fault");
-            }
-        }
-    }
-    let Ok(layout) = builder.finish() else {
-        bail!("the layout has a fault");
-    };
-    Ok(layout)
 }

@@ -1,7 +1,9 @@
 //! The turns of a day, which all callers share.
 
 use aim_msg::Entry;
+use anyhow::{Result, anyhow};
 use std::sync::atomic::{AtomicU32, Ordering};
+use std::time::Instant;
 
 /// How many entries a journal of the day has room for.
 pub const ROOM: u32 = 262_144;
@@ -37,4 +39,21 @@ impl Turns {
 pub struct Taken {
     pub journal: Vec<Entry>,
     pub nanoseconds: u128,
+}
+
+impl Taken {
+    /// The journal of a day, and the nanoseconds between two readings of the clock.
+    pub fn between(
+        journal: Vec<Entry>,
+        start: Option<Instant>,
+        end: Option<Instant>,
+    ) -> Result<Taken> {
+        match (start, end) {
+            (Some(start), Some(end)) => Ok(Taken {
+                journal,
+                nanoseconds: end.duration_since(start).as_nanos(),
+            }),
+            _ => Err(anyhow!("the clock can't be read")),
+        }
+    }
 }

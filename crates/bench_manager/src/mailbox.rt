@@ -7,10 +7,10 @@ ghost use Rattle.aim_mailbox.specs.Calls.{IsOfMail, IsSameClient, ServerModel};
 use crate::day::{ROOM, SHEETS, Taken, Turns};
 use aim_buffers::prepare;
 use aim_mailbox::{Client, Ended, Mailbox, OpenedMail, Served, Server, settle};
-use aim_msg::{LATEST_MOMENT, Message, Reply};
+use aim_msg::{Entry, LATEST_MOMENT, Message, Reply};
 use aim_paths::{Kind, Layout};
 use aim_pool::Pool;
-use anyhow::{Result, bail};
+use anyhow::{Result, anyhow};
 use bench_day::{CALLS, SPANS, held_after, message, moment, twelve_lanes};
 use std::alloc::{AllocError, Global};
 use std::sync::Wait;
@@ -62,41 +62,35 @@ fn one_turn<R: Wait>(
 }
 
 // Takes turns until the day has no more, and makes the calls of each.
+fn make_turns<R: Wait>(rt: &R, client: &mut Client, layout: &Layout, pool: &mut Pool, day: &Turns)
+    requires layout { IfSome client.old.setting (λ s. s.layout ≡ layout.now) }
+    ensures same { IsSameClient client.old client.new }
+{
+    let mut held = None;
+    for _ in 0..day.turns {
+        let Some(turn) = day.take() else {
+            return;
+        };
+        held = one_turn(rt, client, layout, pool, turn, held);
+    }
+}
+
+// Takes turns with sheets of its own, and says the last word.
 fn take_turns<R: Wait>(
     rt: &R,
     alloc: Global,
     mut client: Client,
     layout: &Layout,
     day: &Turns,
-) -> Client
-    requires layout { IfSome client.setting (λ s. s.layout ≡ layout.now) }
-    ensures same { IsSameClient client result }
-{
-    let Ok(mut pool) = Pool::new(alloc, SHEETS, SPANS) else {
-        return client;
-    };
-    let mut held = None;
-    for _ in 0..day.turns {
-        let Some(turn) = day.take() else {
-            return client;
-        };
-        held = one_turn(rt, &mut client, layout, &mut pool, turn, held);
-    }
-    client
-}
-
-// Takes turns until the day has no more, and says the last word.
-fn take_and_finish<R: Wait>(
-    rt: &R,
-    alloc: Global,
-    client: Client,
-    layout: &Layout,
-    day: &Turns,
 ) -> Ended
     requires layout { IfSome client.setting (λ s. s.layout ≡ layout.now) }
     ensures same { IsSameClient client result }
 {
-    take_turns(rt, alloc, client, layout, day).finish(rt)
+    let Ok(mut pool) = Pool::new(alloc, SHEETS, SPANS) else {
+        return client.finish(rt);
+    };
+    make_turns(rt, &mut client, layout, &mut pool, day);
+    client.finish(rt)
 }
 
 // Takes the turns of all clients, each on a thread of its own.
@@ -116,7 +110,7 @@ fn all_turns<R: Threads + Wait + Sync>(
         &|client: Client| -> Ended
             requires { IfSome client.setting (λ s. s.layout ≡ layout.now) }
             ensures { IsSameClient client result }
-        { take_and_finish(rt, alloc, client, layout, day) },
+        { take_turns(rt, alloc, client, layout, day) },
     )
 }
 
@@ -147,6 +141,44 @@ fn beside<L: Ledger + Send + Sync, R: Threads + Wait + Sync>(
     )
 }
 
+// The layout, and a mailbox over a copy of it for so many callers.
+fn open<L: Ledger, R: Wait>(
+    rt: &R,
+    alloc: Global,
+    callers: u32,
+    blank: Blank,
+) -> Result<(Layout, OpenedMail<L>)>
+    requires name { blank.name ≡ L.name }
+    requires parts { blank.parts ≡ L.parts }
+    requires some { 0 < blank.parts }
+    ensures layout { IfOk result (λ p. All (λ c. IfSome c.setting (λ s. s.layout ≡ p.0)) p.1.clients.items) }
+    ensures own { IfOk result (λ p. All (IsOfMail p.1.server) p.1.clients.items) }
+{
+    let layout = twelve_lanes(alloc, Kind::Fcfs)?;
+    let copy = layout.copy()?;
+    match Mailbox::open::<L, R>(rt, alloc, copy, callers, ROOM, blank) {
+        Ok(opened) => Ok((layout, opened)),
+        Err(_) => Err(anyhow!("the mailbox isn't opened")),
+    }
+}
+
+// Ends the mailbox: the journal, where the clients came back.
+fn close<L: Ledger>(
+    alloc: Global,
+    served: Served<L>,
+    ended: Result<Vec<Ended>, AllocError>,
+) -> Result<Vec<Entry>, AllocError>
+    requires own { IfOk ended (λ v. All (IsOfMail served) v.items) }
+{
+    match ended {
+        Ok(ended) => Ok(settle(served, ended)),
+        Err(AllocError) => {
+            settle(served, Vec::new(alloc));
+            Err(AllocError)
+        }
+    }
+}
+
 /// Opens a mailbox, has the day's turns taken, and settles it.
 pub fn over_mailbox<L: Ledger + Send + Sync, R: Threads + Wait + Sync + Clock>(
     rt: &R,
@@ -159,16 +191,13 @@ pub fn over_mailbox<L: Ledger + Send + Sync, R: Threads + Wait + Sync + Clock>(
     requires parts { blank.parts ≡ L.parts }
     requires some { 0 < blank.parts }
 {
-    let layout = twelve_lanes(alloc, Kind::Fcfs)?;
-    let Ok(opened) = Mailbox::open::<L, R>(rt, alloc, layout.copy()?, callers, ROOM, blank) else {
-        bail!("the mailbox isn't opened");
-    };
+    let parts = open::<L, R>(rt, alloc, callers, blank)?;
+    let (layout, opened) = parts;
     let OpenedMail { server, clients } = opened;
-    let start = Instant::now(rt)?;
+    let start = Instant::now(rt).ok();
     let (served, ended) = beside(rt, alloc, server, clients, &layout, day);
-    let nanoseconds = start.elapsed(rt)?.as_nanos();
-    Ok(Taken {
-        journal: settle(served, ended?),
-        nanoseconds,
-    })
+    let end = Instant::now(rt).ok();
+    drop(layout);
+    let journal = close(alloc, served, ended)?;
+    Taken::between(journal, start, end)
 }

@@ -23,19 +23,21 @@ use std::thread::Threads;
 use std::time::Clock;
 use turns::over_manager;
 
-// Has the turns taken, over a mailbox or else on a manager.
-fn taken<R: Threads + Wait + Sync + Clock>(
-    rt: &R,
-    alloc: Global,
+// What is measured: the turns of so many callers, over a mailbox or else on a manager.
+#[derive(Clone, Copy)]
+struct Plan {
     by_mail: bool,
     callers: u32,
     turns: u32,
-) -> Result<Taken> {
-    let day = Turns::new(turns);
-    if by_mail {
-        over_mailbox::<Brand, R>(rt, alloc, Blank::new(1), callers, &day)
+}
+
+// Has the turns taken.
+fn taken<R: Threads + Wait + Sync + Clock>(rt: &R, alloc: Global, plan: Plan) -> Result<Taken> {
+    let day = Turns::new(plan.turns);
+    if plan.by_mail {
+        over_mailbox::<Brand, R>(rt, alloc, Blank::new(1), plan.callers, &day)
     } else {
-        over_manager(rt, alloc, callers, &day)
+        over_manager(rt, alloc, plan.callers, &day)
     }
 }
 
@@ -50,21 +52,68 @@ fn report(taken: &Taken) -> (usize, usize, u128) {
     (calls, confirms, taken.nanoseconds / (calls.max(1) as u128))
 }
 
-fn main(rt: HostRuntime) -> Result<()> {
-    let mut words = env::args(&rt)?.skip(1);
-    let first = words.next();
-    let by_mail = first.as_deref() == Some("mail");
-    let callers = if by_mail { words.next() } else { first };
-    if let (Some(callers), Some(turns)) = (callers, words.next()) {
-        let taken = taken(&rt, rt.alloc(), by_mail, callers.parse()?, turns.parse()?)?;
-        let (calls, confirms, each) = report(&taken);
-        println!(rt; "{calls} calls, {confirms} Confirms, {each} ns a call")?;
-    } else {
-        let (callers, turns) = (2, 40);
-        taken(&rt, rt.alloc(), false, callers, turns)?;
-        println!(rt; "{turns} turns taken by {callers} callers on a manager")?;
-        taken(&rt, rt.alloc(), true, callers, turns)?;
-        println!(rt; "{turns} turns taken by {callers} callers over a mailbox")?;
+// Has the turns taken, and reports them.
+fn measured<R: Threads + Wait + Sync + Clock>(
+    rt: &R,
+    alloc: Global,
+    plan: Plan,
+) -> Result<(usize, usize, u128)> {
+    let taken = taken(rt, alloc, plan)?;
+    Ok(report(&taken))
+}
+
+// What two words ask for, if they are there.
+fn read_numbers(by_mail: bool, words: &[String]) -> Result<Option<Plan>> {
+    match words {
+        [callers, turns, ..] => Ok(Some(Plan {
+            by_mail,
+            callers: callers.parse::<u32>()?,
+            turns: turns.parse::<u32>()?,
+        })),
+        _ => Ok(None),
     }
+}
+
+// What the words ask for, if they have two numbers.
+fn read(words: &[String]) -> Result<Option<Plan>> {
+    match words {
+        [first, rest @ ..] => {
+            if first.as_str() == "mail" {
+                read_numbers(true, rest)
+            } else {
+                read_numbers(false, words)
+            }
+        }
+        [] => Ok(None),
+    }
+}
+
+// What the words behind the program's name ask for.
+fn asked(rt: &HostRuntime, alloc: Global) -> Result<Option<Plan>> {
+    let words = env::args(rt)?.skip(1).collect::<Vec<String>>(alloc)?;
+    read(&words)
+}
+
+fn main(rt: HostRuntime) -> Result<()> {
+    if let Some(plan) = asked(&rt, rt.alloc())? {
+        let (calls, confirms, each) = measured(&rt, rt.alloc(), plan)?;
+        println!(rt; "{calls} calls, {confirms} Confirms, {each} ns a call")?;
+        return Ok(());
+    }
+    let (callers, turns) = (2, 40);
+    let few = Plan {
+        by_mail: false,
+        callers,
+        turns,
+    };
+    measured(&rt, rt.alloc(), few)?;
+    println!(rt; "{turns} turns taken by {callers} callers on a manager")?;
+    let few = Plan {
+        by_mail: true,
+        callers,
+        turns,
+    };
+    measured(&rt, rt.alloc(), few)?;
+    println!(rt; "{turns} turns taken by {callers} callers over a mailbox")?;
     Ok(())
 }

@@ -1,7 +1,9 @@
 //! The day's turns taken on one manager, by callers that share it.
 
-ghost use Rattle.std.specs.Prelude.{◌≡◌, ◌<◌, All, length, IfOk};
-ghost use Rattle.aim_turn.specs.Models.{IsPassOf, IsSamePass};
+ghost use Rattle.std.specs.Prelude.{◌≡◌, ◌<◌, All, length, map, IfOk};
+ghost use Rattle.std.specs.List.{range_with_len};
+ghost use Rattle.aim_msg.specs.declared.entries.TheConstants.{OPERATOR};
+ghost use Rattle.aim_turn.specs.Models.{IsPassOf, IsSamePass, new_pass};
 
 use crate::day::{ROOM, SHEETS, Taken, Turns};
 use aim_buffers::prepare;
@@ -9,7 +11,7 @@ use aim_manager::{Manager, ManagerPass, Opened};
 use aim_msg::{LATEST_MOMENT, Message, Reply};
 use aim_paths::Kind;
 use aim_pool::Pool;
-use anyhow::{Result, bail};
+use anyhow::{Result, anyhow};
 use bench_day::{CALLS, SPANS, held_after, message, moment, twelve_lanes};
 use std::alloc::Global;
 use std::sync::Wait;
@@ -62,28 +64,42 @@ fn one_turn<R: Wait>(
 }
 
 // Takes turns until the day has no more, and makes the calls of each.
+fn make_turns<R: Wait>(
+    rt: &R,
+    manager: &Manager,
+    pass: &mut ManagerPass,
+    pool: &mut Pool,
+    day: &Turns,
+)
+    requires own { IsPassOf manager.now pass.old }
+    requires vehicle { pass.old.number < manager.now.setting.vehicles }
+    ensures same { IsSamePass pass.old pass.new }
+{
+    let mut held = None;
+    for _ in 0..day.turns {
+        let Some(turn) = day.take() else {
+            return;
+        };
+        held = one_turn(rt, manager, pass, pool, turn, held);
+    }
+}
+
+// Takes turns, with sheets of its own.
 fn take_turns<R: Wait>(
     rt: &R,
     alloc: Global,
     manager: &Manager,
-    mut pass: ManagerPass,
+    pass: &mut ManagerPass,
     day: &Turns,
-) -> ManagerPass
-    requires own { IsPassOf manager.now pass }
-    requires vehicle { pass.number < manager.now.setting.vehicles }
-    ensures same { IsSamePass pass result }
+)
+    requires own { IsPassOf manager.now pass.old }
+    requires vehicle { pass.old.number < manager.now.setting.vehicles }
+    ensures same { IsSamePass pass.old pass.new }
 {
     let Ok(mut pool) = Pool::new(alloc, SHEETS, SPANS) else {
-        return pass;
+        return;
     };
-    let mut held = None;
-    for _ in 0..day.turns {
-        let Some(turn) = day.take() else {
-            return pass;
-        };
-        held = one_turn(rt, manager, &mut pass, &mut pool, turn, held);
-    }
-    pass
+    make_turns(rt, manager, pass, &mut pool, day);
 }
 
 // Takes the turns of all callers, each on a thread of its own.
@@ -91,21 +107,35 @@ fn all_turns<R: Threads + Wait + Sync>(
     rt: &R,
     alloc: Global,
     manager: &Manager,
-    passes: Vec<ManagerPass>,
+    passes: &mut [ManagerPass],
     day: &Turns,
-) -> Result<Vec<ManagerPass>>
-    requires own { All (λ p. IsPassOf manager.now p × (p.number < manager.now.setting.vehicles)) passes.items }
-    ensures same { IfOk result (λ v. All (λ p. p.table ≡ manager.now.table) v.items × (length v.items ≡ length passes.items)) }
+)
+    requires own { All (λ p. IsPassOf manager.now p × (p.number < manager.now.setting.vehicles)) passes.old }
+    ensures same { All (λ p. p.table ≡ manager.now.table) passes.new }
 {
-    let all = thread::map_vec(
+    let threads = passes.len().max(1);
+    thread::for_each_mut(
         rt,
         passes,
-        &|pass: ManagerPass| -> ManagerPass
-            requires { IsPassOf manager.now pass × (pass.number < manager.now.setting.vehicles) }
-            ensures { IsSamePass pass result }
+        threads,
+        &|_place: usize, pass: &mut ManagerPass|
+            requires { IsPassOf manager.now pass.now × (pass.now.number < manager.now.setting.vehicles) }
+            ensures { IsSamePass pass.entry.now pass.exit.now }
         { take_turns(rt, alloc, manager, pass, day) },
-    )?;
-    Ok(all)
+    );
+}
+
+// A manager of the twelve lanes for so many callers.
+fn open(alloc: Global, callers: u32) -> Result<Opened>
+    ensures vehicles { IfOk result (λ o. o.manager.setting.vehicles ≡ callers) }
+    ensures passes { IfOk result (λ o. o.passes.items ≡ map (new_pass o.manager) (range_with_len 0 callers)) }
+    ensures operator { IfOk result (λ o. o.operator ≡ new_pass o.manager OPERATOR) }
+{
+    let layout = twelve_lanes(alloc, Kind::Fcfs)?;
+    match Manager::open(alloc, layout, callers, ROOM) {
+        Ok(opened) => Ok(opened),
+        Err(_) => Err(anyhow!("the manager isn't opened")),
+    }
 }
 
 /// Opens a manager, has the day's turns taken, and closes it.
@@ -115,20 +145,15 @@ pub fn over_manager<R: Threads + Wait + Sync + Clock>(
     callers: u32,
     day: &Turns,
 ) -> Result<Taken> {
-    let layout = twelve_lanes(alloc, Kind::Fcfs)?;
-    let Ok(opened) = Manager::open(alloc, layout, callers, ROOM) else {
-        bail!("the manager isn't opened");
-    };
+    let opened = open(alloc, callers)?;
     let Opened {
         manager,
-        passes,
+        mut passes,
         operator,
     } = opened;
-    let start = Instant::now(rt)?;
-    let passes = all_turns(rt, alloc, &manager, passes, day)?;
-    let nanoseconds = start.elapsed(rt)?.as_nanos();
-    Ok(Taken {
-        journal: manager.close(passes, operator).journal,
-        nanoseconds,
-    })
+    let start = Instant::now(rt).ok();
+    all_turns(rt, alloc, &manager, &mut passes, day);
+    let end = Instant::now(rt).ok();
+    let journal = manager.close(passes, operator).journal;
+    Taken::between(journal, start, end)
 }

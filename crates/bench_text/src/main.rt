@@ -13,12 +13,16 @@ use writing::written;
 // So many texts are written and read with no argument.
 const FEW: u32 = 1_000;
 
+// How many texts the word asks for, if it is a number.
+fn asked(rt: &HostRuntime) -> io::Result<Option<u32>> {
+    match env::args(rt)?.nth(1) {
+        Some(word) => Ok(word.parse::<u32>().ok()),
+        None => Ok(None),
+    }
+}
+
 fn main(rt: HostRuntime) -> io::Result<()> {
-    let mut words = env::args(&rt)?;
-    let _program = words.next();
-    let rounds = words
-        .next()
-        .and_then(|word| word.as_str().parse::<u32>().ok());
+    let rounds = asked(&rt)?;
     let start = Instant::now(&rt)?;
     let bytes_written = written(rounds.unwrap_or(FEW));
     let after_writing = start.elapsed(&rt)?;

@@ -9,8 +9,8 @@ ghost use Rattle.bench_tiles.specs.Ready.{AreReady};
 
 use aim_pool::{Pool, Sheet, Span};
 use aim_tiles::{Steps, Table};
-use anyhow::{Result, bail};
-use std::alloc::Global;
+use anyhow::{Context, Result};
+use std::alloc::{AllocError, Global};
 use std::env;
 use std::marker::Brand;
 use std::rt::Runtime;
@@ -37,16 +37,21 @@ fn fill(sheet: &mut Sheet, lane: u32)
     }
 }
 
-fn make_sheets(alloc: Global) -> Result<Vec<Sheet>> {
+// Takes and fills the sheets that the pool has, and puts them in a list, as far as there is memory.
+fn take_sheets(pool: &mut Pool, sheets: &mut Vec<Sheet>) {
+    for lane in 0..SHEETS {
+        if let Ok(mut sheet) = pool.take() {
+            fill(&mut sheet, lane);
+            let _ = sheets.push(sheet);
+        }
+    }
+}
+
+// The sheets, in a list: fewer than so many where there is no memory for the list.
+fn make_sheets(alloc: Global) -> Result<Vec<Sheet>, AllocError> {
     let mut pool = Pool::new(alloc, SHEETS, 1000)?;
     let mut sheets = Vec::new(alloc);
-    for lane in 0..SHEETS {
-        let Ok(mut sheet) = pool.take() else {
-            bail!("too few sheets");
-        };
-        fill(&mut sheet, lane);
-        sheets.push(sheet)?;
-    }
+    take_sheets(&mut pool, &mut sheets);
     Ok(sheets)
 }
 
@@ -88,6 +93,37 @@ fn release_all<L: Ledger>(table: &mut Table<L>, sheets: &[Sheet], steps: &mut St
     }
 }
 
+// The nanoseconds between two readings of the clock.
+fn nanoseconds(start: Option<Instant>, end: Option<Instant>) -> Option<u64> {
+    let time = end?.duration_since(start?).as_nanos();
+    Some(u64::try_from(time).unwrap_or(u64::MAX))
+}
+
+// Claims the sheets so many times, and gives how many were free, and the nanoseconds. None is where the sheets don't fit
+// the table, or the clock can't be read.
+fn claim_rounds<L: Ledger>(
+    rt: &impl Runtime,
+    table: &mut Table<L>,
+    sheets: &[Sheet],
+    steps: &mut Steps<L>,
+    rounds: u64,
+) -> Option<(u64, u64)> {
+    if sheets.len() != SHEETS as usize || !are_ready(table, sheets) {
+        return None;
+    }
+    let mut free = 0u64;
+    let mut nanos = 0u64;
+    for _ in 0..rounds {
+        let start = Instant::now(rt).ok();
+        let claimed = claim_all(table, sheets, steps);
+        let end = Instant::now(rt).ok();
+        free = free.saturating_add(claimed as u64);
+        nanos = nanos.saturating_add(nanoseconds(start, end)?);
+        release_all(table, sheets, steps);
+    }
+    Some((free, nanos))
+}
+
 // Claims the sheets so many times, and gives how many were free, and the nanoseconds.
 fn measure<L: Ledger>(
     rt: &impl Runtime,
@@ -99,30 +135,24 @@ fn measure<L: Ledger>(
     requires parts { blank.parts ≡ L.parts }
     requires some { 0 < blank.parts }
 {
-    let mut steps = Steps::<L>::new(blank);
     let sheets = make_sheets(alloc)?;
     let mut table = Table::<L>::new(alloc, 48, 256)?;
-    if sheets.len() > 8 || !are_ready(&table, &sheets) {
-        bail!("the sheets don't fit the table");
+    let mut steps = Steps::<L>::new(blank);
+    let measured = claim_rounds(rt, &mut table, &sheets, &mut steps, rounds);
+    measured.context("the sheets don't fit the table, or the clock can't be read")
+}
+
+// The rounds that the word asks for, if there is one.
+fn asked(rt: &HostRuntime) -> Result<u64> {
+    let word = env::args(rt)?.nth(1);
+    match word {
+        Some(word) => Ok(word.parse::<u64>()?),
+        None => Ok(0),
     }
-    let mut free = 0u64;
-    let mut nanos = 0u64;
-    for _ in 0..rounds {
-        let start = Instant::now(rt)?;
-        let claimed = claim_all(&mut table, &sheets, &mut steps);
-        let time = start.elapsed(rt)?.as_nanos();
-        free = free.saturating_add(claimed as u64);
-        nanos = nanos.saturating_add(u64::try_from(time).unwrap_or(u64::MAX));
-        release_all(&mut table, &sheets, &mut steps);
-    }
-    Ok((free, nanos))
 }
 
 fn main(rt: HostRuntime) -> Result<()> {
-    let rounds = match env::args(&rt)?.nth(1) {
-        Some(word) => word.parse::<u64>()?,
-        None => 0,
-    };
+    let rounds = asked(&rt)?;
     let (free, nanos) = measure::<Brand>(&rt, rt.alloc(), Blank::new(1), rounds.max(1))?;
     println!(&rt; "free sheets: {free}")?;
     if rounds > 0 {

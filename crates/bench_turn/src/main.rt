@@ -10,7 +10,7 @@ ghost use Rattle.std.specs.Prelude.{◌≡◌, All, length, IfOk};
 ghost use Rattle.aim_turn.specs.Models.{IsPassOf, IsSamePass};
 
 use aim_turn::{NoMemory, Pass, Turnstile};
-use anyhow::Context;
+use anyhow::{Context, bail};
 use register::{Register, Work, mixed};
 use std::alloc::Global;
 use std::sync::Wait;
@@ -21,12 +21,19 @@ use std::{env, thread};
 const CALLERS: u32 = 4;
 
 // What is timed: how many calls each caller makes, and how many rounds of work it does in each and between two.
-#[derive(Drop)]
+#[derive(Clone, Copy)]
 struct Plan {
     calls: u32,
     rounds: u32,
     between: u32,
 }
+
+// A few calls, which no argument asks for.
+const FEW: Plan = Plan {
+    calls: 25,
+    rounds: 10,
+    between: 10,
+};
 
 // Makes the calls of one caller.
 fn calls<R: Wait>(
@@ -68,6 +75,22 @@ fn all_calls<R: Threads + Wait + Sync>(
     )
 }
 
+// Closes the turnstile, where the callers came back: how many marks were made.
+fn close(
+    turnstile: Turnstile<Register>,
+    passes: Result<Vec<Pass<Register>>, NoMemory>,
+) -> Result<usize, NoMemory>
+    requires passes { IfOk passes (λ v. All (λ p. p.table ≡ turnstile.table) v.items × (length v.items ≡ length turnstile.numbers)) }
+{
+    match passes {
+        Ok(passes) => Ok(turnstile.close(passes).marks.len()),
+        Err(error) => {
+            drop(turnstile);
+            Err(error)
+        }
+    }
+}
+
 // Opens a turnstile, makes all calls, and closes it. Gives how many marks were made, and the nanoseconds that the calls took.
 fn run<R: Threads + Wait + Sync + Clock>(
     rt: &R,
@@ -77,11 +100,14 @@ fn run<R: Threads + Wait + Sync + Clock>(
     let room = plan.calls.saturating_mul(CALLERS);
     let register = Register::new(alloc, room)?;
     let (turnstile, passes) = Turnstile::open(alloc, register, &[0, 1, 2, 3])?;
-    let start = Instant::now(rt)?;
-    let passes = all_calls(rt, &turnstile, passes, plan)?;
-    let took = start.elapsed(rt)?.as_nanos();
-    let register = turnstile.close(passes);
-    Ok((register.marks.len(), took))
+    let start = Instant::now(rt).ok();
+    let passes = all_calls(rt, &turnstile, passes, plan);
+    let end = Instant::now(rt).ok();
+    let marks = close(turnstile, passes)?;
+    let (Some(start), Some(end)) = (start, end) else {
+        bail!("the clock can't be read");
+    };
+    Ok((marks, end.duration_since(start).as_nanos()))
 }
 
 // The number that the argument tells.
@@ -91,29 +117,32 @@ fn argument(args: &mut env::Args) -> anyhow::Result<u32> {
     Ok(number)
 }
 
-fn main(rt: HostRuntime) -> anyhow::Result<()> {
-    let alloc: Global = rt.alloc();
-    let mut args = env::args(&rt)?;
+// What the arguments tell, if there are any.
+fn told(args: &mut env::Args) -> anyhow::Result<Option<Plan>> {
     args.next();
     if args.len() == 0 {
-        let (marks, _) = run(
-            &rt,
-            alloc,
-            &Plan {
-                calls: 25,
-                rounds: 10,
-                between: 10,
-            },
-        )?;
+        return Ok(None);
+    }
+    Ok(Some(Plan {
+        calls: argument(args)?,
+        rounds: argument(args)?,
+        between: argument(args)?,
+    }))
+}
+
+// What the program's arguments tell, if there are any.
+fn asked(rt: &HostRuntime) -> anyhow::Result<Option<Plan>> {
+    let mut args = env::args(rt)?;
+    told(&mut args)
+}
+
+fn main(rt: HostRuntime) -> anyhow::Result<()> {
+    let asked = asked(&rt)?;
+    let (marks, nanoseconds) = run(&rt, rt.alloc(), &asked.unwrap_or(FEW))?;
+    if asked.is_none() {
         println!(rt; "{marks} marks by {CALLERS} callers")?;
         return Ok(());
     }
-    let plan = Plan {
-        calls: argument(&mut args)?,
-        rounds: argument(&mut args)?,
-        between: argument(&mut args)?,
-    };
-    let (marks, nanoseconds) = run(&rt, alloc, &plan)?;
     let each = nanoseconds / (marks.max(1) as u128);
     println!(rt; "{marks} marks by {CALLERS} callers, {each} ns a call")?;
     Ok(())

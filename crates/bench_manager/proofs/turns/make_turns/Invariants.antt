@@ -1,5 +1,5 @@
 use Rattle.aim_turn.specs.Models.{IsSamePass}
-use Rattle.bench_manager.proofs.turns.take_turns.Given as goal
+use Rattle.bench_manager.proofs.turns.make_turns.Given as goal
 
 -- the pass stays the same pass
 abbrev pub invariant-loop : goal.invariant-loop
