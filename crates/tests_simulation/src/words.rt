@@ -1,7 +1,7 @@
 //! The words of texts: numbers, tables and fields, read as the readers of lines and entries do.
 
 use aim_msg::{LineKind, Message, Turn, write_message};
-use aim_words::fields::{choice, message, number8, number32, numbers, turn};
+use aim_words::fields::{choice, message, number8, numbers, turn};
 use aim_words::forms::{OrderForm, message_form, order_form};
 use aim_words::numbers::{begins_with_digit, number};
 use aim_words::tables::look_up;
@@ -35,27 +35,25 @@ fn words_are_looked_up(rt: HostRuntime) {
     assert!(rt; matches!(order_form(b"stop"), Ok(OrderForm::Stop)));
 }
 
-// The lane behind that word, three numbers and a rank, where there is a left turn behind the lane.
-fn fields(words: &mut Words<'_>) -> Result<[u32; 5], LineKind> {
+// The lane behind that word, two numbers and a rank, where there is a left turn behind the lane.
+fn fields(words: &mut Words<'_>) -> Result<[u32; 4], LineKind> {
     words.keyword(b"lane")?;
     let lane = number8(words)?;
     if turn(words)? != Turn::Left {
         return Err(LineKind::Unknown);
     }
-    let first = number32(words)?;
-    let [second, third] = numbers::<2>(words)?;
+    let [first, second] = numbers::<2>(words)?;
     let rank = choice(words, &RANKS)?;
-    Ok([u32::from(lane), first, second, third, rank])
+    Ok([u32::from(lane), first, second, rank])
 }
 
 // Two spaces have an empty word between them.
 #[test]
 fn words_come_in_turn(rt: HostRuntime) {
-    let mut words = Words::new(b"lane 255 left 4294967295 7 9 low a  b c");
-    assert!(rt; fields(&mut words) == Ok([255, 4_294_967_295, 7, 9, 0]));
-    assert!(rt; words.word().expect(&rt, "no word") == b"a".as_slice());
+    let mut words = Words::new(b"lane 255 left 4294967295 7 low a  b");
+    assert!(rt; fields(&mut words) == Ok([255, 4_294_967_295, 7, 0]));
+    assert!(rt; words.take() == b"a".as_slice());
     assert!(rt; words.next().expect(&rt, "no word").is_empty());
-    assert!(rt; words.take() == b"b".as_slice());
     assert!(rt; words.end() == Err(LineKind::Words));
     assert!(rt; words.end() == Ok(()));
 }
