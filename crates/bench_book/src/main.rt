@@ -17,9 +17,8 @@ use anyhow::{Context, Result, bail};
 use bench_day::{CALLS, SPANS, held_after, message, moment, twelve_lanes};
 use std::alloc::Global;
 use std::marker::Brand;
-use std::rt::Runtime;
 use std::sync::ledger::{Blank, Ledger};
-use std::time::Instant;
+use std::time::{Clock, Instant};
 use std::{env, io};
 
 // The days, by their policies.
@@ -75,7 +74,7 @@ fn nanoseconds(start: Option<Instant>, end: Option<Instant>) -> Option<u64> {
 // Prepares and serves one message, and counts it. None is where the call may not be made, finds no sheet or the journal
 // full, or the clock can't be read.
 fn call<L: Ledger>(
-    rt: &impl Runtime,
+    rt: &impl Clock,
     book: &mut Book<L>,
     vehicle: u32,
     now: u32,
@@ -109,7 +108,7 @@ fn call<L: Ledger>(
 
 // Makes the calls of all turns.
 fn make_turns<L: Ledger>(
-    rt: &impl Runtime,
+    rt: &impl Clock,
     book: &mut Book<L>,
     pool: &mut Pool,
     steps: &mut Steps<L>,
@@ -135,7 +134,7 @@ fn make_turns<L: Ledger>(
 
 // The turns of a day, under one policy.
 fn pass_day<L: Ledger>(
-    rt: &impl Runtime,
+    rt: &impl Clock,
     alloc: Global,
     blank: Blank,
     kind: Kind,
@@ -161,7 +160,7 @@ fn pass_day<L: Ledger>(
 }
 
 // Prints what a day has had, and the times where they were asked for.
-fn tell(rt: &impl Runtime, name: &str, tally: &Tally, is_timed: bool) -> io::Result<()> {
+fn tell(rt: &impl Print, name: &str, tally: &Tally, is_timed: bool) -> io::Result<()> {
     println!(rt;
         "{name}: calls {} confirms {} sum {}",
         tally.calls, tally.confirms, tally.sum
