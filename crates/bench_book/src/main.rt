@@ -13,7 +13,7 @@ use aim_msg::{LATEST_MOMENT, Message, Reply};
 use aim_paths::Kind;
 use aim_pool::Pool;
 use aim_tiles::Steps;
-use anyhow::{Context, Result, bail};
+use anyhow::{Context, Result, anyhow};
 use bench_day::{CALLS, SPANS, held_after, message, moment, twelve_lanes};
 use std::alloc::Global;
 use std::marker::Brand;
@@ -132,6 +132,15 @@ fn make_turns<L: Ledger>(
     Some(tally)
 }
 
+// A book over the twelve lanes, under one policy.
+fn open<L: Ledger>(alloc: Global, kind: Kind, vehicles: u32) -> Result<Book<L>> {
+    let layout = twelve_lanes(alloc, kind)?;
+    match Book::<L>::open(alloc, layout, vehicles, 262_144) {
+        Ok(book) => Ok(book),
+        Err(_) => Err(anyhow!("the book isn't opened")),
+    }
+}
+
 // The turns of a day, under one policy.
 fn pass_day<L: Ledger>(
     rt: &impl Clock,
@@ -148,14 +157,12 @@ fn pass_day<L: Ledger>(
     let most = vehicles.min(65_536);
     let mut pool = Pool::new(alloc, most + 2, SPANS)?;
     let mut held = vec![in alloc; None; most as usize]?;
-    let layout = twelve_lanes(alloc, kind)?;
-    let Ok(mut book) = Book::<L>::open(alloc, layout, vehicles, 262_144) else {
-        bail!("the book isn't opened");
-    };
+    let mut book = open::<L>(alloc, kind, vehicles)?;
     let mut steps = Steps::<L>::new(blank);
     let tally = make_turns(
         rt, &mut book, &mut pool, &mut steps, &mut held, vehicles, turns,
     );
+    let _journal = book.into_journal();
     tally.context("the journal is full, no sheet is left, or the clock can't be read")
 }
 
