@@ -13,13 +13,12 @@ use aim_msg::{LATEST_MOMENT, Message, Reply};
 use aim_paths::Kind;
 use aim_pool::Pool;
 use aim_tiles::Steps;
-use anyhow::{Context, Result, bail};
+use anyhow::{Context, Result, anyhow};
 use bench_day::{CALLS, SPANS, held_after, message, moment, twelve_lanes};
 use std::alloc::Global;
 use std::marker::Brand;
-use std::rt::Runtime;
 use std::sync::ledger::{Blank, Ledger};
-use std::time::Instant;
+use std::time::{Clock, Instant};
 use std::{env, io};
 
 // The days, by their policies.
@@ -75,7 +74,7 @@ fn nanoseconds(start: Option<Instant>, end: Option<Instant>) -> Option<u64> {
 // Prepares and serves one message, and counts it. None is where the call may not be made, finds no sheet or the journal
 // full, or the clock can't be read.
 fn call<L: Ledger>(
-    rt: &impl Runtime,
+    rt: &impl Clock,
     book: &mut Book<L>,
     vehicle: u32,
     now: u32,
@@ -109,7 +108,7 @@ fn call<L: Ledger>(
 
 // Makes the calls of all turns.
 fn make_turns<L: Ledger>(
-    rt: &impl Runtime,
+    rt: &impl Clock,
     book: &mut Book<L>,
     pool: &mut Pool,
     steps: &mut Steps<L>,
@@ -133,9 +132,18 @@ fn make_turns<L: Ledger>(
     Some(tally)
 }
 
+// A book over the twelve lanes, under one policy.
+fn open<L: Ledger>(alloc: Global, kind: Kind, vehicles: u32) -> Result<Book<L>> {
+    let layout = twelve_lanes(alloc, kind)?;
+    match Book::<L>::open(alloc, layout, vehicles, 262_144) {
+        Ok(book) => Ok(book),
+        Err(_) => Err(anyhow!("the book isn't opened")),
+    }
+}
+
 // The turns of a day, under one policy.
 fn pass_day<L: Ledger>(
-    rt: &impl Runtime,
+    rt: &impl Clock,
     alloc: Global,
     blank: Blank,
     kind: Kind,
@@ -149,19 +157,17 @@ fn pass_day<L: Ledger>(
     let most = vehicles.min(65_536);
     let mut pool = Pool::new(alloc, most + 2, SPANS)?;
     let mut held = vec![in alloc; None; most as usize]?;
-    let layout = twelve_lanes(alloc, kind)?;
-    let Ok(mut book) = Book::<L>::open(alloc, layout, vehicles, 262_144) else {
-        bail!("the book isn't opened");
-    };
+    let mut book = open::<L>(alloc, kind, vehicles)?;
     let mut steps = Steps::<L>::new(blank);
     let tally = make_turns(
         rt, &mut book, &mut pool, &mut steps, &mut held, vehicles, turns,
     );
+    let _journal = book.into_journal();
     tally.context("the journal is full, no sheet is left, or the clock can't be read")
 }
 
 // Prints what a day has had, and the times where they were asked for.
-fn tell(rt: &impl Runtime, name: &str, tally: &Tally, is_timed: bool) -> io::Result<()> {
+fn tell(rt: &impl Print, name: &str, tally: &Tally, is_timed: bool) -> io::Result<()> {
     println!(rt;
         "{name}: calls {} confirms {} sum {}",
         tally.calls, tally.confirms, tally.sum

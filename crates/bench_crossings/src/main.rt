@@ -13,8 +13,7 @@ use anyhow::{Context, Result};
 use bench_day::twelve_lanes;
 use std::alloc::Global;
 use std::env;
-use std::rt::Runtime;
-use std::time::Instant;
+use std::time::{Clock, Instant};
 
 // The request of a round: the lanes in turn, with one of 61 speeds.
 fn request(round: u64) -> Message {
@@ -60,12 +59,7 @@ fn nanoseconds(start: Option<Instant>, end: Option<Instant>) -> Option<u64> {
 }
 
 // Prepares the request of a round: the number of its spans, and the nanoseconds. None is where the clock can't be read.
-fn prepare_one(
-    rt: &impl Runtime,
-    layout: &Layout,
-    pool: &mut Pool,
-    round: u64,
-) -> Option<(u64, u64)>
+fn prepare_one(rt: &impl Clock, layout: &Layout, pool: &mut Pool, round: u64) -> Option<(u64, u64)>
     requires count { pool.old.count ≡ 2 }
     requires room { pool.old.room ≡ layout.now.grid.spans }
     ensures count { pool.new.count ≡ 2 }
@@ -87,12 +81,7 @@ fn prepare_one(
 }
 
 // Prepares so many requests: the number of their spans, and the nanoseconds. None is where the clock can't be read.
-fn prepare_all(
-    rt: &impl Runtime,
-    layout: &Layout,
-    pool: &mut Pool,
-    rounds: u64,
-) -> Option<(u64, u64)>
+fn prepare_all(rt: &impl Clock, layout: &Layout, pool: &mut Pool, rounds: u64) -> Option<(u64, u64)>
     requires count { pool.old.count ≡ 2 }
     requires room { pool.old.room ≡ layout.now.grid.spans }
 {
@@ -107,7 +96,7 @@ fn prepare_all(
 }
 
 // Prepares so many requests on the twelve lanes: the number of their spans, and the nanoseconds.
-fn measure(rt: &impl Runtime, alloc: Global, rounds: u64) -> Result<(u64, u64)> {
+fn measure(rt: &impl Clock, alloc: Global, rounds: u64) -> Result<(u64, u64)> {
     let layout = twelve_lanes(alloc, Kind::Fcfs)?;
     let mut pool = Pool::new(alloc, 2, layout.ground().grid().spans)?;
     let measured = prepare_all(rt, &layout, &mut pool, rounds);

@@ -29,13 +29,11 @@ fn main(rt: HostRuntime) -> Result<()> {
     let after_writing = start.elapsed(&rt)?;
     let bytes_read = read(rt.alloc(), rounds.unwrap_or(FEW));
     let after_reading = start.elapsed(&rt)?;
-    println!(rt; "write_json_entry: {bytes_written} bytes")?;
-    println!(rt; "read_json_line: {bytes_read} bytes")?;
+    println!(rt; "write_json_entry: {bytes_written} bytes\nread_json_line: {bytes_read} bytes")?;
     if rounds.is_some() {
         let writing = after_writing.as_millis();
         let reading = after_reading.as_millis().saturating_sub(writing);
-        println!(rt; "write_json_entry: {writing} ms")?;
-        println!(rt; "read_json_line: {reading} ms")?;
+        println!(rt; "write_json_entry: {writing} ms\nread_json_line: {reading} ms")?;
     }
     Ok(())
 }

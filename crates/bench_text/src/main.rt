@@ -28,13 +28,11 @@ fn main(rt: HostRuntime) -> io::Result<()> {
     let after_writing = start.elapsed(&rt)?;
     let bytes_read = read(rounds.unwrap_or(FEW));
     let after_reading = start.elapsed(&rt)?;
-    println!(rt; "entry_text: {bytes_written} bytes")?;
-    println!(rt; "read_line: {bytes_read} bytes")?;
+    println!(rt; "entry_text: {bytes_written} bytes\nread_line: {bytes_read} bytes")?;
     if rounds.is_some() {
         let writing = after_writing.as_millis();
         let reading = after_reading.as_millis().saturating_sub(writing);
-        println!(rt; "entry_text: {writing} ms")?;
-        println!(rt; "read_line: {reading} ms")?;
+        println!(rt; "entry_text: {writing} ms\nread_line: {reading} ms")?;
     }
     Ok(())
 }

@@ -13,9 +13,8 @@ use anyhow::{Context, Result};
 use std::alloc::{AllocError, Global};
 use std::env;
 use std::marker::Brand;
-use std::rt::Runtime;
 use std::sync::ledger::{Blank, Ledger};
-use std::time::Instant;
+use std::time::{Clock, Instant};
 
 // How many sheets lie side by side, each in eight columns of 48.
 const SHEETS: u32 = 6;
@@ -102,7 +101,7 @@ fn nanoseconds(start: Option<Instant>, end: Option<Instant>) -> Option<u64> {
 // Claims the sheets so many times, and gives how many were free, and the nanoseconds. None is where the sheets don't fit
 // the table, or the clock can't be read.
 fn claim_rounds<L: Ledger>(
-    rt: &impl Runtime,
+    rt: &impl Clock,
     table: &mut Table<L>,
     sheets: &[Sheet],
     steps: &mut Steps<L>,
@@ -126,7 +125,7 @@ fn claim_rounds<L: Ledger>(
 
 // Claims the sheets so many times, and gives how many were free, and the nanoseconds.
 fn measure<L: Ledger>(
-    rt: &impl Runtime,
+    rt: &impl Clock,
     alloc: Global,
     blank: Blank,
     rounds: u64,

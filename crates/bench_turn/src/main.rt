@@ -6,11 +6,11 @@
 
 mod register;
 
-ghost use Rattle.std.specs.Prelude.{◌≡◌, All, length, IfOk};
+ghost use Rattle.std.specs.Prelude.{◌≡◌, All};
 ghost use Rattle.aim_turn.specs.Models.{IsPassOf, IsSamePass};
 
-use aim_turn::{NoMemory, Pass, Turnstile};
-use anyhow::{Context, bail};
+use aim_turn::{Pass, Turnstile};
+use anyhow::{Context, anyhow};
 use register::{Register, Work, mixed};
 use std::alloc::Global;
 use std::sync::Wait;
@@ -36,59 +36,39 @@ const FEW: Plan = Plan {
 };
 
 // Makes the calls of one caller.
-fn calls<R: Wait>(
-    rt: &R,
-    turnstile: &Turnstile<Register>,
-    mut pass: Pass<Register>,
-    plan: &Plan,
-) -> Pass<Register>
-    requires own { IsPassOf turnstile.now pass }
-    ensures same { IsSamePass pass result }
+fn calls<R: Wait>(rt: &R, turnstile: &Turnstile<Register>, pass: &mut Pass<Register>, plan: &Plan)
+    requires own { IsPassOf turnstile.now pass.old }
+    ensures same { IsSamePass pass.old pass.new }
 {
     for call in 0..plan.calls {
         let work = Work {
             seed: mixed(call, plan.between),
             rounds: plan.rounds,
         };
-        turnstile.with_turn(rt, &mut pass, work);
+        turnstile.with_turn(rt, pass, work);
     }
-    pass
 }
 
 // Makes the calls of all callers, each in a thread of its own.
 fn all_calls<R: Threads + Wait + Sync>(
     rt: &R,
     turnstile: &Turnstile<Register>,
-    passes: Vec<Pass<Register>>,
+    passes: &mut [Pass<Register>],
     plan: &Plan,
-) -> Result<Vec<Pass<Register>>, NoMemory>
-    requires own { All (λ p. IsPassOf turnstile.now p) passes.items }
-    ensures same { IfOk result (λ v. All (λ p. p.table ≡ turnstile.now.table) v.items × (length v.items ≡ length passes.items)) }
+)
+    requires own { All (λ p. IsPassOf turnstile.now p) passes.old }
+    ensures same { All (λ p. p.table ≡ turnstile.now.table) passes.new }
 {
-    thread::map_vec(
+    let threads = passes.len().max(1);
+    thread::for_each_mut(
         rt,
         passes,
-        &|pass: Pass<Register>| -> Pass<Register>
-            requires { IsPassOf turnstile.now pass }
-            ensures { IsSamePass pass result }
+        threads,
+        &|_place: usize, pass: &mut Pass<Register>|
+            requires { IsPassOf turnstile.now pass.now }
+            ensures { IsSamePass pass.entry.now pass.exit.now }
         { calls(rt, turnstile, pass, plan) },
-    )
-}
-
-// Closes the turnstile, where the callers came back: how many marks were made.
-fn close(
-    turnstile: Turnstile<Register>,
-    passes: Result<Vec<Pass<Register>>, NoMemory>,
-) -> Result<usize, NoMemory>
-    requires passes { IfOk passes (λ v. All (λ p. p.table ≡ turnstile.table) v.items × (length v.items ≡ length turnstile.numbers)) }
-{
-    match passes {
-        Ok(passes) => Ok(turnstile.close(passes).marks.len()),
-        Err(error) => {
-            drop(turnstile);
-            Err(error)
-        }
-    }
+    );
 }
 
 // Opens a turnstile, makes all calls, and closes it. Gives how many marks were made, and the nanoseconds that the calls took.
@@ -99,15 +79,18 @@ fn run<R: Threads + Wait + Sync + Clock>(
 ) -> anyhow::Result<(usize, u128)> {
     let room = plan.calls.saturating_mul(CALLERS);
     let register = Register::new(alloc, room)?;
-    let (turnstile, passes) = Turnstile::open(alloc, register, &[0, 1, 2, 3])?;
+    let (turnstile, mut passes) = Turnstile::open(alloc, register, &[0, 1, 2, 3])?;
     let start = Instant::now(rt).ok();
-    let passes = all_calls(rt, &turnstile, passes, plan);
+    all_calls(rt, &turnstile, &mut passes, plan);
     let end = Instant::now(rt).ok();
-    let marks = close(turnstile, passes)?;
-    let (Some(start), Some(end)) = (start, end) else {
-        bail!("the clock can't be read");
-    };
-    Ok((marks, end.duration_since(start).as_nanos()))
+    let register = turnstile.close(passes);
+    match (start, end) {
+        (Some(start), Some(end)) => Ok((
+            register.marks.len(),
+            end.duration_since(start).as_nanos(),
+        )),
+        _ => Err(anyhow!("the clock can't be read")),
+    }
 }
 
 // The number that the argument tells.

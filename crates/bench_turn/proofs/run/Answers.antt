@@ -1,21 +1,26 @@
-use Rattle.std.proofs.Common.{◌≡◌, ℕ, List, map, length, Result, Ok, Err, sym, ap, ◌∙◌}
-use Rattle.std.specs.Prelude.{IfOk}
-use Rattle.std.proofs.lemmas.List.{length-map}
+use Rattle.std.proofs.Common.{◌≡◌, ℕ, List, map, length, sym, ap, ◌∙◌, subst, arith}
+use Rattle.std.specs.Prelude.{All}
+use Rattle.std.proofs.lemmas.List.{length-map, with_items_is}
 use Rattle.aim_turn.specs.Models.{PassModel, TurnstileModel, new_pass}
+use Rattle.bench_turn.specs.declared.register.Mark.{Mark}
+use Rattle.bench_turn.specs.declared.register.Room.{Room}
 use Rattle.bench_turn.proofs.run.Goals as goal
 
 -- there are as many new passes as numbers
-as_many : {S E : Type 0} (t : TurnstileModel S) (ns : List ℕ) (ps : List (PassModel S E)) → ps ≡ map (new_pass t) ns → t.numbers ≡ ns → length ps ≡ length t.numbers
-as_many {E = E} t ns ps is numbers = ap length is ∙ length-map ns (new_pass {E = E} t) ∙ ap length (sym numbers)
+as_many : (t : TurnstileModel Room) (ns : List ℕ) (ps : List (PassModel Room Mark)) → ps ≡ map (new_pass t) ns → t.numbers ≡ ns → length ps ≡ length t.numbers
+as_many t ns ps is numbers = ap length is ∙ length-map ns (new_pass {E = Mark} t) ∙ ap length (sym numbers)
 
--- what follows of an answer that isn't a fault
-if_ok : {A E : Type 0} {P Q : A → Type 0} (r : Result A E) → ((a : A) → P a → Q a) → IfOk r P → IfOk r Q
-if_ok (Ok a) f p = f a p
-if_ok (Err e) f p = p
+pub close-register-requires-clause-own : goal.close-register-requires-clause-own
+close-register-requires-clause-own g c =
+    let o = c.in_ok-turnstile in
+    let lent = c.deref_mut.ensures in
+    let count : length c.all_calls.new.passes ≡ c.in_ok-turnstile.passes.len = omega (arith, lent.len) in
+    subst (λ (l : List (PassModel Room Mark)). All (λ p. p.table ≡ o.turnstile.table) l) (sym (with_items_is o.passes c.all_calls.new.passes count)) c.all_calls.ensures.same
 
-pub close-requires : goal.close-requires
-close-requires g c =
-    let e = c.in_ok-turnstile.ensures in
-    record {
-      passes = if_ok c.all_calls-passes.result (λ v same. (same.0, same.1 ∙ as_many _ _ _ e.passes e.turnstile.1)) c.all_calls-passes.ensures.same;
-    }
+pub close-register-requires-clause-all : goal.close-register-requires-clause-all
+close-register-requires-clause-all g c =
+    let o = c.in_ok-turnstile in
+    let lent = c.deref_mut.ensures in
+    let count : length c.all_calls.new.passes ≡ c.in_ok-turnstile.passes.len = omega (arith, lent.len) in
+    let same : length c.all_calls.new.passes ≡ length c.in_ok-turnstile.passes.items = omega (arith, ap length lent.value) in
+    ap length (with_items_is o.passes c.all_calls.new.passes count) ∙ same ∙ as_many o.turnstile _ o.passes.items o.ensures.passes o.ensures.turnstile.1
