@@ -1,4 +1,3 @@
-use Rattle.std.specs.Prelude.{◌×◌}
 use Rattle.aim_shards.specs.Models.{IsSamePass}
 use Rattle.tests_manager.proofs.shards.in_turn.Given as goal
 
