@@ -7,7 +7,7 @@ ghost use Rattle.aim_turn.specs.Models.{IsPassOf, IsSamePass, new_pass};
 
 use crate::day::{Site, confirmed, crossing, prepared, request};
 use aim_manager::{Full, Manager, ManagerPass, Opened};
-use aim_msg::{Message, OPERATOR, Order, Reason, Reply};
+use aim_msg::{Entry, Message, OPERATOR, Order, Reason, Reply};
 use aim_pool::Pool;
 use std::alloc::Global;
 use std::process::Abort;
@@ -97,6 +97,17 @@ fn six_calls<R: Wait + Abort>(
     assert!(rt; manager.operate(rt, operator, 4, Order::Stop) == Err(Full));
 }
 
+// The callers of these calls.
+const CALLERS: [u32; 4] = [0, 1, OPERATOR, 0];
+
+// The journal has to have an entry of each of these callers, in this order.
+fn check_callers(rt: &impl Abort, journal: &[Entry]) {
+    assert!(rt; journal.len() == CALLERS.len());
+    for (entry, caller) in journal.iter().zip(&CALLERS) {
+        assert!(rt; entry.caller == *caller);
+    }
+}
+
 // Opens the manager for two vehicles with room for four entries, and has the calls made.
 fn two_vehicles<R: Wait + Abort>(rt: &R, alloc: Global, meets: bool) {
     let mut pool = Pool::new(alloc, 6, 4096).expect(rt, "no memory for a pool");
@@ -123,11 +134,7 @@ fn two_vehicles<R: Wait + Abort>(rt: &R, alloc: Global, meets: bool) {
     );
     passes.push_reserved(second);
     passes.push_reserved(first);
-    let journal = manager.close(passes, operator).journal;
-    assert!(rt; journal.len() == 4);
-    for (entry, caller) in journal.iter().zip([0, 1, OPERATOR, 0]) {
-        assert!(rt; entry.caller == caller);
-    }
+    check_callers(rt, &manager.close(passes, operator).journal);
 }
 
 #[test]

@@ -2,9 +2,9 @@
 
 ghost use Rattle.std.specs.Prelude.{◌≡◌, ◌<◌, ◌≤◌};
 
-use aim_msg::{Body, MOST_VEHICLES};
+use aim_msg::MOST_VEHICLES;
 use aim_pool::{Pool, Sheet, Span};
-use aim_reservations::{Reservation, Reservations, first_step, given_up, reaches};
+use aim_reservations::{Reservation, Reservations};
 use aim_tiles::Steps;
 use std::alloc::Global;
 use std::marker::Brand;
@@ -37,24 +37,20 @@ fn reserved<L: Ledger>(rt: &impl Abort, alloc: Global, steps: &mut Steps<L>) -> 
     reservations
 }
 
-// What the first vehicle finds of them in step 7.
-fn check<L: Ledger>(
+// What the first vehicle finds of them.
+fn finds<L: Ledger>(
     rt: &impl Abort,
-    reservations: &mut Reservations<L>,
+    reservations: &Reservations<L>,
     sheet: &Sheet,
     steps: &mut Steps<L>,
-) {
-    assert!(rt; reservations.now() <= 7);
-    reservations.advance(7, steps);
+) -> bool {
     assert!(rt; reservations.rows.len() == 2 && reservations.rows.len() <= MOST_VEHICLES as usize);
-    assert!(rt; reservations.now() == 7 && reservations.row(0).is_none());
-    let own = reservations.lasting(1).expect(rt, "no reservation");
-    assert!(rt; own.id == 3 && first_step(&own.sheet) == 9 && !reaches(&own.sheet, 10));
-    assert!(rt; reservations.holder(0, 9, 1, 2) == Some(1));
-    assert!(rt; reservations.mask(9, 1) == 0b0110);
     assert!(rt; reservations.table.has_tiles(sheet));
-    assert!(rt; reservations.first_taken(0, sheet, steps) == Some((9, 1, 1)));
-    assert!(rt; given_up(&Body::Cancel(3)) == Some(3));
+    reservations.first_taken(0, sheet, steps) == Some((9, 1, 1))
+        && reservations.holder(0, 9, 1, 2) == Some(1)
+        && reservations.mask(9, 1) == 0b0110
+        && reservations.row(0).is_none()
+        && reservations.lasting(1).is_some()
 }
 
 fn look<L: Ledger>(rt: &impl Abort, alloc: Global, blank: Blank)
@@ -63,8 +59,8 @@ fn look<L: Ledger>(rt: &impl Abort, alloc: Global, blank: Blank)
     requires some { 0 < blank.parts }
 {
     let mut steps = Steps::<L>::new(blank);
-    let mut reservations = reserved(rt, alloc, &mut steps);
-    check(rt, &mut reservations, &two_tiles(rt, alloc), &mut steps);
+    let reservations = reserved(rt, alloc, &mut steps);
+    assert!(rt; finds(rt, &reservations, &two_tiles(rt, alloc), &mut steps));
     assert!(rt; reservations.leave(steps).rows.len() == 2);
 }
 

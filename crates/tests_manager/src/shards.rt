@@ -5,8 +5,8 @@ ghost use Rattle.std.specs.Thread.{IsSync};
 ghost use Rattle.aim_shards.specs.Models.{IsPassOf, IsSamePass, count_up, new_pass};
 
 use aim_shards::{
-    ClaimAct, Claimed, Full, Hold, OpenedShards, Rectangle, ShardPass, Shards, are_fitting,
-    history, sheets,
+    ClaimAct, ClaimEntry, Claimed, Full, Hold, OpenedShards, Rectangle, ShardPass, Shards,
+    are_fitting, history, sheets,
 };
 use std::alloc::Global;
 use std::process::Abort;
@@ -233,8 +233,12 @@ fn called<R: Threads + Wait + Abort + Sync>(
     }
 }
 
-// The tickets of the one history of these calls have to be 0, 1, 2 and so on.
-fn check_tickets<R: Threads + Wait + Abort + Sync>(rt: &R, alloc: Global, threads: bool) -> usize {
+// The one history of these calls.
+fn history_of<R: Threads + Wait + Abort + Sync>(
+    rt: &R,
+    alloc: Global,
+    threads: bool,
+) -> Vec<ClaimEntry> {
     let opened = opened(rt, alloc);
     let OpenedShards { shards, mut passes } = opened;
     let Some(second) = passes.pop() else {
@@ -246,19 +250,23 @@ fn check_tickets<R: Threads + Wait + Abort + Sync>(rt: &R, alloc: Global, thread
     let (first, second) = called(rt, &shards, first, second, threads);
     passes.push_reserved(second);
     passes.push_reserved(first);
-    let all = history(alloc, shards, passes).expect(rt, "no memory for a history");
+    history(alloc, shards, passes).expect(rt, "no memory for a history")
+}
+
+// There have to be so many calls, with the tickets 0, 1, 2 and so on.
+fn check_tickets(rt: &impl Abort, all: &[ClaimEntry], count: usize) {
+    assert!(rt; all.len() == count);
     for (place, entry) in all.iter().enumerate() {
         assert!(rt; entry.ticket as usize == place);
     }
-    all.len()
 }
 
 #[test]
 fn claims_and_freeings_of_two_callers(rt: HostRuntime) {
-    assert!(rt; check_tickets(&rt, rt.alloc(), false) == 10);
+    check_tickets(&rt, &history_of(&rt, rt.alloc(), false), 10);
 }
 
 #[test]
 fn claims_of_two_quadrants_do_not_wait_for_each_other(rt: HostRuntime) {
-    assert!(rt; check_tickets(&rt, rt.alloc(), true) == 2);
+    check_tickets(&rt, &history_of(&rt, rt.alloc(), true), 2);
 }

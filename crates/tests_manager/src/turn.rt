@@ -127,6 +127,14 @@ fn four_calls<R: Wait + Abort>(
 // The marks of these calls.
 const MARKS: [(u32, u32); 3] = [(7, 50), (3, 60), (3, 70)];
 
+// The register has to have these marks.
+fn check_marks(rt: &impl Abort, marks: &[Mark]) {
+    assert!(rt; marks.len() == MARKS.len());
+    for (mark, (caller, value)) in marks.iter().zip(&MARKS) {
+        assert!(rt; mark.caller == *caller && mark.value == *value);
+    }
+}
+
 #[test]
 fn callers_meet_and_the_passes_close_in_another_order(rt: HostRuntime) {
     let register = empty_register(rt.alloc(), 3).expect(&rt, "no memory for a register");
@@ -141,9 +149,5 @@ fn callers_meet_and_the_passes_close_in_another_order(rt: HostRuntime) {
     four_calls(&rt, &turnstile, &mut first, &mut second);
     passes.push_reserved(second);
     passes.push_reserved(first);
-    let marks = turnstile.close(passes).marks;
-    assert!(rt; marks.len() == MARKS.len());
-    for (mark, (caller, value)) in marks.iter().zip(&MARKS) {
-        assert!(rt; mark.caller == *caller && mark.value == *value);
-    }
+    check_marks(&rt, &turnstile.close(passes).marks);
 }
