@@ -1,15 +1,25 @@
-//! Tests of the calls of the shared manager.
+//! Tests of the calls of the book, of the turn, of the manager that threads share, of sharded claims and of the mailbox.
 #![tactic(auto)]
 
 #[cfg(test)]
-mod again;
+mod asked;
 #[cfg(test)]
-mod calls;
+mod book;
 #[cfg(test)]
-mod crossing;
+mod claims;
 #[cfg(test)]
-mod four;
+mod day;
 #[cfg(test)]
-mod lanes;
+mod mailbox;
+#[cfg(test)]
+mod manager;
+#[cfg(test)]
+mod policies;
+#[cfg(test)]
+mod reservations;
+#[cfg(test)]
+mod shards;
 #[cfg(test)]
 mod threads;
+#[cfg(test)]
+mod turn;

@@ -1,7 +1,0 @@
-//! Tests of scripts of claims and of their runs.
-#![tactic(auto)]
-
-#[cfg(test)]
-mod lines;
-#[cfg(test)]
-mod scripts;

@@ -1,6 +1,0 @@
-use Rattle.aim_mailbox.specs.Calls.{IsOfMail}
-use Rattle.aim_mailbox.proofs.Clients.{all_two}
-use Rattle.tests_mailbox.proofs.calls.settled.Goals as goal
-
-pub settle-requires : goal.settle-requires
-settle-requires g c = record { own = rw c.both.ensures (all_two (IsOfMail c.args.served) _ _ c.requires.own.0 c.requires.own.1) }

@@ -1,6 +1,0 @@
-use Rattle.aim_mailbox.specs.Calls.{IsSameClient}
-use Rattle.tests_mailbox.proofs.threads.fifty_requests.Given as goal
-
--- the client stays the same client
-abbrev pub invariant-loop-place : goal.invariant-loop-place
-invariant-loop-place g l = IsSameClient l.initial.client l.client

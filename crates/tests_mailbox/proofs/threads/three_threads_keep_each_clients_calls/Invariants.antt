@@ -1,4 +1,0 @@
-use Rattle.tests_mailbox.proofs.threads.three_threads_keep_each_clients_calls.Given as goal
-
-abbrev pub ghosts-mailed : goal.ghosts-mailed
-ghosts-mailed g a = record { name = a.blank.name; parts = a.blank.parts }

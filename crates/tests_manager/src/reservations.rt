@@ -1,0 +1,70 @@
+//! Reservations without a book. What a message changes of them, and lights, a book's journals show.
+
+ghost use Rattle.std.specs.Prelude.{◌≡◌, ◌<◌, ◌≤◌};
+
+use aim_msg::MOST_VEHICLES;
+use aim_pool::{Pool, Sheet, Span};
+use aim_reservations::{Reservation, Reservations};
+use aim_tiles::Steps;
+use std::alloc::Global;
+use std::marker::Brand;
+use std::process::Abort;
+use std::sync::ledger::{Blank, Ledger};
+
+// Two columns of a row in step 9.
+fn two_tiles(rt: &impl Abort, alloc: Global) -> Sheet {
+    let mut pool = Pool::new(alloc, 1, 4).expect(rt, "no memory for a sheet");
+    let mut sheet = pool.take().expect(rt, "no sheet");
+    let span = Span {
+        step: 9,
+        row: 1,
+        mask: 0b0110,
+    };
+    assert!(rt; sheet.push(span).is_ok());
+    sheet
+}
+
+// Reservations of two vehicles, of which the second has two tiles by its Confirm 3.
+fn reserved<L: Ledger>(rt: &impl Abort, alloc: Global, steps: &mut Steps<L>) -> Reservations<L> {
+    let sheet = two_tiles(rt, alloc);
+    let mut reservations = Reservations::new(alloc, 4, 1500, 2).expect(
+        rt,
+        "no memory for reservations",
+    );
+    assert!(rt; reservations.table.has_tiles(&sheet) && reservations.table.has_steps(&sheet));
+    reservations.table.claim(&sheet, steps);
+    reservations.rows[1] = Some(Reservation { id: 3, sheet });
+    reservations
+}
+
+// What the first vehicle finds of them.
+fn finds<L: Ledger>(
+    rt: &impl Abort,
+    reservations: &Reservations<L>,
+    sheet: &Sheet,
+    steps: &mut Steps<L>,
+) -> bool {
+    assert!(rt; reservations.rows.len() == 2 && reservations.rows.len() <= MOST_VEHICLES as usize);
+    assert!(rt; reservations.table.has_tiles(sheet));
+    reservations.first_taken(0, sheet, steps) == Some((9, 1, 1))
+        && reservations.holder(0, 9, 1, 2) == Some(1)
+        && reservations.mask(9, 1) == 0b0110
+        && reservations.row(0).is_none()
+        && reservations.lasting(1).is_some()
+}
+
+fn look<L: Ledger>(rt: &impl Abort, alloc: Global, blank: Blank)
+    requires name { blank.name ≡ L.name }
+    requires parts { blank.parts ≡ L.parts }
+    requires some { 0 < blank.parts }
+{
+    let mut steps = Steps::<L>::new(blank);
+    let reservations = reserved(rt, alloc, &mut steps);
+    assert!(rt; finds(rt, &reservations, &two_tiles(rt, alloc), &mut steps));
+    assert!(rt; reservations.leave(steps).rows.len() == 2);
+}
+
+#[test]
+fn a_vehicle_finds_the_tiles_of_another(rt: HostRuntime) {
+    look::<Brand>(&rt, rt.alloc(), Blank::new(1));
+}

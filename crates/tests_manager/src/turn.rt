@@ -1,0 +1,153 @@
+//! A small register under the turn.
+ghost use Rattle.std.specs.Prelude.{◌≡◌, ◌≤◌, [], ◌∷◌, ◌++◌, length, IfOk, MatchBool, vec_capacity, is_some, nat_lt, Some, None};
+ghost use Rattle.aim_turn.specs.History.{Begins};
+ghost use Rattle.aim_turn.specs.Models.{IsPassOf, IsSamePass};
+
+use aim_turn::{Kept, NoMemory, Pass, Turnstile};
+use std::alloc::Global;
+use std::process::Abort;
+use std::sync::Wait;
+
+// One entry: the caller, and what it wrote.
+#[derive(Clone, Copy)]
+struct Mark {
+    caller: u32,
+    value: u32,
+}
+
+// The setting. No value of it is made.
+struct Room {
+    room: u32,
+}
+
+// A list of marks with a fixed room.
+#[derive(Drop)]
+struct Register {
+    room: u32,
+    marks: Vec<Mark>,
+    ghost fits: { room ≤ vec_capacity marks },
+}
+
+fn empty_register(alloc: Global, room: u32) -> Result<Register, NoMemory>
+    ensures { IfOk result (λ r. (r.marks.items ≡ []) × (r.room ≡ room)) }
+{
+    let marks = Vec::with_capacity(alloc, room as usize)?;
+    Ok(Register { room, marks })
+}
+
+impl Kept for Register {
+    type Setting = Room;
+
+    type Entry = Mark;
+
+    type Call = u32;
+
+    type Answer = Option<u32>;
+
+    ghost setting = { λ r. record { room = r.room } };
+
+    ghost entries = { λ r. r.marks.items };
+
+    ghost caller_of = { λ mark. mark.caller };
+
+    ghost is_lawful = { λ _ _. Unit {0} };
+
+    ghost may_call = { λ _ _ _. Unit {0} };
+
+    ghost does = { λ s caller call before after answer.
+        MatchBool (nat_lt (length before) s.room)
+        ((answer ≡ Some (length before)) × (after ≡ before ++ record { caller = caller; value = call } ∷ []))
+        ((answer ≡ None) × (after ≡ before)) };
+
+    ghost is_made = { is_some };
+
+    /// Writes the value, where there is room, and answers at which place.
+    fn apply(mut self, caller: u32, call: u32) -> (Register, Option<u32>) {
+        let place = self.marks.len();
+        if place < self.room as usize {
+            self.marks.push_reserved(Mark {
+                caller,
+                value: call,
+            });
+            return (self, Some(place as u32));
+        }
+        (self, None)
+    }
+
+    fn made(answer: &Option<u32>) -> bool {
+        answer.is_some()
+    }
+
+    ghost lawful_empty = { λ _. tt };
+
+    ghost lawful_prefix = { λ _ _ _ _. tt };
+}
+
+// Lets the second meet the first, and make a call: its mark then stands behind all that the first had seen.
+fn call_after_meeting<R: Wait>(
+    rt: &R,
+    turnstile: &Turnstile<Register>,
+    first: &mut Pass<Register>,
+    second: &mut Pass<Register>,
+    value: u32,
+) -> Option<u32>
+    requires own { IsPassOf turnstile.now first.old × IsPassOf turnstile.now second.old }
+    ensures same { (first.new ≡ first.old) × IsSamePass second.old second.new }
+    ensures behind { Begins first.old.seen second.new.seen }
+{
+    let front = turnstile.front(first);
+    turnstile.meet(second, front);
+    turnstile.with_turn(rt, second, value)
+}
+
+// The calls of two callers on a register of three marks.
+fn four_calls<R: Wait + Abort>(
+    rt: &R,
+    turnstile: &Turnstile<Register>,
+    first: &mut Pass<Register>,
+    second: &mut Pass<Register>,
+)
+    requires own { IsPassOf turnstile.now first.old × IsPassOf turnstile.now second.old }
+    ensures same { IsSamePass first.old first.new × IsSamePass second.old second.new }
+{
+    assert!(rt; first.number() == 7 && second.number() == 3);
+    assert!(rt; turnstile.with_turn(rt, first, 50) == Some(0));
+    assert!(rt;
+        turnstile.with_turn(rt, second, 60) == Some(1),
+        "with no meeting"
+    );
+    let met = call_after_meeting(rt, turnstile, first, second, 70);
+    assert!(rt; met == Some(2));
+    assert!(rt;
+        turnstile.with_turn(rt, first, 80).is_none(),
+        "no room is left"
+    );
+}
+
+// The marks of these calls.
+const MARKS: [(u32, u32); 3] = [(7, 50), (3, 60), (3, 70)];
+
+// The register has to have these marks.
+fn check_marks(rt: &impl Abort, marks: &[Mark]) {
+    assert!(rt; marks.len() == MARKS.len());
+    for (mark, (caller, value)) in marks.iter().zip(&MARKS) {
+        assert!(rt; mark.caller == *caller && mark.value == *value);
+    }
+}
+
+#[test]
+fn callers_meet_and_the_passes_close_in_another_order(rt: HostRuntime) {
+    let register = empty_register(rt.alloc(), 3).expect(&rt, "no memory for a register");
+    let opened = Turnstile::open(rt.alloc(), register, &[7, 3]).expect(&rt, "no turnstile");
+    let (turnstile, mut passes) = opened;
+    let Some(mut second) = passes.pop() else {
+        unreachable!()
+    };
+    let Some(mut first) = passes.pop() else {
+        unreachable!()
+    };
+    four_calls(&rt, &turnstile, &mut first, &mut second);
+    passes.push_reserved(second);
+    passes.push_reserved(first);
+    check_marks(&rt, &turnstile.close(passes).marks);
+}
