@@ -63,7 +63,7 @@ const CALLS: [(u32, Call); 12] = [
         ),
     ),
     (6, Call::Enters(false)),
-    (6, Call::IdleUntil(9)),
+    (8, Call::IdleUntil(9)),
     (
         9,
         Call::Acts(Some(Message {
@@ -85,7 +85,7 @@ const CALLS: [(u32, Call); 12] = [
             },
         ),
     ),
-    (10, Call::IdleUntil(22)),
+    (12, Call::IdleUntil(22)),
     (22, Call::Enters(true)),
     (25, Call::IdleUntil(33)),
 ];
