@@ -2,7 +2,7 @@
 
 use crate::crossing::CAR;
 use crate::sources::source_of;
-use aim_events::{Event, read_events};
+use aim_events::{Event, EventScript, read_events};
 use aim_msg::{Body, Message};
 
 // Three events of two vehicles.
@@ -48,14 +48,18 @@ fn has_events(events: &[Event]) -> bool {
     events.len() == 3
 }
 
+fn is_the_script(script: &EventScript) -> bool {
+    script.vehicles == 3
+        && script.layout.lanes() == 1
+        && script.layout.policies() == 2
+        && has_events(&script.events)
+}
+
 #[test]
 fn events_in_the_order_of_the_script(rt: HostRuntime) {
     let mut source = source_of(&rt, rt.alloc(), SCRIPT, &[]);
     let Ok(script) = read_events(rt.alloc(), &mut source) else {
         panic!(rt; "no whole script")
     };
-    assert!(rt;
-        script.vehicles == 3 && script.layout.lanes() == 1 && script.layout.policies() == 2
-    );
-    assert!(rt; has_events(&script.events));
+    assert!(rt; is_the_script(&script));
 }

@@ -7,12 +7,15 @@ use aim_plans::DriveScript;
 use aim_script::{Decision, Kind, Limit, last_line};
 use aim_traffic::traffic;
 
-// Whether the third plan of the traffic is that of its seed.
+// Whether there are three plans, and the third is that of the seed.
 fn has_plans(script: &DriveScript) -> bool {
     let Some(planned) = script.plans.get(2) else {
         return false;
     };
-    numbers_of(planned.vehicle, 0, &planned.plan) == [2, 0, 66, 159, 50, 8, 232]
+    script.vehicles == 3
+        && script.until == 4099
+        && script.plans.len() == 3
+        && numbers_of(planned.vehicle, 0, &planned.plan) == [2, 0, 66, 159, 50, 8, 232]
 }
 
 fn has_the_path(layout: &Layout) -> bool {
@@ -25,7 +28,6 @@ fn has_the_path(layout: &Layout) -> bool {
 #[test]
 fn generated_traffic(rt: HostRuntime) {
     let script = traffic(rt.alloc(), 2026, 3).expect(&rt, "memory for traffic");
-    assert!(rt; script.vehicles == 3 && script.until == 4099 && script.plans.len() == 3);
     assert!(rt; has_plans(&script));
     assert!(rt; has_the_path(&script.layout));
 }
