@@ -1,0 +1,27 @@
+//! Tests of the calls of drivers and agents, of whole drives and routes, and of the scripts that say them.
+#![tactic(auto)]
+
+#[cfg(test)]
+mod agent;
+#[cfg(test)]
+mod crossing;
+#[cfg(test)]
+mod drive;
+#[cfg(test)]
+mod driver;
+#[cfg(test)]
+mod events;
+#[cfg(test)]
+mod grid;
+#[cfg(test)]
+mod plans;
+#[cfg(test)]
+mod replay;
+#[cfg(test)]
+mod replies;
+#[cfg(test)]
+mod safety;
+#[cfg(test)]
+mod sources;
+#[cfg(test)]
+mod watch;

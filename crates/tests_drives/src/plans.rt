@@ -1,0 +1,56 @@
+//! Generated traffic, and the last lines of scripts.
+
+use crate::grid::numbers_of;
+use aim_msg::{LineKind, Turn};
+use aim_paths::{Layout, Path};
+use aim_plans::DriveScript;
+use aim_script::{Decision, Kind, Limit, last_line};
+use aim_traffic::traffic;
+
+// Whether there are three plans, and the third is that of the seed.
+fn has_plans(script: &DriveScript) -> bool {
+    let Some(planned) = script.plans.get(2) else {
+        return false;
+    };
+    script.vehicles == 3
+        && script.until == 4099
+        && script.plans.len() == 3
+        && numbers_of(planned.vehicle, 0, &planned.plan) == [2, 0, 66, 159, 50, 8, 232]
+}
+
+fn has_the_path(layout: &Layout) -> bool {
+    let Some(path) = Path::of(layout, 9, Turn::Left) else {
+        return false;
+    };
+    layout.lanes() == 12 && path.parts() == 280 && path.station(280) == (24000, 10500)
+}
+
+#[test]
+fn generated_traffic(rt: HostRuntime) {
+    let script = traffic(rt.alloc(), 2026, 3).expect(&rt, "memory for traffic");
+    assert!(rt; has_plans(&script));
+    assert!(rt; has_the_path(&script.layout));
+}
+
+const LAST_LINES: [(Decision, &[u8]); 4] = [
+    (Decision::Whole(12), b"end 12\n"),
+    (Decision::Bad(3, Kind::Order), b"bad line 3 order\n"),
+    (
+        Decision::Bad(4, Kind::Spelling(LineKind::Range)),
+        b"bad line 4 range\n",
+    ),
+    (Decision::Limit(Limit::Sheets), b"limit sheets\n"),
+];
+
+fn is_last(decision: Decision, text: &[u8]) -> bool {
+    let mut line = [0; 400];
+    let len = last_line(decision, &mut line);
+    &line[..len] == text
+}
+
+#[test]
+fn last_lines(rt: HostRuntime) {
+    for (decision, text) in LAST_LINES {
+        assert!(rt; is_last(decision, text));
+    }
+}

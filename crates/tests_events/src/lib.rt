@@ -1,7 +1,0 @@
-//! Tests of reading scripts of events.
-#![tactic(auto)]
-
-#[cfg(test)]
-mod events;
-#[cfg(test)]
-mod scripts;

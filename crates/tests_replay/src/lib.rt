@@ -1,7 +1,0 @@
-//! Tests of the call of the replay, and what it shows that no clause says.
-#![tactic(auto)]
-
-#[cfg(test)]
-mod json;
-#[cfg(test)]
-mod replay;
