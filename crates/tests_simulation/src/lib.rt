@@ -14,6 +14,8 @@ mod layouts;
 #[cfg(test)]
 mod lines;
 #[cfg(test)]
+mod plain;
+#[cfg(test)]
 mod policies;
 #[cfg(test)]
 mod small;
