@@ -3,3 +3,7 @@
 
 #[cfg(test)]
 mod lossy;
+#[cfg(test)]
+mod two_runs;
+#[cfg(test)]
+mod watch;
