@@ -59,8 +59,13 @@ fn hire<R: Wait>(
         kept: 0,
         note: intake.note(),
     };
-    let (slip, inlet) = Slip::open(rt, alloc, first)?;
-    Ok((slip, Client::new(port, inlet)))
+    match Slip::open(rt, alloc, first) {
+        Ok((slip, inlet)) => Ok((slip, Client::new(port, inlet))),
+        Err(error) => {
+            drop(port);
+            Err(error)
+        }
+    }
 }
 
 // The channels of a mailbox for the book, with a client for each vehicle.
@@ -76,18 +81,25 @@ fn staffed<L: Ledger, R: Wait>(
 {
     let vehicles = book.vehicles();
     let spans = spans_of(book.layout());
+    let mut slips = Vec::with_capacity(alloc, vehicles as usize)?;
+    let mut clients = Vec::with_capacity(alloc, vehicles as usize)?;
     let setting = Setting {
         layout: book.layout().copy()?,
         vehicles,
         room,
     };
     let mut intake = Intake::open(rt, alloc, vehicles as usize, setting)?;
-    let mut slips = Vec::with_capacity(alloc, vehicles as usize)?;
-    let mut clients = Vec::with_capacity(alloc, vehicles as usize)?;
     for vehicle in 0..vehicles {
-        let (slip, client) = hire(rt, alloc, &mut intake, vehicle, spans)?;
-        slips.push_reserved(slip);
-        clients.push_reserved(client);
+        match hire(rt, alloc, &mut intake, vehicle, spans) {
+            Ok((slip, client)) => {
+                slips.push_reserved(slip);
+                clients.push_reserved(client);
+            }
+            Err(error) => {
+                drop(intake);
+                return Err(error);
+            }
+        }
     }
     Ok(Staff {
         intake,
