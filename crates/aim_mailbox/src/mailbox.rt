@@ -59,13 +59,8 @@ fn hire<R: Wait>(
         kept: 0,
         note: intake.note(),
     };
-    match Slip::open(rt, alloc, first) {
-        Ok((slip, inlet)) => Ok((slip, Client::new(port, inlet))),
-        Err(error) => {
-            drop(port);
-            Err(error)
-        }
-    }
+    let (slip, inlet) = Slip::open(rt, alloc, first)?;
+    Ok((slip, Client::new(port, inlet)))
 }
 
 // The channels of a mailbox for the book, with a client for each vehicle.
@@ -96,7 +91,7 @@ fn staffed<L: Ledger, R: Wait>(
                 clients.push_reserved(client);
             }
             Err(error) => {
-                drop(intake);
+                intake.let_go();
                 return Err(error);
             }
         }

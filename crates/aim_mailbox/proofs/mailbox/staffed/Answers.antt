@@ -7,8 +7,8 @@ hire-requires g c =
     let i = c.loop-vehicle.invariant in
     record { next = sym i.staffed.made; spans = has_spans _ _ _ i.staffed.setting i.spans }
 
-pub loop-vehicle-preserved-in-Ok : goal.loop-vehicle-preserved-in-Ok
-loop-vehicle-preserved-in-Ok g c =
+pub loop-vehicle-preserved : goal.loop-vehicle-preserved
+loop-vehicle-preserved g c =
     let i = c.loop-vehicle.invariant in
     let h = c.in-Ok.ensures in
     let a = c.push_reserved.ensures in
