@@ -1,4 +1,4 @@
-use Rattle.std.proofs.Common.{◌≡◌, List, [], ◌+◌, ◌++◌, ◌≤◌, length, map, take, drop}
+use Rattle.std.proofs.Common.{◌≡◌, [], ◌+◌, ◌≤◌, length, map, take, drop}
 use Rattle.std.specs.Prelude.{vec_len, vec_capacity, All}
 use Rattle.aim_shards.specs.Models.{new_pass}
 use Rattle.aim_shards.specs.Ruled.{keeping, blank, terms_of}
