@@ -76,18 +76,25 @@ fn staffed<L: Ledger, R: Wait>(
 {
     let vehicles = book.vehicles();
     let spans = spans_of(book.layout());
+    let mut slips = Vec::with_capacity(alloc, vehicles as usize)?;
+    let mut clients = Vec::with_capacity(alloc, vehicles as usize)?;
     let setting = Setting {
         layout: book.layout().copy()?,
         vehicles,
         room,
     };
     let mut intake = Intake::open(rt, alloc, vehicles as usize, setting)?;
-    let mut slips = Vec::with_capacity(alloc, vehicles as usize)?;
-    let mut clients = Vec::with_capacity(alloc, vehicles as usize)?;
     for vehicle in 0..vehicles {
-        let (slip, client) = hire(rt, alloc, &mut intake, vehicle, spans)?;
-        slips.push_reserved(slip);
-        clients.push_reserved(client);
+        match hire(rt, alloc, &mut intake, vehicle, spans) {
+            Ok((slip, client)) => {
+                slips.push_reserved(slip);
+                clients.push_reserved(client);
+            }
+            Err(error) => {
+                intake.let_go();
+                return Err(error);
+            }
+        }
     }
     Ok(Staff {
         intake,

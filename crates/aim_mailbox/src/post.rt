@@ -387,4 +387,7 @@ impl Intake {
     {
         self.sender.learn_as::<Settles>(&mut self.pass);
     }
+
+    /// Lets go of this end. That it may be is proved here once, and not wherever one goes out of scope.
+    pub fn let_go(self) {}
 }

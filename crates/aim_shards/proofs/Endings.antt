@@ -1,6 +1,7 @@
 -- What is found when all passes have come together.
 use Rattle.std.proofs.Common.{◌≡◌, ℕ, zero, suc, ◌+◌, ◌<◌, ◌≤◌, List, [], ◌∷◌, ◌++◌, length, map, get_or, refl, sym, ap, ◌∙◌, subst, inl, inr, arith, append_assoc, length-append, Some, None, Option}
 use Rattle.std.specs.Prelude.{All}
+use Rattle.std.proofs.lemmas.List.{get_or_append_left}
 use Rattle.std.proofs.lemmas.List.Elements.{All-nil, All-cons}
 use mathlib.Core.Option.{some, some-ne-none, some-injective}
 use lib.ListN.{get_elem?}
@@ -106,6 +107,12 @@ middle (y ∷ xs) ys x d = middle xs ys x d
 -- what holds of each holds of the last one that is left
 pub all_middle : {A : Type 0} (P : A → Type 0) (all xs ys : List A) (x : A) → All P all → all ≡ xs ++ x ∷ ys → P x
 all_middle P all xs ys x h e = subst P (ap (λ l. get_or l (length xs) x) e ∙ middle xs ys x x) (h (length xs) x (omega (arith, ap length e ∙ length-append xs (x ∷ ys))))
+
+-- and so it does of the ones before that
+pub all_front : {A : Type 0} (P : A → Type 0) (all xs ys : List A) → All P all → all ≡ xs ++ ys → All P xs
+all_front P all xs ys h e = λ k d less.
+    let n = ap length e ∙ length-append xs ys in
+    subst P (ap (λ l. get_or l k d) e ∙ get_or_append_left xs ys d k less) (h k d (omega (arith, n, less)))
 
 pub popped : {A : Type 0} (all left gone rest : List A) (x : A) → all ≡ left ++ gone → left ≡ rest ++ x ∷ [] → all ≡ rest ++ x ∷ gone
 popped all left gone rest x e f = e ∙ ap (λ l. l ++ gone) f ∙ append_assoc rest (x ∷ []) gone

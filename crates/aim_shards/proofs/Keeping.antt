@@ -1,5 +1,5 @@
 -- What a pass keeps.
-use Rattle.std.proofs.Common.{◌≡◌, ◌≢◌, ℕ, ◌+◌, ◌<◌, List, [], ◌∷◌, ◌++◌, length, get_or, length-append, sym, ap, ◌∙◌, arith, Option}
+use Rattle.std.proofs.Common.{◌≡◌, ◌≢◌, ℕ, ◌+◌, ◌<◌, ◌≤◌, List, [], ◌∷◌, ◌++◌, length, get_or, length-append, refl, subst, sym, ap, ◌∙◌, arith, Option}
 use Rattle.std.proofs.lemmas.List.{get_or_default}
 use Rattle.aim_pool.specs.Sheets.{Spans}
 use Rattle.aim_shards.specs.Sets.{Quarters, part, set_at, IsOf}
@@ -9,10 +9,15 @@ use Rattle.aim_shards.specs.declared.claims.ClaimEntry.{ClaimEntry}
 use Rattle.aim_shards.specs.declared.quarter.Quarter.{Quarter}
 use Rattle.aim_shards.specs.declared.view.View.{View}
 use Rattle.aim_shards.specs.Claims.{stands, stood}
+use Rattle.aim_shards.specs.declared.view.Terms.{Terms}
 use Rattle.aim_shards.specs.Ruled.{working}
 use Rattle.aim_shards.specs.Working.{Works}
 use Rattle.aim_shards.specs.Passes.{Keeps}
 use Rattle.aim_shards.proofs.Histories.{stands_more, stands_short}
+
+-- a pass that is new
+pub keeps_new : (n calls capacity : ℕ) (terms : Terms) (standing : List ClaimEntry) (m : Me (Option Quarter) View) → m ≡ (working terms n [] [], []) → (standing ≡ []) × (calls ≤ capacity) → Keeps n calls 0 standing capacity m
+keeps_new n calls capacity terms standing m new has = subst (Keeps n calls 0 standing capacity) (sym new) record { rests = record { is = refl }; made_is = refl; within = omega arith; stands_is = has.0; wide = has.1 }
 
 pub keeps_room : {n calls made capacity : ℕ} {standing : List ClaimEntry} {m : Me (Option Quarter) View} → Keeps n calls made standing capacity m → made ≢ calls → length standing < capacity
 keeps_room {m = m} k ne = omega (arith, ap length k.stands_is, stands_short m.0.mine, k.made_is, k.within, k.wide, ne)

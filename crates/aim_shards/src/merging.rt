@@ -22,18 +22,18 @@ fn merge_two(
     requires one { AreOne (left.now ++ right.now) }
     ensures { IfOk result (λ v. IsMerge (left.now ++ right.now) v.items) }
 {
-    let mut merged = Vec::new(alloc);
+    let mut merged = Vec::with_capacity(alloc, left.len() + right.len())?;
     let mut i = 0;
     let mut j = 0;
     while i < left.len() && j < right.len() {
         if left[i].ticket < right[j].ticket {
-            merged.push(left[i])?;
+            merged.push_reserved(left[i]);
             i += 1;
         } else if right[j].ticket < left[i].ticket {
-            merged.push(right[j])?;
+            merged.push_reserved(right[j]);
             j += 1;
         } else {
-            merged.push(left[i])?;
+            merged.push_reserved(left[i]);
             i += 1;
             j += 1;
         }

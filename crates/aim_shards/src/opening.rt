@@ -1,6 +1,6 @@
 //! Opening.
 
-ghost use Rattle.std.specs.Prelude.{◌≡◌, ◌≢◌, ◌⊎◌, ◌<◌, ◌≤◌, ◌*◌, ℕ, List, [], Some, None, length, map, All, AllPairs, IfOk, MatchResult};
+ghost use Rattle.std.specs.Prelude.{◌≡◌, ◌≢◌, ◌⊎◌, ◌<◌, ◌≤◌, ◌*◌, ℕ, List, [], Some, None, length, map, vec_capacity, All, AllPairs, IfOk, MatchResult};
 ghost use Rattle.aim_shards.specs.declared.opening.ShardFault.TheVariants.{NoMemory};
 ghost use Rattle.aim_shards.specs.Cuts.{AreCut, AreWithin, half_of};
 ghost use Rattle.aim_shards.specs.Models.{count_up, new_pass};
@@ -10,7 +10,7 @@ ghost use Rattle.aim_shards.specs.Ruled.{Suits, opening_view};
 ghost use Rattle.aim_shards.specs.Sets.{Quarters};
 
 use crate::calls::Shards;
-use crate::claims::ClaimAct;
+use crate::claims::{ClaimAct, ClaimEntry};
 use crate::cuts::quarter_all;
 use crate::pass::ShardPass;
 use crate::quarter::{Plan, Quarter};
@@ -128,22 +128,38 @@ fn laid(
     }
 }
 
-// A pass for each number, with a seat of its own.
-fn seated(
-    alloc: Global,
+// For each caller room for the entries of its claims that stand.
+fn rooms(alloc: Global, callers: usize, calls: usize) -> Result<Vec<Vec<ClaimEntry>>, AllocError>
+    ensures count { IfOk result (λ v. length v.items ≡ callers) }
+    ensures rooms { IfOk result (λ v. All (λ s. (s.items ≡ []) × (calls ≤ vec_capacity s)) v.items) }
+{
+    let mut rooms = Vec::with_capacity(alloc, callers)?;
+    for _ in 0..callers {
+        rooms.push_reserved(Vec::with_capacity(alloc, calls)?);
+    }
+    Ok(rooms)
+}
+
+// Adds a pass for each number, with a seat of its own and one of the rooms.
+fn seat_all(
     desk: &Desk,
     mut root: Chair,
     numbers: &Vec<u32>,
     calls: u32,
-) -> Result<Vec<ShardPass>, AllocError>
+    mut standings: Vec<Vec<ClaimEntry>>,
+    passes: &mut Vec<ShardPass>,
+)
     requires desk { (root.table_id ≡ desk.now.shared.table_id) × (desk.now.shared.table_id.words ≡ 9) }
     requires key { (desk.now.shared.key.numbers.value.items ≡ numbers.now.items) × (desk.now.shared.key.calls ≡ calls) }
     requires root { root.me ≡ (opening_view desk.now.shared.key.sets.value.items numbers.now.items calls, []) }
-    ensures { IfOk result (λ v. v.items ≡ map (new_pass (record { table = desk.now.shared.table_id; size = desk.now.shared.key.size; sets = desk.now.shared.key.sheets.value.items; quarters = desk.now.shared.key.sets.value.items; numbers = desk.now.shared.key.numbers.value.items; calls = desk.now.shared.key.calls })) numbers.now.items) }
+    requires rooms { (length standings.items ≡ length numbers.now.items) × All (λ s. (s.items ≡ []) × (calls ≤ vec_capacity s)) standings.items }
+    requires passes { (passes.old.items ≡ []) × (length numbers.now.items ≤ vec_capacity passes.old) }
+    ensures { passes.new.items ≡ map (new_pass (record { table = desk.now.shared.table_id; size = desk.now.shared.key.size; sets = desk.now.shared.key.sheets.value.items; quarters = desk.now.shared.key.sets.value.items; numbers = desk.now.shared.key.numbers.value.items; calls = desk.now.shared.key.calls })) numbers.now.items }
 {
-    let mut passes = Vec::with_capacity(alloc, numbers.len())?;
     for number in numbers {
-        let standing = Vec::with_capacity(alloc, calls as usize)?;
+        let Some(standing) = standings.pop() else {
+            unreachable!()
+        };
         let seat = desk.shared.split_seat::<Deal>(&mut root);
         passes.push_reserved(ShardPass {
             number: *number,
@@ -153,7 +169,6 @@ fn seated(
             seat,
         });
     }
-    Ok(passes)
 }
 
 impl Shards {
@@ -177,8 +192,10 @@ impl Shards {
     {
         let quarters = quarter_all(alloc, n, &sets)?;
         let nothing = no_cells(alloc)?;
+        let standings = rooms(alloc, numbers.len(), calls as usize)?;
+        let mut passes = Vec::with_capacity(alloc, numbers.len())?;
         let (desk, root) = laid(alloc, n, horizon, &sets, &quarters, &numbers, calls)?;
-        let passes = seated(alloc, &desk, root, &numbers, calls)?;
+        seat_all(&desk, root, &numbers, calls, standings, &mut passes);
         let shards = Shards {
             desk,
             quarters,

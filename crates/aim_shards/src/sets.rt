@@ -1,6 +1,6 @@
 //! Sets of cells, each cut along the borders of the four quadrants.
 
-ghost use Rattle.std.specs.Prelude.{◌≡◌, ◌<◌, [], length, IfOk};
+ghost use Rattle.std.specs.Prelude.{◌≡◌, ◌<◌, ◌+◌, [], length, IfOk};
 ghost use Rattle.aim_shards.specs.Sets.{is_empty, lies_in, part, is_some, chosen, SameParts, IsOf};
 
 use aim_pool::{Pool, Sheet};
@@ -70,23 +70,25 @@ impl Quartered {
 pub(crate) fn no_cells(alloc: Global) -> Result<Quartered, AllocError>
     ensures { IfOk result (λ s. SameParts s []) }
 {
+    let mut pool = Pool::new(alloc, 4, 0)?;
     Ok(Quartered {
-        first: empty_sheet(alloc)?,
-        second: empty_sheet(alloc)?,
-        third: empty_sheet(alloc)?,
-        fourth: empty_sheet(alloc)?,
+        first: empty_sheet(&mut pool),
+        second: empty_sheet(&mut pool),
+        third: empty_sheet(&mut pool),
+        fourth: empty_sheet(&mut pool),
     })
 }
 
-// A sheet without room.
-fn empty_sheet(alloc: Global) -> Result<Sheet, AllocError>
-    ensures { IfOk result (λ s. s.spans ≡ []) }
+// A sheet of the pool.
+fn empty_sheet(pool: &mut Pool) -> Sheet
+    requires { 0 < pool.old.count }
+    ensures sheet { result.spans ≡ [] }
+    ensures count { pool.new.count + 1 ≡ pool.old.count }
 {
-    let mut pool = Pool::new(alloc, 1, 0)?;
     let Ok(sheet) = pool.take() else {
         unreachable!()
     };
-    Ok(sheet)
+    sheet
 }
 
 /// The set of this number, or else the one without cells.

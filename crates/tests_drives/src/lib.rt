@@ -12,6 +12,8 @@ mod driver;
 #[cfg(test)]
 mod events;
 #[cfg(test)]
+mod faults;
+#[cfg(test)]
 mod grid;
 #[cfg(test)]
 mod plans;

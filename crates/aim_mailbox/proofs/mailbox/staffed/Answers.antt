@@ -10,9 +10,9 @@ hire-requires g c =
 pub loop-vehicle-preserved : goal.loop-vehicle-preserved
 loop-vehicle-preserved g c =
     let i = c.loop-vehicle.invariant in
-    let h = c.in_ok-slip.ensures in
+    let h = c.in-Ok.ensures in
     let a = c.push_reserved.ensures in
-    let b = c.push_reserved-in-loop-vehicle.ensures in
+    let b = c.push_reserved-in-Ok.ensures in
     record {
       staffed = staffed_more _ _ _ _ _ _ _ _ _ _ _ i.staffed i.spans h.slip h.client h.intake a.items b.items;
       slip_room = omega (arith, i.slip_room, a.capacity);

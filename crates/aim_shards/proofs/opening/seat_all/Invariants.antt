@@ -1,8 +1,8 @@
-use Rattle.std.proofs.Common.{◌≡◌, [], ◌≤◌, length, map, take, drop}
-use Rattle.std.specs.Prelude.{vec_len, vec_capacity}
+use Rattle.std.proofs.Common.{◌≡◌, [], ◌+◌, ◌≤◌, length, map, take, drop}
+use Rattle.std.specs.Prelude.{vec_len, vec_capacity, All}
 use Rattle.aim_shards.specs.Models.{new_pass}
 use Rattle.aim_shards.specs.Ruled.{keeping, blank, terms_of}
-use Rattle.aim_shards.proofs.opening.seated.Given as goal
+use Rattle.aim_shards.proofs.opening.seat_all.Given as goal
 
 abbrev pub invariant-loop-number : goal.invariant-loop-number
 invariant-loop-number l = record {
@@ -11,4 +11,6 @@ invariant-loop-number l = record {
   passes : l.passes.items ≡ map (new_pass record { table = l.desk.shared.table_id; size = l.desk.shared.key.size; sets = l.desk.shared.key.sheets.value.items; quarters = l.desk.shared.key.sets.value.items; numbers = l.desk.shared.key.numbers.value.items; calls = l.desk.shared.key.calls }) (take l.number-index l.numbers.items);
   count : vec_len l.passes ≡ l.number-index;
   room : length l.numbers.items ≤ vec_capacity l.passes;
+  left : length l.standings.items + l.number-index ≡ length l.numbers.items;
+  standings : All (λ s. (s.items ≡ []) × (l.calls ≤ vec_capacity s)) l.standings.items;
 }
