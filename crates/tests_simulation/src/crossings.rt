@@ -54,6 +54,7 @@ fn check_cells(
     let second = pool.take().expect(rt, "no second sheet");
     let cells = prepare(layout, message, first, second);
     assert!(rt; cells.bad().is_none() && cells.message().seq == 1);
+    assert!(rt; cells.steps().steady == 11);
     assert!(rt; has_just(cells.cells_a(), fast));
     assert!(rt; has_just(cells.cells_b(), steady));
     cells.give_back(pool);
