@@ -2,7 +2,7 @@ use Rattle.std.proofs.Common.{◌≡◌, List, length, sym, ap, ◌∙◌, subst
 use Rattle.std.specs.Prelude.{All}
 use Rattle.std.proofs.lemmas.List.{with_items_is}
 use Rattle.aim_msg.specs.declared.entries.Entry.{Entry}
-use Rattle.aim_turn.specs.Models.{PassModel, IsPassOf}
+use Rattle.aim_turn.specs.Models.{PassModel}
 use Rattle.aim_manager.specs.declared.keeper.Setting.{Setting}
 use Rattle.aim_manager.proofs.Passes.{IsOfVehicle, passes_of_vehicles, passes_count}
 use Rattle.bench_manager.proofs.turns.over_manager.Goals as goal
