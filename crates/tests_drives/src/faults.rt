@@ -40,7 +40,7 @@ fn ends_so(rt: &impl Abort, alloc: Global, fault: (&[u64], &[u64], u8, usize)) -
 
 #[test]
 fn faults_of_the_source_and_the_sink(rt: HostRuntime) {
-    for fault in FAULTS {
-        assert!(rt; ends_so(&rt, rt.alloc(), fault));
+    for fault in &FAULTS {
+        assert!(rt; ends_so(&rt, rt.alloc(), *fault));
     }
 }
