@@ -17,6 +17,7 @@ cat > "$copy/tools/rt" << 'END'
 #!/usr/bin/env bash
 name=${PWD##*/}
 printf 'begin %s\n' "$name" >> "$RT_NOTES"
+printf '%s %s\n' "$name" "$3" >> "$RT_NOTES.jobs"
 sleep "${RT_SLEEP-0.2}"
 [ "$name" != "${RT_FAILS-}" ] || { printf 'a goal is open\n'; exit 1; }
 for use in $(sed -n "s/^$name[ :].*: *//p; s/^$name: *//p" ../../crates.txt | sort -u); do
@@ -29,7 +30,7 @@ END
 chmod +x "$copy/tools/rt"
 export RT_NOTES="$copy/notes" PATH="$copy/tools:$PATH" TMPDIR="$copy/temporary"
 
-clean() { rm -rf "$copy"/repository/crates/*/out "$RT_NOTES" "$copy"/temporary/*; }
+clean() { rm -rf "$copy"/repository/crates/*/out "$RT_NOTES"* "$copy"/temporary/*; }
 
 # From another folder and through a link: words, input, output and status pass through.
 clean
@@ -57,6 +58,10 @@ done < "$RT_NOTES"
 judge 'the order of the crates' right "$order"
 judge 'what a build lacks' 0 "$(grep -c '^lacks' "$RT_NOTES")"
 judge 'the program last' 'end aim' "$(tail -n 1 "$RT_NOTES")"
+
+# Those that are built side by side share the processors; the program is alone.
+judge 'jobs of which there are too few or too many' '' "$(awk -v most="$(nproc)" '!($2 >= 1 && $2 <= most)' "$RT_NOTES.jobs")"
+judge 'the jobs of the program' "aim $(nproc)" "$(tail -n 1 "$RT_NOTES.jobs")"
 
 # What is built isn't built again, unless a source of it is newer.
 rm -f "$RT_NOTES"
