@@ -3,9 +3,8 @@ use aim_agent::Gate;
 use aim_io::{MemSink, MemSource};
 use std::alloc::Global;
 use std::process::Abort;
-use std::sync::Wait;
 use std::sync::atomic::{AtomicU64, Ordering};
-use std::thread::{Threads, yield_now};
+use std::thread::yield_now;
 
 // Two vehicles of one lane each. The second asks at step 0, and its message comes at step 1, together with the same
 // message sent again; the first asks at step 1.
@@ -15,9 +14,9 @@ const DRIVE: &[u8] =
 // How often a caller looks whether the other has come.
 const LOOKS: u32 = 100_000_000;
 
-/// A gate at which two vehicles meet: vehicle 1 waits there, at its first call, until vehicle 0
-/// has come, and vehicle 0 until vehicle 1 has come twice, the second time after its first call was answered. Each waits
-/// for a while only, and counts where that was in vain.
+/// A gate at which two vehicles meet: vehicle 1 waits there, at its first call, until vehicle 0 has come, and vehicle 0
+/// until vehicle 1 has come twice, the second time after its first call was answered. Each waits for a while only, and
+/// counts where that was in vain.
 #[derive(Drop)]
 struct Meeting {
     first: AtomicU64,
@@ -67,30 +66,17 @@ fn owned(rt: &impl Abort, alloc: Global, words: &[&str]) -> Vec<String> {
     texts
 }
 
-// The status of the program, given these words and this script, and the sink that has what it wrote.
-fn ran(
-    rt: &(impl Threads + Wait + Sync + Abort),
-    alloc: Global,
-    words: &[&str],
-    script: &[u8],
-    gate: &Meeting,
-) -> (u8, MemSink) {
-    let script = script.to_vec(alloc).expect(rt, "memory for the script");
-    let mut source = MemSource::new(script, Vec::new(alloc));
-    let mut sink = MemSink::new(alloc, 8192, Vec::new(alloc)).expect(rt, "memory for the sink");
-    let words = owned(rt, alloc, words);
-    let status = run(rt, alloc, &words, &mut source, &mut sink, gate);
-    (status, sink)
-}
-
 #[test]
 fn two_drivers_call_at_once(rt: HostRuntime) {
+    let alloc = rt.alloc();
+    let script = DRIVE.to_vec(alloc).expect(&rt, "memory for the script");
+    let mut source = MemSource::new(script, Vec::new(alloc));
+    let mut sink = MemSink::new(alloc, 8192, Vec::new(alloc)).expect(&rt, "memory for the sink");
+    let words = owned(&rt, alloc, &["drive", "2"]);
     let gate = Meeting::new();
-    let (status, sink) = ran(&rt, rt.alloc(), &["drive", "2"], DRIVE, &gate);
-    assert_eq!(rt; status, 0);
-    assert_eq!(rt;
-        gate.missed.load(Ordering::SeqCst),
-        0,
+    assert!(rt; run(&rt, alloc, &words, &mut source, &mut sink, &gate) == 0);
+    assert!(rt;
+        gate.missed.load(Ordering::SeqCst) == 0,
         "the runs didn't go side by side"
     );
     assert!(rt; sink.bytes().ends_with(b"end 3\n"));

@@ -59,19 +59,19 @@ fn command_with(word: &[u8], number: &[u8]) -> Option<Command>
     ensures within { IfSome result IsWithin }
 {
     if word == b"chart".as_slice() {
-        return Some(Command::Chart(number_in(number, 0, LATEST_MOMENT)?));
+        return number_in(number, 0, LATEST_MOMENT).map(Command::Chart);
     }
     if word == b"drive".as_slice() {
-        return Some(Command::Drive(number_in(number, 1, 64)?));
+        return number_in(number, 1, 64).map(Command::Drive);
     }
     if word == b"grid".as_slice() {
-        return Some(Command::Grid(number_in(number, 1, 64)?));
+        return number_in(number, 1, 64).map(Command::Grid);
     }
     if word == b"shards".as_slice() {
-        return Some(Command::Shards(number_in(number, 1, 64)?));
+        return number_in(number, 1, 64).map(Command::Shards);
     }
     if word == b"mail".as_slice() {
-        return Some(Command::Mail(number_in(number, 1, 64)?));
+        return number_in(number, 1, 64).map(Command::Mail);
     }
     None
 }
