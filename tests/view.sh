@@ -3,6 +3,7 @@
 # that can be done. What isn't tested is said. Ends with a status other than 0 where anything differs.
 set -uo pipefail
 cd "$(dirname "${BASH_SOURCE[0]}")/.."
+source tests/installing.sh
 
 tell() { printf 'view: %s\n' "$*"; }
 
@@ -33,7 +34,7 @@ if ! command -v python3 > /dev/null; then
   exit 0
 fi
 if ! has_browser; then
-  install_browser
+  one_by_one install_browser
 fi
 if has_browser; then
   timeout 400 python3 tests/view/check.py
