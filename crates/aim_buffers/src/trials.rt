@@ -168,6 +168,16 @@ fn side_and_times(layout: &Layout) -> (u8, Times)
     (ground.grid().n as u8, ground.times())
 }
 
+// The step t of a trial, counted from its edge buffer on, as a step of the manager.
+#[inline]
+fn step_at(arrive: usize, edge: usize, t: usize) -> u32
+    requires late { edge ≤ arrive + t }
+    requires fits { arrive + t < 4294967296 }
+    ensures { result ≡ arrive + t - edge }
+{
+    (arrive + t - edge) as u32
+}
+
 // Writes the cells of a trial into an empty sheet, step by step, with windows that stand on the first rectangle.
 fn write_steps(
     sheet: &mut Sheet,
@@ -196,7 +206,7 @@ fn write_steps(
         let (first, last) = move_outer(&mut windows.outer, rects, is_steady, reaches, edge, t);
         let shown = move_inner(&mut windows.inner, rects, is_steady, reaches, &times, t);
         let rows = rows_or(shown, &windows.inner.rows);
-        let step = (arrive + t - edge) as u32;
+        let step = step_at(arrive, edge, t);
         write_step(sheet, n, step, first, last, rows, &windows.outer.rows)?;
     }
     Ok(())

@@ -1,13 +1,14 @@
 //! The last line.
 
-ghost use Rattle.std.specs.Prelude.{◌≡◌, IfOk};
-ghost use Rattle.serde_json.specs.View.{view};
+ghost use Rattle.std.specs.Prelude.{◌≡◌, ◌∷◌, [], codes, OnOk, IfOk};
+ghost use Rattle.serde_json.specs.View.{members_view, view};
+ghost use Rattle.aim_json.specs.Members.{count, with_members, word};
 ghost use Rattle.aim_script.specs.Decided.{kind_text, limit_text};
 ghost use Rattle.aim_json_replay.specs.Spelling.{decision_json, decision_json_text};
 
 use aim_msg::{LineKind, NoMemory};
 use aim_script::{Decision, Kind, Limit};
-use serde_json::{Value, json};
+use serde_json::{Map, Value, json, put};
 use std::alloc::Global;
 
 // The word for a kind of line that is no line of words.
@@ -61,11 +62,27 @@ fn limit_text(limit: Limit) -> &'static str
     }
 }
 
+// Adds the members of a line at fault.
+fn put_bad(
+    members: &mut Map<String, Value>,
+    alloc: Global,
+    number: u32,
+    kind: Kind,
+) -> Result<(), NoMemory>
+    ensures { OnOk result (members_view members.new.entries ≡ with_members ((codes "bad", count number) ∷ (codes "kind", word (kind_text kind)) ∷ []) (members_view members.old.entries)) }
+{
+    put(members, alloc, "bad", Value::from(number))?;
+    let value = Value::try_from_str(alloc, kind_text(kind))?;
+    put(members, alloc, "kind", value)
+}
+
 // The last line of a script with a line at fault.
 fn bad_value(alloc: Global, number: u32, kind: Kind) -> Result<Value, NoMemory>
     ensures { IfOk result (λ v. view v ≡ decision_json (Decision.Bad number kind)) }
 {
-    json!(in alloc; {"bad": number, "kind": kind_text(kind)})
+    let mut members = Map::new(alloc);
+    put_bad(&mut members, alloc, number, kind)?;
+    Ok(Value::Object(members))
 }
 
 // The last line of a script that is past a limit.

@@ -36,7 +36,7 @@ loop-t-init c =
     }
 
 pub write_step-requires-clause-before : goal.write_step-requires-clause-before
-write_step-requires-clause-before c = before_row c.loop-t.sheet.spans (c.args.params.now.arrive + c.loop-t.t - c.side_and_times-n.result.1.edge) 0 c.move_outer-first.result.0 (omega arith) c.loop-t.invariant.before
+write_step-requires-clause-before c = rw c.step_at-step.ensures (before_row c.loop-t.sheet.spans (c.args.params.now.arrive + c.loop-t.t - c.side_and_times-n.result.1.edge) 0 c.move_outer-first.result.0 (omega arith) c.loop-t.invariant.before)
 
 pub returns-in_err-write_step-clause-full : goal.returns-in_err-write_step-clause-full
 returns-in_err-write_step-clause-full c =
@@ -78,6 +78,7 @@ loop-t-preserved c =
     let rows = step_count i p fast step c.move_outer-first.result.0 c.move_outer-first.result.1 c.side_and_times-n.result.0 c.rows_or-rows.result.now c.move_outer-first.new.outer.rows st in
     let more = spans_more i p fast step in
     let ok = c.in_ok-write_step.ensures in
+    let same = c.step_at-step.ensures in
     let next : p.arrive + (t + 1) - times.edge ≡ step + 1 = omega arith in
     let count = v.count in
     let grown = ok.count in
@@ -85,9 +86,9 @@ loop-t-preserved c =
     record {
       outer = c.move_outer-first.ensures.may;
       inner = c.move_inner-shown.ensures.may;
-      cells = λ s r k. ok.cells s r k ∙ rw (v.cells s r k, next) (step_cells i p fast step c.move_outer-first.result.0 c.move_outer-first.result.1 c.side_and_times-n.result.0 c.rows_or-rows.result.now c.move_outer-first.new.outer.rows s r k st);
+      cells = λ s r k. rw same at (ok.cells s r k) ∙ rw (v.cells s r k, next) (step_cells i p fast step c.move_outer-first.result.0 c.move_outer-first.result.1 c.side_and_times-n.result.0 c.rows_or-rows.result.now c.move_outer-first.new.outer.rows s r k st);
       count = rw next all;
-      before = rw next (before_step c.write_step.new.sheet.spans step (c.move_outer-first.result.1 + 1) (step + 1) (omega arith) ok.before);
+      before = rw next (before_step c.write_step.new.sheet.spans step (c.move_outer-first.result.1 + 1) (step + 1) (omega arith) (rw same at ok.before));
       room = cc;
       start = omega arith;
     }
