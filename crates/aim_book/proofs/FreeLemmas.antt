@@ -1,6 +1,6 @@
 -- The answer to a request that only the cells of its crossing can refuse.
 use Rattle.std.proofs.Common.{◌≡◌, ℕ, ◌+◌, ◌<◌, Bool, true, false, ◌&&◌, nat_le, List, Option, Some, None, refl, sym, ◌∙◌, ap, arith}
-use Rattle.std.specs.Prelude.{is_none, option_and_then, if◌then◌else◌}
+use Rattle.std.specs.Prelude.{is_none, option_and_then, option_map, if◌then◌else◌}
 use Rattle.std.specs.Option.{option_or}
 use Rattle.aim_msg.specs.declared.messages.Body.{Body}
 use Rattle.aim_msg.specs.declared.messages.Params.{Params}
@@ -16,7 +16,8 @@ use Rattle.aim_simulate.specs.Fields.{bad_crossing}
 use Rattle.aim_simulate.proofs.FieldLemmas.{fields}
 use Rattle.aim_simulate.proofs.GoodLemmas.{good_crossing}
 use Rattle.aim_buffers.specs.Cells.{HaveCells}
-use Rattle.aim_buffers.specs.Requests.{Request, fast_sheet}
+use Rattle.aim_buffers.specs.Requests.{Request, fast_sheet, steady_sheet}
+use Rattle.aim_buffers.specs.declared.requests.TrialSteps.{TrialSteps}
 use Rattle.aim_buffers.proofs.SpanLemmas.{some_steps}
 use Rattle.aim_rules.specs.Bad.{bad, is_fast_made, needs_too_many_spans}
 use Rattle.aim_rules.specs.Footprint.{crossing_steps}
@@ -27,7 +28,7 @@ use Rattle.aim_book.specs.Asking.{IsAsking}
 use Rattle.aim_reservations.specs.Blocking.{AreAsked}
 use Rattle.aim_book.specs.Desk.{Tells}
 use Rattle.aim_book.specs.declared.desks.Desk.{Desk}
-use Rattle.aim_book.proofs.EarlyLemmas.{good_params}
+use Rattle.aim_book.proofs.EarlyLemmas.{good_params, steady_some}
 
 -- the cells of a crossing are of tiles of the grid
 pub tiles_of : (i : Intersection) (p : Params) (fast : Bool) (spans : List Span) → HaveCells i p fast spans → AreTiles i.grid.n spans
@@ -40,6 +41,19 @@ fast_is i p r sheet asking good at = go (is_fast_made p) refl (at ∙ ap (λ o. 
     go : (b : Bool) → is_fast_made p ≡ b → Some sheet ≡ (if is_fast_made p then Some r.first else None) → (is_fast_made p ≡ true) × HaveCells i p true sheet.spans
     go false e f = absurd (let q : Some sheet ≡ None = rw e at f in cc)
     go true e f = (e, (let q : Some sheet ≡ Some r.first = rw e at f in let s : sheet ≡ r.first = cc in rw s (asking.prepared.fast p (good_params i p r asking good) e).cells))
+
+-- the crossing steps of the fast trial, where that is made
+pub fast_steps : (i : Intersection) (p : Params) (r : Request) (s : TrialSteps) → IsAsking i p r → bad i p ≡ None → is_fast_made p ≡ true → s ≡ r.steps → s.fast ≡ crossing_steps i p true
+fast_steps i p r s asking good made is =
+    (λ j. (is j).fast) ∙ (asking.prepared.steps p (good_params i p r asking good)).fast ∙ ap (λ (b : Bool). if b then crossing_steps i p true else 0) made
+
+-- the crossing steps of the steady trial
+pub steady_steps : (i : Intersection) (p : Params) (r : Request) (s : TrialSteps) → IsAsking i p r → bad i p ≡ None → s ≡ r.steps → s.steady ≡ crossing_steps i p false
+steady_steps i p r s asking good is = (λ j. (is j).steady) ∙ (asking.prepared.steps p (good_params i p r asking good)).steady
+
+-- a good request has a sheet of the steady trial
+pub never_none : {S : Type 0} (i : Intersection) (p : Params) (r : Request) (seen : S → Spans) (o : Option S) → IsAsking i p r → bad i p ≡ None → option_map seen o ≡ steady_sheet r → o ≡ None → ⊥
+never_none i p r seen o asking good told none = steady_some i p r asking good (sym (ap (λ q. option_map seen q) none) ∙ told)
 
 -- no field of the crossing is bad
 pub good_alone : (i : Intersection) (p : Params) → bad i p ≡ None → bad_crossing i p ≡ None

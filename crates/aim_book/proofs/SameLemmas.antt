@@ -1,5 +1,5 @@
 -- What is kept after an entry that is no fresh message, and as time goes on.
-use Rattle.std.proofs.Common.{◌≡◌, ℕ, ◌≤◌, Bool, true, false, ◌&&◌, ◌||◌, nat_le, max, List, [], ◌∷◌, ◌++◌, Option, None, refl, sym, ◌∙◌, ap, arith, subst, append-nil, le-leb, inl, inr}
+use Rattle.std.proofs.Common.{◌≡◌, ℕ, ◌≤◌, Bool, true, false, ◌&&◌, ◌||◌, nat_le, max, List, [], ◌∷◌, ◌++◌, length, Option, None, refl, sym, ◌∙◌, ap, arith, subst, append-nil, le-leb, inl, inr}
 use Rattle.std.specs.Prelude.{filter_map}
 use Rattle.std.proofs.lemmas.Bool.{lt-leb, cases_lt}
 use Rattle.aim_geometry.specs.Cells.{Cell}
@@ -36,6 +36,11 @@ not_fresh look.Reused other = refl
 -- the time after one more entry
 pub now_next : (h : List Entry) (e : Entry) → now_of (h ++ e ∷ []) 0 ≡ now_of h e.moment
 now_next h e = now_of-snoc h e 0 ∙ sym (now_of-max h e.moment)
+
+-- what is managed stays so where nothing changes
+pub managed_unchanged : {L : Type 0} (i : Intersection) (h : List Entry) (at : ℕ) (old new : Desk L) (calls noted : List (Option (ℕ × ℕ))) → new ≡ old → noted ≡ calls → IsManaged i (length old.sessions) h at old calls → IsManaged i (length new.sessions) h at new noted
+managed_unchanged i h at old new calls noted same also m =
+    subst (λ cs. IsManaged i (length new.sessions) h at new cs) (sym also) (subst (λ d. IsManaged i (length d.sessions) h at d calls) (sym same) m)
 
 -- the reservations at a later time
 pub reserved_later : {L : Type 0} (i : Intersection) (n : ℕ) (h : List Entry) (at later : ℕ) (old new : Reservations L) → at ≤ later → AreReserved i n (fresh h) at old → new.rows.items ≡ old.rows.items →

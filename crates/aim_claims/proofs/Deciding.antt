@@ -48,7 +48,7 @@ pub end_line : (before : List ShardLine) (why : Option Refused) (old new : Reade
 end_line before why old new all then now is decides answers =
     comes before why (decided before (at_end before)) all (ap (decided before) (sym is)) (decided_end (verdict_from before) verdict old new all then now decides answers)
 
-abbrev fault_refused : LineFault → Refused
+abbrev pub fault_refused : LineFault → Refused
 fault_refused Read = refused.Limit limit.Bytes
 fault_refused (Long number) = refused.Bad number kind.Long
 fault_refused Bytes = refused.Limit limit.Bytes
@@ -59,12 +59,12 @@ fault_told before (LongLine number) = refl
 fault_told before TooManyBytes = refl
 fault_told before TooManyLines = refl
 
--- a line that is too long
-pub long_line : (before : List ShardLine) (number : ℕ) (old new : Reader) (all then now : Option (List ℕ)) → WhereKnown all then (λ bytes rest. verdict_from before (coming old rest) ≡ verdict bytes)
-    → Answers old new then now (Err (Long number)) → Comes before (Some (refused.Bad number kind.Long)) all
-long_line before number old new all then now decides answers =
-    comes before _ (decided before (Some (fault_refused (Long number)))) all refl
-    (decided_fault (verdict_from before) verdict (λ fault. decided before (Some (fault_refused fault))) old new all then now (Long number) (λ e. cc) (fault_told before) decides answers)
+-- a fault of the input that isn't of its source
+pub fault_line : (before : List ShardLine) (fault : LineFault) (old new : Reader) (all then now : Option (List ℕ)) → (fault ≡ Read → ⊥)
+    → WhereKnown all then (λ bytes rest. verdict_from before (coming old rest) ≡ verdict bytes) → Answers old new then now (Err fault) → Comes before (Some (fault_refused fault)) all
+fault_line before fault old new all then now other decides answers =
+    comes before _ (decided before (Some (fault_refused fault))) all refl
+    (decided_fault (verdict_from before) verdict (λ f. decided before (Some (fault_refused f))) old new all then now fault other (fault_told before) decides answers)
 
 -- a whole script has a line
 pub whole_some : (lines : List ShardLine) → at_end lines ≡ None → 0 < length lines

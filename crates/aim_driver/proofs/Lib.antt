@@ -9,6 +9,7 @@ pub mod SendLemmas
 pub mod StandLemmas
 pub mod CrossingLemmas
 pub mod TurnLemmas
+pub mod BeginLemmas
 pub mod CountLemmas
 pub mod HearLemmas
 pub mod IdleLemmas

@@ -1,5 +1,5 @@
 -- The list of the vehicles that have called.
-use Rattle.std.proofs.Common.{◌≡◌, ℕ, ◌+◌, ◌*◌, ◌^◌, ◌%◌, ◌<◌, ◌≤◌, Bool, true, false, ◌||◌, List, [], ◌∷◌, ◌++◌, length, Option, Some, None, arith, refl, sym, ◌∙◌, ap, get_or, set, take, inl, inr, length-append, subst}
+use Rattle.std.proofs.Common.{◌≡◌, ℕ, ◌+◌, ◌*◌, ◌^◌, ◌%◌, ◌<◌, ◌≤◌, Bool, true, false, ◌||◌, List, [], ◌∷◌, ◌++◌, length, Option, Some, None, arith, refl, sym, ◌∙◌, ap, get_or, set, take, inl, inr, length-append, replicate, subst}
 use Rattle.std.specs.Prelude.{◌==◌, bit_or, is_some, count_by, IfSome, cond, unwrap_or}
 use Rattle.std.specs.List.{list_any}
 use Rattle.std.proofs.Math.Decide.{dec_lt}
@@ -9,8 +9,8 @@ use Rattle.std.proofs.lemmas.Nat.{one_shl}
 use Rattle.std.proofs.lemmas.Nat.Bits.{bit_at-pow_same, bit_at-pow_other}
 use Rattle.aim_paths.specs.Policies.{has_lane}
 use Rattle.aim_rules.proofs.TestLemmas.{le_true}
-use Rattle.std.proofs.lemmas.List.{get_or-set_same, get_or-set_other, length-set, get_or_append_left, take_all}
-use Rattle.std.proofs.lemmas.List.Folds.{list_any-append, list_any_at, list_any_more, Any-from_list_any}
+use Rattle.std.proofs.lemmas.List.{get_or-replicate, get_or-set_same, get_or-set_other, length-replicate, length-set, get_or_append_left, take_all}
+use Rattle.std.proofs.lemmas.List.Folds.{list_any-append, list_any_at, list_any_more, sum_by-replicate, Any-from_list_any}
 use Rattle.std.proofs.lemmas.List.Sums.{sum_by-set, count_by-le-length}
 use Rattle.aim_msg.specs.declared.entries.TheConstants.{LATEST_MOMENT}
 use Rattle.aim_paths.proofs.Elements.{get_or-read}
@@ -36,6 +36,29 @@ or_second false b e = e
 -- one more is marked
 marked_more : (marked : List Bool) (v : ℕ) → v < length marked → get_or marked v false ≡ false → count_by (λ b. b) (set marked v true) ≡ count_by (λ b. b) marked + 1
 marked_more marked v l free = let e = sum_by-set (λ b. cond b 1 0) marked v true false l in let f : cond {A = ℕ} (get_or marked v false) 1 0 ≡ 0 = ap (λ b. cond {A = ℕ} b 1 0) free in omega arith
+
+-- no call at first
+listed_none : (n : ℕ) → IsListed (replicate n None) [] (replicate n false)
+listed_none n =
+    let calls = length-replicate {A = Option (ℕ × ℕ)} n None in
+    let none : (v : ℕ) → v < length (replicate {A = Option (ℕ × ℕ)} n None) → get_or (replicate {A = Option (ℕ × ℕ)} n None) v None ≡ None = λ v l. get_or-replicate {A = Option (ℕ × ℕ)} n v None None (omega (arith, l, calls)) in
+    let free : (v : ℕ) → v < length (replicate {A = Option (ℕ × ℕ)} n None) → get_or (replicate n false) v false ≡ false = λ v l. get_or-replicate n v false false (omega (arith, l, calls)) in record {
+      long = length-replicate n false ∙ sym calls;
+      count = let e = sum_by-replicate (λ b. cond {A = ℕ} b 1 0) n false in omega arith;
+      below = λ k d l. absurd (omega (arith, l));
+      all = λ v l set. let f = free v l in absurd (cc (f, set));
+      calling = λ v l some. absurd (let e : false ≡ true = rw (none v l) at some in cc e);
+      range = λ v lane arrive l e. let f = none v l in absurd (cc (f, e));
+    }
+
+-- what no call is like but none
+pub none_alone : {A : Type 0} (R : Option A → Type 0) → ((x : A) → R (Some x) → ⊥) → (o : Option A) → R o → o ≡ None
+none_alone R other None r = refl
+none_alone R other (Some x) r = absurd (other x r)
+
+-- lists of as many vehicles, none of which has called
+pub listed_new : (calls : List (Option (ℕ × ℕ))) (callers : List ℕ) (marked : List Bool) (n : ℕ) → calls ≡ replicate n None → callers ≡ [] → marked ≡ replicate n false → IsListed calls callers marked
+listed_new calls callers marked n none empty free = rw (none, empty, free) (listed_none n)
 
 -- as long as a vehicle is not listed, there is room for it
 pub room_left : (calls : List (Option (ℕ × ℕ))) (callers : List ℕ) (marked : List Bool) (v : ℕ) → IsListed calls callers marked → v < length calls → get_or marked v false ≡ false → length callers < length calls

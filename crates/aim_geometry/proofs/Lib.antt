@@ -4,3 +4,4 @@ pub mod Quotients
 pub mod SiteLemmas
 pub mod Bits
 pub mod TouchLemmas
+mod RectLemmas

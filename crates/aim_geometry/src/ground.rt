@@ -2,6 +2,7 @@
 
 ghost use Rattle.std.specs.Prelude.{◌≡◌, IfOk};
 ghost use Rattle.std.specs.Result.{result_err};
+ghost use Rattle.aim_geometry.specs.Bounded.{is_outside as is_outside_of};
 ghost use Rattle.aim_geometry.specs.Sites.{IsGrid, IsTimes, has_bad_buffers as has_bad_buffers_of, has_bad_numbers, has_bad_times as has_bad_times_of, ground_fault};
 
 use std::marker::Model;
@@ -28,17 +29,13 @@ impl Grid {
     pub fn is_bad(&self) -> bool
         ensures { result ≡ has_bad_numbers self.now }
     {
-        self.side == 0
-            || self.side > 1_000_000
-            || self.n == 0
-            || self.n > 64
+        is_outside(self.side, 1_000_000)
+            || is_outside(self.n, 64)
             || self.side % self.n != 0
-            || self.spacing == 0
-            || self.spacing > 10_000
+            || is_outside(self.spacing, 10_000)
             || self.fixed > 10_000
             || self.half > 100_000
-            || self.spans == 0
-            || self.spans > 131_072
+            || is_outside(self.spans, 131_072)
     }
 }
 
@@ -131,14 +128,20 @@ fn has_bad_buffers(times: &Times) -> bool
     times.early > times.edge || times.late > times.edge
 }
 
+/// Whether the number is none of those from 1 to `most`.
+#[inline]
+pub fn is_outside(number: u32, most: u32) -> bool
+    ensures { result ≡ is_outside_of number most }
+{
+    number == 0 || number > most
+}
+
 // Whether one of the times is out of its range.
 fn has_bad_times(times: &Times) -> bool
     ensures { result ≡ has_bad_times_of times.now }
 {
-    times.horizon == 0
-        || times.horizon > 8_192
-        || times.longest == 0
-        || times.longest > 65_536
+    is_outside(times.horizon, 8_192)
+        || is_outside(times.longest, 65_536)
         || times.clearance > 1_024
         || times.edge > 1_024
 }

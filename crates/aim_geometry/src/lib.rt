@@ -8,7 +8,7 @@ pub mod masks;
 pub mod stations;
 pub mod tiles;
 
-pub use ground::{Grid, Ground, GroundFault, Times};
+pub use ground::{Grid, Ground, GroundFault, Times, is_outside};
 pub use masks::{columns, join};
 pub use stations::{Station, curve_station, line_station};
 pub use tiles::{TileRect, is_edge, tile_rect};

@@ -28,8 +28,7 @@ fn tile_range(tile: u32, n: u32, x: u32, half: u32) -> (u8, u8)
     ensures within { result.1 < n }
     ensures exact { (i : ℕ) → i < n → (IsTrue (meets tile half i x) ↔ ((result.0 ≤ i) × (i ≤ result.1))) }
 {
-    let low = x.saturating_sub(half);
-    let first = if low == 0 { 0 } else { (low - 1) / tile };
+    let first = x.saturating_sub(half).saturating_sub(1) / tile;
     let last = ((x as u64 + half as u64) / tile as u64).min(n as u64 - 1);
     (first as u8, last as u8)
 }

@@ -218,7 +218,7 @@ fn push_lane(list: &mut Vec<Value>, lanes: u16, lane: u8) -> Result<(), AllocErr
     Ok(())
 }
 
-#[tactic(auto, using(crate::proofs::Lists::lanes_next, crate::proofs::Lists::lanes_end), unfolding(aim_msg::specs::Lines::all_lanes))]
+#[tactic(auto, using(crate::proofs::Lists::lanes_end))]
 fn lanes_value(alloc: Global, lanes: u16) -> Result<Value, AllocError>
     ensures { IfOk result (λ v. view v ≡ lanes_json lanes) }
 {

@@ -1,5 +1,5 @@
 -- Worked reads of JSON text: each form once, and what is refused.
-use Rattle.std.proofs.Common.{◌≡◌, ℕ, ◌-◌, true, false, List, [], ◌∷◌, ◌++◌, length, Result, Ok, Err, codes, refl}
+use Rattle.std.proofs.Common.{◌≡◌, ℕ, ◌-◌, true, false, List, [], ◌∷◌, ◌++◌, length, Ok, Err, codes, refl}
 use Rattle.std.specs.Prelude.{replicate}
 use Rattle.std.specs.Fmt.{digits}
 use Rattle.std.specs.Str.{chars, is_utf8}
@@ -12,10 +12,8 @@ use Rattle.aim_msg.specs.declared.messages.Message.{Message}
 use Rattle.aim_msg.specs.declared.script.Name.{Name}
 use Rattle.aim_msg.specs.declared.script.FateList.{FateList}
 use Rattle.aim_msg.specs.declared.script.MoveShape.TheVariants as shape
-use Rattle.aim_msg.specs.declared.script.Line.{Line}
 use Rattle.aim_msg.specs.declared.script.Line.TheVariants as line
 use Rattle.aim_msg.specs.Lines.{all_lanes}
-use Rattle.aim_json_read.specs.declared.reading.JsonFault.{JsonFault}
 use Rattle.aim_json_read.specs.declared.reading.JsonFault.TheVariants as fault
 use Rattle.aim_json_read.specs.Reading.{json_line_at}
 

@@ -3,7 +3,9 @@ use Rattle.std.proofs.Common.{◌≡◌, ℕ, ◌+◌, ◌<◌, ◌==◌, List, 
 use Rattle.std.specs.Borrow.{Bor}
 use Rattle.serde_json.specs.Data.{Data}
 use Rattle.serde_json.specs.Find.{get}
-use Rattle.serde_json.specs.View.{items_of}
+use Rattle.serde_json.specs.declared.value.Value.{Value}
+use Rattle.serde_json.specs.View.{items_of, items_view, view}
+use Rattle.std.proofs.lemmas.List.{drop_more}
 use Rattle.aim_msg.specs.declared.messages.Params.{Params}
 use Rattle.aim_msg.specs.declared.messages.Body.{Body}
 use Rattle.aim_msg.specs.declared.messages.Body.TheVariants as body
@@ -76,6 +78,16 @@ words_back version line.End = refl
 
 pub text_back : (version : ℕ) (l : Line) → spelled (json_of version l) ≡ line_text version l
 text_back version l = ap spaced (words_back version l)
+
+-- ---- a list's items
+
+-- the words of the items from one on: that one's, and then those of the items behind it
+pub next_item : (text : List ℕ) (items : List Value) (i : ℕ) (other : Value) → i < length items
+    → added (added text (plain_words (view (get_or items i other)))) (items_words (items_view (drop (i + 1) items)))
+    ≡ added text (items_words (items_view (drop i items)))
+next_item text items i other h =
+    sym (added_append text (plain_words (view (get_or items i other))) (items_words (items_view (drop (i + 1) items))))
+    ∙ ap (λ (vs : List Value). added text (items_words (items_view vs))) (sym (drop_more items i other h))
 
 -- ---- a row of names
 

@@ -85,8 +85,8 @@ fn put_plain(out: &mut Vec<u8>, value: &Value) -> Result<(), NoMemory>
 }
 
 // Adds the words of a list's items.
-fn put_items(out: &mut Vec<u8>, items: &Vec<Value>) -> Result<(), NoMemory>
-    ensures { OnOk result (out.new.items ≡ added out.old.items (items_words (items_view items.now.items))) }
+fn put_items(out: &mut Vec<u8>, items: &[Value]) -> Result<(), NoMemory>
+    ensures { OnOk result (out.new.items ≡ added out.old.items (items_words (items_view items.now))) }
 {
     for item in items {
         put_plain(out, item)?;

@@ -1,7 +1,8 @@
 -- The phases of a policy of a layout.
-use Rattle.std.proofs.Common.{◌≡◌, ℕ, ◌+◌, ◌<◌, ◌≤◌, Bool, true, false, ◌&&◌, List, [], ◌∷◌, ◌++◌, length, take, get_or, set, slice_get, Option, Some, None, arith, refl, sym, ◌∙◌, ap}
-use Rattle.std.specs.Prelude.{option_map, option_and_then, ◌==◌}
-use Rattle.std.proofs.lemmas.List.{take_more, take-set, get_or-set_same, length-set}
+use Rattle.std.proofs.Common.{◌≡◌, ℕ, ◌+◌, ◌<◌, ◌≤◌, Bool, true, false, ◌&&◌, List, [], ◌∷◌, ◌++◌, length, take, get_or, set, drop, slice_get, nat_lt, lt-ltb, le-ltb, add-one, ◌-◌, Option, Some, None, arith, refl, sym, ◌∙◌, ap}
+use Rattle.std.specs.Prelude.{option_map, option_and_then, ◌==◌, if◌then◌else◌}
+use Rattle.std.proofs.Math.Seq.{drop-cons}
+use Rattle.std.proofs.lemmas.List.{drop_all, take_more, take-set, get_or-set_same, length-set}
 use Rattle.std.proofs.lemmas.List.Sums.{sum_by_push}
 use Rattle.std.proofs.lemmas.Option.{slice_get_within, get_or_from_slice_get}
 use Rattle.aim_paths.specs.declared.policies.Kind.{Kind}
@@ -9,7 +10,7 @@ use Rattle.aim_paths.specs.declared.policies.Phase.{Phase}
 use Rattle.aim_paths.specs.Intersection.{Intersection, Policy}
 use Rattle.aim_paths.specs.Policies.{has_lights}
 use Rattle.aim_paths.specs.Valid.{IsValid}
-use Rattle.aim_rules.specs.Lights.{round}
+use Rattle.aim_rules.specs.Lights.{lit, round}
 use Rattle.aim_light.specs.Plans.{AreInRange, IsPlan, phases_of, lights_of}
 
 pub phase_read : (o : Option Policy) (n : ℕ) (f : Phase) → option_and_then (λ p. slice_get p.phases n) o ≡ Some f → slice_get (phases_of o) n ≡ Some f
@@ -82,3 +83,32 @@ taken_more phases all n f l same read =
 pub round_more : (all : List Phase) (n : ℕ) (f : Phase) → slice_get all n ≡ Some f → round (take (n + 1) all) ≡ round (take n all) + (f.red + f.green)
 round_more all n f read =
     ap round (take_more all n f (slice_get_within all n f read)) ∙ sum_by_push (λ f. f.red + f.green) (take n all) (get_or all n f) ∙ ap (λ x. round (take n all) + (x.red + x.green)) (get_or_from_slice_get all n f f read)
+
+-- what is green at an offset, from one of the phases on
+lit_next : (ps : List Phase) (k left : ℕ) (f : Phase) → k < length ps → lit (drop k ps) left
+    ≡ (if nat_lt left (get_or ps k f).red then 0 else if nat_lt left ((get_or ps k f).red + (get_or ps k f).green) then (get_or ps k f).lanes
+    else lit (drop (k + 1) ps) (left - ((get_or ps k f).red + (get_or ps k f).green)))
+lit_next ps k left f l = ap (λ qs. lit qs left) (drop-cons ps k f l) ∙ rw add-one refl
+
+-- the offset is in the red
+pub lit_red : (ps : List Phase) (k left : ℕ) (f : Phase) → k < length ps → left < (get_or ps k f).red → lit (drop k ps) left ≡ 0
+lit_red ps k left f l red = lit_next ps k left f l ∙ rw (lt-ltb left (get_or ps k f).red red) refl
+
+-- the offset is in the green
+pub lit_green : (ps : List Phase) (k left : ℕ) (f : Phase) → k < length ps → (get_or ps k f).red ≤ left → left - (get_or ps k f).red < (get_or ps k f).green
+    → lit (drop k ps) left ≡ (get_or ps k f).lanes
+lit_green ps k left f l past green =
+    lit_next ps k left f l
+    ∙ rw (le-ltb left (get_or ps k f).red past, lt-ltb left ((get_or ps k f).red + (get_or ps k f).green) (omega arith)) refl
+
+-- the offset is past the phase
+pub lit_past : (ps : List Phase) (k left : ℕ) (f : Phase) → k < length ps → (get_or ps k f).red ≤ left → (get_or ps k f).green ≤ left - (get_or ps k f).red
+    → lit (drop k ps) left ≡ lit (drop (k + 1) ps) (left - (get_or ps k f).red - (get_or ps k f).green)
+lit_past ps k left f l red green =
+    let same : left - ((get_or ps k f).red + (get_or ps k f).green) ≡ left - (get_or ps k f).red - (get_or ps k f).green = omega arith in
+    lit_next ps k left f l
+    ∙ rw (le-ltb left (get_or ps k f).red red, le-ltb left ((get_or ps k f).red + (get_or ps k f).green) (omega arith), same) refl
+
+-- no phase is left
+pub lit_none : (ps : List Phase) (k left : ℕ) → length ps ≤ k → lit (drop k ps) left ≡ 0
+lit_none ps k left past = ap (λ qs. lit qs left) (drop_all k ps past)

@@ -19,6 +19,7 @@ use Rattle.aim_paths.specs.Policies.{has_lane}
 use Rattle.aim_rules.specs.Lights.{lit, round, green_lanes}
 use Rattle.aim_rules.proofs.TestLemmas.{is_less, not_less, is_most, le_true}
 use Rattle.aim_light.specs.Plans.{IsInRange, AreInRange, IsPlan, is_green_within}
+use Rattle.aim_light.specs.Windows.{is_met}
 
 -- equal tests, by two implications
 pub both_ways : (a b : Bool) → (a ≡ true → b ≡ true) → (b ≡ true → a ≡ true) → a ≡ b
@@ -47,13 +48,6 @@ has_lane-none lane = rw (bit_at-zero lane) refl
 -- an offset of the round is in a window that begins in it
 abbrev Hit : ℕ → ℕ → ℕ → ℕ → Type 0
 Hit from to turn y = ((from ≤ y) × (y ≤ to)) ⊎ (y + turn ≤ to)
-
--- a green of the round meets the window
-abbrev pub is_met : ℕ → ℕ → ℕ → ℕ → List Phase → ℕ → Bool
-is_met from to turn end [] lane = false
-is_met from to turn end (p ∷ ps) lane =
-    ((nat_le (end + p.red) to && nat_lt from (end + p.red + p.green) || nat_le (end + p.red + turn) to) && has_lane p.lanes lane)
-    || is_met from to turn (end + p.red + p.green) ps lane
 
 -- the offsets of a window, in the round
 window_hit : (first last turn o : ℕ) → 0 < turn → first ≤ o → o ≤ last → Hit (first % turn) (first % turn + (last - first)) turn (o % turn)
@@ -214,14 +208,17 @@ or_false true = refl
 or_false false = refl
 
 -- all phases of the list
-pub met_done : (p : Policy) (first last from steps turn k end lane : ℕ) (acc : Bool) → IsPlan p → first ≤ last → turn ≡ round p.phases → from ≡ first % turn → steps ≡ last - first → length p.phases ≤ k →
-    (acc || is_met from (from + steps) turn end (drop k p.phases) lane) ≡ is_met from (from + steps) turn 0 p.phases lane → acc ≡ is_green_within p first last lane
-met_done p first last from steps turn k end lane acc plan l t f s past h =
+pub met_done : (from to turn k end lane : ℕ) (ps : List Phase) (acc all : Bool) → length ps ≤ k → (acc || is_met from to turn end (drop k ps) lane) ≡ all → acc ≡ all
+met_done from to turn k end lane ps acc all past h =
     sym (or_false acc)
-    ∙ ap (λ qs. acc || is_met from (from + steps) turn end qs lane) (sym (drop_all k p.phases past))
+    ∙ ap (λ qs. acc || is_met from to turn end qs lane) (sym (drop_all k ps past))
     ∙ h
-    ∙ rw (f, s, t) (met_within p first last lane plan l)
+
+-- a window that begins in the round at these offsets
+pub met_window : (p : Policy) (first last from steps turn lane : ℕ) → IsPlan p → first ≤ last → turn ≡ round p.phases → from ≡ first % turn → steps ≡ last - first →
+    is_met from (from + steps) turn 0 p.phases lane ≡ is_green_within p first last lane
+met_window p first last from steps turn lane plan l t f s = rw (f, s, t) (met_within p first last lane plan l)
 
 -- the ranges of a phase
-pub phase_range : (p : Policy) (k : ℕ) (f : Phase) → IsPlan p → k < length p.phases → IsInRange (get_or p.phases k f)
-phase_range p k f plan l = plan.each k (get_or p.phases k f) (slice_get-get_or p.phases k f l)
+pub phase_range : (ps : List Phase) (k : ℕ) (f : Phase) → AreInRange ps → k < length ps → IsInRange (get_or ps k f)
+phase_range ps k f each l = each k (get_or ps k f) (slice_get-get_or ps k f l)

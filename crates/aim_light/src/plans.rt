@@ -4,6 +4,7 @@ ghost use Rattle.std.specs.Prelude.{◌≡◌, ℕ, ◌+◌, ◌^◌, ◌≤◌,
 ghost use Rattle.aim_paths.specs.Policies.{has_lane};
 ghost use Rattle.aim_rules.specs.Lights.{green_lanes, lit as lit_of, round as round_of};
 ghost use Rattle.aim_light.specs.Plans.{AreInRange, is_green_within, lights_of, phases_of};
+ghost use Rattle.aim_light.specs.Windows.{is_met};
 
 use aim_paths::{Kind, Layout, Phase};
 use std::marker::Model;
@@ -117,9 +118,19 @@ pub fn green_within(plan: &Plan, first: u32, last: u32) -> u16
     let round = u64::from(plan.round);
     let from = u64::from(first % plan.round);
     let to = from + u64::from(last - first);
+    met_lanes(&plan.phases[..plan.count as usize], from, to, round)
+}
+
+// The lanes whose greens, in this round or a later one, have some offset from `from` to `to`.
+fn met_lanes(phases: &[Phase], from: u64, to: u64, round: u64) -> u16
+    requires few { length phases.now ≤ 16 }
+    requires range { AreInRange phases.now }
+    requires round { round < 2 ^ 32 }
+    ensures { (lane : ℕ) → has_lane result lane ≡ is_met from to round 0 phases.now lane }
+{
     let mut lanes = 0;
     let mut end = 0;
-    for phase in &plan.phases[..plan.count as usize] {
+    for phase in phases {
         let begin = end + u64::from(phase.red);
         end = begin + u64::from(phase.green);
         lanes |= if_met(phase.lanes, meets(begin, end, from, to, round));

@@ -1,14 +1,14 @@
 -- What a link delivers is the first thing that comes, and one thing less is under way then.
-use Rattle.std.proofs.Common.{◌≡◌, ◌⊎◌, inl, inr, ℕ, zero, suc, ◌+◌, ◌<◌, ◌≤◌, min, Bool, true, false, not, nat_le, nat_lt, List, [], ◌∷◌, length, get_or, set, fold, sum_by, position, slice_get, Option, Some, None, option_and_then, option_map, if◌then◌else◌, refl, sym, ◌∙◌, ap, subst, arith}
+use Rattle.std.proofs.Common.{◌≡◌, ◌⊎◌, inl, inr, ℕ, zero, suc, ◌+◌, ◌<◌, ◌≤◌, min, Bool, true, false, not, nat_le, nat_lt, List, [], ◌∷◌, length, get_or, set, fold, sum_by, position, slice_get, Option, Some, None, option_and_then, option_map, if◌then◌else◌, refl, sym, ◌∙◌, ap, subst, take, arith}
 use Rattle.std.specs.List.{position_or_len}
 use Rattle.std.proofs.lemmas.Bool.Decides.{nat_tests}
-use Rattle.std.proofs.lemmas.Option.{slice_get_within, slice_get-get_or, get_or_from_slice_get}
+use Rattle.std.proofs.lemmas.Option.{slice_get_within, slice_get-get_or, slice_get_past, get_or_from_slice_get}
 use Rattle.std.proofs.lemmas.List.Quantifiers.{position-Some}
-use Rattle.std.proofs.lemmas.List.Sums.{sum_by-set}
+use Rattle.std.proofs.lemmas.List.Sums.{fold_more, sum_by-set}
 use Rattle.aim_links.specs.declared.links.Fate.{Fate}
 use Rattle.aim_links.specs.declared.links.Fate.TheVariants as fate
 use Rattle.aim_links.specs.declared.links.Sending.{Sending}
-use Rattle.aim_links.specs.Links.{LinkModel, dues, sooner, is_step, next_due, copies_left, under_way, earliest, first_at, first_by, next_place, item_of, delivered, came_again, after_coming, after_delivery, IsNext, NoneComes}
+use Rattle.aim_links.specs.Links.{LinkModel, fate_at, dues, sooner, is_step, next_due, copies_left, under_way, earliest, first_at, first_by, next_place, item_of, delivered, came_again, after_coming, after_delivery, IsNext, NoneComes}
 use Rattle.aim_links.proofs.SmallFacts.{true_le, some_is, none_some, never}
 
 length_dues : (at at' : ℕ) (f : Fate) → length (dues at f) ≡ length (dues at' f)
@@ -271,3 +271,51 @@ nothing_found {X} l step none = go (next_place l step) refl
     go : (o : Option ℕ) → next_place l step ≡ o → o ≡ None
     go None e = refl
     go (Some k) e = absurd (let n = next_is l step k e in let late = none k n.sending n.due n.stands n.comes in let le = n.in_time in omega arith)
+
+-- the sending of a place, by its reading with itself as the default
+pub stands_there : {X : Type 0} (sent : List (Sending X)) (place : ℕ) (s : Sending X) → place < length sent → s ≡ get_or sent place s → slice_get sent place ≡ Some s
+stands_there sent place s within is = slice_get-get_or sent place s within ∙ ap (λ t. Some t) (sym is)
+
+-- the sendings after that one came once more
+pub noted_there : {X : Type 0} (sent : List (Sending X)) (place : ℕ) (s new : Sending X) → slice_get sent place ≡ Some s → new ≡ record s { came = s.came + 1 }
+    → set sent place new ≡ came_again sent place (slice_get sent place)
+noted_there sent place s new stands is = rw (stands, is) refl
+
+-- where no place is found nothing is delivered
+pub nothing_delivered : {X : Type 0} (l : LinkModel X) (step : ℕ) → next_place l step ≡ None → None ≡ delivered l step
+nothing_delivered l step none = rw none refl
+
+-- where no place is found the link stays
+pub stays : {X : Type 0} (l : LinkModel X) (step : ℕ) → next_place l step ≡ None → l ≡ after_delivery l step
+stays l step none = rw none refl
+
+-- the item of the place that is found is delivered
+pub delivered_from : {X : Type 0} (l : LinkModel X) (step k : ℕ) (item : X) → next_place l step ≡ Some k → option_map item_of (slice_get l.sent k) ≡ Some item → Some item ≡ delivered l step
+delivered_from l step k item found there = rw found (sym there)
+
+-- the link with the sending of the place that is found noted
+pub noted_from : {X : Type 0} (l : LinkModel X) (step k : ℕ) (sent : List (Sending X)) → next_place l step ≡ Some k → sent ≡ came_again l.sent k (slice_get l.sent k) → record l { sent = sent } ≡ after_delivery l step
+noted_from l step k sent found noted = rw (found, ← noted) refl
+
+-- the least step of one sending more
+pub earliest_of_more : {X : Type 0} (lag : ℕ) (sent : List (Sending X)) (i : ℕ) (s : Sending X) (least due new : Option ℕ) → i < length sent → s ≡ get_or sent i s → least ≡ earliest lag (take i sent)
+    → due ≡ next_due lag s → new ≡ sooner least due → new ≡ earliest lag (take (i + 1) sent)
+earliest_of_more lag sent i s least due new within is before its so =
+    let more = fold_more (λ due s. sooner due (next_due lag s)) None sent i s within in
+    so ∙ ap (λ d. sooner d due) before ∙ ap (λ d. sooner (earliest lag (take i sent)) d) (its ∙ ap (λ t. next_due lag t) is) ∙ sym more
+
+-- the fate of a place within the fates is the one read there
+pub fate_within : (fates : List Fate) (i j : ℕ) (f : Fate) → i ≡ j → i < length fates → f ≡ get_or fates i f → f ≡ fate_at fates j
+fate_within fates i j f same within is = rw (← same, slice_get-get_or fates i f within) is
+
+-- behind the fates all are delivered
+pub fate_behind : (fates : List Fate) (i j : ℕ) → i ≡ j → length fates ≤ i → fate.Deliver ≡ fate_at fates j
+fate_behind fates i j same behind = rw (← same, slice_get_past fates i behind) refl
+
+-- what is looked for in the sendings of a link is its next place
+pub looked_for : {X : Type 0} (l : LinkModel X) (sent : List (Sending X)) (step : ℕ) (first : Option ℕ) → first ≡ first_by l.lag sent step (earliest l.lag sent) → sent ≡ l.sent → next_place l step ≡ first
+looked_for l sent step first is same = sym (is ∙ ap (λ ss. first_by l.lag ss step (earliest l.lag ss)) same)
+
+-- the place that is found is one of the sendings'
+pub found_within : {X : Type 0} (l : LinkModel X) (step k : ℕ) → next_place l step ≡ Some k → k < length l.sent
+found_within l step k found = let n = next_is l step k found in slice_get_within l.sent k n.sending n.stands

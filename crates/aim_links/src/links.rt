@@ -1,6 +1,6 @@
 //! Links, on which items are lost, repeated and delayed.
 
-ghost use Rattle.std.specs.Prelude.{◌≡◌, ℕ, ◌+◌, ◌^◌, ◌<◌, ◌≤◌, [], ◌∷◌, Some, None, length, slice_get, option_map, OnOk, OnErr, IfNone};
+ghost use Rattle.std.specs.Prelude.{◌≡◌, ℕ, ◌+◌, ◌^◌, ◌<◌, ◌≤◌, [], ◌∷◌, ◌++◌, Some, None, length, slice_get, option_map, OnOk, OnErr, IfNone};
 ghost use Rattle.std.specs.Option.{ForSome};
 ghost use Rattle.aim_links.specs.Links.{new_link, sent_on, sooner, is_step, next_due, fate_at, earliest, first_at, first_by, item_of, came_again, delivered, after_delivery};
 
@@ -125,18 +125,23 @@ fn first_due<T: Copy>(lag: u32, sent: &[Sending<T>], step: u32) -> Option<usize>
     }
 }
 
-// Notes that the sending of that place came once more, and gives its item.
-fn take<T: Copy>(sent: &mut [Sending<T>], place: usize) -> T
-    requires in_range { place < length sent.old }
-    requires few { ForSome (slice_get sent.old place) (λ s. s.came < 2) }
-    ensures item { option_map item_of (slice_get sent.old place) ≡ Some result }
-    ensures sent { sent.new ≡ came_again sent.old place (slice_get sent.old place) }
+// Puts a sending behind the others.
+fn put<T: Copy>(sent: &mut Vec<Sending<T>>, sending: Sending<T>) -> Result<(), NoMemory>
+    ensures ok { OnOk result (sent.new.items ≡ sent.old.items ++ sending ∷ []) }
+    ensures err { OnErr result (sent.new.items ≡ sent.old.items) }
 {
-    let sending = sent[place];
-    sent[place] = Sending {
-        came: sending.came + 1,
-        ..sending
-    };
+    sent.reserve(1)?;
+    sent.push_reserved(sending);
+    Ok(())
+}
+
+// Notes that it came once more, and gives its item.
+fn take<T: Copy>(sending: &mut Sending<T>) -> T
+    requires few { sending.old.came < 2 }
+    ensures item { result ≡ sending.old.item }
+    ensures sending { sending.new ≡ record sending.old { came = sending.old.came + 1 } }
+{
+    sending.came += 1;
     sending.item
 }
 
@@ -169,15 +174,13 @@ impl<T: Copy> Link<T> {
         ensures ok { OnOk result (self.new ≡ sent_on self.old step item) }
         ensures err { OnErr result (self.new ≡ self.old) }
     {
-        let fate = self.next_fate();
-        self.sent.reserve(1)?;
-        self.sent.push_reserved(Sending {
+        let sending = Sending {
             step,
             item,
-            fate,
+            fate: self.next_fate(),
             came: 0,
-        });
-        Ok(())
+        };
+        put(&mut self.sent, sending)
     }
 
     /// The first item that comes at that step or before it, by the step at which it comes and then by the order of
@@ -187,8 +190,10 @@ impl<T: Copy> Link<T> {
         ensures link { self.new ≡ after_delivery self.old step }
         ensures none { IfNone result (self.new ≡ self.old) }
     {
-        let place = first_due(self.lag, &self.sent, step)?;
-        Some(take(&mut self.sent, place))
+        match first_due(self.lag, &self.sent, step) {
+            Some(place) => Some(take(&mut self.sent[place])),
+            None => None,
+        }
     }
 
     /// Below the step that it gives nothing comes: the step at which something comes next, and the greatest number

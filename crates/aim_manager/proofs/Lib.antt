@@ -2,3 +2,4 @@ pub mod Callers
 pub mod Sheets
 pub mod Crosses
 pub mod Passes
+pub mod Made

@@ -1,12 +1,15 @@
 -- The tiles of a lane, as paths are added to a layout.
-use Rattle.std.proofs.Common.{◌≡◌, ℕ, ◌<◌, inl, inr, Bool, true, false, ◌||◌, List, [], length, slice_get, get_or, set, replicate, Option, Some, None, arith, refl, sym, ◌∙◌, ap}
+use Rattle.std.proofs.Common.{◌≡◌, ℕ, ◌<◌, inl, inr, Bool, true, false, ◌||◌, List, [], length, take, ◌+◌, slice_get, get_or, set, replicate, Option, Some, None, arith, refl, sym, ◌∙◌, ap}
 use Rattle.std.proofs.lemmas.Bool.{cases_eq}
 use Rattle.std.proofs.lemmas.List.{length-set, length-replicate, get_or-set_same, get_or-set_other, get_or-replicate}
+use Rattle.std.proofs.lemmas.List.Folds.{list_any_more}
 use Rattle.std.proofs.lemmas.Option.{slice_get-get_or}
 use Rattle.std.proofs.lemmas.Nat.Bits.{bit_at-zero}
 use Rattle.aim_msg.specs.declared.messages.Turn.{Turn}
 use Rattle.aim_msg.specs.declared.messages.Turn.TheVariants.{Left, Straight, Right}
 use Rattle.aim_geometry.specs.declared.stations.Station.{Station}
+use Rattle.aim_geometry.specs.declared.ground.Grid.{Grid}
+use Rattle.aim_geometry.specs.Ground.{is_touched}
 use Rattle.aim_geometry.specs.Rects.{tile_at}
 use Rattle.aim_geometry.specs.Sites.{Site}
 use Rattle.aim_geometry.proofs.TouchLemmas.{either, any_touched_inside}
@@ -147,3 +150,14 @@ lane_inside i (Some l) row col h = elim (either (is_on_path i l.left row col || 
 -- a tile of a lane is a tile of the grid
 pub tile_inside : (i : Intersection) (lane row col : ℕ) → in_lane_tiles i lane row col ≡ true → (row < i.grid.n) × (col < i.grid.n)
 tile_inside i lane row col h = lane_inside i (slice_get i.lanes lane) row col h
+
+-- tiles that had been set or meet one of the first stations, and those that meet the next one too
+pub met_by_one_more : (g : Grid) (ss : List Station) (i : ℕ) (d : Station) (row col : ℕ) (had was now is_in : Bool) → i < length ss
+    → was ≡ (had || is_met g (take i ss) row col) → now ≡ (was || is_in) → is_in ≡ is_touched g g.half (get_or ss i d) row col
+    → now ≡ (had || is_met g (take (i + 1) ss) row col)
+met_by_one_more g ss i d row col had was now is_in there w n t =
+    rw (n, w, t, list_any_more (λ s. is_touched g g.half s row col) ss i d there) (regrouped had (is_met g (take i ss) row col) (is_touched g g.half (get_or ss i d) row col))
+  where
+    regrouped : (a b c : Bool) → ((a || b) || c) ≡ (a || (b || c))
+    regrouped true b c = refl
+    regrouped false b c = refl

@@ -13,6 +13,7 @@ use crate::places::{belongs, place_after};
 use crate::questions::{
     cancel_of, changes_seen, down_of, is_planned, orders_seen, until_of, up_of,
 };
+use aim_geometry::is_outside;
 use aim_msg::{Line, MOST_VEHICLES, Name};
 use aim_script::{Kind, Limit, Setting};
 
@@ -39,13 +40,6 @@ pub(crate) fn vehicles_limit(spans: u32, vehicles: u32) -> Option<Limit>
     } else {
         None
     }
-}
-
-// Whether a number is none of those from 1 to `most`.
-fn is_outside(n: u32, most: u32) -> bool
-    ensures { result ≡ is_out_of n most }
-{
-    n == 0 || n > most
 }
 
 // Whether the line is about a vehicle that has no plan.

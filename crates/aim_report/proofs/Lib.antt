@@ -2,3 +2,4 @@ pub mod Lines
 pub mod StayLemmas
 pub mod Telling
 pub mod Rows
+pub mod LineLemmas

@@ -4,3 +4,4 @@ mod GreenLemmas
 mod BeforeLemmas
 mod BlockedLemmas
 pub mod KeepingLemmas
+mod NewRows

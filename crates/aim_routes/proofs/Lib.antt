@@ -2,4 +2,5 @@ pub mod Parting
 pub mod Judging
 pub mod Fitting
 pub mod Staging
+pub mod Ending
 pub mod Rows

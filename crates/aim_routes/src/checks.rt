@@ -1,13 +1,13 @@
 //! What is wrong with a line, and which limit it goes past.
 
 ghost use Rattle.std.specs.Prelude.{◌≡◌, ◌≤◌, ◌*◌, length};
-ghost use Rattle.aim_geometry.specs.Bounded.{is_outside as is_out_of};
 ghost use Rattle.aim_plans.specs.Kinds.{vehicles_limit as limit_on};
 ghost use Rattle.aim_routes.specs.Kinds.{is_bad_plan};
 ghost use Rattle.aim_routes.specs.Said.{has_leg, is_leg_at, spans_in};
 
 use crate::routes::PlannedLeg;
 use aim_driver::DrivePlan;
+use aim_geometry::is_outside;
 use aim_paths::Layout;
 use aim_script::Limit;
 
@@ -19,13 +19,6 @@ const MOST_VEHICLES: u32 = 256;
 
 // The most spans in the sheets of all vehicles, one sheet for each at each crossing.
 const MOST_SPANS: u128 = 16_777_216;
-
-/// Whether a number is none of those from 1 to `most`.
-pub(crate) fn is_outside(n: u32, most: u32) -> bool
-    ensures { result ≡ is_out_of n most }
-{
-    n == 0 || n > most
-}
 
 /// The spans of a sheet at each of the crossings.
 pub(crate) fn spans_in(layouts: &[Layout]) -> u128

@@ -1,8 +1,9 @@
 //! How far a script has come, line by line.
 
-ghost use Rattle.std.specs.Prelude.{◌≡◌, ◌≤◌, ◌+◌, ◌++◌, ◌∷◌, List, [], length, None, false, nat_le};
+ghost use Rattle.std.specs.Prelude.{◌≡◌, ◌≤◌, ◌+◌, ◌++◌, ◌∷◌, List, [], length, None, Ok, false, nat_le};
 ghost use Rattle.aim_msg.specs.declared.script.Line.{Line as AnyPlain};
 ghost use Rattle.aim_msg.specs.declared.script.Line.TheVariants as plain;
+ghost use Rattle.aim_script.specs.declared.headers.Header.{Header as AnyHeader};
 ghost use Rattle.aim_script.specs.Headers.{HasName, Stands as StandsAsHeader};
 ghost use Rattle.aim_script.specs.Said.{vehicles_in};
 ghost use Rattle.aim_script.specs.Versions.{version_number};
@@ -11,13 +12,14 @@ ghost use Rattle.aim_grid_read.specs.declared.lines.GridLine.TheVariants as line
 ghost use Rattle.aim_grid_read.specs.Spelled.{IsBare};
 ghost use Rattle.aim_routes.specs.declared.stages.Stage.TheVariants as stage;
 ghost use Rattle.aim_routes.specs.Kinds.{leg_kind_of};
-ghost use Rattle.aim_routes.specs.Said.{begins_block, version_of};
+ghost use Rattle.aim_routes.specs.Said.{begins_block, parted, version_of};
 ghost use Rattle.aim_routes.specs.Stages.{AreBlocks, Begins, Ends, EndsBlock, IsCounted, Judged, Sets, Settles, Stands, Takes, WasRead, ending_of, is_order, refusal_of};
 
-use crate::checks::{LAST_STEP, has_leg, is_bad_plan, is_outside, spans_in, vehicles_limit};
+use crate::checks::{LAST_STEP, has_leg, is_bad_plan, spans_in, vehicles_limit};
 use crate::decisions::GridKind;
 use crate::routes::{PlannedLeg, Routes};
 use aim_driver::DrivePlan;
+use aim_geometry::is_outside;
 use aim_grid_read::{GridLine, read_grid_line};
 use aim_msg::Line;
 use aim_paths::Layout;
@@ -232,6 +234,30 @@ fn has_all(count: u32, whole: &[Layout]) -> bool
     whole.len() >= count as usize || count as usize - whole.len() == 1
 }
 
+// Begins a further block behind these, of which the last, of that layout, has just ended.
+fn further_block(
+    count: u32,
+    mut whole: Vec<Layout>,
+    layout: Layout,
+    alloc: Global,
+    number: u32,
+) -> Result<Stage, Refusal>
+    requires { nat_le count (length whole.items + 1) ≡ false }
+    ensures { (before : List AnyLine) (header : AnyHeader) → AreBlocks before record { count = count; whole = whole; header = header } → (let p = parted before in EndsBlock p.block number (Ok layout)) → Takes before (line_of.Plain (plain.Version number)) result }
+{
+    match begun(alloc, number) {
+        Err(why) => Err(told(why)),
+        Ok(header) => match whole.push(layout) {
+            Err(_) => Err(Refusal::NoMemory),
+            Ok(()) => Ok(Stage::Blocks(Blocks {
+                count,
+                whole,
+                header,
+            })),
+        },
+    }
+}
+
 impl Blocks {
     // Takes the `aim` line of the next block.
     fn next(self, alloc: Global, number: u32) -> Result<Stage, Refusal>
@@ -239,7 +265,7 @@ impl Blocks {
     {
         let Blocks {
             count,
-            mut whole,
+            whole,
             header,
         } = self;
         if has_all(count, &whole) {
@@ -247,17 +273,7 @@ impl Blocks {
         }
         match ended(header, alloc, number) {
             Err(why) => Err(told(why)),
-            Ok(layout) => match begun(alloc, number) {
-                Err(why) => Err(told(why)),
-                Ok(header) => match whole.push(layout) {
-                    Err(_) => Err(Refusal::NoMemory),
-                    Ok(()) => Ok(Stage::Blocks(Blocks {
-                        count,
-                        whole,
-                        header,
-                    })),
-                },
-            },
+            Ok(layout) => further_block(count, whole, layout, alloc, number),
         }
     }
 

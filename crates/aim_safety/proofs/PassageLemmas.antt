@@ -48,6 +48,10 @@ passage_on i h log t e o entered at granted =
     let begin : Option Grant → Option Passage = option_map (λ g. record { step = t.step; grant = g }) in
     ap begin granted ∙ sym (ap (passage_from i h) entered ∙ ap (λ o. begin (grant_of i o)) at)
 
+-- where the history has no entry of the id on which the driver entered, there is no crossing
+pub no_passage : (i : Intersection) (h : List Entry) (log : List LogItem) (t : Entrance) → entrance log ≡ Some t → slice_get h t.id ≡ None → None ≡ passage i h log
+no_passage i h log t entered at = rw (entered, at) refl
+
 -- a crossing begins at a step at which the driver entered, on good params
 pub passage_good : (i : Intersection) (h : List Entry) (log : List LogItem) (x : Passage) → passage i h log ≡ Some x → bad i x.grant.params ≡ None
 passage_good i h log x is = let at = passage_at i h log x is in granted (slice_get h at.0.id) at.3

@@ -1,10 +1,11 @@
 //! How far the header of a script has come, line by line.
 
-ghost use Rattle.std.specs.Prelude.{◌≡◌, false, List, []};
+ghost use Rattle.std.specs.Prelude.{◌≡◌, ◌==◌, ℕ, false, List, [], None, Ok, Err, OnOk, IfOk, IfErr};
 ghost use Rattle.aim_msg.specs.declared.script.Line.{Line};
 ghost use Rattle.aim_msg.specs.declared.script.Times5.{Times5};
 ghost use Rattle.aim_msg.specs.declared.script.Times6.{Times6};
 ghost use Rattle.aim_msg.specs.Lines.{IsName};
+ghost use Rattle.aim_paths.specs.Building.{finish_fault};
 ghost use Rattle.aim_script.specs.Said.{grid_of as grid_from, kind_of, shape_of as shape_from, times6_of as times_from_six, times_of as times_from, version_after};
 ghost use Rattle.aim_script.specs.Versions.{version_number};
 ghost use Rattle.aim_script.specs.Headers.{AddsPolicy, Closes, Goes, HasName, Heeds, SaysNoMore, Stands, StandsAt, adds, move_kind_of};
@@ -16,7 +17,7 @@ use crate::versions::ScriptVersion;
 use aim_geometry::{Grid, Ground, GroundFault, Times};
 use aim_msg::{Grid6, Line, MoveShape, Name, Times5, Times6, Turn};
 use aim_paths::builders::{Builder, LayoutFault};
-use aim_paths::{Kind as PolicyKind, Shape};
+use aim_paths::{Kind as PolicyKind, Layout, Shape};
 use std::alloc::Global;
 
 /// Where a header stands, and what is kept of the lines so far.
@@ -152,6 +153,22 @@ fn move_kind(fault: LayoutFault) -> Kind
 }
 
 // Adds a policy, whose name is new, to those of a layout.
+fn add_named(builder: &mut Builder, names: &mut Names, name: &Name, kind: u8) -> Result<(), Refusal>
+    requires { IsName name.now }
+    ensures ok { OnOk result (AddsPolicy builder.old names.old name.now kind (Ok (Place.Policies builder.new names.new))) }
+    ensures err { IfErr result (λ why. AddsPolicy builder.old names.old name.now kind (Err why)) }
+{
+    match names.declare(name) {
+        Ok(true) => match builder.add_policy(policy_kind(kind)) {
+            Ok(()) => Ok(()),
+            Err(_) => Err(Refusal::Bad(Kind::Phase)),
+        },
+        Ok(false) => Err(Refusal::Bad(Kind::Policy)),
+        Err(_) => Err(Refusal::NoMemory),
+    }
+}
+
+// A layout and its names with a policy more, whose name is new.
 fn with_policy(
     mut builder: Builder,
     mut names: Names,
@@ -161,14 +178,24 @@ fn with_policy(
     requires { IsName name.now }
     ensures { AddsPolicy builder names name.now kind result }
 {
-    match names.declare(name) {
-        Ok(true) => match builder.add_policy(policy_kind(kind)) {
-            Ok(()) => Ok(Place::Policies(builder, names)),
-            Err(_) => Err(Refusal::Bad(Kind::Phase)),
-        },
-        Ok(false) => Err(Refusal::Bad(Kind::Policy)),
-        Err(_) => Err(Refusal::NoMemory),
+    match add_named(&mut builder, &mut names, name, kind) {
+        Ok(()) => Ok(Place::Policies(builder, names)),
+        Err(why) => Err(why),
     }
+}
+
+// The layout, where it is whole and there is a vehicle.
+fn finished(builder: Builder, vehicles: u32) -> Result<Layout, Refusal>
+    ensures ok { IfOk result (λ layout. (finish_fault builder ≡ None) × (vehicles == 0 ≡ false) × (layout ≡ builder)) }
+    ensures err { IfErr result (λ why. (version : ScriptVersion) (names : List (List ℕ)) → Closes version builder names vehicles (Err why)) }
+{
+    let Ok(layout) = builder.finish() else {
+        return Err(Refusal::Bad(Kind::Phase));
+    };
+    if vehicles == 0 {
+        return Err(Refusal::Bad(Kind::Vehicle));
+    }
+    Ok(layout)
 }
 
 // Ends a layout for so many vehicles.
@@ -180,15 +207,14 @@ fn closed(
 ) -> Result<Headed, Refusal>
     ensures { Closes version builder names vehicles result }
 {
-    match builder.finish() {
-        Err(_) => Err(Refusal::Bad(Kind::Phase)),
-        Ok(_layout) if vehicles == 0 => Err(Refusal::Bad(Kind::Vehicle)),
+    match finished(builder, vehicles) {
         Ok(layout) => Ok(Headed::Whole(Setting {
             version,
             layout,
             names,
             vehicles,
         })),
+        Err(why) => Err(why),
     }
 }
 

@@ -1,6 +1,6 @@
 //! Opening.
 
-ghost use Rattle.std.specs.Prelude.{◌≡◌, ◌≢◌, ◌⊎◌, ◌<◌, ◌≤◌, ◌*◌, ℕ, List, [], Some, None, length, map, vec_capacity, All, AllPairs, IfOk, MatchResult};
+ghost use Rattle.std.specs.Prelude.{◌≡◌, ◌≢◌, ◌⊎◌, ◌<◌, ◌≤◌, ◌*◌, ℕ, List, [], ◌∷◌, Some, None, length, map, vec_capacity, All, AllPairs, IfOk, MatchResult};
 ghost use Rattle.aim_shards.specs.declared.opening.ShardFault.TheVariants.{NoMemory};
 ghost use Rattle.aim_shards.specs.Cuts.{AreCut, AreWithin, half_of};
 ghost use Rattle.aim_shards.specs.Models.{count_up, new_pass};
@@ -8,6 +8,7 @@ ghost use Rattle.aim_shards.specs.Grid.{AreOnGrid};
 ghost use Rattle.aim_shards.specs.Opening.{fault_of};
 ghost use Rattle.aim_shards.specs.Ruled.{Suits, opening_view};
 ghost use Rattle.aim_shards.specs.Sets.{Quarters};
+ghost use Rattle.aim_shards.specs.declared.quarter.Quarter.{Quarter};
 
 use crate::calls::Shards;
 use crate::claims::{ClaimAct, ClaimEntry};
@@ -85,6 +86,25 @@ fn new_quarter(alloc: Global, room: usize, n: u32, horizon: u32) -> Result<Quart
     })
 }
 
+// The quadrants of a table: four that are empty, with room for so many entries each.
+fn four_quarters(
+    alloc: Global,
+    room: usize,
+    n: u32,
+    horizon: u32,
+) -> Result<Vec<Option<Quarter>>, AllocError>
+    requires n { (1 ≤ n) × (n ≤ 64) }
+    requires horizon { (1 ≤ horizon) × (horizon ≤ 8192) }
+    ensures { IfOk result (λ v. (a : Quarter) × (b : Quarter) × (c : Quarter) × (d : Quarter) × (v.items ≡ Some a ∷ Some b ∷ Some c ∷ Some d ∷ []) × ((k : Quarter) → (k ≡ a) ⊎ (k ≡ b) ⊎ (k ≡ c) ⊎ (k ≡ d) → (q : ℕ) (sets : List Quarters) → q < 4 → AreWithin n horizon sets → Suits (record { room = room; sets = sets }) q [] k)) }
+{
+    let mut slots = Vec::with_capacity(alloc, 4)?;
+    slots.push_reserved(Some(new_quarter(alloc, room, n, horizon)?));
+    slots.push_reserved(Some(new_quarter(alloc, room, n, horizon)?));
+    slots.push_reserved(Some(new_quarter(alloc, room, n, horizon)?));
+    slots.push_reserved(Some(new_quarter(alloc, room, n, horizon)?));
+    Ok(slots)
+}
+
 // The table, with the seat that has all numbers to give.
 fn laid(
     alloc: Global,
@@ -106,15 +126,7 @@ fn laid(
     ensures seat { IfOk result (λ r. (r.1.table_id ≡ r.0.shared.table_id) × (r.1.me ≡ (opening_view sets.now.items numbers.now.items calls, []))) }
 {
     let room = numbers.len() * calls as usize;
-    let first = new_quarter(alloc, room, n, horizon)?;
-    let second = new_quarter(alloc, room, n, horizon)?;
-    let third = new_quarter(alloc, room, n, horizon)?;
-    let fourth = new_quarter(alloc, room, n, horizon)?;
-    let mut slots = Vec::with_capacity(alloc, 4)?;
-    slots.push_reserved(Some(first));
-    slots.push_reserved(Some(second));
-    slots.push_reserved(Some(third));
-    slots.push_reserved(Some(fourth));
+    let slots = four_quarters(alloc, room, n, horizon)?;
     let about = Opening {
         size: n,
         sheets: Snapshot::of(sheets),
@@ -171,6 +183,33 @@ fn seat_all(
     }
 }
 
+// The table, with a pass for each number.
+fn seated(
+    alloc: Global,
+    n: u32,
+    horizon: u32,
+    sheets: &Vec<Sheet>,
+    sets: &Vec<Quartered>,
+    numbers: &Vec<u32>,
+    calls: u32,
+) -> Result<(Desk, Vec<ShardPass>), AllocError>
+    requires n { (1 ≤ n) × (n ≤ 64) }
+    requires horizon { (1 ≤ horizon) × (horizon ≤ 8192) }
+    requires within { AreWithin n horizon sets.now.items }
+    requires distinct { AllPairs (λ m n. m ≢ n) numbers.now.items }
+    requires few { (length numbers.now.items ≤ 64) × (calls ≤ 1024) }
+    ensures counts { IfOk result (λ r. (r.0.shared.table_id.words ≡ 9) × (r.0.shared.table_id.slots ≡ 4)) }
+    ensures grid { IfOk result (λ r. (r.0.shared.key.size ≡ n) × (r.0.shared.key.sheets.value.items ≡ sheets.now.items)) }
+    ensures key { IfOk result (λ r. (r.0.shared.key.sets.value.items ≡ sets.now.items) × (r.0.shared.key.numbers.value.items ≡ numbers.now.items) × (r.0.shared.key.calls ≡ calls)) }
+    ensures passes { IfOk result (λ r. r.1.items ≡ map (new_pass (record { table = r.0.shared.table_id; size = r.0.shared.key.size; sets = r.0.shared.key.sheets.value.items; quarters = r.0.shared.key.sets.value.items; numbers = r.0.shared.key.numbers.value.items; calls = r.0.shared.key.calls })) numbers.now.items) }
+{
+    let standings = rooms(alloc, numbers.len(), calls as usize)?;
+    let mut passes = Vec::with_capacity(alloc, numbers.len())?;
+    let (desk, root) = laid(alloc, n, horizon, sheets, sets, numbers, calls)?;
+    seat_all(&desk, root, numbers, calls, standings, &mut passes);
+    Ok((desk, passes))
+}
+
 impl Shards {
     // Opens shards for callers with these numbers.
     fn opened(
@@ -192,10 +231,7 @@ impl Shards {
     {
         let quarters = quarter_all(alloc, n, &sets)?;
         let nothing = no_cells(alloc)?;
-        let standings = rooms(alloc, numbers.len(), calls as usize)?;
-        let mut passes = Vec::with_capacity(alloc, numbers.len())?;
-        let (desk, root) = laid(alloc, n, horizon, &sets, &quarters, &numbers, calls)?;
-        seat_all(&desk, root, &numbers, calls, standings, &mut passes);
+        let (desk, passes) = seated(alloc, n, horizon, &sets, &quarters, &numbers, calls)?;
         let shards = Shards {
             desk,
             quarters,

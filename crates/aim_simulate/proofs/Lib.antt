@@ -6,3 +6,4 @@ pub mod Unions
 pub mod Footprints
 pub mod FieldLemmas
 pub mod GoodLemmas
+mod LeftRows

@@ -1,3 +1,4 @@
 pub mod Instants
 pub mod Windows
 pub mod Histories
+mod Pushes

@@ -1,8 +1,8 @@
 -- Where a span's mask and a word of a page share a bit.
 use Rattle.std.proofs.Common.{◌≡◌, ◌≢◌, ℕ, zero, suc, ◌+◌, ◌-◌, ◌*◌, ◌%◌, ◌^◌, ◌<◌, ◌≤◌, Bool, true, false, not, ◌&&◌, List, length, get_or, drop, refl, sym, ap, subst, ◌∙◌, arith, w64}
-use Rattle.std.specs.Prelude.{◌==◌, bit_and, nat_lt, slice_range}
+use Rattle.std.specs.Prelude.{◌==◌, bit_and, nat_le, nat_lt, slice_range}
 use Rattle.std.specs.Int.{bit_at, bit_not, trailing_zeros}
-use Rattle.std.proofs.lemmas.Bool.{and_parts, and_from, and_left, both_ways, false_from_ne_true, eqb-true, eq-eqb, lt-ltb, lt-ltb}
+use Rattle.std.proofs.lemmas.Bool.{and_parts, and_from, and_left, both_ways, false_from_ne_true, eqb-true, eq-eqb, lt-ltb, leb-true, ltb-true}
 use Rattle.std.proofs.lemmas.Nat.{and_le_l}
 use Rattle.std.proofs.lemmas.Nat.Bits.{bit_at_not, bit_at-lt, bit_at-trailing_zeros}
 use Rattle.std.proofs.lemmas.List.{get_or_default, get_or-drop, get_or-take}
@@ -81,6 +81,34 @@ module _ (words : List ℕ) (size horizon now : ℕ) (few : size ≤ 64) (own : 
               let zero_bit : has_bit hit c ≡ false = ap (λ b. b == 1) (t.2 c lt) in
               both_ways (has_bit hit c) zero_bit (bit_meets c h.1 ∙ h.0))),
         )
+
+-- steps that are not within the horizon
+pub outside_before : (now horizon step : ℕ) → step < now → in_range now horizon step ≢ true
+outside_before now horizon step before is = let from = leb-true now step (and_parts (nat_le now step) (nat_lt step (now + horizon)) is).0 in omega arith
+
+pub outside_after : (now horizon step : ℕ) → now + horizon ≤ step → in_range now horizon step ≢ true
+outside_after now horizon step after is = let to = ltb-true step (now + horizon) (and_parts (nat_le now step) (nat_lt step (now + horizon)) is).1 in omega arith
+
+-- a hit is within the horizon
+hit_range : (words : List ℕ) (size horizon now : ℕ) (own : List Span) (span : Span) (cell : Cell)
+    → is_hit words size horizon now own span cell ≡ true → in_range now horizon span.step ≡ true
+hit_range words size horizon now own span cell is =
+    let parts = and_parts (in_span span cell) (is_marked words size horizon now cell && not (in_spans own cell)) is in
+    let here = and_parts (is_at span cell.step cell.row) (has_bit span.mask cell.col) parts.0 in
+    let at = and_parts (span.step == cell.step) (span.row == cell.row) here.0 in
+    let marked = and_parts (is_marked words size horizon now cell) (not (in_spans own cell)) parts.1 in
+    let held = and_parts (in_box size horizon now cell) (has_mark words size horizon cell) marked.0 in
+    let range = and_parts (in_range now horizon cell.step) (nat_lt cell.row size && nat_lt cell.col size) held.0 in
+    ap (λ step. in_range now horizon step) (eqb-true span.step cell.step at.0) ∙ range.0
+
+-- no cell of a run is hit whose step is not within the horizon
+pub run_outside : (words : List ℕ) (size horizon now : ℕ) (own run : List Span) (masks : List ℕ) → IsRun run masks (length run)
+    → (e : Span) → in_range now horizon (get_or run 0 e).step ≢ true
+    → (k : ℕ) (d : Span) → k < length run → IsClear (is_hit words size horizon now own) (get_or run k d)
+run_outside words size horizon now own run masks is_run e outside k d lt cell =
+    let same : (get_or run k d).step ≡ (get_or run 0 e).step = is_run.step k d lt ∙ ap (λ (s : Span). s.step) (get_or_default run 0 d e (omega arith)) in
+    false_from_ne_true (is_hit words size horizon now own (get_or run k d) cell)
+    (λ is. outside (ap (λ step. in_range now horizon step) (sym same) ∙ hit_range words size horizon now own (get_or run k d) cell is))
 
 -- the words of a run
 module _ (words : List ℕ) (size horizon place : ℕ) (run : List Span) (masks : List ℕ) (is_run : IsRun run masks (length run)) (e : Span)

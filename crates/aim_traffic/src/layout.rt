@@ -147,8 +147,8 @@ fn way(place: usize) -> (u32, Turn, Shape)
     requires { place < 12 }
     ensures { slice_get ways place ≡ Some (AddMove result.0 result.1 result.2) }
 {
-    let (lane, turn, start, pull, end, parts) = WAYS[place];
-    (lane, turn, shape_between(start, pull, end, parts))
+    let (lane, turn, start, pull, end, parts) = &WAYS[place];
+    (*lane, *turn, shape_between(*start, *pull, *end, *parts))
 }
 
 // Adds the move of that place.

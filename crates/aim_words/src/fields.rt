@@ -107,12 +107,21 @@ fn params(words: &mut Words<'_>) -> Result<Params, LineKind>
 }
 
 #[tactic(auto, unfolding(crate::specs::Steps::body_in))]
+fn change(words: &mut Words<'_>) -> Result<Body, LineKind>
+    ensures { Gives result words.new (body_in MessageForm.Change words.old) }
+{
+    let id = number32(words)?;
+    let params = params(words)?;
+    Ok(Body::Change(id, params))
+}
+
+#[tactic(auto, unfolding(crate::specs::Steps::body_in))]
 fn body(words: &mut Words<'_>, form: MessageForm) -> Result<Body, LineKind>
     ensures { Gives result words.new (body_in form words.old) }
 {
     match form {
         MessageForm::Request => Ok(Body::Request(params(words)?)),
-        MessageForm::Change => Ok(Body::Change(number32(words)?, params(words)?)),
+        MessageForm::Change => change(words),
         MessageForm::Cancel => Ok(Body::Cancel(number32(words)?)),
         MessageForm::Done => Ok(Body::Done(number32(words)?)),
     }

@@ -30,3 +30,31 @@ write_cells-requires-clause-trial c =
       some = omega arith;
       round = c.requires.round;
     }
+
+pub fill_reaches-count-requires-clause-moving : goal.fill_reaches-count-requires-clause-moving
+fill_reaches-count-requires-clause-moving c = (good_crossing c.args.layout.now c.args.params.now c.requires.good).moving
+
+pub fill_reaches-count-requires-clause-path : goal.fill_reaches-count-requires-clause-path
+fill_reaches-count-requires-clause-path c =
+    let here : length (stations c.args.layout.now c.args.params.now.lane c.args.params.now.turn) ≡ length c.args.path.now = rw c.requires.found refl in
+    rw here (let parts = c.parts.ensures.parts in omega arith)
+
+pub fill_reaches-count-requires-clause-parts : goal.fill_reaches-count-requires-clause-parts
+fill_reaches-count-requires-clause-parts c =
+    let here : length (stations c.args.layout.now c.args.params.now.lane c.args.params.now.turn) ≡ length c.args.path.now = rw c.requires.found refl in
+    rw here (let parts = c.parts.ensures.parts in omega arith)
+
+pub fill_reaches-count-requires-clause-few : goal.fill_reaches-count-requires-clause-few
+fill_reaches-count-requires-clause-few c = c.parts.ensures.most
+
+pub write_cells-requires-clause-empty : goal.write_cells-requires-clause-empty
+write_cells-requires-clause-empty c = c.requires.empty
+
+pub returns-clause-cells : goal.returns-clause-cells
+returns-clause-cells c = c.in_ok-write_cells.ensures.cells
+
+pub returns-clause-spans : goal.returns-clause-spans
+returns-clause-spans c = c.in_ok-write_cells.ensures.count
+
+pub returns-clause-steps : goal.returns-clause-steps
+returns-clause-steps c = c.fill_reaches-count.ensures.count

@@ -1,15 +1,16 @@
 use Rattle.std.proofs.Common.{Err, [], ◌∷◌, ◌++◌, arith, ◌≡◌, ◌+◌, true, sym, ap, ◌∙◌}
 use Rattle.aim_io.proofs.LoopLemmas.{took_kept, took_line, took_part}
+use Rattle.aim_io.specs.declared.lines.LineFault.TheVariants as fault
 use Rattle.aim_io.specs.Reader.{Reader, after_call}
 use Rattle.aim_claims.proofs.Behind.{script_push}
-use Rattle.aim_claims.proofs.Deciding.{bad_line, end_line, goes_length, goes_on_line, long_line}
+use Rattle.aim_claims.proofs.Deciding.{bad_line, end_line, goes_length, goes_on_line, fault_line}
 use Rattle.aim_claims.proofs.reading.read_script.Goals as goal
 
 pub returns-in-Err-Long-clause-verdict : goal.returns-in-Err-Long-clause-verdict
 returns-in-Err-Long-clause-verdict g c =
     let i = c.lines.invariant in
     let step = rw c.in-Err-Long.field-0-is at (c.in-Err-Long.ensures.step i.knows i.no_fault) in
-    rw c.in-Err-Long.line-is (long_line c.lines.script c.in-Err-Long.line c.lines.reader c.advance.new.self _ _ _ i.decides step)
+    rw c.in-Err-Long.line-is (fault_line c.lines.script (fault.Long c.in-Err-Long.line) c.lines.reader c.advance.new.self _ _ _ (λ e. cc) i.decides step)
 
 pub lines-preserved : goal.lines-preserved
 lines-preserved g c =
@@ -63,3 +64,15 @@ returns-in-Err-Read-clause-short g c _ =
       before = c.lines.script;
       script = before.is;
     }
+
+pub returns-in-Err-Bytes-clause-verdict : goal.returns-in-Err-Bytes-clause-verdict
+returns-in-Err-Bytes-clause-verdict g c =
+    let i = c.lines.invariant in
+    let step = rw c.in-Err-Bytes.field-0-is at (c.in-Err-Bytes.ensures.step i.knows i.no_fault) in
+    fault_line c.lines.script fault.Bytes c.lines.reader c.advance.new.self _ _ _ (λ e. cc) i.decides step
+
+pub returns-in-Err-Lines-clause-verdict : goal.returns-in-Err-Lines-clause-verdict
+returns-in-Err-Lines-clause-verdict g c =
+    let i = c.lines.invariant in
+    let step = rw c.in-Err-Lines.field-0-is at (c.in-Err-Lines.ensures.step i.knows i.no_fault) in
+    fault_line c.lines.script fault.Lines c.lines.reader c.advance.new.self _ _ _ (λ e. cc) i.decides step

@@ -2,7 +2,7 @@ use Rattle.std.proofs.Common.{Ok, Err, arith, ◌≡◌, ◌+◌, ap, sym, ◌�
 use Rattle.aim_io.specs.Reader.{Reader, after_call}
 use Rattle.aim_plans.proofs.Deciding.{most, placed_kept, placed_more}
 use Rattle.aim_routes.specs.Stages.{Judged}
-use Rattle.aim_grid_script.proofs.Reaching.{ends, ends_fit, fault_is_read, goes_further, is_faulty, is_refused, rose_later, stops_short}
+use Rattle.aim_grid_script.proofs.Reaching.{ends, ends_fit, ends_not_read, fault_is_read, goes_further, is_faulty, is_refused, refused_not_read, rose_later, stops_short}
 use Rattle.aim_grid_script.proofs.reading.read_grid.Goals as goal
 
 pub returns-in-Err-clause-reads : goal.returns-in-Err-clause-reads
@@ -75,3 +75,19 @@ returns-in-Ok-false-clause-most g c =
     let e = c.in-Ok-false.ensures in
     let t = c.in-Ok-false.field-0-test in
     most _ _ c.advance.new.self (placed_more _ _ _ c.lines.reader c.advance.new.self false c.lines.invariant.placed (rw t at e.taken) (rw t at e.after)) e.sound
+
+pub returns-in-Err-take-clause-short : goal.returns-in-Err-take-clause-short
+returns-in-Err-take-clause-short g c is = absurd (refused_not_read (c.lines.number + 1) c.in-Err-take.why (rw c.of_refusal.ensures at is))
+
+pub returns-in-Err-take-clause-read : goal.returns-in-Err-take-clause-read
+returns-in-Err-take-clause-read g c is = absurd (refused_not_read (c.lines.number + 1) c.in-Err-take.why (rw c.of_refusal.ensures at is))
+
+pub returns-in-Ok-false-clause-short : goal.returns-in-Ok-false-clause-short
+returns-in-Ok-false-clause-short g c is =
+    let i = c.lines.invariant in
+    absurd (ends_not_read _ _ c.lines.reader c.lines.stage c.lines.number c.ended.result i.reached i.number c.ended.ensures is)
+
+pub returns-in-Ok-false-clause-read : goal.returns-in-Ok-false-clause-read
+returns-in-Ok-false-clause-read g c is =
+    let i = c.lines.invariant in
+    absurd (ends_not_read _ _ c.lines.reader c.lines.stage c.lines.number c.ended.result i.reached i.number c.ended.ensures is)

@@ -6,4 +6,4 @@ use Rattle.aim_json_read.proofs.spelling.put_items.Given as goal
 
 abbrev pub invariant-loop-item : goal.invariant-loop-item
 invariant-loop-item l =
-    added l.out.items (items_words (items_view (drop l.item-index l.items.items))) ≡ added l.fn.out.items (items_words (items_view l.items.items))
+    added l.out.items (items_words (items_view (drop l.item-index l.items))) ≡ added l.fn.out.items (items_words (items_view l.items))

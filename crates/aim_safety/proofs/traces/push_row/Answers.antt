@@ -23,3 +23,8 @@ loop-col-preserved c =
     ] in
     goes_on old (map cell_of c.if-has_tile.cells.items) (filter p (row c.loop-col.col c.args.row)) tile (filter p (row (c.loop-col.col + 1) c.args.row)) (map cell_of c.args.cells.now.items) c.loop-col.invariant part
     (parts_more (of_tile c.args.first count c.args.row) p c.loop-col.col)
+
+pub returns : goal.returns
+returns c =
+    let whole : c.loop-col.col ≡ c.args.n = omega (arith, c.loop-col-test.false, c.loop-col.auto.col-end) in
+    c.loop-col.invariant ∙ ap (λ n. map cell_of c.args.cells.now.items ++ filter (is_traced c.args.steps.now c.args.first) (of_row c.args.first (length c.args.steps.now) n c.args.row)) whole

@@ -1,13 +1,14 @@
-use Rattle.std.proofs.Common.{◌≡◌, ◌≤◌, ℕ, ◌+◌, ◌-◌, ◌*◌, ◌/◌, arith, below_more, le-ltb, refl, length, length-set}
+use Rattle.std.proofs.Common.{◌≡◌, ◌≤◌, ℕ, ◌+◌, ◌-◌, ◌*◌, ◌/◌, arith, below_more, le-ltb, refl, sym, length, length-set, rules}
 use Rattle.aim_paths.specs.Intersection.{Intersection, stations}
 use Rattle.aim_msg.specs.declared.messages.Params.{Params}
 use Rattle.aim_rules.specs.Motion.{front}
 use Rattle.aim_rules.specs.Footprint.{path_length}
-use Rattle.aim_rules.proofs.MotionLemmas.{front_more}
+use Rattle.aim_rules.proofs.MotionLemmas.{front_more, front_zero}
 use Rattle.aim_simulate.specs.Reaches.{reach_of}
 use Rattle.aim_simulate.proofs.FieldLemmas.{steps_are, steps_most}
 use Rattle.aim_simulate.proofs.Reached.{reach_set, reaches_are}
 use Rattle.aim_simulate.proofs.reaches.fill_reaches.Goals as goal
+use Rattle.aim_simulate.proofs.reaches.fill_reaches.Goals.{then-fast, else-fast}
 
 length_is : (i : Intersection) (p : Params) (m spacing : ℕ) → m ≡ length (stations i p.lane p.turn) - 1 → spacing ≡ i.grid.spacing → m * spacing + p.length ≡ path_length i p + p.length
 length_is i p m spacing a b = rw (a, b) refl
@@ -68,3 +69,20 @@ returns-after-steps-clause-reaches c =
     let i = c.steps.invariant in
     reaches_are c.args.layout.now c.args.params.now c.args.fast c.steps.k c.steps.reaches (rw (← spacing) some) c.requires.path m.most (let l = i.len in let f = i.few in omega arith)
     (steps_are c.args.layout.now c.args.params.now c.args.fast c.steps.k m.speed m.most none (let w = i.way in let t = c.steps-test.false in rw (← e, ← w) t)) none i.exact
+
+pub steps-init : goal.steps-init
+steps-init c =
+    let moving = c.requires.moving in
+    record {
+      way = sym (front_zero c.args.params.now c.args.fast);
+      speed = omega (arith, moving.most);
+      gains = elim c.if-fast.branch [
+        | then-fast w ↦ rw (w.gain-is, w.if-fast.true) refl
+        | else-fast w ↦ rw (w.gain-is, w.if-fast.false) refl
+      ];
+      below = omega arith;
+      few = omega arith;
+      none = λ k l. absurd (omega arith);
+      len = search rules;
+      exact = λ k l. absurd (omega arith);
+    }

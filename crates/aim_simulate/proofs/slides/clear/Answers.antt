@@ -1,7 +1,9 @@
-use Rattle.std.proofs.Common.{◌<◌, ◌&&◌, not, bit_and, slice_index_or, arith, refl, w64, ◌^◌}
+use Rattle.std.proofs.Common.{◌≡◌, ◌+◌, ◌<◌, ◌&&◌, nat_le, nat_lt, not, bit_and, slice_index_or, arith, refl, ap, ◌∙◌, w64, ◌^◌}
+use Rattle.std.specs.Prelude.{if◌then◌else◌}
 use Rattle.std.specs.Int.{bit_not}
 use Rattle.aim_geometry.specs.Rects.{in_columns, in_rect, tile_at}
 use Rattle.aim_geometry.proofs.Bits.{row_written, row_waits, has_bit_and_not}
+use Rattle.aim_simulate.proofs.LeftRows.{rows_are_left}
 use Rattle.aim_simulate.proofs.slides.clear.Goals as goal
 
 pub loop-row-preserved : goal.loop-row-preserved
@@ -17,3 +19,13 @@ loop-row-preserved c = λ r k rl kl.
     (omega arith) (omega arith)
     (λ e. rw (has_bit_and_not was all stay k wide wide_stay kl, c.columns-all.ensures k kl, c.in_row-stay.ensures k kl, ← e, c.loop-row.invariant r k rl kl, e, row_waits c.args.gone.row0 m (tile_at old m k && not (in_columns c.args.gone k && not (in_rect c.args.kept m k))) (tile_at old m k)) refl)
     (c.loop-row.invariant r k rl kl)
+
+pub returns : goal.returns
+returns c = λ r k rl kl.
+    let gone = c.args.gone in
+    let had = tile_at c.args.rows.now r k in
+    let kept = in_rect c.args.kept r k in
+    let end : c.loop-row.row ≡ gone.row1 + 1 = omega arith in
+    c.loop-row.invariant r k rl kl
+    ∙ ap (λ n. if nat_le gone.row0 r && nat_lt r n then had && not (in_columns gone k && not kept) else had) end
+    ∙ rows_are_left gone.row0 gone.row1 r had (in_columns gone k) kept

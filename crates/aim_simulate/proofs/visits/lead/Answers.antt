@@ -1,7 +1,8 @@
-use Rattle.std.proofs.Common.{◌≡◌, ◌+◌, ◌<◌, length, take, arith, refl, sym, ◌∙◌}
+use Rattle.std.proofs.Common.{◌≡◌, ◌+◌, ◌<◌, length, take, arith, refl, sym, ap, subst, ◌∙◌}
 use Rattle.aim_geometry.specs.Bounded.{ceil_div}
 use Rattle.aim_paths.specs.Intersection.{stations}
 use Rattle.aim_simulate.specs.Fills.{AreRectsOf}
+use Rattle.aim_simulate.specs.Reaches.{AreReaches}
 use Rattle.aim_simulate.specs.Visits.{IsFootprint, ShowsStep}
 use Rattle.aim_simulate.proofs.GoodLemmas.{good_crossing, path_within}
 use Rattle.aim_simulate.proofs.Footprints.{reached_footprint}
@@ -41,3 +42,38 @@ returns-clause-visits g c =
       range = s.range;
     })
     (rw many at c.run.ensures)
+
+pub returns-clause-count : goal.returns-clause-count
+returns-clause-count g c = c.fill_reaches-count.ensures.count
+
+pub fill_rects-requires-clause-room : goal.fill_rects-requires-clause-room
+fill_rects-requires-clause-room g c = rw c.stations.ensures.stations c.requires.room
+
+pub fill_reaches-count-requires-clause-path : goal.fill_reaches-count-requires-clause-path
+fill_reaches-count-requires-clause-path g c =
+    let here : length (stations c.args.layout.now c.args.params.now.lane c.args.params.now.turn) ≡ length c.args.path.now = rw c.requires.found refl in
+    let parts = c.parts.ensures.parts in
+    omega arith
+
+pub fill_reaches-count-requires-clause-parts : goal.fill_reaches-count-requires-clause-parts
+fill_reaches-count-requires-clause-parts g c =
+    let here : length (stations c.args.layout.now c.args.params.now.lane c.args.params.now.turn) ≡ length c.args.path.now = rw c.requires.found refl in
+    let parts = c.parts.ensures.parts in
+    omega arith
+
+pub fill_reaches-count-requires-clause-few : goal.fill_reaches-count-requires-clause-few
+fill_reaches-count-requires-clause-few g c = c.parts.ensures.most
+
+pub run-requires-clause-rects : goal.run-requires-clause-rects
+run-requires-clause-rects g c = c.fill_rects.ensures.whole
+
+pub run-requires-clause-few : goal.run-requires-clause-few
+run-requires-clause-few g c =
+    let count = c.fill_reaches-count.ensures.reaches.count in
+    let steps = (good_crossing c.args.layout.now c.args.params.now c.requires.good).steps c.args.accelerate in
+    omega arith
+
+pub run-requires-clause-reaches : goal.run-requires-clause-reaches
+run-requires-clause-reaches g c =
+    let here : c.stations.result.now ≡ stations c.args.layout.now c.args.params.now.lane c.args.params.now.turn = rw (c.stations.ensures.stations, c.requires.found) refl in
+    subst (λ n. AreReaches n (take c.fill_reaches-count.result c.fill_reaches-count.new.reaches)) (sym (c.fill_rects.ensures.count ∙ ap length here)) c.fill_reaches-count.ensures.reaches.order

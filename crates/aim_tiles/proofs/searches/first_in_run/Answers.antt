@@ -5,8 +5,9 @@ use Rattle.aim_pool.specs.declared.spans.Span.{Span}
 use Rattle.aim_tiles.specs.Cells.{in_range}
 use Rattle.aim_tiles.specs.Searches.{is_hit, IsClear, spans_of}
 use Rattle.aim_tiles.proofs.Writes.{row_of_span}
-use Rattle.aim_tiles.proofs.Hits.{run_apart, run_own, run_hit}
+use Rattle.aim_tiles.proofs.Hits.{run_apart, run_own, run_hit, run_outside, outside_before, outside_after}
 use Rattle.aim_tiles.proofs.searches.first_in_run.Goals as goal
+use Rattle.aim_tiles.proofs.searches.first_in_run.Goals.{then-first-now-via-then-first-now, then-first-now-via-else-first-now+then-now-horizon}
 
 abbrev none : Span
 none = record { step = 0; row = 0; mask = 0 }
@@ -60,3 +61,13 @@ returns-clause-none g c = λ k d lt. elim (cases_lt k c.loop-place.at) [
   | inr from ↦ run_apart c.args.pages.now.words.items c.args.pages.now.size c.args.pages.now.horizon (c.page.result + (get_or c.args.run.now 0 none).row) c.args.run.now c.args.masks.now c.requires.run none (ap (λ x. x + (get_or c.args.run.now 0 none).row) c.page.ensures.place)
       c.args.now c.args.pages.now.few (spans_of (option_copied c.args.own)) c.read-words.result.now c.read-words.ensures.words k lt (c.in_default.ensures.none k from (omega (arith, lt, c.requires.masks))) d
 ]
+
+pub returns-then-first-now-clause-none : goal.returns-then-first-now-clause-none
+returns-then-first-now-clause-none g c = run_outside c.args.pages.now.words.items c.args.pages.now.size c.args.pages.now.horizon c.args.now (spans_of (option_copied c.args.own)) c.args.run.now c.args.masks.now c.requires.run none
+    (elim c.then-first-now.branch [
+      | then-first-now-via-then-first-now w ↦ outside_before c.args.now c.args.pages.now.horizon (get_or c.args.run.now 0 none).step w.if-first-now.true
+      | then-first-now-via-else-first-now+then-now-horizon w ↦ outside_after c.args.now c.args.pages.now.horizon (get_or c.args.run.now 0 none).step (let h = w.horizon.ensures.horizon in let after = w.if-now-horizon.true in omega arith)
+    ])
+
+pub loop-place-init : goal.loop-place-init
+loop-place-init g c = record { within = omega arith; clear = λ k d lt. absurd (omega arith) }

@@ -1,6 +1,6 @@
 use Rattle.std.proofs.Common.{refl, false}
 use Rattle.aim_book.proofs.EarlyLemmas.{steady_is}
-use Rattle.aim_book.proofs.FreeLemmas.{asked_of, free_fast, free_refused, free_steady, tiles_of}
+use Rattle.aim_book.proofs.FreeLemmas.{asked_of, fast_steps, free_fast, free_refused, free_steady, never_none, steady_steps, tiles_of}
 use Rattle.aim_book.proofs.desks.Desk.answer_free.Goals as goal
 
 pub returns-then-is_fast_free-clause-reply : goal.returns-then-is_fast_free-clause-reply
@@ -24,3 +24,15 @@ returns-in-None-clause-reply g c = λ k tells.
     let asked = asked_of c.args.layout.now c.args.vehicle c.args.place k c.args.params.now false c.in-Some.sheet.now.spans c.args.self.now tells have c.requires.ahead in
     free_steady c.args.layout.now k c.args.params.now c.is_fast_free.result c.confirm-in-None.result c.conflict.result (c.is_fast_free.ensures.free k c.args.place tells) c.if-is_fast_free.false
     (c.conflict.ensures.reason k c.args.params.now false c.args.place tells asked refl) c.in-None.is (c.confirm-in-None.ensures k tells.place_is)
+
+pub confirm-requires-clause-steps : goal.confirm-requires-clause-steps
+confirm-requires-clause-steps g c =
+    fast_steps c.args.layout.now c.args.params.now c.args.prepared.now c.steps.result c.requires.asking c.requires.good (c.is_fast_free.ensures.made c.if-is_fast_free.true) c.steps.ensures
+
+pub confirm-requires-in-None-clause-steps : goal.confirm-requires-in-None-clause-steps
+confirm-requires-in-None-clause-steps g c =
+    steady_steps c.args.layout.now c.args.params.now c.args.prepared.now c.steps-in-None.result c.requires.asking c.requires.good c.steps-in-None.ensures
+
+pub unreachable-requires : goal.unreachable-requires
+unreachable-requires g c =
+    never_none c.args.layout.now c.args.params.now c.args.prepared.now (λ sheet. sheet.now) c.cells_b.result c.requires.asking c.requires.good c.cells_b.ensures c.in_default.is

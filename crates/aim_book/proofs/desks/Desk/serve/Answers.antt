@@ -9,7 +9,9 @@ use Rattle.aim_rules.proofs.LegalLemmas.{IsLegal-append}
 use Rattle.aim_session.specs.Kept.{no_session}
 use Rattle.aim_session.specs.Looks.{is_fresh_look, look_of}
 use Rattle.aim_session.proofs.SessionLaws.{session_fresh}
+use Rattle.aim_reservations.specs.Rows.{row_of}
 use Rattle.aim_book.specs.Managed.{IsManaged}
+use Rattle.aim_book.specs.Reserved.{rows_exchanged}
 use Rattle.aim_book.proofs.SameLemmas.{managed_same, not_fresh, now_next}
 use Rattle.aim_book.proofs.desks.Desk.serve.Goals as goal
 
@@ -42,3 +44,21 @@ returns-in_default-clause-managed g c = λ h m place.
     let legal : IsLegal i n (h ++ e ∷ []) = IsLegal-append i n h e m.legal (record { moment = c.requires.moment; caller = ((let f = m.few in let l = c.requires.vehicle in omega arith), c.requires.vehicle) }) said in
     let old : is_fresh h e ≡ false = session_fresh c.go_on.new.self.sessions h e c.args.prepared.message before.desk.sessions (let q = before.desk.callers in let l = c.requires.vehicle in omega arith) refl ∙ ap is_fresh_look (sym (c.look.ensures ∙ ap (λ msg. look_of (slice_index_or c.go_on.new.self.sessions c.args.vehicle no_session).last msg) c.message.ensures.message)) ∙ not_fresh c.look.result c.in_default.not-Fresh in
     managed_same i n h e c.go_on.new.self c.args.approaches.now before legal old refl refl
+
+pub serve_fresh-requires-clause-managed : goal.serve_fresh-requires-clause-managed
+serve_fresh-requires-clause-managed g c =
+    let m = c.requires.managed in
+    let many : length c.go_on.new.self.sessions ≡ length c.args.self.now.sessions = (λ j. length (c.go_on.ensures.rest j).sessions) in
+    (m.0, c.args.moment, subst (λ k. IsManaged c.args.layout.now k m.0 (now_of m.0 c.args.moment) c.go_on.new.self c.args.approaches.now) (sym many) (c.go_on.ensures.managed c.args.layout.now (length c.args.self.now.sessions) m.0 c.args.approaches.now m.1), m.2)
+
+pub returns-in-Fresh-clause-reply : goal.returns-in-Fresh-clause-reply
+returns-in-Fresh-clause-reply g c = λ h m place.
+    let many : length c.go_on.new.self.sessions ≡ length c.args.self.now.sessions = (λ j. length (c.go_on.ensures.rest j).sessions) in
+    c.serve_fresh.ensures.reply h c.args.moment (subst (λ k. IsManaged c.args.layout.now k h (now_of h c.args.moment) c.go_on.new.self c.args.approaches.now) (sym many) (c.go_on.ensures.managed c.args.layout.now (length c.args.self.now.sessions) h c.args.approaches.now m)) place
+
+pub returns-in-Fresh-clause-cost : goal.returns-in-Fresh-clause-cost
+returns-in-Fresh-clause-cost g c =
+    let v = c.args.vehicle in
+    let rows : rows_exchanged (row_of c.go_on.new.self.reservations.rows.items v) (row_of c.serve_fresh.new.self.reservations.rows.items v) ≡ rows_exchanged (row_of c.args.self.now.reservations.rows.items v) (row_of c.serve_fresh.new.self.reservations.rows.items v)
+    = ap (λ rs. rows_exchanged (row_of rs v) (row_of c.serve_fresh.new.self.reservations.rows.items v)) c.go_on.ensures.rows in
+    omega (arith, c.serve_fresh.ensures.cost, c.go_on.ensures.cost, rows)

@@ -7,7 +7,9 @@ use Rattle.aim_rules.specs.Legal.{IsLegal}
 use Rattle.aim_rules.proofs.LegalLemmas.{IsLegal-append}
 use Rattle.aim_session.specs.Looks.{is_fresh_look}
 use Rattle.aim_session.proofs.SessionLaws.{session_fresh}
+use Rattle.aim_reservations.specs.Rows.{row_of}
 use Rattle.aim_book.specs.Managed.{IsManaged}
+use Rattle.aim_book.specs.Reserved.{rows_exchanged}
 use Rattle.aim_book.proofs.SameLemmas.{managed_same, not_fresh, now_next}
 use Rattle.aim_book.proofs.desks.Desk.serve_message.Goals as goal
 
@@ -37,3 +39,21 @@ returns-in_default-clause-managed g c = λ h m place.
     let legal : IsLegal i n (h ++ e ∷ []) = IsLegal-append i n h e m.legal (record { moment = c.requires.moment; caller = ((let f = m.few in let l = c.requires.vehicle in omega arith), c.requires.vehicle) }) said in
     let old : is_fresh h e ≡ false = session_fresh c.go_on.new.self.sessions h e c.args.message.now before.desk.sessions (let q = before.desk.callers in let l = c.requires.vehicle in omega arith) refl ∙ ap is_fresh_look (sym c.look.ensures) ∙ not_fresh c.look.result c.in_default.not-Fresh in
     managed_same i n h e c.go_on.new.self c.args.approaches.now before legal old refl refl
+
+pub serve_new-requires-clause-managed : goal.serve_new-requires-clause-managed
+serve_new-requires-clause-managed g c =
+    let m = c.requires.managed in
+    let many : length c.go_on.new.self.sessions ≡ length c.args.self.now.sessions = (λ j. length (c.go_on.ensures.rest j).sessions) in
+    (m.0, c.args.moment, subst (λ k. IsManaged c.args.layout.now k m.0 (now_of m.0 c.args.moment) c.go_on.new.self c.args.approaches.now) (sym many) (c.go_on.ensures.managed c.args.layout.now (length c.args.self.now.sessions) m.0 c.args.approaches.now m.1), m.2)
+
+pub returns-in-Fresh-clause-reply : goal.returns-in-Fresh-clause-reply
+returns-in-Fresh-clause-reply g c = λ h m place.
+    let many : length c.go_on.new.self.sessions ≡ length c.args.self.now.sessions = (λ j. length (c.go_on.ensures.rest j).sessions) in
+    c.serve_new.ensures.reply h c.args.moment (subst (λ k. IsManaged c.args.layout.now k h (now_of h c.args.moment) c.go_on.new.self c.args.approaches.now) (sym many) (c.go_on.ensures.managed c.args.layout.now (length c.args.self.now.sessions) h c.args.approaches.now m)) place
+
+pub returns-in-Fresh-clause-cost : goal.returns-in-Fresh-clause-cost
+returns-in-Fresh-clause-cost g c =
+    let v = c.args.vehicle in
+    let rows : rows_exchanged (row_of c.go_on.new.self.reservations.rows.items v) (row_of c.serve_new.new.self.reservations.rows.items v) ≡ rows_exchanged (row_of c.args.self.now.reservations.rows.items v) (row_of c.serve_new.new.self.reservations.rows.items v)
+    = ap (λ rs. rows_exchanged (row_of rs v) (row_of c.serve_new.new.self.reservations.rows.items v)) c.go_on.ensures.rows in
+    omega (arith, c.serve_new.ensures.cost, c.go_on.ensures.cost, rows)

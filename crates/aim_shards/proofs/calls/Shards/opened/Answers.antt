@@ -2,5 +2,5 @@ use Rattle.aim_shards.specs.Cuts.{half_of}
 use Rattle.aim_shards.proofs.Cutting.{within_cut}
 use Rattle.aim_shards.proofs.calls.Shards.opened.Goals as goal
 
-pub laid-requires-clause-within : goal.laid-requires-clause-within
-laid-requires-clause-within c = within_cut (half_of c.args.n) c.args.n c.args.horizon c.args.sets.items c.deref.result.now c.in_ok-quarters.quarters.items c.deref.ensures.value c.in_ok-quarters.ensures c.requires.grid
+pub seated-requires-clause-within : goal.seated-requires-clause-within
+seated-requires-clause-within c = within_cut (half_of c.args.n) c.args.n c.args.horizon c.args.sets.items c.deref.result.now c.in_ok-quarters.quarters.items c.deref.ensures.value c.in_ok-quarters.ensures c.requires.grid

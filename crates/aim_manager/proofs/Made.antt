@@ -1,0 +1,14 @@
+-- Entries that calls make.
+use Rattle.std.proofs.Common.{◌≡◌, ℕ, [], ◌∷◌, ◌++◌, Result, Ok, Err, ap}
+use Rattle.std.specs.Prelude.{IfOk, OnErr, MatchBool, is_ok}
+use Rattle.aim_msg.specs.declared.entries.Entry.{Entry}
+use Rattle.aim_msg.specs.declared.replies.Reply.{Reply}
+use Rattle.aim_book.specs.declared.book.Full.{Full}
+use Rattle.aim_book.specs.State.{State}
+
+-- where the answer is a reply the journal has an entry of the caller more, and else it is as it was
+pub entry_made : (caller : ℕ) (result : Result Reply Full) (old new : State) (e : Reply → Entry) → ((r : Reply) → (e r).caller ≡ caller)
+    → IfOk result (λ r. new ≡ record old { journal = old.journal ++ e r ∷ [] }) → OnErr result (new ≡ old)
+    → MatchBool (is_ok result) ((x : Entry) × (new.journal ≡ old.journal ++ x ∷ []) × (x.caller ≡ caller)) (new.journal ≡ old.journal)
+entry_made caller (Ok r) old new e its ok err = (e r, ap (λ (s : State). s.journal) ok, its r)
+entry_made caller (Err f) old new e its ok err = ap (λ (s : State). s.journal) err
