@@ -5,7 +5,6 @@ ghost use Rattle.aim_driver.specs.Models.{step_of};
 ghost use Rattle.aim_turn.specs.Models.{IsPassOf};
 ghost use Rattle.aim_agent.specs.Agents.{IsAgentOf};
 
-use crate::crossing::{CAR, TIMES, crossing};
 use crate::watch::Watch;
 use aim_agent::{Agent, Trouble};
 use aim_driver::{Changes, DrivePlan, Driver, LogItem};
@@ -18,6 +17,7 @@ use std::alloc::Global;
 use std::process::Abort;
 use std::sync::Wait;
 use std::sync::atomic::Ordering;
+use tests_samples::{CAR, PLAIN, TIMES, built};
 
 /// What an agent is to do: its lane, the step from which on it asks, and what becomes of its first message.
 #[derive(Clone, Copy)]
@@ -188,7 +188,8 @@ fn has_moments(journal: &[Entry], moments: &[u32]) -> bool {
 
 // The agents of a new manager go through the course.
 fn goes<R: Wait + Abort>(rt: &R, alloc: Global, course: &Course) {
-    let Ok(opened) = Manager::open(alloc, crossing(rt, alloc, TIMES), 2, course.room) else {
+    let layout = built(alloc, &PLAIN, TIMES).expect(rt, "no layout");
+    let Ok(opened) = Manager::open(alloc, layout, 2, course.room) else {
         panic!(rt; "no manager")
     };
     let Opened {

@@ -3,7 +3,6 @@
 ghost use Rattle.std.specs.Prelude.{◌≡◌, ◌<◌, ◌≤◌};
 ghost use Rattle.aim_plans.specs.Fits.{IsFit};
 
-use crate::sources::source_of;
 use crate::watch::Watch;
 use aim_drive::{Drove, run_script};
 use aim_msg::Order;
@@ -11,6 +10,7 @@ use aim_plans::{DriveScript, Ordered, read_drive};
 use aim_report::{put_entries, put_log};
 use std::alloc::Global;
 use std::process::Abort;
+use tests_samples::source_of;
 
 const SCRIPT: &[u8] =
     b"aim 1\ngrid 4000 4 100 0 450 4096\ntimes 1500 25 20 0 0\nlanes 2\nmove 0 straight line 0 1500 4000 1500 40\nmove 1 straight line 2500 0 2500 4000 40\npolicy plain fcfs\npolicy lights light\nphase 20 80 0\nphase 20 80 1\nvehicles 2\nbegin\nuntil 40\nplan 0 0 10 3 0 straight 500 500 0 1000 700 car\nup 0 l\ndown 0 r\nplan 1 1 12 3 1 straight 500 500 0 1000 700 car\ndown 1 4\ncancel 1 7\noperator 2 switch lights\nend\n";
@@ -34,7 +34,7 @@ fn is_the_script(script: &DriveScript) -> bool {
 fn script_in(rt: &impl Abort, alloc: Global) -> DriveScript
     ensures { IsFit result }
 {
-    let mut source = source_of(rt, alloc, SCRIPT, &[]);
+    let mut source = source_of(alloc, SCRIPT, &[]).expect(rt, "memory for a script");
     let Ok(script) = read_drive(alloc, &mut source) else {
         panic!(rt; "no whole script")
     };

@@ -1,11 +1,11 @@
 //! A driver and a link, call by call.
 
-use crate::crossing::CAR;
 use aim_driver::{Changes, DrivePlan, Driver};
 use aim_links::{Fate, Link};
 use aim_msg::{Body, LATEST_MOMENT, Message, Params, Reply};
 use std::alloc::Global;
 use std::process::Abort;
+use tests_samples::CAR;
 
 /// A call of a driver, and what it answers.
 #[derive(Clone, Copy)]

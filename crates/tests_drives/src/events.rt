@@ -1,9 +1,8 @@
 //! A script of events.
 
-use crate::crossing::CAR;
-use crate::sources::source_of;
 use aim_events::{Event, EventScript, read_events};
 use aim_msg::{Body, Message};
+use tests_samples::{CAR, source_of};
 
 // Three events of two vehicles.
 const SCRIPT: &[u8] =
@@ -57,7 +56,7 @@ fn is_the_script(script: &EventScript) -> bool {
 
 #[test]
 fn events_in_the_order_of_the_script(rt: HostRuntime) {
-    let mut source = source_of(&rt, rt.alloc(), SCRIPT, &[]);
+    let mut source = source_of(rt.alloc(), SCRIPT, &[]).expect(&rt, "memory for a script");
     let Ok(script) = read_events(rt.alloc(), &mut source) else {
         panic!(rt; "no whole script")
     };

@@ -1,10 +1,9 @@
 //! A replay whose source or sink fails at one of its calls.
 
-use crate::sources::source_of;
-use aim_io::MemSink;
 use aim_replay::replay;
 use std::alloc::Global;
 use std::process::Abort;
+use tests_samples::{sink_of, source_of};
 
 const SCRIPT: &[u8] =
     b"aim 1\ngrid 4000 4 100 0 450 4096\ntimes 1500 25 20 0 0\nlanes 2\nmove 0 straight line 0 1500 4000 1500 40\nmove 1 straight line 2500 0 2500 4000 40\npolicy plain fcfs\nvehicles 8\nbegin\n0 0 request 1 0 straight 10 500 500 0 1000 700 car\nend\n";
@@ -30,9 +29,8 @@ const FAULTS: [(&[u64], &[u64], u8, usize); 9] = [
 // Whether a replay ends with the status and writes just so many bytes of the text.
 fn ends_so(rt: &impl Abort, alloc: Global, fault: (&[u64], &[u64], u8, usize)) -> bool {
     let (reads, writes, status, written) = fault;
-    let mut source = source_of(rt, alloc, SCRIPT, reads);
-    let failing = writes.to_vec(alloc).expect(rt, "memory for numbers");
-    let mut sink = MemSink::new(alloc, 4096, failing).expect(rt, "memory for a sink");
+    let mut source = source_of(alloc, SCRIPT, reads).expect(rt, "memory for a script");
+    let mut sink = sink_of(alloc, 4096, writes).expect(rt, "memory for a sink");
     let ended = replay(alloc, &mut source, &mut sink, Some(15));
     let bytes = sink.bytes();
     ended == status && bytes.len() == written && TEXT.starts_with(bytes)

@@ -4,7 +4,6 @@ ghost use Rattle.std.specs.Prelude.{◌<◌, ◌≤◌};
 ghost use Rattle.aim_routes.specs.Fits.{AreWithin};
 
 use crate::drive::put_left;
-use crate::sources::source_of;
 use crate::watch::Watch;
 use aim_crossings::run_routes;
 use aim_driver::DrivePlan;
@@ -16,6 +15,7 @@ use std::process::Abort;
 use std::sync::Wait;
 use std::sync::atomic::Ordering;
 use std::thread::Threads;
+use tests_samples::source_of;
 
 /// Of a plan at a crossing the vehicle, the crossing, first step, lead, resend, lane and speed.
 pub(crate) fn numbers_of(vehicle: u32, crossing: u32, plan: &DrivePlan) -> [u32; 7] {
@@ -81,7 +81,7 @@ fn are_the_routes(routes: &Routes) -> bool {
 fn routes_in(rt: &impl Abort, alloc: Global) -> Routes
     ensures { AreWithin result }
 {
-    let mut source = source_of(rt, alloc, SCRIPT, &[]);
+    let mut source = source_of(alloc, SCRIPT, &[]).expect(rt, "memory for a script");
     let Ok(routes) = read_grid(alloc, &mut source) else {
         panic!(rt; "no whole script")
     };

@@ -4,7 +4,7 @@
 #[cfg(test)]
 mod agent;
 #[cfg(test)]
-mod crossing;
+mod claims;
 #[cfg(test)]
 mod drive;
 #[cfg(test)]

@@ -1,9 +1,8 @@
 //! Replays of scripts in both spellings, from bytes to bytes.
 
-use crate::sources::source_of;
-use aim_io::MemSink;
 use aim_json_replay::replay_json;
 use aim_replay::replay;
+use tests_samples::{sink_of, source_of};
 
 const SCRIPT: &[u8] =
     b"aim 1\ngrid 4000 4 100 0 450 4096\ntimes 1500 25 20 0 0\nlanes 2\nmove 0 straight line 0 1500 4000 1500 40\nmove 1 straight line 2500 0 2500 4000 40\npolicy plain fcfs\nvehicles 8\nbegin\n0 0 request 1 0 straight 10 500 500 0 1000 700 car\n1 0 request 1 1 straight 10 500 500 0 1000 700 car\nend\n";
@@ -18,10 +17,10 @@ const TEXT: &[u8] =
 #[test]
 fn confirmed_refused_and_switched(rt: HostRuntime) {
     let alloc = rt.alloc();
-    let mut sink = MemSink::new(alloc, 8192, Vec::new(alloc)).expect(&rt, "memory for the sink");
-    let mut source = source_of(&rt, alloc, SCRIPT, &[]);
+    let mut sink = sink_of(alloc, 8192, &[]).expect(&rt, "memory for the sink");
+    let mut source = source_of(alloc, SCRIPT, &[]).expect(&rt, "memory for a script");
     assert!(rt; replay(alloc, &mut source, &mut sink, Some(15)) == 0);
-    let mut json = source_of(&rt, alloc, JSON_SCRIPT, &[]);
+    let mut json = source_of(alloc, JSON_SCRIPT, &[]).expect(&rt, "memory for a script");
     assert!(rt; replay_json(alloc, &mut json, &mut sink) == 0);
     assert!(rt; sink.bytes() == TEXT);
 }

@@ -1,13 +1,10 @@
 //! What is printed of a drive, and the tiles on which its driver is.
 
-use crate::crossing::{CAR, TIMES, crossing};
 use aim_driver::LogItem;
-use aim_geometry::Times;
 use aim_msg::{Act, Body, Entry, Message, Reply};
-use aim_paths::Layout;
-use aim_report::{NoMemory, put_end, put_entries, put_log, put_tiles};
+use aim_report::{put_end, put_entries, put_log, put_tiles};
 use aim_safety::occupied;
-use std::alloc::Global;
+use tests_samples::{CAR, PLAIN, WINDOWS, built};
 
 const ASKS: Message = Message {
     seq: 1,
@@ -44,13 +41,7 @@ end 1
 
 #[test]
 fn the_text_of_a_drive(rt: HostRuntime) {
-    let times = Times {
-        early: 1,
-        late: 3,
-        edge: 4,
-        ..TIMES
-    };
-    let layout = crossing(&rt, rt.alloc(), times);
+    let layout = built(rt.alloc(), &PLAIN, WINDOWS).expect(&rt, "no layout");
     let log = [
         LogItem::Sent {
             step: 0,

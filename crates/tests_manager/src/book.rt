@@ -3,10 +3,12 @@
 ghost use Rattle.std.specs.Prelude.{◌≡◌, ◌<◌, ◌≤◌};
 ghost use Rattle.aim_msg.specs.declared.entries.TheConstants.{LATEST_MOMENT};
 
-use crate::asked::{GRANTED_OR_TAKEN, NUMBERS_AND_RESERVATIONS};
-use crate::day::{Site, crossing, prepared};
-use crate::policies::GIVING_WAY;
+use crate::asked::{
+    GRANTED_OR_TAKEN, NUMBERS_AND_RESERVATIONS, OVER_A_CURVE, TAKEN_BY_BUFFERS, TAKEN_BY_WINDOWS,
+};
+use crate::policies::{GIVING_WAY, LIGHTS_AND_SIREN, SIREN};
 use aim_book::{Book, Full};
+use aim_geometry::Times;
 use aim_msg::{Act, Entry, LATEST_MOMENT, Message, Order, Reply};
 use aim_paths::Layout;
 use aim_pool::Pool;
@@ -16,12 +18,12 @@ use std::alloc::Global;
 use std::marker::Brand;
 use std::process::Abort;
 use std::sync::ledger::{Blank, Ledger};
+use tests_samples::{
+    BEND, BUFFERED, PLAIN, SIREN_FIRST, Site, TIMES, WINDOWS, YIELDING, built, prepared,
+};
 
 /// The lines of a journal, the oldest first.
 pub type Lines = &'static [&'static str];
-
-/// Where a journal is that of, and its lines.
-pub type Case = (Site, Lines);
 
 // How many vehicles there are, and as many sheets as their calls need.
 const VEHICLES: u32 = 8;
@@ -97,7 +99,10 @@ fn answer<L: Ledger>(
     assert!(rt; caller < desk.book.vehicles());
     match way {
         Way::Prepared => {
-            let prepared = prepared(rt, desk.book.layout(), &mut desk.pool, message);
+            let prepared = prepared(desk.book.layout(), &mut desk.pool, message).expect(
+                rt,
+                "too few sheets",
+            );
             desk.book
                 .serve(caller, moment, prepared, &mut desk.pool, &mut desk.steps)
         }
@@ -145,41 +150,47 @@ fn serve<L: Ledger>(
     alloc: Global,
     blank: Blank,
     way: Way,
-    site: Site,
+    site: &Site,
+    times: Times,
     lines: Lines,
 )
     requires name { blank.name ≡ L.name }
     requires parts { blank.parts ≡ L.parts }
     requires some { 0 < blank.parts }
 {
-    let layout = crossing(rt, alloc, site);
+    let layout = built(alloc, site, times).expect(rt, "no layout");
     let mut desk = opened::<L>(rt, alloc, layout, VEHICLES, 16, blank);
     serve_lines(rt, &mut desk, way, lines);
     assert!(rt; journal_of(desk).len() == lines.len());
 }
 
 // The calls of each of these journals have to get the replies that stand in it, in both ways.
-fn serve_all(rt: &impl Abort, alloc: Global, cases: &[Case]) {
-    for (site, lines) in cases {
+fn serve_all(rt: &impl Abort, alloc: Global, site: &Site, times: Times, journals: &[Lines]) {
+    for lines in journals {
         for way in [Way::Prepared, Way::FromPool] {
-            serve::<Brand>(rt, alloc, Blank::new(1), way, *site, *lines);
+            serve::<Brand>(rt, alloc, Blank::new(1), way, site, times, *lines);
         }
     }
 }
 
 #[test]
 fn granted_or_taken(rt: HostRuntime) {
-    serve_all(&rt, rt.alloc(), &GRANTED_OR_TAKEN);
+    serve_all(&rt, rt.alloc(), &PLAIN, TIMES, &GRANTED_OR_TAKEN);
+    serve_all(&rt, rt.alloc(), &BEND, TIMES, &OVER_A_CURVE);
+    serve_all(&rt, rt.alloc(), &PLAIN, BUFFERED, &TAKEN_BY_BUFFERS);
+    serve_all(&rt, rt.alloc(), &PLAIN, WINDOWS, &TAKEN_BY_WINDOWS);
 }
 
 #[test]
 fn numbers_and_reservations(rt: HostRuntime) {
-    serve_all(&rt, rt.alloc(), &NUMBERS_AND_RESERVATIONS);
+    serve_all(&rt, rt.alloc(), &PLAIN, TIMES, &NUMBERS_AND_RESERVATIONS);
 }
 
 #[test]
 fn giving_way(rt: HostRuntime) {
-    serve_all(&rt, rt.alloc(), &GIVING_WAY);
+    serve_all(&rt, rt.alloc(), &SIREN_FIRST, TIMES, &SIREN);
+    serve_all(&rt, rt.alloc(), &YIELDING, TIMES, &LIGHTS_AND_SIREN);
+    serve_all(&rt, rt.alloc(), &PLAIN, TIMES, &GIVING_WAY);
 }
 
 // Ends the book.
@@ -205,7 +216,7 @@ pub fn serve_again<L: Ledger>(
     requires parts { blank.parts ≡ L.parts }
     requires some { 0 < blank.parts }
 {
-    let layout = crossing(rt, alloc, Site::Plain);
+    let layout = built(alloc, &PLAIN, TIMES).expect(rt, "no layout");
     let mut desk = opened::<L>(rt, alloc, layout, vehicles, 1000, blank);
     for entry in journal {
         assert!(rt; give(rt, &mut desk, Way::Prepared, entry) == Ok(entry.reply));
@@ -258,7 +269,7 @@ fn draw<L: Ledger>(rt: &impl Abort, alloc: Global, blank: Blank)
     requires parts { blank.parts ≡ L.parts }
     requires some { 0 < blank.parts }
 {
-    let layout = crossing(rt, alloc, Site::Plain);
+    let layout = built(alloc, &PLAIN, TIMES).expect(rt, "no layout");
     let mut desk = opened::<L>(rt, alloc, layout, VEHICLES, 2, blank);
     fill(rt, &mut desk);
     assert!(rt; journal_of(desk).len() == 2);

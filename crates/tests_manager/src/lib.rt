@@ -6,10 +6,6 @@ mod asked;
 #[cfg(test)]
 mod book;
 #[cfg(test)]
-mod claims;
-#[cfg(test)]
-mod day;
-#[cfg(test)]
 mod mailbox;
 #[cfg(test)]
 mod manager;

@@ -4,7 +4,6 @@ ghost use Rattle.std.specs.Prelude.{◌≡◌, ◌<◌, ◌≤◌, ◌∷◌, []
 ghost use Rattle.std.specs.Thread.{IsSync};
 ghost use Rattle.aim_mailbox.specs.Calls.{IsOfMail, IsSameClient};
 
-use crate::day::{Site, check_numbers, confirmed, crossing, prepared, request};
 use aim_mailbox::{Client, Ended, Full, Mailbox, OpenedMail, Served, Server, settle};
 use aim_msg::{Entry, Message, Reply};
 use aim_paths::Layout;
@@ -16,6 +15,7 @@ use std::sync::Wait;
 use std::sync::atomic::{AtomicBool, Ordering};
 use std::sync::ledger::{Blank, Ledger};
 use std::thread::{Threads, join, yield_now};
+use tests_samples::{PLAIN, TIMES, built, confirmed, has_numbers, prepared, request};
 
 // How many turns of its thread the server lets go by before it runs.
 const TURNS: u32 = 1_000_000;
@@ -76,7 +76,7 @@ fn called<R: Wait + Abort>(
     requires moment { moment ≤ 1073741824 }
     ensures { IsSameClient client.old client.new }
 {
-    let prepared = prepared(rt, layout, pool, message);
+    let prepared = prepared(layout, pool, message).expect(rt, "too few sheets");
     client.call(rt, moment, prepared, pool)
 }
 
@@ -225,7 +225,7 @@ fn mailed<L: Ledger + Send + Sync, R: Threads + Wait + Abort + Sync>(
     requires parts { blank.parts ≡ L.parts }
     requires some { 0 < blank.parts }
 {
-    let layout = crossing(rt, alloc, Site::Plain);
+    let layout = built(alloc, &PLAIN, TIMES).expect(rt, "no layout");
     let staff = opened::<L, R>(rt, alloc, &layout, blank);
     let answered = AtomicBool::new(false);
     let (served, (first, second)) = beside(rt, staff, &layout, alloc, &answered);
@@ -235,5 +235,5 @@ fn mailed<L: Ledger + Send + Sync, R: Threads + Wait + Abort + Sync>(
 #[test]
 fn three_threads_keep_each_clients_calls(rt: HostRuntime) {
     let journal = mailed::<Brand, HostRuntime>(&rt, rt.alloc(), Blank::new(1));
-    check_numbers(&rt, &journal, 2, ROOM);
+    assert!(rt; has_numbers(&journal, 2, ROOM));
 }

@@ -5,13 +5,13 @@ ghost use Rattle.std.specs.List.{range_with_len};
 ghost use Rattle.aim_msg.specs.declared.entries.TheConstants.{OPERATOR};
 ghost use Rattle.aim_turn.specs.Models.{IsPassOf, IsSamePass, new_pass};
 
-use crate::day::{Site, confirmed, crossing, prepared, request};
 use aim_manager::{Full, Manager, ManagerPass, Opened};
 use aim_msg::{Entry, Message, OPERATOR, Order, Reason, Reply};
 use aim_pool::Pool;
 use std::alloc::Global;
 use std::process::Abort;
 use std::sync::Wait;
+use tests_samples::{PLAIN, TIMES, built, confirmed, prepared, request};
 
 /// A manager of the crossing, for that many vehicles and that many entries.
 pub fn opened(rt: &impl Abort, alloc: Global, vehicles: u32, room: u32) -> Opened
@@ -19,7 +19,7 @@ pub fn opened(rt: &impl Abort, alloc: Global, vehicles: u32, room: u32) -> Opene
     ensures passes { result.passes.items ≡ map (new_pass result.manager) (range_with_len 0 vehicles) }
     ensures operator { result.operator ≡ new_pass result.manager OPERATOR }
 {
-    let layout = crossing(rt, alloc, Site::Plain);
+    let layout = built(alloc, &PLAIN, TIMES).expect(rt, "no layout");
     Manager::open(alloc, layout, vehicles, room).expect(rt, "no manager")
 }
 
@@ -37,7 +37,7 @@ pub fn served<R: Wait + Abort>(
     requires moment { moment ≤ 1073741824 }
     ensures same { IsSamePass pass.old pass.new }
 {
-    let prepared = prepared(rt, manager.layout(), pool, message);
+    let prepared = prepared(manager.layout(), pool, message).expect(rt, "too few sheets");
     manager.serve(rt, pass, moment, prepared, pool)
 }
 

@@ -3,36 +3,26 @@
 ghost use Rattle.std.specs.Prelude.{◌≡◌, ◌<◌, ◌≤◌};
 
 use aim_msg::MOST_VEHICLES;
-use aim_pool::{Pool, Sheet, Span};
+use aim_pool::Sheet;
 use aim_reservations::{Reservation, Reservations};
 use aim_tiles::Steps;
 use std::alloc::Global;
 use std::marker::Brand;
 use std::process::Abort;
 use std::sync::ledger::{Blank, Ledger};
+use tests_samples::{Row, claims, sheet_of};
 
 // Two columns of a row in step 9.
-fn two_tiles(rt: &impl Abort, alloc: Global) -> Sheet {
-    let mut pool = Pool::new(alloc, 1, 4).expect(rt, "no memory for a sheet");
-    let mut sheet = pool.take().expect(rt, "no sheet");
-    let span = Span {
-        step: 9,
-        row: 1,
-        mask: 0b0110,
-    };
-    assert!(rt; sheet.push(span).is_ok());
-    sheet
-}
+const TWO_TILES: [Row; 1] = [(9, 1, 0b0110)];
 
 // Reservations of two vehicles, of which the second has two tiles by its Confirm 3.
 fn reserved<L: Ledger>(rt: &impl Abort, alloc: Global, steps: &mut Steps<L>) -> Reservations<L> {
-    let sheet = two_tiles(rt, alloc);
+    let sheet = sheet_of(alloc, 4, &TWO_TILES).expect(rt, "no sheet");
     let mut reservations = Reservations::new(alloc, 4, 1500, 2).expect(
         rt,
         "no memory for reservations",
     );
-    assert!(rt; reservations.table.has_tiles(&sheet) && reservations.table.has_steps(&sheet));
-    reservations.table.claim(&sheet, steps);
+    assert!(rt; claims(&mut reservations.table, &sheet, steps));
     reservations.rows[1] = Some(Reservation { id: 3, sheet });
     reservations
 }
@@ -60,7 +50,8 @@ fn look<L: Ledger>(rt: &impl Abort, alloc: Global, blank: Blank)
 {
     let mut steps = Steps::<L>::new(blank);
     let reservations = reserved(rt, alloc, &mut steps);
-    assert!(rt; finds(rt, &reservations, &two_tiles(rt, alloc), &mut steps));
+    let sheet = sheet_of(alloc, 4, &TWO_TILES).expect(rt, "no sheet");
+    assert!(rt; finds(rt, &reservations, &sheet, &mut steps));
     assert!(rt; reservations.leave(steps).rows.len() == 2);
 }
 

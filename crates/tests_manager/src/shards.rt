@@ -13,13 +13,7 @@ use std::process::Abort;
 use std::sync::Wait;
 use std::sync::atomic::{AtomicBool, Ordering};
 use std::thread::{Threads, join, yield_now};
-
-/// A hold that does nothing.
-pub struct NoHold;
-
-impl Hold for NoHold {
-    fn holding(&self, _caller: u32, _call: u32) {}
-}
+use tests_samples::NoHold;
 
 // The tiles of these rows and columns in the steps 0 to 9.
 fn block(first: u32, last: u32) -> Rectangle {

@@ -4,7 +4,6 @@ ghost use Rattle.std.specs.Prelude.{◌≡◌, ◌<◌, ◌≤◌, All, length};
 ghost use Rattle.aim_turn.specs.Models.{IsPassOf, IsSamePass};
 
 use crate::book::serve_again;
-use crate::day::{check_numbers, message};
 use crate::manager::{opened, served};
 use aim_manager::{Full, Manager, ManagerPass, Opened};
 use aim_msg::{Entry, Reply};
@@ -16,6 +15,7 @@ use std::sync::Wait;
 use std::sync::ledger::{Blank, Ledger};
 use std::thread;
 use std::thread::Threads;
+use tests_samples::{has_numbers, message};
 
 // What a vehicle holds after an answer.
 fn held_after(answer: &Result<Reply, Full>) -> Option<u32> {
@@ -111,7 +111,7 @@ fn run<L: Ledger, R: Threads + Wait + Abort + Sync>(
     requires some { 0 < blank.parts }
 {
     let journal = on_threads(rt, alloc, vehicles, messages, room);
-    check_numbers(rt, &journal, vehicles, room);
+    assert!(rt; has_numbers(&journal, vehicles, room));
     assert!(rt;
         journal
             .iter()

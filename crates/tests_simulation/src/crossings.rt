@@ -1,6 +1,5 @@
 //! Prepared requests, and crossings step by step.
 
-use crate::small::{TIMES, small};
 use aim_buffers::prepare;
 use aim_geometry::Times;
 use aim_msg::{Body, Field, Message, Params, Turn};
@@ -8,19 +7,7 @@ use aim_paths::Layout;
 use aim_pool::{Pool, Sheet};
 use aim_simulate::{RowRange, Visit, bad_crossing, simulate};
 use std::process::Abort;
-
-// A vehicle on lane 0 that goes on at 500 a step, a metre long and 0.7 wide.
-const CAR: Params = Params {
-    lane: 0,
-    turn: Turn::Straight,
-    arrive: 10,
-    speed: 500,
-    max_speed: 500,
-    accel: 0,
-    length: 1000,
-    width: 700,
-    emergency: false,
-};
+use tests_samples::{CAR, SMALL, TIMES, built};
 
 /// The tiles of row 1 in each step from that one on, as bits.
 type Rows = (u32, &'static [u64]);
@@ -128,34 +115,29 @@ const CASES: [Case; 5] = [
     ),
 ];
 
-// Its request.
-fn request(driving: [u32; 3]) -> Message {
-    let [arrive, max_speed, accel] = driving;
-    Message {
-        seq: 1,
-        body: Body::Request(Params {
-            arrive,
-            max_speed,
-            accel,
-            ..CAR
-        }),
-    }
-}
-
 #[test]
 fn tiles_are_kept_within_the_buffers_from_step_0(rt: HostRuntime) {
     for case in &CASES {
-        let (buffers, driving, fast, steady) = *case;
-        let [early, late, edge] = buffers;
+        let ([early, late, edge], [arrive, max_speed, accel], fast, steady) = *case;
         let times = Times {
             early,
             late,
             edge,
             ..TIMES
         };
-        let layout = small(&rt, rt.alloc(), times);
+        let params = Params {
+            arrive,
+            max_speed,
+            accel,
+            ..CAR
+        };
+        let message = Message {
+            seq: 1,
+            body: Body::Request(params),
+        };
+        let layout = built(rt.alloc(), &SMALL, times).expect(&rt, "no layout");
         let mut pool = Pool::new(rt.alloc(), 2, 4096).expect(&rt, "no memory for a pool");
-        check_cells(&rt, &layout, &request(driving), &mut pool, fast, steady);
+        check_cells(&rt, &layout, &message, &mut pool, fast, steady);
         drop(pool);
         drop(layout);
     }
@@ -171,7 +153,7 @@ const WRONG: [(u32, u32, u32, Option<Field>); 4] = [
 
 #[test]
 fn wrong_fields(rt: HostRuntime) {
-    let layout = small(&rt, rt.alloc(), TIMES);
+    let layout = built(rt.alloc(), &SMALL, TIMES).expect(&rt, "no layout");
     for (speed, length, width, wanted) in &WRONG {
         let params = Params {
             speed: *speed,
@@ -218,7 +200,7 @@ const VISITS: [(Turn, u32, u64, u64, u64); 2] = [
 
 #[test]
 fn a_crossing_is_visited_step_by_step(rt: HostRuntime) {
-    let layout = small(&rt, rt.alloc(), TIMES);
+    let layout = built(rt.alloc(), &SMALL, TIMES).expect(&rt, "no layout");
     for (turn, steps, first, middle, last) in &VISITS {
         let mut watch = Watch {
             steps: 0,

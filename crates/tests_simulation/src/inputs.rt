@@ -5,11 +5,10 @@ ghost use Rattle.aim_io.specs.Lines.{outcomes_of};
 ghost use Rattle.tests_simulation.specs.Counting.{count_from, CountsWhole};
 
 use aim_io::{
-    CleanSource, Failed, LineFault, LineReader, MemSink, MemSource, Sink, Source, StdSink,
-    StdSource, put_all,
+    CleanSource, Failed, LineFault, LineReader, Sink, Source, StdSink, StdSource, put_all,
 };
-use std::io::{self, ErrorKind, Read};
 use std::process::Abort;
+use tests_samples::{Broken, Drip, Rows, sink_of, source_of};
 
 // Takes lines up to the end of the input or a fault, and counts them. An example of a loop: its
 // count and fault are a function of the bytes alone, and where the source fails the count is that
@@ -27,76 +26,6 @@ fn count_lines<S: Source>(source: &mut S) -> (u32, Option<LineFault>)
             Ok(false) => return (count, None),
             Err(fault) => return (count, Some(fault)),
         }
-    }
-}
-
-// Gives bytes one at a time, and fails at one call.
-#[derive(Drop)]
-struct Drip {
-    bytes: &'static [u8],
-    at: usize,
-    call: u64,
-    failing: Option<u64>,
-    faults: u64,
-}
-
-impl Source for Drip {
-    ghost left = { λ _. None };
-
-    ghost faults = { λ s. s.faults };
-
-    fn read(&mut self, buf: &mut [u8]) -> Result<usize, Failed> {
-        let call = self.call;
-        self.call = call.saturating_add(1);
-        if self.failing == Some(call) {
-            self.faults = self.faults.saturating_add(1);
-            return Err(Failed);
-        }
-        if buf.is_empty() || self.at >= self.bytes.len() {
-            return Ok(0);
-        }
-        buf[0] = self.bytes[self.at];
-        self.at += 1;
-        Ok(1)
-    }
-}
-
-// Gives rows of so many bytes, each with a byte 10 behind it, until so many bytes are given.
-#[derive(Drop)]
-struct Rows {
-    row: usize,
-    left: usize,
-    at: usize,
-}
-
-impl Source for Rows {
-    ghost left = { λ _. None };
-
-    ghost faults = { λ _. 0 };
-
-    fn read(&mut self, buf: &mut [u8]) -> Result<usize, Failed> {
-        let count = self.left.min(buf.len());
-        self.left -= count;
-        for byte in &mut buf[..count] {
-            if self.at < self.row {
-                self.at += 1;
-                *byte = b'a';
-            } else {
-                self.at = 0;
-                *byte = b'\n';
-            }
-        }
-        Ok(count)
-    }
-}
-
-// A reader that fails.
-#[derive(Drop)]
-struct Broken;
-
-impl Read for Broken {
-    fn read(&mut self, _buf: &mut [u8]) -> io::Result<usize> {
-        Err(io::Error::from(ErrorKind::Other))
     }
 }
 
@@ -129,17 +58,7 @@ fn the_lines_of_small_inputs(rt: HostRuntime) {
         let held = bytes.to_vec(rt.alloc()).expect(&rt, NO_MEMORY);
         check_lines(&rt, &mut CleanSource::new(held), lines);
         check_lines(&rt, &mut StdSource::new(*bytes), lines);
-        check_lines(&rt, &mut dripping(bytes, None), lines);
-    }
-}
-
-fn dripping(bytes: &'static [u8], failing: Option<u64>) -> Drip {
-    Drip {
-        bytes,
-        at: 0,
-        call: 0,
-        failing,
-        faults: 0,
+        check_lines(&rt, &mut Drip::new(bytes, None), lines);
     }
 }
 
@@ -157,11 +76,11 @@ const FAILING: [(u64, u32, Option<LineFault>, u64); 7] = [
 #[test]
 fn each_read_fails_in_turn(rt: HostRuntime) {
     for (call, lines, fault, calls) in &FAILING {
-        let mut source = dripping(b"ab\ncd", Some(*call));
+        let mut source = Drip::new(b"ab\ncd", Some(*call));
         let (count, told) = count_lines(&mut source);
         assert!(rt; count == *lines && told == *fault && source.call == *calls);
     }
-    let mut source = dripping(b"ab\ncd", Some(0));
+    let mut source = Drip::new(b"ab\ncd", Some(0));
     let mut reader = LineReader::new();
     assert!(rt; reader.advance(&mut source) == Err(LineFault::Read));
     assert!(rt; reader.advance(&mut source) == Err(LineFault::Read));
@@ -199,9 +118,7 @@ const READS: [Result<usize, Failed>; 5] = [Ok(3), Err(Failed), Ok(2), Err(Failed
 
 #[test]
 fn a_source_in_memory(rt: HostRuntime) {
-    let bytes = b"abcde".to_vec(rt.alloc()).expect(&rt, NO_MEMORY);
-    let failing = [1, 3].to_vec(rt.alloc()).expect(&rt, NO_MEMORY);
-    let mut source = MemSource::new(bytes, failing);
+    let mut source = source_of(rt.alloc(), b"abcde", &[1, 3]).expect(&rt, NO_MEMORY);
     let mut buf = [0; 3];
     for want in &READS {
         assert!(rt; source.read(&mut buf) == *want);
@@ -221,8 +138,7 @@ const PUTS: [(u32, &[u64], bool, &[u8]); 4] = [
 #[test]
 fn all_is_put_or_a_front(rt: HostRuntime) {
     for (room, failing, whole, held) in &PUTS {
-        let calls = failing.to_vec(rt.alloc()).expect(&rt, NO_MEMORY);
-        let mut sink = MemSink::new(rt.alloc(), *room, calls).expect(&rt, NO_MEMORY);
+        let mut sink = sink_of(rt.alloc(), *room, failing).expect(&rt, NO_MEMORY);
         assert!(rt; put_all(&mut sink, b"abcdef").is_ok() == *whole);
         assert!(rt; sink.bytes() == *held);
         drop(sink);

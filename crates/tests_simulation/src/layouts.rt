@@ -1,14 +1,14 @@
 //! Worked stations and tiles, and worked layouts.
 
 use crate::policies::first_rows;
-use crate::small::{GRID, Move, Site, TIMES, built, small};
 use aim_geometry::{
-    Grid, Ground, Station, TileRect, Times, columns, curve_station, is_edge, join, line_station,
-    tile_rect,
+    Grid, Ground, Station, TileRect, Times, columns, curve_station, is_edge, is_outside, join,
+    line_station, tile_rect,
 };
 use aim_msg::Turn;
 use aim_paths::{Kind, Layout, Path, lane_rows};
 use std::process::Abort;
+use tests_samples::{GRID, Move, SMALL, Site, TIMES, built};
 
 #[test]
 fn stations(rt: HostRuntime) {
@@ -38,6 +38,7 @@ fn spans(rect: TileRect, first: u8, last: u8) -> bool {
 fn rectangles(rt: HostRuntime) {
     let narrow = Grid { n: 3, ..GRID };
     assert!(rt; narrow.is_bad() && !GRID.is_bad());
+    assert!(rt; is_outside(0, 9) && !is_outside(9, 9) && is_outside(10, 9));
     let ground = Ground::build(GRID, TIMES).ok().expect(&rt, "no ground");
     assert!(rt; ground.times().horizon == 1500 && ground.grid().side == 4000);
     let inner = tile_rect(&ground, 1500, 1500, 450);
@@ -74,7 +75,7 @@ fn check_paths(rt: &impl Abort, layout: &Layout) {
 
 #[test]
 fn two_lanes(rt: HostRuntime) {
-    let layout = small(&rt, rt.alloc(), TIMES);
+    let layout = built(rt.alloc(), &SMALL, TIMES).expect(&rt, "no layout");
     let copy = layout.copy().expect(&rt, "no memory for a copy");
     drop(layout);
     check_policies(&rt, &copy);
@@ -174,7 +175,7 @@ const WANTED: [(u8, Turn, u32, u32); 12] = [
 
 #[test]
 fn twelve_lanes(rt: HostRuntime) {
-    let layout = built(&rt, rt.alloc(), &REALISTIC, LONG);
+    let layout = built(rt.alloc(), &REALISTIC, LONG).expect(&rt, "no layout");
     assert!(rt; layout.lanes() == 12);
     for (lane, turn, step, tiles) in &WANTED {
         assert!(rt; *lane < 12);

@@ -18,8 +18,6 @@ mod plain;
 #[cfg(test)]
 mod policies;
 #[cfg(test)]
-mod small;
-#[cfg(test)]
 mod tables;
 #[cfg(test)]
 mod texts;

@@ -1,10 +1,10 @@
 //! Policies, greens and claims.
 
-use crate::small::{TIMES, small};
 use aim_light::{Plan, green_at, green_within};
 use aim_paths::Layout;
 use aim_switch::Timeline;
 use std::process::Abort;
+use tests_samples::{SMALL, TIMES, built};
 
 // Offsets, and the lanes that are green there, as bits.
 const PLAIN: [(u32, u16); 9] = [
@@ -44,7 +44,7 @@ fn check_greens(rt: &impl Abort, plan: &Plan, greens: &[(u32, u16)]) {
 
 #[test]
 fn phases_go_round(rt: HostRuntime) {
-    let layout = small(&rt, rt.alloc(), TIMES);
+    let layout = built(rt.alloc(), &SMALL, TIMES).expect(&rt, "no layout");
     assert!(rt; Plan::of(&layout, 0).is_none());
     assert!(rt; Plan::of(&layout, 3).is_none());
     let plain = Plan::of(&layout, 1).expect(&rt, "a light policy");
@@ -110,7 +110,7 @@ fn greens_from_the_switch_on(rt: HostRuntime) {
     timeline.push(1560, 0);
     timeline.push(2005, 1);
     check_policies(&rt, &timeline);
-    let layout = small(&rt, rt.alloc(), TIMES);
+    let layout = built(rt.alloc(), &SMALL, TIMES).expect(&rt, "no layout");
     assert!(rt; timeline.claimants(&layout, 1579) == 1);
     check_claims(&rt, &timeline, &layout);
     drop(layout);

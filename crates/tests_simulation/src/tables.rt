@@ -8,6 +8,7 @@ use std::alloc::Global;
 use std::marker::Brand;
 use std::process::Abort;
 use std::sync::ledger::{Blank, Ledger};
+use tests_samples::{Row, claims, is_first, is_put, sheet_of};
 
 const NO_POOL: &str = "no memory for a pool";
 
@@ -21,9 +22,6 @@ fn a_pool_of_two(rt: HostRuntime) {
     assert!(rt; pool.count() == 2);
     drop(pool);
 }
-
-/// A step, a row, and the row's tiles as bits.
-type Row = (u32, u8, u64);
 
 // The rows that are put into a sheet of four spans, and whether there is room.
 const GIVEN: [(Row, bool); 8] = [
@@ -61,19 +59,13 @@ const PLACED: [Span; 4] = [
     },
 ];
 
-// Whether there is room for the row in the sheet, which then has it.
-fn is_put(rt: &impl Abort, sheet: &mut Sheet, (step, row, mask): Row) -> bool {
-    assert!(rt; mask != 0);
-    sheet.push(Span { step, row, mask }).is_ok()
-}
-
 #[test]
 fn spans_take_their_places(rt: HostRuntime) {
     let mut pool = Pool::new(rt.alloc(), 1, 4).expect(&rt, NO_POOL);
     let mut sheet = pool.take().expect(&rt, "no sheet");
     drop(pool);
     for (row, has_room) in &GIVEN {
-        assert!(rt; is_put(&rt, &mut sheet, *row) == *has_room);
+        assert!(rt; is_put(&mut sheet, *row) == *has_room);
     }
     assert!(rt; sheet.spans() == PLACED.as_slice());
     sheet.clear();
@@ -107,33 +99,6 @@ fn words_that_meet(rt: HostRuntime) {
     }
 }
 
-// A sheet of the pool with these rows.
-fn filled(rt: &impl Abort, pool: &mut Pool, rows: &[Row]) -> Sheet {
-    let mut sheet = pool.take().expect(rt, "no sheet");
-    for row in rows {
-        assert!(rt; is_put(rt, &mut sheet, *row));
-    }
-    sheet
-}
-
-fn claim<L: Ledger>(rt: &impl Abort, table: &mut Table<L>, sheet: &Sheet, steps: &mut Steps<L>) {
-    assert!(rt; table.has_tiles(sheet) && table.has_steps(sheet));
-    table.claim(sheet, steps);
-}
-
-// The least taken cell of the sheet that isn't one's own has to be this one.
-fn check_first<L: Ledger>(
-    rt: &impl Abort,
-    table: &Table<L>,
-    sheet: &Sheet,
-    own: Option<&Sheet>,
-    steps: &mut Steps<L>,
-    want: Option<(u32, u8, u8)>,
-) {
-    assert!(rt; table.has_tiles(sheet));
-    assert!(rt; table.first_taken(sheet, own, steps) == want);
-}
-
 const TWO_STEPS: [Row; 2] = [(1, 2, 0b0110), (2, 0, 0b1000)];
 
 const THREE_STEPS: [Row; 3] = [(0, 3, 0b1111), (1, 2, 0b1100), (2, 0, 0b1000)];
@@ -146,15 +111,15 @@ fn take_and_release<L: Ledger>(
     two: &Sheet,
     steps: &mut Steps<L>,
 ) {
-    claim(rt, table, one, steps);
-    check_first(rt, table, two, None, steps, Some((1, 2, 2)));
-    check_first(rt, table, two, Some(one), steps, None);
+    assert!(rt; claims(table, one, steps));
+    assert!(rt; is_first(table, two, None, steps, Some((1, 2, 2))));
+    assert!(rt; is_first(table, two, Some(one), steps, None));
     assert!(rt; table.has_tiles(two));
     table.release(two, steps);
-    check_first(rt, table, one, None, steps, Some((1, 2, 1)));
+    assert!(rt; is_first(table, one, None, steps, Some((1, 2, 1))));
     assert!(rt; table.now() <= 2);
     table.advance(2, steps);
-    check_first(rt, table, one, None, steps, None);
+    assert!(rt; is_first(table, one, None, steps, None));
 }
 
 fn come_and_go<L: Ledger>(rt: &impl Abort, alloc: Global, blank: Blank)
@@ -162,10 +127,8 @@ fn come_and_go<L: Ledger>(rt: &impl Abort, alloc: Global, blank: Blank)
     requires parts { blank.parts ≡ L.parts }
     requires some { 0 < blank.parts }
 {
-    let mut pool = Pool::new(alloc, 2, 8).expect(rt, NO_POOL);
-    let one = filled(rt, &mut pool, &TWO_STEPS);
-    let two = filled(rt, &mut pool, &THREE_STEPS);
-    drop(pool);
+    let one = sheet_of(alloc, 8, &TWO_STEPS).expect(rt, "no sheet");
+    let two = sheet_of(alloc, 8, &THREE_STEPS).expect(rt, "no sheet");
     let mut steps = Steps::<L>::new(blank);
     let mut table = Table::<L>::new(alloc, 4, 3).expect(rt, "no memory for a table");
     assert!(rt; table.size() == 4 && table.horizon() == 3 && table.now() == 0);
@@ -195,16 +158,14 @@ fn claimed_apart<L: Ledger>(
 {
     let mut steps = Steps::<L>::new(blank);
     let mut table = table.join::<L>();
-    check_first(rt, &table, sheet, None, &mut steps, want);
-    claim(rt, &mut table, sheet, &mut steps);
+    assert!(rt; is_first(&table, sheet, None, &mut steps, want));
+    assert!(rt; claims(&mut table, sheet, &mut steps));
     table.leave(steps)
 }
 
 #[test]
 fn a_table_joins_ledger_after_ledger(rt: HostRuntime) {
-    let mut pool = Pool::new(rt.alloc(), 1, 1).expect(&rt, NO_POOL);
-    let sheet = filled(&rt, &mut pool, &[(1, 2, 0b0110)]);
-    drop(pool);
+    let sheet = sheet_of(rt.alloc(), 1, &[(1, 2, 0b0110)]).expect(&rt, "no sheet");
     let table = IdleTable::new(rt.alloc(), 4, 3).expect(&rt, "no memory for a table");
     let table = claimed_apart::<Brand>(&rt, table, &sheet, Blank::new(1), None);
     let table = claimed_apart::<Brand>(&rt, table, &sheet, Blank::new(1), Some((1, 2, 1)));

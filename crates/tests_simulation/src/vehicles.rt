@@ -4,9 +4,10 @@ ghost use Rattle.std.specs.Prelude.{◌≡◌, ◌<◌, length};
 
 use aim_emerg::Approaches;
 use aim_fcfs::{Distances, next_allowed};
-use aim_msg::{Body, Message, Params, Reason, Reply, Turn};
+use aim_msg::{Body, Message, Reason, Reply};
 use aim_session::{Look, Sessions};
 use std::process::Abort;
+use tests_samples::{confirmed, request};
 
 #[test]
 fn least_refused_distance(rt: HostRuntime) {
@@ -45,36 +46,9 @@ fn emergencies_until_they_are_past(rt: HostRuntime) {
     drop(approaches);
 }
 
-// A request for a crossing of 11 steps.
-fn request(seq: u32, arrive: u32) -> Message {
-    Message {
-        seq,
-        body: Body::Request(Params {
-            lane: 0,
-            turn: Turn::Straight,
-            arrive,
-            speed: 500,
-            max_speed: 500,
-            accel: 0,
-            length: 1000,
-            width: 700,
-            emergency: false,
-        }),
-    }
-}
-
 const CANCEL: Message = Message {
     seq: 3,
     body: Body::Cancel(0),
-};
-
-const CONFIRM: Reply = Reply::Confirm {
-    id: 0,
-    start: 10,
-    early: 0,
-    late: 0,
-    accelerate: false,
-    last: 20,
 };
 
 const HOLDS: Reply = Reply::Reject {
@@ -97,12 +71,12 @@ fn keep(rt: &impl Abort, sessions: &mut Sessions, message: Message, reply: Reply
 #[test]
 fn numbers_and_standing_next(rt: HostRuntime) {
     let mut sessions = Sessions::new(rt.alloc(), 8).expect(&rt, "no memory");
-    keep(&rt, &mut sessions, request(1, 10), CONFIRM);
-    let again = sessions.look(0, &request(1, 10));
+    keep(&rt, &mut sessions, request(1, 0, 10), confirmed(0, 10));
+    let again = sessions.look(0, &request(1, 0, 10));
     assert!(rt; matches!(again, Look::Repeat(Reply::Confirm { last: 20, .. })));
-    assert!(rt; matches!(sessions.look(0, &request(1, 12)), Look::Reused));
+    assert!(rt; matches!(sessions.look(0, &request(1, 0, 12)), Look::Reused));
     assert!(rt; sessions.standing(0) == 0);
-    keep(&rt, &mut sessions, request(4, 40), HOLDS);
+    keep(&rt, &mut sessions, request(4, 0, 40), HOLDS);
     assert!(rt; matches!(sessions.look(0, &CANCEL), Look::Stale(4)));
     assert!(rt; sessions.standing(0) == 6);
     drop(sessions);

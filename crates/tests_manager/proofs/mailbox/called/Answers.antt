@@ -1,8 +1,8 @@
-use Rattle.aim_mailbox.proofs.Clients.{prepared_if, room_if_layout, same_called}
+use Rattle.aim_mailbox.proofs.Clients.{prepared_if, same_called}
 use Rattle.tests_manager.proofs.mailbox.called.Goals as goal
 
 pub call-requires-clause-prepared : goal.call-requires-clause-prepared
-call-requires-clause-prepared g c = prepared_if _ _ _ c.requires.layout c.prepared-prepared.ensures.prepared
+call-requires-clause-prepared g c = prepared_if _ _ _ c.requires.layout (rw c.expect-prepared.ensures at c.prepared.ensures.prepared)
 
 pub returns : goal.returns
 returns g c = same_called _ _ _ _ c.call.ensures.call

@@ -1,14 +1,13 @@
 //! Lines and scripts of claims, and what is printed.
 
-use crate::shards::NoHold;
 use aim_callers::shards;
 use aim_claims::{ShardLine, read_shard_line};
-use aim_io::{MemSink, MemSource};
 use aim_msg::LineKind;
 use std::alloc::Global;
 use std::process::Abort;
 use std::sync::Wait;
 use std::thread::Threads;
+use tests_samples::{NoHold, sink_of, source_of};
 
 // Lines that spell none, and why.
 const FAULTS: [(&[u8], LineKind); 16] = [
@@ -126,23 +125,20 @@ fn grown(rt: &impl Abort, alloc: Global, script: &[u8], piece: &[u8], times: u32
 fn runs<R: Threads + Wait + Abort + Sync>(
     rt: &R,
     alloc: Global,
-    script: Vec<u8>,
+    script: &[u8],
     reads: &[u64],
     writes: &[u64],
     status: u8,
     text: &[u8],
 ) -> bool {
-    let reads = reads.to_vec(alloc).expect(rt, "no memory for reads");
-    let writes = writes.to_vec(alloc).expect(rt, "no memory for writes");
-    let mut source = MemSource::new(script, reads);
-    let mut sink = MemSink::new(alloc, 65536, writes).expect(rt, "no memory for a sink");
+    let mut source = source_of(alloc, script, reads).expect(rt, "no memory for a source");
+    let mut sink = sink_of(alloc, 65536, writes).expect(rt, "no memory for a sink");
     shards(rt, alloc, 1, &mut source, &mut sink, &NoHold) == status && sink.bytes() == text
 }
 
 #[test]
 fn scripts_and_their_texts(rt: HostRuntime) {
     for (script, status, text) in &SCRIPTS {
-        let script = grown(&rt, rt.alloc(), script, b"", 0);
         assert!(rt; runs(&rt, rt.alloc(), script, &[], &[], *status, text));
     }
 }
@@ -158,8 +154,7 @@ const FAILURES: [(&[u64], &[u64], u8, &[u8]); 4] = [
 #[test]
 fn failing_reads_and_writes(rt: HostRuntime) {
     for (reads, writes, status, text) in &FAILURES {
-        let script = grown(&rt, rt.alloc(), WORKED, b"", 0);
-        assert!(rt; runs(&rt, rt.alloc(), script, reads, writes, *status, text));
+        assert!(rt; runs(&rt, rt.alloc(), WORKED, reads, writes, *status, text));
     }
 }
 
@@ -185,6 +180,6 @@ const TOO_MANY: [(&[u8], &[u8], u32, &[u8]); 3] = [
 fn one_set_or_call_too_many(rt: HostRuntime) {
     for (script, piece, times, text) in &TOO_MANY {
         let script = grown(&rt, rt.alloc(), script, piece, *times);
-        assert!(rt; runs(&rt, rt.alloc(), script, &[], &[], 3, text));
+        assert!(rt; runs(&rt, rt.alloc(), &script, &[], &[], 3, text));
     }
 }
