@@ -184,6 +184,20 @@ fn deal<K: Kept>(
     passes
 }
 
+// Takes one pass into the seat.
+fn take_in<K: Kept>(desk: &Desk<K>, main: &mut Chair<K>, pass: Pass<K>)
+    requires desk { (main.old.table_id ≡ desk.now.shared.table_id) × (desk.now.shared.table_id.words ≡ 3) }
+    requires main { (start : List (PassModel K.Setting K.Entry)) × Gathers (K.setting desk.now.shared.key.kept.value) desk.now.shared.key.numbers.value.items start main.old.me }
+    requires own { pass.table ≡ desk.now.shared.table_id }
+    ensures seat { (main.new.table_id ≡ main.old.table_id) × (main.new.id ≡ main.old.id) }
+    ensures main { (start : List (PassModel K.Setting K.Entry))
+        → Gathers (K.setting desk.now.shared.key.kept.value) desk.now.shared.key.numbers.value.items start main.old.me
+        → Gathers (K.setting desk.now.shared.key.kept.value) desk.now.shared.key.numbers.value.items (pass ∷ start) main.new.me }
+{
+    let Pass { number: _, seat } = pass;
+    desk.shared.join_seat::<Gather>(main, seat);
+}
+
 // Takes all passes into one seat.
 fn gather<K: Kept>(desk: &Desk<K>, main: &mut Chair<K>, mut passes: Vec<Pass<K>>)
     requires desk { (main.old.table_id ≡ desk.now.shared.table_id) × (desk.now.shared.table_id.words ≡ 3) }
@@ -195,8 +209,7 @@ fn gather<K: Kept>(desk: &Desk<K>, main: &mut Chair<K>, mut passes: Vec<Pass<K>>
         → Gathers (K.setting desk.now.shared.key.kept.value) desk.now.shared.key.numbers.value.items (passes.items ++ start) main.new.me }
 {
     while let Some(pass) = passes.pop() {
-        let Pass { number: _, seat } = pass;
-        desk.shared.join_seat::<Gather>(main, seat);
+        take_in(desk, main, pass);
     }
 }
 
@@ -325,8 +338,7 @@ impl<K: Kept> Turnstile<K> {
     {
         let Turnstile { desk } = self;
         let (_, mut main) = desk.shared.load_new_seat::<Arrive>(SERVING);
-        let Pass { number: _, seat } = last;
-        desk.shared.join_seat::<Gather>(&mut main, seat);
+        take_in(&desk, &mut main, last);
         gather(&desk, &mut main, passes);
         finish(desk, main)
     }
