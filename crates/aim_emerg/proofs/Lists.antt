@@ -1,6 +1,6 @@
 -- The list of the vehicles that have called.
 use Rattle.std.proofs.Common.{◌≡◌, ℕ, ◌+◌, ◌*◌, ◌^◌, ◌%◌, ◌<◌, ◌≤◌, Bool, true, false, ◌||◌, List, [], ◌∷◌, ◌++◌, length, Option, Some, None, arith, refl, sym, ◌∙◌, ap, get_or, set, take, inl, inr, length-append, replicate, subst}
-use Rattle.std.specs.Prelude.{◌==◌, bit_or, is_some, count_by, IfSome, cond, unwrap_or}
+use Rattle.std.specs.Prelude.{◌==◌, bit_or, is_some, count_by, if◌then◌else◌, IfSome, cond, unwrap_or}
 use Rattle.std.specs.List.{list_any}
 use Rattle.std.proofs.Math.Decide.{dec_lt}
 use Rattle.std.proofs.Math.Seq.{get_or-append_seam}
@@ -9,7 +9,7 @@ use Rattle.std.proofs.lemmas.Nat.{one_shl}
 use Rattle.std.proofs.lemmas.Nat.Bits.{bit_at-pow_same, bit_at-pow_other}
 use Rattle.aim_paths.specs.Policies.{has_lane}
 use Rattle.aim_rules.proofs.TestLemmas.{le_true}
-use Rattle.std.proofs.lemmas.List.{get_or-replicate, get_or-set_same, get_or-set_other, length-replicate, length-set, get_or_append_left, take_all}
+use Rattle.std.proofs.lemmas.List.{get_or-replicate, get_or-set_same, get_or-set_other, set-get_or, length-replicate, length-set, get_or_append_left, take_all}
 use Rattle.std.proofs.lemmas.List.Folds.{list_any-append, list_any_at, list_any_more, sum_by-replicate, Any-from_list_any}
 use Rattle.std.proofs.lemmas.List.Sums.{sum_by-set, count_by-le-length}
 use Rattle.aim_msg.specs.declared.entries.TheConstants.{LATEST_MOMENT}
@@ -69,6 +69,25 @@ room_left calls callers marked v is l free =
     let long = length-set marked v true in
     let a = is.long in let b = is.count in omega arith
 
+-- a vehicle of the list calls again, or one clears its call
+pub listed_same : (calls : List (Option (ℕ × ℕ))) (callers : List ℕ) (marked : List Bool) (v : ℕ) (call : Option (ℕ × ℕ)) → IsListed calls callers marked → v < length calls → (is_some call ≡ true → get_or marked v false ≡ true) →
+    ((lane arrive : ℕ) → call ≡ Some (lane, arrive) → (lane < 16) × (arrive ≤ LATEST_MOMENT)) → IsListed (set calls v call) callers marked
+listed_same calls callers marked v call is l known range =
+    let size = length-set calls v call in record {
+      long = is.long ∙ sym size;
+      count = is.count;
+      below = λ k d m. rw size (is.below k d m);
+      all = λ u m set. is.all u (omega (arith, m, size)) set;
+      calling = λ u m some. elim (cases_eq u v) [
+        | inl e ↦ rw e (known (rw (e, get_or-set_same calls v call None l) at some))
+        | inr n ↦ is.calling u (omega (arith, m, size)) (rw (get_or-set_other calls v u call None n) at some)
+      ];
+      range = λ u lane arrive m e. elim (cases_eq u v) [
+        | inl s ↦ range lane arrive (rw (s, get_or-set_same calls v call None l) at e)
+        | inr n ↦ is.range u lane arrive (omega (arith, m, size)) (rw (get_or-set_other calls v u call None n) at e)
+      ];
+    }
+
 pub listed_more : (calls : List (Option (ℕ × ℕ))) (callers : List ℕ) (marked : List Bool) (v : ℕ) (call : Option (ℕ × ℕ)) → IsListed calls callers marked → v < length calls → get_or marked v false ≡ false →
     ((lane arrive : ℕ) → call ≡ Some (lane, arrive) → (lane < 16) × (arrive ≤ LATEST_MOMENT)) → IsListed (set calls v call) (callers ++ v ∷ []) (set marked v true)
 listed_more calls callers marked v call is l free range =
@@ -92,6 +111,18 @@ listed_more calls callers marked v call is l free range =
         | inr n ↦ is.range u lane arrive (let size = length-set calls v call in omega arith) (rw (get_or-set_other calls v u call None n) at e)
       ];
     }
+
+-- a vehicle that calls is listed from then on
+pub listed_noted : (calls : List (Option (ℕ × ℕ))) (callers new : List ℕ) (marked : List Bool) (v : ℕ) (call : Option (ℕ × ℕ)) → IsListed calls callers marked → v < length calls →
+    ((lane arrive : ℕ) → call ≡ Some (lane, arrive) → (lane < 16) × (arrive ≤ LATEST_MOMENT)) → new ≡ (if get_or marked v false then callers else callers ++ v ∷ []) → IsListed (set calls v call) new (set marked v true)
+listed_noted calls callers new marked v call is l range e = go (get_or marked v false) refl
+  where
+    go : (b : Bool) → get_or marked v false ≡ b → IsListed (set calls v call) new (set marked v true)
+    go true f =
+        let same : set marked v true ≡ marked = subst (λ b. set marked v b ≡ marked) f (set-get_or marked v false) in
+        let old : new ≡ callers = rw f at e in
+        rw (same, old) (listed_same calls callers marked v call is l (λ _. f) range)
+    go false f = let more : new ≡ callers ++ v ∷ [] = rw f at e in rw more (listed_more calls callers marked v call is l f range)
 
 some_of : (test : Option (ℕ × ℕ) → Bool) (o : Option (ℕ × ℕ)) → test None ≡ false → test o ≡ true → is_some o ≡ true
 some_of test None none h = absurd (cc)

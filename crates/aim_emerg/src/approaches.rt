@@ -1,6 +1,6 @@
 //! The last calls of vehicles.
 
-ghost use Rattle.std.specs.Prelude.{◌≡◌, ℕ, ◌<◌, ◌≤◌, length, None, replicate, slice_set, IfOk, IfSome};
+ghost use Rattle.std.specs.Prelude.{◌≡◌, ℕ, ◌<◌, ◌≤◌, [], ◌∷◌, ◌++◌, length, false, true, if◌then◌else◌, None, replicate, slice_index_or, slice_set, vec_capacity, IfOk, IfSome};
 ghost use Rattle.std.specs.List.{list_any};
 ghost use Rattle.aim_msg.specs.declared.entries.TheConstants.{LATEST_MOMENT};
 ghost use Rattle.aim_paths.specs.Policies.{has_lane};
@@ -9,13 +9,46 @@ ghost use Rattle.aim_emerg.specs.Calls.{is_call_in};
 use crate::NoMemory;
 use std::alloc::Global;
 use std::marker::Model;
+use std::mem;
+
+// The vehicles that have called, each once.
+#[derive(Drop)]
+struct Callers {
+    list: Vec<u32>,
+    is_listed: Vec<bool>,
+}
+
+impl Callers {
+    // No vehicle of so many, with room for all.
+    fn new(alloc: Global, vehicles: u32) -> Result<Callers, NoMemory>
+        ensures none { IfOk result (λ c. (c.list.items ≡ []) × (c.is_listed.items ≡ replicate vehicles false)) }
+        ensures room { IfOk result (λ c. vehicles ≤ vec_capacity c.list) }
+    {
+        Ok(Callers {
+            list: Vec::with_capacity(alloc, vehicles as usize)?,
+            is_listed: vec![in alloc; false; vehicles as usize]?,
+        })
+    }
+
+    // Lists the vehicle, if it isn't listed.
+    fn add(&mut self, vehicle: u32)
+        requires there { vehicle < length self.old.is_listed.items }
+        requires room { slice_index_or self.old.is_listed.items vehicle false ≡ false → length self.old.list.items < vec_capacity self.old.list }
+        ensures listed { self.new.is_listed.items ≡ slice_set self.old.is_listed.items vehicle true }
+        ensures list { self.new.list.items ≡ (if slice_index_or self.old.is_listed.items vehicle false then self.old.list.items else self.old.list.items ++ vehicle ∷ []) }
+        ensures capacity { vec_capacity self.new.list ≡ vec_capacity self.old.list }
+    {
+        if !mem::replace(&mut self.is_listed[vehicle as usize], true) {
+            self.list.push_reserved(vehicle);
+        }
+    }
+}
 
 /// Each vehicle's last call of an emergency, a lane and an arrival, or none.
 #[derive(Drop)]
 pub struct Approaches {
     calls: Vec<Option<(u8, u32)>>,
-    callers: Vec<u32>,
-    is_caller: Vec<bool>,
+    callers: Callers,
 }
 
 impl Model for Approaches {
@@ -28,7 +61,7 @@ impl Model for Approaches {
 
     ghost view = { λ a. a.calls.items };
 
-    ghost invariant = { λ a. (IsListed a.calls.items a.callers.items a.is_caller.items) × (length a.calls.items ≤ vec_capacity a.callers) };
+    ghost invariant = { λ a. (IsListed a.calls.items a.callers.list.items a.callers.is_listed.items) × (length a.calls.items ≤ vec_capacity a.callers.list) };
 }
 
 impl Approaches {
@@ -38,8 +71,7 @@ impl Approaches {
     {
         Ok(Approaches {
             calls: vec![in alloc; None; vehicles as usize]?,
-            callers: Vec::with_capacity(alloc, vehicles as usize)?,
-            is_caller: vec![in alloc; false; vehicles as usize]?,
+            callers: Callers::new(alloc, vehicles)?,
         })
     }
 
@@ -49,13 +81,10 @@ impl Approaches {
         requires range { IfSome call (λ c. (c.0 < 16) × (c.1 ≤ LATEST_MOMENT)) }
         ensures { self.new ≡ slice_set self.old vehicle call }
     {
-        let place = vehicle as usize;
-        self.calls[place] = call;
-        if call.is_none() || self.is_caller[place] {
-            return;
+        self.calls[vehicle as usize] = call;
+        if call.is_some() {
+            self.callers.add(vehicle);
         }
-        self.is_caller[place] = true;
-        self.callers.push_reserved(vehicle);
     }
 
     /// The set of lanes of the calls whose arrival is at most the horizon past.
@@ -65,7 +94,7 @@ impl Approaches {
         ensures { (lane : ℕ) → has_lane result lane ≡ list_any (is_call_in now horizon lane) self.now }
     {
         let mut lanes = 0;
-        for vehicle in &self.callers {
+        for vehicle in &self.callers.list {
             lanes |= lane_of(self.calls[*vehicle as usize], now, horizon);
         }
         lanes

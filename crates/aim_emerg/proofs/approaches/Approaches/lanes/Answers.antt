@@ -8,13 +8,13 @@ pub loop-vehicle-preserved : goal.loop-vehicle-preserved
 loop-vehicle-preserved c = λ lane.
     let i = c.self.inside in
     let k = c.loop-vehicle.vehicle-index in
-    let l : k < length i.callers.items = rw c.deref-vehicle-items.ensures.value at c.loop-vehicle-test.true in
-    called_more i.calls.items i.callers.items k c.loop-vehicle.lanes c.lane_of-lanes.result c.args.now c.args.horizon lane c.index.result.now l (c.self.invariant.0.below k 0 l)
+    let l : k < length i.callers.list.items = rw c.deref-vehicle-items.ensures.value at c.loop-vehicle-test.true in
+    called_more i.calls.items i.callers.list.items k c.loop-vehicle.lanes c.lane_of-lanes.result c.args.now c.args.horizon lane c.index.result.now l (c.self.invariant.0.below k 0 l)
     (rw c.deref-vehicle-items.ensures.value at c.index.ensures) (c.loop-vehicle.invariant lane) (c.lane_of-lanes.ensures lane)
 
 pub returns : goal.returns
 returns c = λ lane.
     let i = c.self.inside in
-    let past : length i.callers.items ≤ c.loop-vehicle.vehicle-index = rw c.deref-vehicle-items.ensures.value at c.loop-vehicle-test.false in
-    c.loop-vehicle.invariant lane ∙ called_all i.calls.items i.callers.items i.is_caller.items c.loop-vehicle.vehicle-index c.args.now c.args.horizon lane c.self.invariant.0 past
+    let past : length i.callers.list.items ≤ c.loop-vehicle.vehicle-index = rw c.deref-vehicle-items.ensures.value at c.loop-vehicle-test.false in
+    c.loop-vehicle.invariant lane ∙ called_all i.calls.items i.callers.list.items i.callers.is_listed.items c.loop-vehicle.vehicle-index c.args.now c.args.horizon lane c.self.invariant.0 past
     ∙ ap (list_any (is_call_in c.args.now c.args.horizon lane)) c.self.view_is
