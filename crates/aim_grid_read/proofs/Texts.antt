@@ -33,7 +33,7 @@ use Rattle.aim_grid_read.specs.declared.lines.GridLine.{GridLine}
 use Rattle.aim_grid_read.specs.declared.lines.GridLine.TheVariants as line
 use Rattle.aim_grid_read.specs.Legs.{crossings_places, form_of, grid_line_at, leg_places, line_with, places_fault, plain_in, plan_at}
 use Rattle.aim_grid_read.specs.Spelled.{IsBare, IsGridLine, IsPlan, KeepsGridRanges, grid_line_text, grid_line_words, leg_words}
-use Rattle.aim_grid_read.specs.Steps.{crossings_in, leg_in}
+use Rattle.aim_grid_read.specs.Steps.{crossings_in, leg_in, params_in}
 use Rattle.aim_grid_read.proofs.Stepping.{crossings_read, leg_read}
 
 -- a word that begins a line of its own begins no line of any script
@@ -85,7 +85,7 @@ bare_is : (p : DrivePlan) → IsBare p → record { first = p.first; lead = p.le
 bare_is p b = rw (sym b.changes, sym b.cancel, sym b.ahead) refl
 
 leg_steps : (v c : ℕ) (p : DrivePlan) → Is32 v → Is32 c → IsPlan p → IsBare p → leg_in (rest (leg_words v c p.first p.lead p.resend p.params)) ≡ Ok (line.Leg v c p)
-unfolding leg_in numbers_in
+unfolding leg_in params_in numbers_in
 leg_steps v c p iv ic i b =
     let q = p.params in
     let r = i.params in

@@ -1,10 +1,11 @@
 -- Reading word by word. Only contracts of private functions cite it.
 use Rattle.std.specs.Prelude.{false, [], None, Result, Ok, get_or}
 use Rattle.aim_msg.specs.Texts.{Words}
+use Rattle.aim_msg.specs.declared.messages.Params.{Params}
 use Rattle.aim_msg.specs.declared.script.LineKind.{LineKind}
 use Rattle.aim_words.specs.Faults.{number8, turns, value_of}
 use Rattle.aim_words.specs.Reading.{turn_of}
-use Rattle.aim_words.specs.Steps.{◌>>=◌, number_in, numbers_in, read_in, vehicle_in}
+use Rattle.aim_words.specs.Steps.{◌>>=◌, Read, number_in, numbers_in, read_in, vehicle_in}
 use Rattle.aim_grid_read.specs.declared.lines.GridLine.{GridLine}
 use Rattle.aim_grid_read.specs.declared.lines.GridLine.TheVariants as line
 
@@ -13,10 +14,15 @@ crossings_in words = do
   n ← number_in words
   Ok (line.Crossings n.0)
 
+-- what a vehicle is, without an arrival
+unfoldable pub params_in : Words → Read Params
+params_in words = do
+  lane ← read_in number8 value_of words
+  turn ← read_in turns turn_of lane.1
+  vehicle_in lane.0 turn.0 0 turn.1
+
 unfoldable pub leg_in : Words → Result GridLine LineKind
 leg_in words = do
   n ← numbers_in [] 5 words
-  lane ← read_in number8 value_of n.1
-  turn ← read_in turns turn_of lane.1
-  params ← vehicle_in lane.0 turn.0 0 turn.1
+  params ← params_in n.1
   Ok (line.Leg (get_or n.0 0 0) (get_or n.0 1 0) (record { first = get_or n.0 2 0; lead = get_or n.0 3 0; resend = get_or n.0 4 0; params = params.0; changes = []; cancel = None; ahead = false }))

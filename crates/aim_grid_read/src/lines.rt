@@ -2,11 +2,12 @@
 
 ghost use Rattle.std.specs.Prelude.{◌≡◌, ◌<◌, ◌≤◌, ◌==◌, count_by, length};
 ghost use Rattle.aim_words.specs.Faults.{words_of};
+ghost use Rattle.aim_words.specs.Steps.{Gives};
 ghost use Rattle.aim_grid_read.specs.Legs.{form_of, grid_line_at, plain_at};
-ghost use Rattle.aim_grid_read.specs.Steps.{crossings_in, leg_in};
+ghost use Rattle.aim_grid_read.specs.Steps.{crossings_in, leg_in, params_in};
 
 use aim_driver::{Changes, DrivePlan};
-use aim_msg::{Line, LineKind};
+use aim_msg::{Line, LineKind, Params};
 use aim_read::read_line;
 use aim_words::fields::{self, number8, number32, numbers, turn};
 use aim_words::words::Words;
@@ -70,15 +71,23 @@ fn crossings(words: &mut Words<'_>) -> Result<GridLine, LineKind>
     Ok(GridLine::Crossings(number32(words)?))
 }
 
+// LANE TURN SPEED MAX ACCEL LENGTH WIDTH CLASS, without an arrival.
+#[tactic(auto, unfolding(crate::specs::Steps::params_in))]
+fn params(words: &mut Words<'_>) -> Result<Params, LineKind>
+    ensures { Gives result words.new (params_in words.old) }
+{
+    let lane = number8(words)?;
+    let turn = turn(words)?;
+    fields::vehicle(words, lane, turn, 0)
+}
+
 // `leg V CROSSING FIRST LEAD RESEND LANE TURN SPEED MAX ACCEL LENGTH WIDTH CLASS`, behind its first word.
 #[tactic(auto, unfolding(crate::specs::Steps::leg_in))]
 fn leg(words: &mut Words<'_>) -> Result<GridLine, LineKind>
     ensures { result ≡ leg_in words.old }
 {
     let [vehicle, crossing, first, lead, resend] = numbers::<5>(words)?;
-    let lane = number8(words)?;
-    let turn = turn(words)?;
-    let params = fields::vehicle(words, lane, turn, 0)?;
+    let params = params(words)?;
     let plan = DrivePlan {
         first,
         lead,
