@@ -2,24 +2,27 @@
 """Which functions are dear: the share of each in the time of its crate's check.
 
   tools/shares.py aim_turn aim_book    prints the dearest ten functions of each of these crates
-  tools/shares.py                      prints each function above a twelfth, of all crates that have been checked
+  tools/shares.py                      prints each function above a twelfth, of all crates of the program
 
-It reads crates/NAME/out/incremental, in which a check writes the parts of each function's proof as they come: a part took the
-time since the one before it was written. So it is right for a check with one job that began with nothing kept:
+It checks each crate from nothing with one job, so it is right where nothing else runs. A share is of the whole time from the
+command's start to its end. A check writes the parts of each function's proof as they come: a part took the time since the one
+before it was written. Behind each function stand the parts that took most of it: Lts is the borrow checker's, Proof the search
+for the answers that nobody wrote, Answers those that somebody did.
 
-  rm -rf crates/aim_turn/out/incremental && (cd crates/aim_turn && rt check --jobs 1) && tools/shares.py aim_turn
-
-and near it for the crates that ./aim proves first, one job each. Behind each function stand the parts that took most of it:
-Lts is the borrow checker's, Proof the search for the answers that nobody wrote, Answers those that somebody did. The first
-function that needs a library pays for the reading of it, most often in Kinds, Tie, Given or Code. The time before the first
-part, in which the prover starts, counts for nothing.
+What a library has is read once, in the first function that needs it, most often in Kinds, Tie, Given, Code or Reads, and no cut
+of that function makes it less. So of each of these sorts the longest part of a crate counts as long as the second, and what it
+took beyond is told behind the share.
 """
 import collections
 import os
 import re
+import shutil
+import subprocess
 import sys
+import time
 
 ROOT = os.path.dirname(os.path.dirname(os.path.realpath(__file__)))
+READING = ("Kinds", "Tie", "Given", "Code", "Reads")
 
 
 def part_of(name, crate):
@@ -35,35 +38,51 @@ def part_of(name, crate):
     return ".".join(whole), words[-1]
 
 
-def newest(crate):
-    """Gives the folder that the newest check of the crate left, or None."""
-    top = f"{ROOT}/crates/{crate}/out/incremental"
-    folders = [entry.path for entry in os.scandir(top) if entry.is_dir()] if os.path.isdir(top) else []
-    return max(folders, key=os.path.getmtime) if folders else None
+def check(crate):
+    """Checks the crate from nothing with one job, over libraries that are built, and gives how many seconds it took."""
+    folder = f"{ROOT}/crates/{crate}"
+    subprocess.run(["rt", "check"], cwd=folder, check=True, capture_output=True)
+    shutil.rmtree(f"{folder}/out/incremental")
+    start = time.monotonic()
+    subprocess.run(["rt", "check", "--jobs", "1"], cwd=folder, check=True, capture_output=True)
+    return time.monotonic() - start
 
 
 def times(crate):
-    """Gives how many seconds the newest check of the crate took, and those of each function, part by part."""
+    """Gives how many seconds each function of the newest check of the crate took, part by part."""
     functions = collections.defaultdict(collections.Counter)
-    folder = newest(crate)
-    if folder is None:
-        return 0, functions
-    files = sorted((entry.stat().st_mtime, entry.name) for entry in os.scandir(folder) if entry.name.startswith("Rattle"))
+    kept = [entry.path for entry in os.scandir(f"{ROOT}/crates/{crate}/out/incremental") if entry.is_dir()]
+    newest = max(kept, key=os.path.getmtime)
+    files = sorted((entry.stat().st_mtime, entry.name) for entry in os.scandir(newest) if entry.name.startswith("Rattle"))
     for (before, _), (written, name) in zip(files, files[1:]):
         part = part_of(name, crate)
         if part:
             functions[part[0]][part[1]] += written - before
-    return files[-1][0] - files[0][0], functions
+    return functions
+
+
+def first_readings(functions):
+    """Gives how many seconds of each function are the reading of what no function before it had needed."""
+    beyond = collections.Counter()
+    for sort in READING:
+        took = [(sum(took for part, took in parts.items() if part.split("-")[0] == sort), function)
+                for function, parts in functions.items()]
+        took.sort(reverse=True)
+        if len(took) > 1:
+            beyond[took[0][1]] += took[0][0] - took[1][0]
+    return beyond
 
 
 def show(crate, least, most):
-    whole, functions = times(crate)
-    dearest = sorted(functions.items(), key=lambda found: -sum(found[1].values()))
-    for function, parts in dearest[:most]:
-        seconds = sum(parts.values())
+    whole = check(crate)
+    functions = times(crate)
+    beyond = first_readings(functions)
+    own = {function: sum(parts.values()) - beyond[function] for function, parts in functions.items()}
+    for function, seconds in sorted(own.items(), key=lambda found: -found[1])[:most]:
         if seconds > least * whole:
-            of_it = ", ".join(f"{part} {took:.1f}" for part, took in parts.most_common(3))
-            print(f"{crate:18} {whole:6.1f} s {100 * seconds / whole:5.1f} %  {function} ({of_it})")
+            of_it = ", ".join(f"{part} {took:.1f}" for part, took in functions[function].most_common(3))
+            print(f"{crate:16} {whole:6.1f} s {100 * seconds / whole:5.1f} % +{100 * beyond[function] / whole:4.1f} %"
+                  f"  {function} ({of_it})", flush=True)
 
 
 def main():
@@ -72,7 +91,8 @@ def main():
             show(crate, 0, 10)
         return
     for crate in sorted(os.listdir(f"{ROOT}/crates")):
-        show(crate, 1 / 12, 100)
+        if crate.startswith("aim") and os.path.isdir(f"{ROOT}/crates/{crate}/out"):
+            show(crate, 1 / 12, 100)
 
 
 if __name__ == "__main__":

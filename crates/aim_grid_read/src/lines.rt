@@ -1,6 +1,6 @@
 //! The lines of scripts of several crossings.
 
-ghost use Rattle.std.specs.Prelude.{◌≡◌, ◌<◌, ◌≤◌, ◌==◌, count_by, length};
+ghost use Rattle.std.specs.Prelude.{◌≡◌, ◌<◌, ◌≤◌, ◌==◌, [], None, false, count_by, length};
 ghost use Rattle.aim_words.specs.Faults.{words_of};
 ghost use Rattle.aim_words.specs.Steps.{Gives};
 ghost use Rattle.aim_grid_read.specs.Legs.{form_of, grid_line_at, plain_at};
@@ -81,14 +81,11 @@ fn params(words: &mut Words<'_>) -> Result<Params, LineKind>
     fields::vehicle(words, lane, turn, 0)
 }
 
-// `leg V CROSSING FIRST LEAD RESEND LANE TURN SPEED MAX ACCEL LENGTH WIDTH CLASS`, behind its first word.
-#[tactic(auto, unfolding(crate::specs::Steps::leg_in))]
-fn leg(words: &mut Words<'_>) -> Result<GridLine, LineKind>
-    ensures { result ≡ leg_in words.old }
+// The plan of a vehicle that changes and cancels nothing, and enters no earlier than it asked.
+fn plan(first: u32, lead: u32, resend: u32, params: Params) -> DrivePlan
+    ensures { result ≡ record { first = first; lead = lead; resend = resend; params = params; changes = []; cancel = None; ahead = false } }
 {
-    let [vehicle, crossing, first, lead, resend] = numbers::<5>(words)?;
-    let params = params(words)?;
-    let plan = DrivePlan {
+    DrivePlan {
         first,
         lead,
         resend,
@@ -96,7 +93,17 @@ fn leg(words: &mut Words<'_>) -> Result<GridLine, LineKind>
         changes: Changes::none(),
         cancel: None,
         ahead: false,
-    };
+    }
+}
+
+// `leg V CROSSING FIRST LEAD RESEND LANE TURN SPEED MAX ACCEL LENGTH WIDTH CLASS`, behind its first word.
+#[tactic(auto, unfolding(crate::specs::Steps::leg_in))]
+fn leg(words: &mut Words<'_>) -> Result<GridLine, LineKind>
+    ensures { result ≡ leg_in words.old }
+{
+    let [vehicle, crossing, first, lead, resend] = numbers::<5>(words)?;
+    let params = params(words)?;
+    let plan = plan(first, lead, resend, params);
     Ok(GridLine::Leg {
         vehicle,
         crossing,
