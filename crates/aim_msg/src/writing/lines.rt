@@ -7,53 +7,9 @@ ghost use Rattle.aim_msg.specs.Writing.{added};
 
 use crate::messages::{Message, Params, Turn};
 use crate::script::{FateList, Grid6, Line, MoveShape, Name, Times5, Times6};
-use crate::writing::entries::{put_message, put_vehicle};
+use crate::writing::entries::{put_field, put_message, put_vehicle};
 use crate::writing::text::Text;
 use crate::writing::words::{kind_text, turn_text, window_text};
-
-impl Grid6 {
-    fn numbers(&self) -> [u32; 6]
-        ensures { result ≡ self.now.side ∷ self.now.n ∷ self.now.spacing ∷ self.now.fixed ∷ self.now.half ∷ self.now.spans ∷ [] }
-    {
-        [
-            self.side,
-            self.n,
-            self.spacing,
-            self.fixed,
-            self.half,
-            self.spans,
-        ]
-    }
-}
-
-impl Times5 {
-    fn numbers(&self) -> [u32; 5]
-        ensures { result ≡ self.now.horizon ∷ self.now.longest ∷ self.now.clearance ∷ self.now.internal ∷ self.now.edge ∷ [] }
-    {
-        [
-            self.horizon,
-            self.longest,
-            self.clearance,
-            self.internal,
-            self.edge,
-        ]
-    }
-}
-
-impl Times6 {
-    fn numbers(&self) -> [u32; 6]
-        ensures { result ≡ self.now.horizon ∷ self.now.longest ∷ self.now.clearance ∷ self.now.early ∷ self.now.late ∷ self.now.edge ∷ [] }
-    {
-        [
-            self.horizon,
-            self.longest,
-            self.clearance,
-            self.early,
-            self.late,
-            self.edge,
-        ]
-    }
-}
 
 fn put_numbers(out: &mut Text, numbers: &[u32])
     requires { length out.old + 11 * length numbers.now ≤ 400 }
@@ -73,6 +29,58 @@ fn put_form(out: &mut Text, word: &[u8], numbers: &[u32])
 {
     out.word(word);
     put_numbers(out, numbers);
+}
+
+fn put_grid(out: &mut Text, grid: &Grid6)
+    requires { length out.old + 71 ≤ 400 }
+    ensures { out.new ≡ added out.old (codes "grid" ∷ decimal grid.now.side ∷ decimal grid.now.n ∷ decimal grid.now.spacing ∷ decimal grid.now.fixed ∷ decimal grid.now.half ∷ decimal grid.now.spans ∷ []) }
+{
+    let Grid6 {
+        side,
+        n,
+        spacing,
+        fixed,
+        half,
+        spans,
+    } = *grid;
+    put_form(out, b"grid", &[side, n, spacing, fixed, half, spans]);
+}
+
+fn put_times5(out: &mut Text, times: &Times5)
+    requires { length out.old + 61 ≤ 400 }
+    ensures { out.new ≡ added out.old (codes "times" ∷ decimal times.now.horizon ∷ decimal times.now.longest ∷ decimal times.now.clearance ∷ decimal times.now.internal ∷ decimal times.now.edge ∷ []) }
+{
+    let Times5 {
+        horizon,
+        longest,
+        clearance,
+        internal,
+        edge,
+    } = *times;
+    put_form(
+        out,
+        b"times",
+        &[horizon, longest, clearance, internal, edge],
+    );
+}
+
+fn put_times6(out: &mut Text, times: &Times6)
+    requires { length out.old + 72 ≤ 400 }
+    ensures { out.new ≡ added out.old (codes "times" ∷ decimal times.now.horizon ∷ decimal times.now.longest ∷ decimal times.now.clearance ∷ decimal times.now.early ∷ decimal times.now.late ∷ decimal times.now.edge ∷ []) }
+{
+    let Times6 {
+        horizon,
+        longest,
+        clearance,
+        early,
+        late,
+        edge,
+    } = *times;
+    put_form(
+        out,
+        b"times",
+        &[horizon, longest, clearance, early, late, edge],
+    );
 }
 
 fn put_shape(out: &mut Text, shape: &MoveShape)
@@ -233,51 +241,83 @@ fn put_planned(out: &mut Text, version: u8, params: &Params, ahead: bool)
     put_window(out, version, ahead);
 }
 
+// Adds the words of a plan, of which `steps` are its first step, its lead and its resend.
+fn put_plan(
+    out: &mut Text,
+    version: u8,
+    vehicle: u32,
+    steps: [u32; 3],
+    params: &Params,
+    ahead: bool,
+)
+    requires { length out.old + 143 ≤ 400 }
+    ensures { out.new ≡ added (added out.old (codes "plan" ∷ decimal vehicle ∷ map decimal steps)) (decimal params.now.lane ∷ turn_word params.now.turn ∷ (vehicle_words params.now ++ window_words version ahead)) }
+{
+    put_field(out, b"plan", vehicle);
+    put_numbers(out, &steps);
+    put_planned(out, version, params, ahead);
+}
+
+fn put_change(out: &mut Text, vehicle: u32, step: u32, lead: u32)
+    requires { length out.old + 40 ≤ 400 }
+    ensures { out.new ≡ added out.old (codes "change" ∷ decimal vehicle ∷ decimal step ∷ decimal lead ∷ []) }
+{
+    put_form(out, b"change", &[vehicle, step, lead]);
+}
+
+fn put_cancel(out: &mut Text, vehicle: u32, step: u32)
+    requires { length out.old + 29 ≤ 400 }
+    ensures { out.new ≡ added out.old (codes "cancel" ∷ decimal vehicle ∷ decimal step ∷ []) }
+{
+    put_form(out, b"cancel", &[vehicle, step]);
+}
+
 /// Adds the words of a line of a script of that version.
 pub(crate) fn put_line(out: &mut Text, version: u8, line: &Line)
-    requires new { out.old ≡ [] }
+    requires empty { length out.old ≡ 0 }
     requires version { (0 < version) × (version ≤ 3) }
     requires ranges { KeepsRanges version line.now }
-    ensures { out.new ≡ added [] (line_words version line.now) }
+    ensures { out.new ≡ added out.old (line_words version line.now) }
 {
-    match line {
-        Line::Version(n) => put_form(out, b"aim", &[*n]),
-        Line::Grid(grid) => put_form(out, b"grid", &grid.numbers()),
-        Line::Times(times) => put_form(out, b"times", &times.numbers()),
-        Line::Times6(times) => put_form(out, b"times", &times.numbers()),
-        Line::Lanes(n) => put_form(out, b"lanes", &[*n]),
-        Line::Move { lane, turn, shape } => put_move(out, *lane, *turn, shape),
-        Line::Policy { name, kind } => put_policy(out, name, *kind),
-        Line::Phase { red, green, lanes } => put_phase(out, *red, *green, *lanes),
-        Line::Vehicles(n) => put_form(out, b"vehicles", &[*n]),
+    match *line {
+        Line::Version(n) => put_field(out, b"aim", n),
+        Line::Grid(ref grid) => put_grid(out, grid),
+        Line::Times(ref times) => put_times5(out, times),
+        Line::Times6(ref times) => put_times6(out, times),
+        Line::Lanes(n) => put_field(out, b"lanes", n),
+        Line::Move {
+            lane,
+            turn,
+            ref shape,
+        } => put_move(out, lane, turn, shape),
+        Line::Policy { ref name, kind } => put_policy(out, name, kind),
+        Line::Phase { red, green, lanes } => put_phase(out, red, green, lanes),
+        Line::Vehicles(n) => put_field(out, b"vehicles", n),
         Line::Begin => out.word(b"begin"),
         Line::Event {
             vehicle,
             moment,
-            message,
-        } => put_event(out, *vehicle, *moment, message),
-        Line::SwitchTo { moment, name } => put_switch(out, *moment, name),
-        Line::StopAt { moment } => put_order(out, *moment, b"stop"),
-        Line::Until(step) => put_form(out, b"until", &[*step]),
+            ref message,
+        } => put_event(out, vehicle, moment, message),
+        Line::SwitchTo { moment, ref name } => put_switch(out, moment, name),
+        Line::StopAt { moment } => put_order(out, moment, b"stop"),
+        Line::Until(step) => put_field(out, b"until", step),
         Line::PlanFor {
             vehicle,
             first,
             lead,
             resend,
-            params,
+            ref params,
             ahead,
-        } => {
-            put_form(out, b"plan", &[*vehicle, *first, *lead, *resend]);
-            put_planned(out, version, params, *ahead);
-        }
+        } => put_plan(out, version, vehicle, [first, lead, resend], params, ahead),
         Line::ChangeAt {
             vehicle,
             step,
             lead,
-        } => put_form(out, b"change", &[*vehicle, *step, *lead]),
-        Line::CancelAt { vehicle, step } => put_form(out, b"cancel", &[*vehicle, *step]),
-        Line::Up { vehicle, fates } => put_fates(out, b"up", *vehicle, fates),
-        Line::Down { vehicle, fates } => put_fates(out, b"down", *vehicle, fates),
+        } => put_change(out, vehicle, step, lead),
+        Line::CancelAt { vehicle, step } => put_cancel(out, vehicle, step),
+        Line::Up { vehicle, ref fates } => put_fates(out, b"up", vehicle, fates),
+        Line::Down { vehicle, ref fates } => put_fates(out, b"down", vehicle, fates),
         Line::End => out.word(b"end"),
     }
 }
