@@ -120,10 +120,10 @@ fn body(words: &mut Words<'_>, form: MessageForm) -> Result<Body, LineKind>
     ensures { Gives result words.new (body_in form words.old) }
 {
     match form {
-        MessageForm::Request => Ok(Body::Request(params(words)?)),
+        MessageForm::Request => params(words).map(Body::Request),
         MessageForm::Change => change(words),
-        MessageForm::Cancel => Ok(Body::Cancel(number32(words)?)),
-        MessageForm::Done => Ok(Body::Done(number32(words)?)),
+        MessageForm::Cancel => number32(words).map(Body::Cancel),
+        MessageForm::Done => number32(words).map(Body::Done),
     }
 }
 
