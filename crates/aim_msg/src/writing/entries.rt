@@ -1,12 +1,12 @@
 //! The words of messages, replies and entries.
 
-ghost use Rattle.std.specs.Prelude.{◌≡◌, ◌∷◌, ◌+◌, ◌≤◌, [], length, decimal, codes};
-ghost use Rattle.aim_msg.specs.Texts.{vehicle_words, params_words, body_words, message_words, act_words, field_word, reason_words, held_word, reply_words, caller_word, entry_words};
+ghost use Rattle.std.specs.Prelude.{◌≡◌, ◌∷◌, ◌+◌, ◌≤◌, [], length, decimal};
+ghost use Rattle.aim_msg.specs.Texts.{vehicle_words, params_words, body_words, message_words, act_words, reason_words, held_word, reply_words, caller_word, entry_words};
 ghost use Rattle.aim_msg.specs.Writing.{added};
 
 use crate::entries::{Act, Entry, Order};
 use crate::messages::{Body, Message, Params};
-use crate::replies::{Field, Reason, Reply};
+use crate::replies::{Reason, Reply};
 use crate::writing::text::Text;
 use crate::writing::words::{class_text, field_text, pace_text, turn_text};
 
@@ -106,24 +106,6 @@ fn put_cell(out: &mut Text, word: &[u8], row: u8, col: u8, step: u32, n: u32)
     out.number(n);
 }
 
-fn put_bad(out: &mut Text, field: Field)
-    requires { length out.old + 11 ≤ 400 }
-    ensures added { out.new ≡ added out.old (codes "bad" ∷ field_word field ∷ []) }
-    ensures len { length out.new ≤ length out.old + 11 }
-{
-    out.word(b"bad");
-    out.word(field_text(field));
-}
-
-fn put_distance(out: &mut Text, distance: u64)
-    requires { length out.old + 30 ≤ 400 }
-    ensures added { out.new ≡ added out.old (codes "distance" ∷ decimal distance ∷ []) }
-    ensures len { length out.new ≤ length out.old + 30 }
-{
-    out.word(b"distance");
-    out.number(distance);
-}
-
 fn put_reason(out: &mut Text, reason: &Reason)
     requires { length out.old + 50 ≤ 400 }
     ensures added { out.new ≡ added out.old (reason_words reason.now) }
@@ -134,10 +116,16 @@ fn put_reason(out: &mut Text, reason: &Reason)
         Reason::NoReservation => out.word(b"no-reservation"),
         Reason::Begun(step) => put_field(out, b"begun", step),
         Reason::TooSoon(next) => put_field(out, b"too-soon", next),
-        Reason::Bad(field) => put_bad(out, field),
+        Reason::Bad(field) => {
+            out.word(b"bad");
+            out.word(field_text(field));
+        }
         Reason::Late(now) => put_field(out, b"late", now),
         Reason::Far(reach) => put_field(out, b"far", reach),
-        Reason::Distance(distance) => put_distance(out, distance),
+        Reason::Distance(distance) => {
+            out.word(b"distance");
+            out.number(distance);
+        }
         Reason::Emergency(lane) => put_field(out, b"emergency", u32::from(lane)),
         Reason::Green {
             row,
