@@ -9,7 +9,7 @@ use Rattle.std.specs.Io.KnownBytes.{Consumes, IsAtEnd, Keeps, prepend_known}
 use Rattle.aim_io.specs.declared.lines.LineFault.{LineFault}
 use Rattle.aim_io.specs.declared.lines.LineFault.TheVariants.{Read, Long, Bytes, Lines}
 use Rattle.aim_io.specs.Lines.{LongLine, Line, Stop, outcomes, IsOpen, ShowsNothing, ShowsFault}
-use Rattle.aim_io.specs.Look.{ShowsLine}
+use Rattle.aim_io.specs.Look.{ShowsLine, behind_line, behind_all}
 use Rattle.aim_io.specs.Reader.{Reader, input, coming, Answers, Stops, Needed}
 use Rattle.aim_io.proofs.LinesLemmas.{outcomes_line, outcomes_last, long_front, bytes_front, lines_front}
 
@@ -69,25 +69,6 @@ needed_now left last first now new start before after same begins keeps more sho
 ]
 
 -- ---- what is answered of the bytes to come, by what a reader holds of them
-
--- the reader behind the line of so many bytes that it holds with its end
-abbrev pub behind_line : Reader → ℕ → Reader
-behind_line now len = record now {
-  held = drop (len + 1) now.held;
-  line = take len now.held;
-  given = now.given + 1;
-  place = now.place + len + 1;
-}
-
--- the reader behind all that it holds
-abbrev pub behind_all : Reader → Bool → Reader
-behind_all now more = record now {
-  held = [];
-  line = now.held;
-  given = now.given + (if more then 1 else 0);
-  place = now.place + length now.held;
-  ended = true;
-}
 
 line_of : (given place len : ℕ) (held rest bytes : List ℕ) → ShowsLine given place held len → held ++ rest ≡ bytes
     → outcomes given place bytes ≡ Line (take len held) ∷ outcomes (given + 1) (place + len + 1) (drop (len + 1) held ++ rest)

@@ -4,7 +4,7 @@ ghost use Rattle.std.specs.Bool.{OnFalse, OnTrue};
 ghost use Rattle.std.specs.Io.KnownBytes.{Consumes, IsAtEnd, Keeps};
 ghost use Rattle.aim_io.specs.Causes.{HasCause, Rose};
 ghost use Rattle.aim_io.specs.Lines.{HasNoEnd, EndsAt, IsOpen, ShowsNothing, ShowsFault};
-ghost use Rattle.aim_io.specs.Look.{SaysOf};
+ghost use Rattle.aim_io.specs.Look.{SaysOf, ReadOn, ShowsNext, CanAnswer, Answered};
 ghost use Rattle.aim_io.specs.Pieces.{TellsLast};
 
 use crate::{Failed, Source};
@@ -299,6 +299,55 @@ impl LineReader {
         Err(fault)
     }
 
+    // The fault that is answered for ever, if there is one.
+    fn stopped(&self) -> Option<LineFault>
+        ensures fault { result ≡ self.now.fault }
+        ensures within { self.now.place ≤ 67108864 }
+        ensures sound { IsSound self.now }
+    {
+        self.fault
+    }
+
+    // Reads pieces until what is held decides the next line, and says what it shows then: nothing
+    // only where the input ends behind it, and `Read` where the source has failed.
+    fn read_on<S: Source>(&mut self, source: &mut S) -> Look
+        requires within { self.old.place ≤ 67108864 }
+        ensures on { ReadOn S.left S.faults S.last_read self.old self.new source.old source.new }
+        ensures sound { IsSound self.new }
+        ensures shows { ShowsNext self.new (S.faults source.old) (S.faults source.new) (KnowsEnd self.old (S.left source.old) → IsAtEnd (S.left source.new)) result }
+    {
+        let mut seen = 0;
+        'pieces: loop {
+            match self.look(seen) {
+                Look::Open => {
+                    seen = self.held_len();
+                    match self.fill(source) {
+                        Err(_) => return Look::Stop(LineFault::Read),
+                        Ok(false) => return Look::Open,
+                        Ok(true) => {}
+                    }
+                }
+                shown => return shown,
+            }
+        }
+    }
+
+    // Answers what the bytes that are held show: a line, which it takes, or a fault, now and for
+    // ever. Where they show nothing, the input has to end behind them.
+    fn answer(&mut self, look: Look) -> Result<bool, LineFault>
+        requires { CanAnswer self.old look }
+        ensures { Answered self.old self.new look result }
+    {
+        match look {
+            Look::Line(len) => {
+                self.take(len);
+                Ok(true)
+            }
+            Look::Stop(fault) => self.fail(fault),
+            Look::Open => Ok(self.take_rest()),
+        }
+    }
+
     /// Takes the next line, which `line` then shows, and says whether there was one: `false` comes
     /// exactly where the input is at its end with no byte left over. It reads a piece only where
     /// the bytes already read hold neither the end of the next line nor its 401st byte. Takes no
@@ -333,27 +382,11 @@ impl LineReader {
         ensures needed { (source.new ≡ source.old) ⊎ Needed self.old (S.left source.old) (S.left source.new) (S.last_read source.new) }
         ensures ended { self.old.ended ≡ true → source.new ≡ source.old }
     {
-        if let Some(fault) = self.fault {
+        if let Some(fault) = self.stopped() {
             return Err(fault);
         }
-        let mut seen = 0;
-        'pieces: loop {
-            match self.look(seen) {
-                Look::Line(len) => {
-                    self.take(len);
-                    return Ok(true);
-                }
-                Look::Stop(fault) => return self.fail(fault),
-                Look::Open => {
-                    seen = self.held_len();
-                    match self.fill(source) {
-                        Err(_) => return self.fail(LineFault::Read),
-                        Ok(false) => return Ok(self.take_rest()),
-                        Ok(true) => {}
-                    }
-                }
-            }
-        }
+        let look = self.read_on(source);
+        self.answer(look)
     }
 
     /// The next line, or `None` exactly where the input is at its end with no byte left over. It

@@ -1,65 +1,61 @@
-use Rattle.std.proofs.Common.{◌≡◌, ap, rules}
-use Rattle.std.proofs.KnownBytes.{Keeps-trans}
-use Rattle.aim_io.specs.Lines.{ShowsNothing}
-use Rattle.aim_io.specs.Reader.{Reader}
-use Rattle.aim_io.proofs.InputLemmas.{begins_trans, needed_now, same_as_first, answers_line, answers_rest, answers_fault}
+use Rattle.std.proofs.Common.{arith, inl, refl, sym}
+use Rattle.std.proofs.KnownBytes.{Keeps-refl}
+use Rattle.aim_io.proofs.ReadingLemmas.{can_answer, advanced, on_ok, lazy_on, read_told, has_fault}
 use Rattle.aim_io.proofs.lines.LineReader.advance.Goals as goal
 
-pub returns-in-Line-clause-step : goal.returns-in-Line-clause-step
-returns-in-Line-clause-step g c _ _ =
-    let i = c.pieces.invariant in
-    rw c.take.ensures.new (answers_line c.args.self.now c.pieces.self _ _ c.in-Line.len i.same i.keeps c.in-Line.ensures.says)
+pub returns-in-Some : goal.returns-in-Some
+returns-in-Some g c = record {
+  step = λ _ none. absurd (has_fault c.args.self.now.fault c.in-Some.fault c.in-Some.ensures.fault none);
+  knows = λ knows. knows;
+  line = tt;
+  taken = tt;
+  after = tt;
+  end = tt;
+  going = tt;
+  last = tt;
+  no_fault = tt;
+  sound = c.stopped.ensures.sound;
+  fault = λ none. absurd (has_fault c.args.self.now.fault c.in-Some.fault c.in-Some.ensures.fault none);
+  keeps = Keeps-refl _;
+  shows = λ none. absurd (has_fault c.args.self.now.fault c.in-Some.fault c.in-Some.ensures.fault none);
+  read = λ _ none. absurd (has_fault c.args.self.now.fault c.in-Some.fault c.in-Some.ensures.fault none);
+  again = rw (← c.in-Some.ensures.fault) (refl, refl, refl);
+  later = omega arith;
+  lazy = λ _. refl;
+  needed = inl refl;
+  ended = λ _. refl;
+}
 
-pub returns-in-Stop-clause-step : goal.returns-in-Stop-clause-step
-returns-in-Stop-clause-step g c _ _ =
-    let i = c.pieces.invariant in
-    let held = ap (λ (r : Reader). r.held) c.fail.ensures.new in
-    rw c.fail.ensures.result (answers_fault c.args.self.now c.pieces.self c.fail.new.self _ _ c.in-Stop.fault i.same i.keeps held c.in-Stop.ensures.says)
+pub answer-requires : goal.answer-requires
+answer-requires g c = can_answer c.read_on-look.new.self _ _ _ c.read_on-look.result c.read_on-look.ensures.shows
 
-pub returns-in-Ok-false-clause-step : goal.returns-in-Ok-false-clause-step
-returns-in-Ok-false-clause-step g c knows _ =
-    let i = c.pieces.invariant in
-    let now = c.fill.new.self in
-    let none = rw c.in-Ok-false.field-0-test at c.in-Ok-false.ensures.none in
-    let end = rw c.in-Ok-false.field-0-test at (c.in-Ok-false.ensures.end (i.knows knows)) in
-    let same = same_as_first c.args.self.now c.pieces.self now i.same c.fill.ensures.same in
-    let given : now.given ≡ c.pieces.self.given = ap (λ (r : Reader). r.given) c.fill.ensures.same in
-    let place : now.place ≡ c.pieces.self.place = ap (λ (r : Reader). r.place) c.fill.ensures.same in
-    let keeps = Keeps-trans _ _ _ i.keeps c.fill.ensures.keeps in
-    let shows : ShowsNothing now.given now.place now.held = rw (given, place, none) c.in-Open.ensures.says in
-    rw c.take_rest.ensures.new (answers_rest c.args.self.now now _ _ c.take_rest.result same keeps shows end c.take_rest.ensures.line)
-
-pub returns-in-Ok-false-clause-needed : goal.returns-in-Ok-false-clause-needed
-returns-in-Ok-false-clause-needed g c =
-    let i = c.pieces.invariant in
-    let f = c.fill.ensures in
-    needed_now g.S.Source.left g.S.Source.last_read c.args.self.now c.pieces.self c.fill.new.self c.args.source.now c.pieces.source c.fill.new.source
-    i.same i.begins i.keeps f.keeps c.in-Open.ensures.says f.front f.ended f.last i.needed
-
-pub returns-in-Err-clause-needed : goal.returns-in-Err-clause-needed
-returns-in-Err-clause-needed g c =
-    let i = c.pieces.invariant in
-    let f = c.fill.ensures in
-    needed_now g.S.Source.left g.S.Source.last_read c.args.self.now c.pieces.self c.fill.new.self c.args.source.now c.pieces.source c.fill.new.source
-    i.same i.begins i.keeps f.keeps c.in-Open.ensures.says f.front f.ended f.last i.needed
-
-pub pieces-preserved : goal.pieces-preserved
-pieces-preserved g c =
-    let i = c.pieces.invariant in
-    let f = c.fill.ensures in
+pub returns : goal.returns
+returns g c =
+    let old = c.args.self.now in
+    let new = c.answer.new.self in
+    let on = c.read_on-look.ensures.on in
+    let none = sym c.in_default.ensures.fault in
+    let a =
+    advanced g.S.Source.left g.S.Source.faults g.S.Source.last_read old c.read_on-look.new.self new c.args.source.now c.read_on-look.new.source c.read_on-look.result c.answer.result
+    on c.read_on-look.ensures.sound c.read_on-look.ensures.shows c.answer.ensures in
     record {
-      same = same_as_first c.args.self.now c.pieces.self c.fill.new.self i.same f.same;
-      no_fault = i.no_fault;
-      keeps = Keeps-trans _ _ _ i.keeps f.keeps;
-      knows = search rules;
-      later = search rules;
-      ahead = search rules;
-      begins = begins_trans c.args.self.now.held c.pieces.self.held c.fill.new.self.held i.begins f.front;
-      needed =
-          needed_now g.S.Source.left g.S.Source.last_read c.args.self.now c.pieces.self c.fill.new.self c.args.source.now c.pieces.source c.fill.new.source
-          i.same i.begins i.keeps f.keeps c.in-Open.ensures.says f.front f.ended f.last i.needed;
-      within = search rules;
-      in_range = search rules;
-      is_open = search rules;
-      quiet = search rules;
+      step = λ knows _. a.step knows;
+      knows = a.knows;
+      line = a.line;
+      taken = a.taken;
+      after = a.behind;
+      end = a.end;
+      going = a.going;
+      last = a.last;
+      no_fault = on_ok c.answer.result _ none;
+      sound = a.sound;
+      fault = a.fault;
+      keeps = a.keeps;
+      shows = a.shows;
+      read = λ is _. read_told c.answer.result _ a.read is;
+      again = rw none tt;
+      later = on.later;
+      lazy = lazy_on c.args.source.now c.read_on-look.new.source old.held c.read_on-look.new.self.held on.ahead;
+      needed = on.needed;
+      ended = on.quiet;
     }

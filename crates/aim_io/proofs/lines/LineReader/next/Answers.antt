@@ -1,7 +1,8 @@
-use Rattle.std.proofs.Common.{◌≡◌, Bool, Some, None, Err, Result, IfSome, refl, ap}
+use Rattle.std.proofs.Common.{◌≡◌, ◌≢◌, ℕ, List, Bool, Some, None, Ok, Err, Result, IfSome, refl, sym, ap, subst, Bor}
 use Rattle.std.specs.declared.option.Option.{Option}
 use Rattle.aim_io.specs.declared.lines.LineFault.{LineFault}
 use Rattle.aim_io.specs.declared.lines.LineFault.TheVariants.{Read}
+use Rattle.aim_io.specs.Reader.{Gave}
 use Rattle.aim_io.proofs.lines.LineReader.next.Goals as goal
 
 same_fault : (old : Option LineFault) (fault : LineFault) (P Q : Type 0) → IfSome old (λ first. (◌≡◌ {A = Result Bool LineFault} (Err fault) (Err first)) × P × Q)
@@ -13,6 +14,75 @@ source_same : (old : Option LineFault) (fault : LineFault) (P Q : Type 0) → If
     → IfSome old (λ _. Q)
 source_same None fault P Q again = tt
 source_same (Some first) fault P Q again = again.2
+
+no_more : (old : Option LineFault) (P : LineFault → Type 0) → old ≡ None → IfSome old P
+no_more None P none = tt
+no_more (Some first) P none = let no : ⊥ = cc in absurd no
+
+line_not_fault : (line : Option (Bor (List ℕ))) → ◌≢◌ {A = Result (Option (Bor (List ℕ))) LineFault} (Ok line) (Err Read)
+line_not_fault line is = cc
+
+pub returns-in-Ok-true : goal.returns-in-Ok-true
+returns-in-Ok-true g c =
+    let old = c.args.self.now in
+    let new = c.advance.new.self in
+    let before = g.S.Source.left c.args.source.now in
+    let after = g.S.Source.left c.advance.new.source in
+    let e = c.in-Ok-true.ensures in
+    let gave : Gave old new before after c.in-Ok-true.field-0 = record {
+      no_fault = e.no_fault;
+      is_open = e.line;
+      taken = e.taken;
+      after = e.after;
+      end = e.end;
+      going = e.going;
+      last = e.last;
+      sound = e.sound;
+      knows = e.knows;
+      step = λ knows. e.step knows e.no_fault;
+    } in (
+      (refl, λ _. tt, (sym c.line.ensures, subst (λ b. Gave old new before after b) c.in-Ok-true.field-0-test gave)),
+      record {
+        rests = tt;
+        read = λ is none. absurd (line_not_fault _ is);
+        again = no_more _ _ e.no_fault;
+        later = e.later;
+        lazy = e.lazy;
+        needed = e.needed;
+        ended = e.ended;
+      },
+    )
+
+pub returns-in-Ok-false : goal.returns-in-Ok-false
+returns-in-Ok-false g c =
+    let old = c.args.self.now in
+    let new = c.advance.new.self in
+    let before = g.S.Source.left c.args.source.now in
+    let after = g.S.Source.left c.advance.new.source in
+    let e = c.in-Ok-false.ensures in
+    let gave : Gave old new before after c.in-Ok-false.field-0 = record {
+      no_fault = e.no_fault;
+      is_open = e.line;
+      taken = e.taken;
+      after = e.after;
+      end = e.end;
+      going = e.going;
+      last = e.last;
+      sound = e.sound;
+      knows = e.knows;
+      step = λ knows. e.step knows e.no_fault;
+    } in (
+      (refl, λ _. tt, subst (λ b. Gave old new before after b) c.in-Ok-false.field-0-test gave),
+      record {
+        rests = tt;
+        read = λ is none. absurd (line_not_fault _ is);
+        again = no_more _ _ e.no_fault;
+        later = e.later;
+        lazy = e.lazy;
+        needed = e.needed;
+        ended = e.ended;
+      },
+    )
 
 pub returns-in-Err : goal.returns-in-Err
 returns-in-Err g c =
