@@ -13,7 +13,7 @@ use Rattle.aim_pool.specs.declared.spans.Span.{Span}
 use Rattle.aim_geometry.specs.Cells.{Cell}
 use Rattle.aim_geometry.specs.Rects.{has_bit}
 use Rattle.aim_pool.specs.Spans.{is_at, precedes, in_span, in_spans, has_place, AreRising, AreMarked}
-use Rattle.aim_pool.specs.Sheets.{IsInOrder}
+use Rattle.aim_pool.specs.Sheets.{IsInOrder, Spans}
 use Rattle.aim_geometry.proofs.Bits.{has_bit_or}
 use Rattle.aim_pool.proofs.Order.{beyond, Precedes, precedes_parts, precedes_from, is_at_parts}
 
@@ -90,6 +90,27 @@ module _ (spans : List Span) (i : ℕ) (lt : i < length spans) (e : Span) where
       (λ zero. (let some : (get_or spans i e).mask ≢ 0 = marked i e lt in some (let le : (get_or spans i e).mask ≤ bit_or (get_or spans i e).mask span.mask = le_or_l (get_or spans i e).mask span.mask in omega arith)))
       marked
 
+-- a span at its place with another one's bits: the list as it is stored and as it is seen
+module _ (stored now : Spans) (i : ℕ) (row span : Span) (same : stored ≡ now) (read : row ≡ get_or stored.spans i row) (lt : i < length now.spans) where
+  within : i < length stored.spans
+  within = subst (λ (s : Spans). i < length s.spans) (sym same) lt
+
+  written : set stored.spans i (record { step = row.step; row = row.row; mask = bit_or row.mask span.mask }) ≡ set stored.spans i (with_bits stored.spans i within row span)
+  written = ap (λ (s : Span). set stored.spans i (record { step = s.step; row = s.row; mask = bit_or s.mask span.mask })) read
+
+  pub joined_in_order : IsInOrder stored → IsInOrder (record { spans = set stored.spans i (record { step = row.step; row = row.row; mask = bit_or row.mask span.mask }); room = stored.room })
+  joined_in_order order = subst (λ xs. IsInOrder (record { spans = xs; room = stored.room })) (sym written) (record {
+    rising = rising_joined stored.spans i within row span order.rising;
+    marked = marked_joined stored.spans i within row span order.marked;
+    fits = (let n : length (set stored.spans i (with_bits stored.spans i within row span)) ≡ length stored.spans = length-set stored.spans i (with_bits stored.spans i within row span) in omega (arith, order.fits));
+  })
+
+  pub joined_cells : is_at (get_or now.spans i row) span.step span.row ≡ true → (cell : Cell) → in_spans (set stored.spans i (record { step = row.step; row = row.row; mask = bit_or row.mask span.mask })) cell ≡ (in_spans now.spans cell || in_span span cell)
+  joined_cells at cell =
+      ap (λ xs. in_spans xs cell) written
+      ∙ cells_joined stored.spans i within row span (subst (λ (s : Spans). is_at (get_or s.spans i row) span.step span.row ≡ true) (sym same) at) cell
+      ∙ ap (λ (s : Spans). in_spans s.spans cell || in_span span cell) same
+
 module _ (spans : List Span) (i : ℕ) (span : Span) (le : i ≤ length spans)
     (place : IsPartitionPoint (λ held. precedes held span.step span.row ≡ true) (λ held. precedes held span.step span.row ≡ false) spans i)
     (free : has_place spans span.step span.row ≡ false) where
@@ -140,20 +161,22 @@ module _ (spans : List Span) (i : ℕ) (span : Span) (le : i ≤ length spans)
         | inr (inr past) ↦ subst P (sym (above_is k d past)) (all (k - 1) d (omega arith))
       ]
 
--- a span in its place, in a sheet that has room
-pub inserted : (old new read : List Span) (room i : ℕ) (span : Span) → read ≡ old → new ≡ insert old i span → IsInOrder (record { spans = old; room = room }) → length old ≢ room → span.mask ≢ 0 → has_place read span.step span.row ≡ false
-    → i ≤ length read → IsPartitionPoint (λ held. precedes held span.step span.row ≡ true) (λ held. precedes held span.step span.row ≡ false) read i → IsInOrder (record { spans = new; room = room })
-inserted old new read room i span same is order some marked free le place = subst (λ xs. IsInOrder (record { spans = xs; room = room })) (sym is) (record {
-  rising = rising_inserted old i span le' place' free' order.rising;
-  marked = marked_inserted old i span le' place' free' marked order.marked;
-  fits = (let fits = order.fits in let n : length (insert old i span) ≡ length old + 1 = length-insert old i span le' in omega (arith, order.fits));
+-- a span in its place, in a sheet that has room: the list as it is stored and as it is seen
+pub inserted : (stored now : Spans) (new : List Span) (i : ℕ) (span : Span) → stored ≡ now → new ≡ insert stored.spans i span → IsInOrder stored → span.mask ≢ 0 → has_place now.spans span.step span.row ≡ false
+    → length now.spans ≢ now.room → i ≤ length now.spans → IsPartitionPoint (λ held. precedes held span.step span.row ≡ true) (λ held. precedes held span.step span.row ≡ false) now.spans i → IsInOrder (record { spans = new; room = stored.room })
+inserted stored now new i span same is order marked free some le place = subst (λ xs. IsInOrder (record { spans = xs; room = stored.room })) (sym is) (record {
+  rising = rising_inserted stored.spans i span le' place' free' order.rising;
+  marked = marked_inserted stored.spans i span le' place' free' marked order.marked;
+  fits = (let n : length (insert stored.spans i span) ≡ length stored.spans + 1 = length-insert stored.spans i span le' in
+      let room : length stored.spans ≢ stored.room = subst (λ (s : Spans). length s.spans ≢ s.room) (sym same) some in
+      omega (arith, order.fits));
 })
   where
-    le' : i ≤ length old
-    le' = subst (λ (xs : List Span). i ≤ length xs) same le
+    le' : i ≤ length stored.spans
+    le' = subst (λ (s : Spans). i ≤ length s.spans) (sym same) le
 
-    free' : has_place old span.step span.row ≡ false
-    free' = subst (λ (xs : List Span). has_place xs span.step span.row ≡ false) same free
+    free' : has_place stored.spans span.step span.row ≡ false
+    free' = subst (λ (s : Spans). has_place s.spans span.step span.row ≡ false) (sym same) free
 
-    place' : IsPartitionPoint (λ held. precedes held span.step span.row ≡ true) (λ held. precedes held span.step span.row ≡ false) old i
-    place' = subst (λ (xs : List Span). IsPartitionPoint (λ held. precedes held span.step span.row ≡ true) (λ held. precedes held span.step span.row ≡ false) xs i) same place
+    place' : IsPartitionPoint (λ held. precedes held span.step span.row ≡ true) (λ held. precedes held span.step span.row ≡ false) stored.spans i
+    place' = subst (λ (s : Spans). IsPartitionPoint (λ held. precedes held span.step span.row ≡ true) (λ held. precedes held span.step span.row ≡ false) s.spans i) (sym same) place

@@ -81,35 +81,6 @@ fn mask_of(spans: &[Span], step: u32, row: u8) -> u64
     }
 }
 
-// Gives the span at this place another one's bits too.
-fn join(spans: &mut [Span], at: usize, span: Span)
-    requires in_range { at < length spans.old }
-    requires same { (d : Span) → is_at (slice_index_or spans.old at d) span.step span.row ≡ true }
-    ensures rising { AreRising spans.old → AreRising spans.new }
-    ensures marked { AreMarked spans.old → AreMarked spans.new }
-    ensures cells { (cell : Cell) → in_spans spans.new cell ≡ (in_spans spans.old cell || in_span span cell) }
-{
-    spans[at].mask |= span.mask;
-}
-
-// Puts a span at this place, in room that is there.
-fn insert(spans: &mut Vec<Span>, at: usize, span: Span)
-    requires room { vec_len spans.old < vec_capacity spans.old }
-    requires within { at ≤ vec_len spans.old }
-    ensures items { spans.new.items ≡ insert spans.old.items at span }
-    ensures capacity { vec_capacity spans.old ≤ vec_capacity spans.new }
-{
-    if at == spans.len() {
-        let Ok(()) = spans.push(span) else {
-            unreachable!();
-        };
-        return;
-    }
-    let Ok(()) = spans.insert(at, span) else {
-        unreachable!();
-    };
-}
-
 impl Slots {
     pub(crate) fn new(alloc: Global, room: u32) -> Result<Slots, NoMemory>
         ensures { IfOk result (λ slots. slots ≡ record { spans = []; room = room }) }
@@ -150,19 +121,50 @@ impl Slots {
         ensures err { OnErr result (self.new ≡ self.old) }
         ensures room { self.new.room ≡ self.old.room }
     {
-        match find(&self.held, span.step, span.row) {
+        match find(self.spans(), span.step, span.row) {
             Ok(at) => {
-                join(&mut self.held, at, span);
+                self.join(at, span);
                 Ok(())
             }
             Err(at) => {
-                if self.held.len() == self.room as usize {
+                if self.spans().len() == self.room() as usize {
                     return Err(SheetFull);
                 }
-                insert(&mut self.held, at, span);
+                self.insert(at, span);
                 Ok(())
             }
         }
+    }
+
+    // Gives the span at this place, which is of the same step and row, another one's bits too.
+    fn join(&mut self, at: usize, span: Span)
+        requires in_range { at < length self.old.spans }
+        requires same { (d : Span) → is_at (slice_index_or self.old.spans at d) span.step span.row ≡ true }
+        ensures cells { (cell : Cell) → in_spans self.new.spans cell ≡ (in_spans self.old.spans cell || in_span span cell) }
+        ensures count { length self.new.spans ≡ length self.old.spans }
+        ensures room { self.new.room ≡ self.old.room }
+    {
+        self.held[at].mask |= span.mask;
+    }
+
+    // Puts a span that is of none of their steps and rows in its place, in room that is there.
+    fn insert(&mut self, at: usize, span: Span)
+        requires some { span.mask ≢ 0 }
+        requires free { has_place self.old.spans span.step span.row ≡ false }
+        requires room { length self.old.spans ≢ self.old.room }
+        requires within { at ≤ length self.old.spans }
+        requires place { IsPartitionPoint (λ held. precedes held span.step span.row ≡ true) (λ held. precedes held span.step span.row ≡ false) self.old.spans at }
+        ensures { self.new ≡ record self.old { spans = insert self.old.spans at span } }
+    {
+        if at == self.held.len() {
+            let Ok(()) = self.held.push(span) else {
+                unreachable!();
+            };
+            return;
+        }
+        let Ok(()) = self.held.insert(at, span) else {
+            unreachable!();
+        };
     }
 }
 
