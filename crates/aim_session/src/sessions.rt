@@ -1,6 +1,7 @@
 //! Sessions of vehicles.
 
-ghost use Rattle.std.specs.Prelude.{◌≡◌, ◌<◌, length, replicate, slice_index_or, slice_set, unwrap_or, IfOk};
+ghost use Rattle.std.specs.Prelude.{◌≡◌, ◌<◌, length, replicate, slice_index_or, slice_set, unwrap_or, Some, IfOk};
+ghost use Rattle.aim_msg.specs.Same.{same_message};
 ghost use Rattle.aim_rules.specs.Asking.{next_with};
 ghost use Rattle.aim_session.specs.Looks.{look_of};
 ghost use Rattle.aim_session.specs.Kept.{no_session, session_after};
@@ -71,20 +72,10 @@ impl Sessions {
         requires { vehicle < length self.now }
         ensures { result ≡ look_of (slice_index_or self.now vehicle no_session).last message.now }
     {
-        let session = self.rows[vehicle as usize];
-        let Some(last) = session.last else {
+        let Some(last) = &self.rows[vehicle as usize].last else {
             return Look::Fresh;
         };
-        if last.message.seq < message.seq {
-            return Look::Fresh;
-        }
-        if message.seq < last.message.seq {
-            return Look::Stale(last.message.seq);
-        }
-        if *message == last.message {
-            return Look::Repeat(last.reply);
-        }
-        Look::Reused
+        look_after(last, message)
     }
 
     /// Keeps a fresh message with its answer.
@@ -93,9 +84,7 @@ impl Sessions {
         requires fresh { look_of (slice_index_or self.old vehicle no_session).last message ≡ Look.Fresh }
         ensures { self.new ≡ slice_set self.old vehicle (session_after message reply (slice_index_or self.old vehicle no_session).next) }
     {
-        let row = &mut self.rows[vehicle as usize];
-        row.last = Some(Exchange { message, reply });
-        row.next = next_after(&reply, row.next);
+        renew(&mut self.rows[vehicle as usize], message, reply);
     }
 
     /// The step before which the vehicle may not ask again: that of its last refusal, or 0.
@@ -105,6 +94,37 @@ impl Sessions {
     {
         self.rows[vehicle as usize].next
     }
+}
+
+// Whether the two are one message.
+fn is_same(message: &Message, other: &Message) -> bool
+    ensures { result ≡ same_message message.now other.now }
+{
+    *message == *other
+}
+
+// What the message's number says after this last message.
+fn look_after(last: &Exchange, message: &Message) -> Look
+    ensures { result ≡ look_of (Some last.now) message.now }
+{
+    if last.message.seq < message.seq {
+        return Look::Fresh;
+    }
+    if message.seq < last.message.seq {
+        return Look::Stale(last.message.seq);
+    }
+    if is_same(message, &last.message) {
+        return Look::Repeat(last.reply);
+    }
+    Look::Reused
+}
+
+// Puts a fresh message with its answer in the place of the last one.
+fn renew(row: &mut Session, message: Message, reply: Reply)
+    ensures { row.new ≡ session_after message reply row.old.next }
+{
+    row.last = Some(Exchange { message, reply });
+    row.next = next_after(&reply, row.next);
 }
 
 // The step that a refusal names, or the one before.
