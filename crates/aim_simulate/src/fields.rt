@@ -5,6 +5,7 @@ ghost use Rattle.aim_paths.specs.Intersection.{path};
 ghost use Rattle.aim_rules.specs.Footprint.{crossing_steps};
 ghost use Rattle.aim_simulate.specs.Fields.{IsMoving, bad_crossing as bad_crossing_of};
 
+use aim_geometry::is_outside;
 use aim_msg::{Field, LATEST_MOMENT, Params};
 use aim_paths::{Layout, Path};
 
@@ -31,19 +32,19 @@ pub fn bad_crossing(layout: &Layout, params: &Params) -> Option<Field>
     if params.arrive > LATEST_MOMENT {
         return Some(Field::Arrive);
     }
-    if params.max_speed == 0 || params.max_speed > 4_000 {
+    if is_outside(params.max_speed, 4_000) {
         return Some(Field::Max);
     }
-    if params.speed == 0 || params.speed > params.max_speed {
+    if is_outside(params.speed, params.max_speed) {
         return Some(Field::Speed);
     }
     if params.accel > 1_000 {
         return Some(Field::Accel);
     }
-    if params.length == 0 || params.length > 30_000 {
+    if is_outside(params.length, 30_000) {
         return Some(Field::Length);
     }
-    if params.width == 0 || params.width > 30_000 {
+    if is_outside(params.width, 30_000) {
         return Some(Field::Width);
     }
     if step_count(layout, &path, params) > 2_048 {

@@ -1,4 +1,5 @@
 use Rattle.std.proofs.Common.{◌≡◌, ◌≤◌, ℕ, ◌+◌, ◌-◌, ◌*◌, ◌/◌, arith, below_more, le-ltb, refl, sym, length, length-set, rules}
+use Rattle.std.proofs.Math.Nat.{div-le_of_le-mul}
 use Rattle.aim_paths.specs.Intersection.{Intersection, stations}
 use Rattle.aim_msg.specs.declared.messages.Params.{Params}
 use Rattle.aim_rules.specs.Motion.{front}
@@ -86,3 +87,10 @@ steps-init c =
       len = search rules;
       exact = λ k l. absurd (omega arith);
     }
+
+pub overflow_cast-reaches : goal.overflow_cast-reaches
+overflow_cast-reaches c =
+    let spacing = c.grid-spacing.result.spacing in
+    let within : c.saturating_sub.result ≤ spacing * c.args.m = omega (arith, c.saturating_sub.ensures, c.steps-test.true) in
+    let low : c.saturating_sub.result / spacing ≤ c.args.m = div-le_of_le-mul spacing within in
+    omega (arith, low, c.requires.few)

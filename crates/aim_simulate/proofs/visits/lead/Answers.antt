@@ -77,3 +77,16 @@ pub run-requires-clause-reaches : goal.run-requires-clause-reaches
 run-requires-clause-reaches g c =
     let here : c.stations.result.now ≡ stations c.args.layout.now c.args.params.now.lane c.args.params.now.turn = rw (c.stations.ensures.stations, c.requires.found) refl in
     subst (λ n. AreReaches n (take c.fill_reaches-count.result c.fill_reaches-count.new.reaches)) (sym (c.fill_rects.ensures.count ∙ ap length here)) c.fill_reaches-count.ensures.reaches.order
+
+pub slice_bounds-reaches-end : goal.slice_bounds-reaches-end
+slice_bounds-reaches-end g c =
+    let steps = (good_crossing c.args.layout.now c.args.params.now c.requires.good).steps c.args.accelerate in
+    omega (arith, steps, c.fill_reaches-count.ensures.count, c.type_inv.reaches)
+
+pub run-requires-clause-some : goal.run-requires-clause-some
+run-requires-clause-some g c = omega (arith, c.fill_rects.ensures.count, c.stations.ensures.some)
+
+pub overflow_cast-result : goal.overflow_cast-result
+overflow_cast-result g c =
+    let steps = (good_crossing c.args.layout.now c.args.params.now c.requires.good).steps c.args.accelerate in
+    omega (arith, steps, c.fill_reaches-count.ensures.count)
