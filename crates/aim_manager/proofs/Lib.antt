@@ -3,3 +3,4 @@ pub mod Sheets
 pub mod Crosses
 pub mod Passes
 pub mod Made
+mod Served
