@@ -142,9 +142,13 @@ fn shared(alloc: Global, keeper: Keeper) -> Result<Opened, NoMemory>
     ensures passes { IfOk result (λ o. o.passes.items ≡ map (new_pass o.manager) (range_with_len 0 keeper.vehicles)) }
     ensures operator { IfOk result (λ o. o.operator ≡ new_pass o.manager OPERATOR) }
 {
-    let parts = copied(alloc, &keeper.book)?;
-    let (layout, numbers) = parts;
-    turned(alloc, keeper, layout, &numbers)
+    match copied(alloc, &keeper.book) {
+        Ok((layout, numbers)) => turned(alloc, keeper, layout, &numbers),
+        Err(no_memory) => {
+            drop(keeper);
+            Err(no_memory)
+        }
+    }
 }
 
 impl Manager {
