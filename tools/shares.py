@@ -4,10 +4,10 @@
   tools/shares.py aim_turn aim_book    prints the dearest ten functions of each of these crates
   tools/shares.py                      prints each function above a twelfth, of all crates of the program
 
-It checks each crate from nothing with one job, so it is right where nothing else runs. A share is of the whole time from the
-command's start to its end. A check writes the parts of each function's proof as they come: a part took the time since the one
-before it was written. Behind each function stand the parts that took most of it: Lts is the borrow checker's, Proof the search
-for the answers that nobody wrote, Answers those that somebody did.
+It checks each crate from nothing with one job, over libraries that are built, so it is right where nothing else runs. A share
+is of the whole time from the command's start to its end. A check writes the parts of each function's proof as they come: a part
+took the time since the one before it was written. Behind each function stand the parts that took most of it: Lts is the borrow
+checker's, Proof the search for the answers that nobody wrote, Answers those that somebody did.
 
 What a library has is read once, in the first function that needs it, most often in Kinds, Tie, Given, Code or Reads, and no cut
 of that function makes it less. So of each of these sorts the longest part of a crate counts as long as the second, and what it
@@ -39,25 +39,29 @@ def part_of(name, crate):
 
 
 def check(crate):
-    """Checks the crate from nothing with one job, over libraries that are built, and gives how many seconds it took."""
+    """Checks the crate from nothing with one job, and gives when it began, since the epoch, and when it ended."""
     folder = f"{ROOT}/crates/{crate}"
     subprocess.run(["rt", "check"], cwd=folder, check=True, capture_output=True)
     shutil.rmtree(f"{folder}/out/incremental")
-    start = time.monotonic()
+    start = time.time()
     subprocess.run(["rt", "check", "--jobs", "1"], cwd=folder, check=True, capture_output=True)
-    return time.monotonic() - start
+    return start, time.time()
 
 
-def times(crate):
-    """Gives how many seconds each function of the newest check of the crate took, part by part."""
-    functions = collections.defaultdict(collections.Counter)
+def written(crate):
+    """Gives the kept files of the crate's newest check with the times at which they were written, in this order."""
     kept = [entry.path for entry in os.scandir(f"{ROOT}/crates/{crate}/out/incremental") if entry.is_dir()]
     newest = max(kept, key=os.path.getmtime)
-    files = sorted((entry.stat().st_mtime, entry.name) for entry in os.scandir(newest) if entry.name.startswith("Rattle"))
-    for (before, _), (written, name) in zip(files, files[1:]):
+    return sorted((entry.stat().st_mtime, entry.name) for entry in os.scandir(newest) if entry.name.startswith("Rattle"))
+
+
+def times(crate, files):
+    """Gives how many seconds each function took, part by part."""
+    functions = collections.defaultdict(collections.Counter)
+    for (before, _), (after, name) in zip(files, files[1:]):
         part = part_of(name, crate)
         if part:
-            functions[part[0]][part[1]] += written - before
+            functions[part[0]][part[1]] += after - before
     return functions
 
 
@@ -74,10 +78,15 @@ def first_readings(functions):
 
 
 def show(crate, least, most):
-    whole = check(crate)
-    functions = times(crate)
+    start, end = check(crate)
+    files = written(crate)
+    if files[0][0] < start:
+        print(f"{crate}: the toolchain took parts of it from another copy on this machine, so nothing is known", flush=True)
+        return
+    functions = times(crate, files)
     beyond = first_readings(functions)
     own = {function: sum(parts.values()) - beyond[function] for function, parts in functions.items()}
+    whole = end - start
     for function, seconds in sorted(own.items(), key=lambda found: -found[1])[:most]:
         if seconds > least * whole:
             of_it = ", ".join(f"{part} {took:.1f}" for part, took in functions[function].most_common(3))
