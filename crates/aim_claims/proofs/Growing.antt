@@ -141,11 +141,9 @@ keeps_free lines l caller call sets counts is k none =
     (λ c small. counted counts caller c (omega (arith, free_low lines caller call n k.callers, k.wide)) _ (caller == c) refl (λ e. frees_one caller call c true e) (λ e. frees_one caller call c false e)))
     none
 
--- a line was pushed that was not at fault
-pub pushed : (now items new : List ShardLine) (l : ShardLine) (o : Option Kind) (sets : ℕ) (counts : List ℕ) → now ≡ items → new ≡ items ++ l ∷ [] → o ≡ kind_of_fault now l → ((x : Kind) → o ≡ Some x → ⊥)
-    → (kind_of_fault items l ≡ None → Keeps (items ++ l ∷ []) sets counts) → Keeps new sets counts
-pushed now items new l o sets counts view is fault none keeps =
-    subst (λ ls. Keeps ls sets counts) (sym is) (keeps (ap (λ ls. kind_of_fault ls l) (sym view) ∙ (sym fault ∙ not_some o none)))
+-- a line that was not found to be at fault
+pub not_at_fault : (now items : List ShardLine) (l : ShardLine) (o : Option Kind) → now ≡ items → o ≡ kind_of_fault now l → ((x : Kind) → o ≡ Some x → ⊥) → kind_of_fault items l ≡ None
+not_at_fault now items l o view fault none = ap (λ ls. kind_of_fault ls l) (sym view) ∙ (sym fault ∙ not_some o none)
 
 none_yet : Keeps [] 0 (replicate 64 0)
 none_yet = record {

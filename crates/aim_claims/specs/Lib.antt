@@ -9,3 +9,4 @@ pub mod Verdicts
 pub mod Comes
 pub mod Fits
 pub mod Short
+pub mod Ends

@@ -1,9 +1,10 @@
 //! Reads a whole script.
 
-ghost use Rattle.std.specs.Prelude.{◌≡◌, ◌<◌, ◌≤◌, Err, None, length, IfOk};
+ghost use Rattle.std.specs.Prelude.{◌≡◌, ◌<◌, ◌≤◌, [], Err, None, length, IfOk};
 ghost use Rattle.std.specs.Io.KnownBytes.{IsAtEnd};
 ghost use Rattle.aim_io.specs.Causes.{Rose};
 ghost use Rattle.aim_claims.specs.Comes.{Comes, Judged};
+ghost use Rattle.aim_claims.specs.Ends.{Ends, after_fault, after_refusal};
 ghost use Rattle.aim_claims.specs.Short.{StopsShort};
 ghost use Rattle.aim_claims.specs.Verdicts.{at_end};
 
@@ -53,6 +54,50 @@ fn at_end(script: &Script) -> Option<Refused>
     }
 }
 
+// What a fault of the input comes to.
+fn after_fault(fault: LineFault) -> Result<Option<Refused>, Stop>
+    ensures { result ≡ after_fault fault }
+{
+    match fault {
+        LineFault::Read => Err(Stop::Read),
+        LineFault::Long(number) => Ok(Some(Refused::Bad(number, Kind::Long))),
+        LineFault::Bytes => Ok(Some(Refused::Limit(Limit::Bytes))),
+        LineFault::Lines => Ok(Some(Refused::Limit(Limit::Lines))),
+    }
+}
+
+// What the line of that number comes to, which isn't taken.
+fn after_refusal(number: u32, refusal: Refusal) -> Result<Option<Refused>, Stop>
+    ensures { result ≡ after_refusal number refusal }
+{
+    match refusal {
+        Refusal::Bad(kind) => Ok(Some(Refused::Bad(number, kind))),
+        Refusal::NoMemory => Err(Stop::NoMemory),
+    }
+}
+
+// Takes the lines before the one that decides, or before the end of the input, and tells why the script isn't whole, if it
+// isn't.
+fn take_lines<S: Source>(source: &mut S, script: &mut Script) -> Result<Option<Refused>, Stop>
+    requires { script.old ≡ [] }
+    ensures { Ends script.new result (S.left source.old) (S.left source.new) (S.faults source.old) (S.faults source.new) }
+{
+    let mut reader = LineReader::new();
+    let mut number = 0u32;
+    'lines: loop {
+        match reader.advance(source) {
+            Err(fault) => return after_fault(fault),
+            Ok(false) => return Ok(at_end(script)),
+            Ok(true) => {}
+        }
+        number += 1;
+        match take_line(script, reader.line()) {
+            Ok(()) => {}
+            Err(refusal) => return after_refusal(number, refusal),
+        }
+    }
+}
+
 /// Reads a script to the line that decides, or to the end of the input. Nothing is read behind a line that decides.
 pub fn read_script<S: Source>(alloc: Global, source: &mut S) -> Result<ScriptRead, Stop>
     ensures verdict { IfOk result (λ r. Comes r.script r.refused (S.left source.old)) }
@@ -62,39 +107,7 @@ pub fn read_script<S: Source>(alloc: Global, source: &mut S) -> Result<ScriptRea
     ensures read { result ≡ Err Stop.Read → Rose (S.faults source.old) (S.faults source.new) }
     ensures source { S.faults source.old ≤ S.faults source.new }
 {
-    let mut reader = LineReader::new();
     let mut script = Script::new(alloc);
-    let mut number = 0u32;
-    'lines: loop {
-        match reader.advance(source) {
-            Err(LineFault::Read) => return Err(Stop::Read),
-            Err(LineFault::Long(line)) => {
-                let refused = Some(Refused::Bad(line, Kind::Long));
-                return Ok(ScriptRead { script, refused });
-            }
-            Err(LineFault::Bytes) => {
-                let refused = Some(Refused::Limit(Limit::Bytes));
-                return Ok(ScriptRead { script, refused });
-            }
-            Err(LineFault::Lines) => {
-                let refused = Some(Refused::Limit(Limit::Lines));
-                return Ok(ScriptRead { script, refused });
-            }
-            Ok(false) => {
-                let refused = at_end(&script);
-                return Ok(ScriptRead { script, refused });
-            }
-            Ok(true) => {
-                number += 1;
-                match take_line(&mut script, reader.line()) {
-                    Ok(()) => {}
-                    Err(Refusal::Bad(kind)) => {
-                        let refused = Some(Refused::Bad(number, kind));
-                        return Ok(ScriptRead { script, refused });
-                    }
-                    Err(Refusal::NoMemory) => return Err(Stop::NoMemory),
-                }
-            }
-        }
-    }
+    let refused = take_lines(source, &mut script)?;
+    Ok(ScriptRead { script, refused })
 }

@@ -1,8 +1,10 @@
 //! A script, line after line.
 
-ghost use Rattle.std.specs.Prelude.{◌≡◌, ◌+◌, ◌<◌, ◌≤◌, ◌++◌, ◌∷◌, [], None, Some, length, slice_index, slice_set, MatchResult, IfOk, OnOk, OnErr};
+ghost use Rattle.std.specs.Prelude.{◌≡◌, ◌+◌, ◌<◌, ◌≤◌, ◌++◌, ◌∷◌, [], List, None, Some, length, slice_index, slice_set, MatchResult, IfOk, OnOk, OnErr};
 ghost use Rattle.std.specs.Option.{option_copied, option_to_list};
 ghost use Rattle.aim_claims.specs.Fits.{AreFitting, FitTerms};
+ghost use Rattle.aim_claims.specs.declared.lines.ShardLine.{ShardLine};
+ghost use Rattle.aim_claims.specs.Keeps.{Keeps};
 ghost use Rattle.aim_claims.specs.Kinds.{IsScript, are_terms, belongs, kind_of_fault, last_of, lies_on, number_fault, part_after, rows_in, unless_fits};
 ghost use Rattle.aim_claims.specs.Refusals.{Refuses};
 ghost use Rattle.aim_claims.specs.Said.{asked_of, set_in, sets_of, rectangle_of, terms_in, terms_of};
@@ -164,6 +166,20 @@ fn sets_of(alloc: Global, lines: &[ShardLine]) -> Result<Vec<Rectangle>, AllocEr
     Ok(rectangles)
 }
 
+// Counts a line that isn't at fault behind those that were counted.
+fn count(sets: &mut u32, counts: &mut [u32; 64], line: &ShardLine)
+    requires { (before : List ShardLine) × Keeps before sets.old counts.old × (kind_of_fault before line.now ≡ None) }
+    ensures { (before : List ShardLine) → Keeps before sets.old counts.old → kind_of_fault before line.now ≡ None → Keeps (before ++ line.now ∷ []) sets.new counts.new }
+{
+    match line {
+        ShardLine::Set(_) => *sets += 1,
+        ShardLine::Claim(caller, _) => counts[*caller as usize] += 1,
+        ShardLine::Free(caller, _) => counts[*caller as usize] += 1,
+        ShardLine::Shards(..) => {}
+        ShardLine::End => {}
+    }
+}
+
 // The kind, unless the numbers fit.
 fn unless_fits(why: Kind, fits: bool) -> Option<Kind>
     ensures { result ≡ unless_fits why fits }
@@ -304,21 +320,7 @@ impl Script {
         let Ok(()) = self.lines.push(line) else {
             return Err(Refusal::NoMemory);
         };
-        match line {
-            ShardLine::Set(_) => {
-                self.sets += 1;
-                Ok(())
-            }
-            ShardLine::Claim(caller, _) => {
-                self.counts[caller as usize] += 1;
-                Ok(())
-            }
-            ShardLine::Free(caller, _) => {
-                self.counts[caller as usize] += 1;
-                Ok(())
-            }
-            ShardLine::Shards(..) => Ok(()),
-            ShardLine::End => Ok(()),
-        }
+        count(&mut self.sets, &mut self.counts, &line);
+        Ok(())
     }
 }

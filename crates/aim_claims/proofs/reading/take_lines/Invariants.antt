@@ -3,7 +3,7 @@ use Rattle.aim_io.specs.Known.{WhereKnown}
 use Rattle.aim_io.specs.Reader.{input, coming, IsSound, KnowsEnd}
 use Rattle.aim_claims.specs.Short.{TookScript}
 use Rattle.aim_claims.specs.Verdicts.{verdict, verdict_from}
-use Rattle.aim_claims.proofs.reading.read_script.Given as goal
+use Rattle.aim_claims.proofs.reading.take_lines.Given as goal
 
 abbrev pub invariant-lines : goal.invariant-lines
 invariant-lines g l = record {
