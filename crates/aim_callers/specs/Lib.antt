@@ -3,3 +3,4 @@ pub mod Calling
 pub mod Running
 pub mod Texts
 pub mod Commands
+pub mod Puts

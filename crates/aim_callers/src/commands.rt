@@ -6,6 +6,7 @@ ghost use Rattle.aim_io.specs.Causes.{Rose};
 ghost use Rattle.aim_claims.specs.Short.{StopsShort};
 ghost use Rattle.aim_claims.specs.Texts.{status_of};
 ghost use Rattle.aim_callers.specs.Commands.{Completes, Shows, ShowsFront, Writes, WritesFront};
+ghost use Rattle.aim_callers.specs.Puts.{Puts, status_after};
 
 use crate::running::run_script;
 use crate::texts::put_history;
@@ -68,6 +69,35 @@ fn put_run<R: Threads + Wait + Sync, K: Sink, H: Hold>(
     }
 }
 
+// Writes what a script that was read comes to, and answers the status.
+fn put_read<R: Threads + Wait + Sync, K: Sink, H: Hold>(
+    rt: &R,
+    alloc: Global,
+    read: &ScriptRead,
+    workers: u32,
+    sink: &mut K,
+    hold: &H,
+) -> u8
+    requires some { read.now.refused ≡ None → 0 < length read.now.script }
+    requires workers { 0 < workers }
+    ensures { Puts read.now.script read.now.refused (K.held sink.old) (K.held sink.new) (K.faults sink.old) (K.faults sink.new) result }
+{
+    match read.refused {
+        Some(refused) => put_refused(sink, refused),
+        None => put_run(rt, alloc, &read.script, workers, sink, hold),
+    }
+}
+
+// The status where a script isn't read to the line that decides.
+fn status_after(stop: Stop) -> u8
+    ensures { result ≡ status_after stop }
+{
+    match stop {
+        Stop::Read => 4,
+        Stop::NoMemory => 7,
+    }
+}
+
 /// Reads a script of claims, runs its callers side by side, and writes the one history of their calls, or why the script
 /// isn't whole. The status is 0 for a whole script, 3 for a line at fault, 4 where the source fails, 5 where the sink
 /// fails, 6 for a limit, and 7 where memory runs out.
@@ -102,19 +132,7 @@ pub fn shards<R: Threads + Wait + Sync, S: Source, K: Sink, H: Hold>(
     ensures complete { IfSome (S.left source.old) (λ bytes. Completes bytes (S.faults source.old) (S.faults source.new) (K.faults sink.old) (K.faults sink.new) result) }
 {
     match read_script(alloc, source) {
-        Err(Stop::Read) => 4,
-        Err(Stop::NoMemory) => 7,
-        Ok(
-            ScriptRead {
-                script: _,
-                refused: Some(refused),
-            },
-        ) => put_refused(sink, refused),
-        Ok(
-            ScriptRead {
-                script,
-                refused: None,
-            },
-        ) => put_run(rt, alloc, &script, workers, sink, hold),
+        Ok(read) => put_read(rt, alloc, &read, workers, sink, hold),
+        Err(stop) => status_after(stop),
     }
 }
