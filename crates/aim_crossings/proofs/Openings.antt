@@ -132,19 +132,18 @@ manager_new m s ps op held is same new none = record {
   logs = none;
 }
 
-pub settings_more : (ms next : Managers) (m : TurnstileModel Setting) (vehicles : ℕ) (layouts : List Intersection) (i : Intersection) → next ≡ ms ++ m ∷ [] → map setting_in ms ≡ map (setting_of vehicles) layouts
-    → m.setting ≡ record { layout = i; vehicles = vehicles; room = 128 * vehicles + 0 + 1 } → map setting_in next ≡ map (setting_of vehicles) (layouts ++ i ∷ [])
-settings_more ms next m vehicles layouts i more before is =
-    let room : 128 * vehicles + 0 + 1 ≡ 128 * vehicles + 1 = omega arith in
-    ap (map setting_in) more
-    ∙ map-append setting_in ms (m ∷ [])
-    ∙ (λ j. before j ++ (is ∙ ap (λ n. record { layout = i; vehicles = vehicles; room = n }) room) j ∷ [])
-    ∙ sym (map-append (setting_of vehicles) layouts (i ∷ []))
+pub setting_new : (m : TurnstileModel Setting) (vehicles : ℕ) (i : Intersection) → m.setting ≡ record { layout = i; vehicles = vehicles; room = 128 * vehicles + 0 + 1 } → setting_in m ≡ setting_of vehicles i
+setting_new m vehicles i is = let room : 128 * vehicles + 0 + 1 ≡ 128 * vehicles + 1 = omega arith in is ∙ ap (λ n. record { layout = i; vehicles = vehicles; room = n }) room
 
-pub valid_more : (ms next : Managers) (m : TurnstileModel Setting) (i : Intersection) → next ≡ ms ++ m ∷ [] → All (λ (k : TurnstileModel Setting). IsValid k.setting.layout) ms → IsValid i → m.setting.layout ≡ i
+pub settings_more : (ms next : Managers) (m : TurnstileModel Setting) (vehicles : ℕ) (layouts : List Intersection) (i : Intersection) → next ≡ ms ++ m ∷ [] → map setting_in ms ≡ map (setting_of vehicles) layouts
+    → setting_in m ≡ setting_of vehicles i → map setting_in next ≡ map (setting_of vehicles) (layouts ++ i ∷ [])
+settings_more ms next m vehicles layouts i more before is =
+    ap (map setting_in) more ∙ map-append setting_in ms (m ∷ []) ∙ (λ j. before j ++ is j ∷ []) ∙ sym (map-append (setting_of vehicles) layouts (i ∷ []))
+
+pub valid_more : (ms next : Managers) (m : TurnstileModel Setting) → next ≡ ms ++ m ∷ [] → All (λ (k : TurnstileModel Setting). IsValid k.setting.layout) ms → IsValid m.setting.layout
     → All (λ (k : TurnstileModel Setting). IsValid k.setting.layout) next
-valid_more ms next m i more before valid is =
-    subst (λ (l : Managers). All (λ (k : TurnstileModel Setting). IsValid k.setting.layout) l) (sym more) (All-push (λ (k : TurnstileModel Setting). IsValid k.setting.layout) ms m before (subst IsValid (sym is) valid))
+valid_more ms next m more before valid =
+    subst (λ (l : Managers). All (λ (k : TurnstileModel Setting). IsValid k.setting.layout) l) (sym more) (All-push (λ (k : TurnstileModel Setting). IsValid k.setting.layout) ms m before valid)
 
 pub seats_more : (ms next : Managers) (m : TurnstileModel Setting) (seats seats' : List Seats) (s : Seats) → next ≡ ms ++ m ∷ [] → seats' ≡ seats ++ s ∷ [] → AllZip AreNew ms seats → AreNew m s → AllZip AreNew next seats'
 seats_more ms next m seats seats' s more more' before new =

@@ -4,7 +4,8 @@ ghost use Rattle.std.specs.Prelude.{◌≡◌, ◌≢◌, ◌<◌, ◌≤◌, []
 ghost use Rattle.std.specs.List.{AllZip};
 ghost use Rattle.aim_grid_read.specs.Spelled.{IsBare};
 ghost use Rattle.aim_routes.specs.Fits.{AreApart};
-ghost use Rattle.aim_crossings.specs.Making.{AllKeep, AreNew, AreOpen, AreReady, AreSetOut, HasNew, IsMadeLeg, legs_of_all, seat_of, setting_of, vehicles_of};
+ghost use Rattle.aim_crossings.specs.Making.{AllKeep, AreNew, AreOpen, AreReady, AreSetOut, HasNew, IsMadeLeg, legs_of_all, seat_of, setting_in, setting_of, vehicles_of};
+ghost use Rattle.aim_paths.specs.Valid.{IsValid};
 ghost use Rattle.aim_crossings.specs.Runs.{legs_for};
 
 use crate::NoMemory;
@@ -55,6 +56,30 @@ fn has_set_out(travellers: &[Traveller], vehicle: u32) -> bool
     false
 }
 
+// A crossing that is open, with the seats of its callers.
+fn opened(alloc: Global, layout: Layout, vehicles: u32) -> Result<(Manager, Seats), NoMemory>
+    requires vehicles { (0 < vehicles) × (vehicles ≤ 256) }
+    ensures setting { IfOk result (λ r. setting_in r.0 ≡ setting_of vehicles layout) }
+    ensures valid { IfOk result (λ r. IsValid r.0.setting.layout) }
+    ensures seats { IfOk result (λ r. AreNew r.0 r.1) }
+{
+    // Tells that the layout is valid.
+    layout.ground();
+    let opened = open(alloc, layout, vehicles, 0)?;
+    let Opened {
+        manager,
+        passes,
+        operator,
+    } = opened;
+    match Seats::new(alloc, passes, operator) {
+        Ok(seats) => Ok((manager, seats)),
+        Err(no_memory) => {
+            drop(manager);
+            Err(no_memory)
+        }
+    }
+}
+
 impl Crossings {
     /// New ones with these layouts.
     pub(crate) fn open(
@@ -68,16 +93,10 @@ impl Crossings {
         let mut managers = Vec::with_capacity(alloc, layouts.len())?;
         let mut all = Vec::with_capacity(alloc, layouts.len())?;
         for layout in layouts {
-            // Tells that the layout is valid.
-            layout.ground();
-            let opened = open(alloc, layout, vehicles, 0)?;
-            let Opened {
-                manager,
-                passes,
-                operator,
-            } = opened;
-            all.push_reserved(Seats::new(alloc, passes, operator)?);
+            let crossing = opened(alloc, layout, vehicles)?;
+            let (manager, seats) = crossing;
             managers.push_reserved(manager);
+            all.push_reserved(seats);
         }
         Ok(Crossings {
             managers,
