@@ -302,7 +302,7 @@ module _ (layouts : List Intersection) (vehicles until : ℕ) (legs : List Plann
 
 -- by other names of what is equal
 
-fit_here : (layouts : List Intersection) (vehicles : ℕ) (legs : List PlannedLeg) (ms : Managers) (seats : List Seats) → AreLegs vehicles (length layouts) legs → AreOpen layouts vehicles ms seats → AreLegs vehicles (length ms) legs
+pub fit_here : (layouts : List Intersection) (vehicles : ℕ) (legs : List PlannedLeg) (ms : Managers) (seats : List Seats) → AreLegs vehicles (length layouts) legs → AreOpen layouts vehicles ms seats → AreLegs vehicles (length ms) legs
 fit_here layouts vehicles legs ms seats fit open_are = subst (λ n. AreLegs vehicles n legs) (sym (count_layouts layouts vehicles ms seats open_are)) fit
 
 pub ready_by : (layouts : List Intersection) (vehicles : ℕ) (legs legs' : List PlannedLeg) (ms ms' : Managers) (seats : List Seats) (ts ts' : List TravellerModel) → AreLegs vehicles (length layouts) legs → AreOpen layouts vehicles ms seats

@@ -5,11 +5,29 @@ use Rattle.aim_travel.specs.Models.{TravellerModel}
 use Rattle.aim_travel.specs.Rode.{Managers}
 use Rattle.aim_drive.proofs.Endings.{lent_back}
 use Rattle.aim_routes.specs.declared.routes.PlannedLeg.{PlannedLeg}
+use Rattle.aim_routes.specs.Fits.{AreLegs}
 use Rattle.aim_crossings.specs.Making.{AllKeep, legs_of_all, seat_of, vehicles_of}
 use Rattle.aim_crossings.specs.Closing.{AllGive, AreBack, AreLeft, IsSeated, all_gone}
 use Rattle.aim_crossings.proofs.Told.{enters_is, few_is, run_is}
-use Rattle.aim_crossings.proofs.Whole.{IsTravelled, all_back, all_seated, ready_by, run_over, travelled_by}
+use Rattle.aim_crossings.proofs.Whole.{IsTravelled, all_back, all_seated, fit_here, ready_by, run_over, travelled_by}
 use Rattle.aim_crossings.proofs.running.run_routes.Goals as goal
+
+pub travellers-requires : goal.travellers-requires
+travellers-requires g c =
+    let layouts = c.args.routes.layouts.items in
+    let vehicles = c.args.routes.vehicles in
+    let ms = c.in_ok-crossings.crossings.managers.items in
+    let seats = c.in_ok-crossings.crossings.seats.items in
+    let open_are = c.in_ok-crossings.ensures in
+    let fit = fit_here layouts vehicles c.args.routes.legs.items ms seats c.requires.routes.legs open_are in
+    record {
+      ready = record {
+        layouts = layouts;
+        vehicles = vehicles;
+        open_are = open_are;
+        fit = subst (λ (ps : List PlannedLeg). AreLegs vehicles (length ms) ps) (sym c.deref.ensures.value) fit;
+      };
+    }
 
 pub travel-requires-clause-ready : goal.travel-requires-clause-ready
 travel-requires-clause-ready g c κs within =
