@@ -1,7 +1,8 @@
 -- What a script of several crossings comes to, line after line.
-use Rattle.std.proofs.Common.{◌≡◌, ◌⊎◌, inl, inr, ℕ, zero, suc, ◌+◌, ◌<◌, ◌≤◌, List, [], ◌∷◌, ◌++◌, length, take, Option, Some, None, Result, Ok, Err, IfSome, IfOk, refl, sym, ap, ◌∙◌, subst, length-append, true, false, arith, slice_get}
+use Rattle.std.proofs.Common.{◌≡◌, ◌⊎◌, inl, inr, ℕ, zero, suc, ◌+◌, ◌<◌, ◌≤◌, List, [], ◌∷◌, ◌++◌, length, take, Option, Some, None, Result, Ok, Err, IfSome, IfOk, refl, sym, ap, ◌∙◌, subst, length-append, Bool, true, false, arith, slice_get}
 use Rattle.std.specs.Option.{unwrap_or}
-use Rattle.std.specs.Io.KnownBytes.{Consumes, Keeps}
+use Rattle.std.specs.Io.KnownBytes.{Consumes, IsAtEnd, Keeps}
+use Rattle.std.proofs.KnownBytes.{prepend_known-nil}
 use Rattle.std.proofs.lemmas.List.{take-append-le}
 use Rattle.std.proofs.Math.Seq.{take-append_seam}
 use Rattle.aim_io.specs.declared.lines.LineFault.{LineFault}
@@ -9,8 +10,11 @@ use Rattle.aim_io.specs.declared.lines.LineFault.TheVariants.{Read, Long, Bytes,
 use Rattle.aim_io.specs.Causes.{Rose}
 use Rattle.aim_io.specs.Known.{WhereKnown}
 use Rattle.aim_io.specs.Lines.{InputFault, LongLine, TooManyBytes, TooManyLines, fault_of, Outcome, Line, Stop, HasNoEnd, IsOpen}
-use Rattle.aim_io.specs.Reader.{Reader, input, coming, Answers, taken_by, after_call}
+use Rattle.aim_io.specs.Reader.{Reader, input, coming, fresh, Answers, IsSound, KnowsEnd, taken_by, after_call}
+use Rattle.aim_io.specs.Taken.{TookLines}
 use Rattle.aim_io.proofs.LoopLemmas.{decides_line, decided_line, decided_end, decided_fault, took_line, took_none, took_kept, took_part}
+use Rattle.aim_plans.specs.Scripts.{TakesAtMost}
+use Rattle.aim_plans.proofs.Deciding.{Placed, most, placed_kept, placed_more, placed_start}
 use Rattle.aim_script.specs.declared.decisions.Kind.TheVariants as why
 use Rattle.aim_script.specs.declared.decisions.Limit.{Limit}
 use Rattle.aim_script.specs.declared.decisions.Limit.TheVariants as limit
@@ -33,6 +37,7 @@ use Rattle.aim_routes.specs.Verdicts.{Judgement, Verdict, at_end, decides, goes_
 use Rattle.aim_grid_script.specs.declared.endings.GridEnding.{GridEnding}
 use Rattle.aim_grid_script.specs.declared.endings.GridEnding.TheVariants as ending
 use Rattle.aim_grid_script.specs.Endings.{Ended, of_fault as ending_of_fault, of_refusal}
+use Rattle.aim_grid_script.specs.LinesRead.{IsLast}
 use Rattle.aim_grid_script.specs.Scripts.{Decides, IsGrid, Reads}
 use Rattle.aim_grid_script.specs.Short.{StopsShort, TookScript, script_after}
 
@@ -146,15 +151,31 @@ goes_further all then now old new stage next r judged answers taken after going 
     }
 
 -- no line was read
-pub starts : (left : Option (List ℕ)) (reader : Reader) (stage : Stage) → Stands [] stage → reader.given ≡ 0 → Leaves left left reader [] → Reached left left reader stage
-starts left reader stage stands given leaves = record {
+begins_known : (left : Option (List ℕ)) → Leaves left (input fresh left) fresh []
+begins_known None = tt
+begins_known (Some bytes) = refl
+
+begins_fresh : (left : Option (List ℕ)) (stage : Stage) → Stands [] stage → Reached left (input fresh left) fresh stage
+begins_fresh left stage stands = record {
   before = [];
   stands = stands;
   grid = no_lines;
-  count = sym given;
-  leaves = leaves;
-  took = λ still. record { lines = []; took = took_none left; is = refl };
+  count = refl;
+  leaves = begins_known left;
+  took = λ still. record { lines = []; took = subst (λ now. TookLines left now []) (sym (prepend_known-nil left)) (took_none left); is = refl };
 }
+
+pub begins : (left : Option (List ℕ)) (reader : Reader) (stage : Stage) → reader ≡ fresh → Stands [] stage → Reached left (input reader left) reader stage
+begins left reader stage new stands = subst (λ r. Reached left (input r left) r stage) (sym new) (begins_fresh left stage stands)
+
+pub begins_sound : (reader : Reader) → reader ≡ fresh → IsSound reader
+begins_sound reader new = subst IsSound (sym new) (record { few = omega arith; read = omega arith; ended = λ e. refl })
+
+pub begins_knowing : (reader : Reader) (left : Option (List ℕ)) → reader ≡ fresh → KnowsEnd reader left
+begins_knowing reader left new e = absurd (cc (ap (λ (r : Reader). r.ended) new, e))
+
+pub begins_placed : (reader : Reader) (left : Option (List ℕ)) → reader ≡ fresh → Placed left (input reader left) reader.place
+begins_placed reader left new = subst (λ r. Placed left (input r left) r.place) (sym new) (subst (λ now. Placed left now 0) (sym (prepend_known-nil left)) (placed_start left))
 
 -- ---- a line that decides
 
@@ -171,7 +192,7 @@ is_refused all then now old new stage number (refusal.Limit which) r judged coun
 is_refused all then now old new stage number refusal.NoMemory r judged count answers = tt
 
 -- a refused line is no failing source
-pub refused_not_read : (number : ℕ) (refused : Refusal) → ◌≡◌ {A = Result Routes GridEnding} (Err (of_refusal number refused)) (Err ending.Read) → ⊥
+pub refused_not_read : (number : ℕ) (refused : Refusal) → of_refusal number refused ≡ ending.Read → ⊥
 refused_not_read number (refusal.Bad k) e = cc
 refused_not_read number (refusal.Limit which) e = cc
 refused_not_read number refusal.NoMemory e = cc
@@ -200,7 +221,7 @@ is_faulty all then now old new stage Bytes r answers = fault_decides all then no
 is_faulty all then now old new stage Lines r answers = fault_decides all then now old new r.before Lines (λ e. cc) r.leaves answers
 
 -- the source has failed
-pub fault_is_read : (fault : LineFault) → ◌≡◌ {A = Result Routes GridEnding} (Err (ending_of_fault fault)) (Err ending.Read) → fault ≡ Read
+pub fault_is_read : (fault : LineFault) → ending_of_fault fault ≡ ending.Read → fault ≡ Read
 fault_is_read Read e = refl
 fault_is_read (Long number) e = absurd (cc)
 fault_is_read Bytes e = absurd (cc)
@@ -210,14 +231,27 @@ fault_is_read Lines e = absurd (cc)
 pub rose_later : (first before now : ℕ) → first ≤ before → Rose before now → Rose first now
 rose_later first before now later rose = grind arith
 
-pub stops_short : (all then left : Option (List ℕ)) (old new : Reader) (stage : Stage) → Reached all then old stage → Keeps then (input new left) → old.ended ≡ false → HasNoEnd new.held → StopsShort all left
-stops_short all then left old new stage r keeps going none =
-    let before = r.took going in record {
+-- what a fault leaves of the reader
+abbrev pub Failed : Reader → Reader → LineFault → Type 0
+Failed old new fault = new ≡ record old { held = new.held; line = []; fault = Some fault }
+
+pub stops_short : (all then left : Option (List ℕ)) (old new : Reader) (stage : Stage) (fault : LineFault) → Reached all then old stage → Failed old new fault → Keeps then (input new left) → new.ended ≡ false → HasNoEnd new.held → StopsShort all left
+stops_short all then left old new stage fault r after keeps going none =
+    let before = r.took (sym (ap (λ (x : Reader). x.ended) after) ∙ going) in record {
       lines = before.lines;
       took = took_part all left new.held before.lines (took_kept all then (input new left) before.lines before.took keeps) none;
       before = r.before;
       script = before.is;
     }
+
+-- so much was taken where the reader failed
+pub failed_most : (all then left : Option (List ℕ)) (old new : Reader) (fault : LineFault) → Placed all then old.place → Failed old new fault → Keeps then (input new left) → IsSound new → TakesAtMost 67108865 all left
+failed_most all then left old new fault placed after keeps sound =
+    most all left new (subst (Placed all (input new left)) (sym (ap (λ (x : Reader). x.place) after)) (placed_kept all then (input new left) old.place placed keeps)) sound
+
+-- so much was taken where it gave a line, or none at the end
+pub given_most : (all then left : Option (List ℕ)) (old new : Reader) (more : Bool) → Placed all then old.place → Consumes then (input new left) (taken_by new more) → new ≡ after_call old new more → IsSound new → TakesAtMost 67108865 all left
+given_most all then left old new more placed taken after sound = most all left new (placed_more all then (input new left) old new more placed taken after) sound
 
 -- ---- the end of the input
 
@@ -229,28 +263,43 @@ end_decides : (before : List GridLine) (d : GridDecision) (all : Option (List �
 end_decides before d None is told = tt
 end_decides before d (Some bytes) is told = ap (λ (v : Verdict). v.decision) (sym told) ∙ is
 
-pub ends : (all then now : Option (List ℕ)) (old new : Reader) (stage : Stage) (number : ℕ) (result : Result Routes GridEnding) → Reached all then old stage → number ≡ old.given → ((before : List GridLine) → Stands before stage → length before ≡ number → Ended before result)
-    → Answers old new then now (Ok false) → Reads all result
-ends all then now old new stage number result r count ended answers =
-    at result (ended r.before r.stands (r.count ∙ sym count)) (decided_end (verdict_from r.before) grid_verdict old new all then now r.leaves answers)
+pub last : (all then now : Option (List ℕ)) (old new : Reader) (stage : Stage) (number : ℕ) → Reached all then old stage → number ≡ old.given → IsSound old → Answers old new then now (Ok false) → IsLast all stage number
+last all then now old new stage number r count sound answers = record {
+  before = r.before;
+  stands = r.stands;
+  grid = r.grid;
+  count = r.count ∙ sym count;
+  few = omega (arith, count, sound.few);
+  verdict = decided_end (verdict_from r.before) grid_verdict old new all then now r.leaves answers;
+}
+
+pub ends : (all : Option (List ℕ)) (stage : Stage) (lines : ℕ) (result : Result Routes GridEnding) → IsLast all stage lines → ((before : List GridLine) → Stands before stage → length before ≡ lines → Ended before result) → Reads all result
+ends all stage lines result l ended = at result (ended l.before l.stands l.count)
   where
-    at : (result : Result Routes GridEnding) → Ended r.before result → IfSome all (λ bytes. decided r.before (at_end r.before) ≡ grid_verdict bytes) → Reads all result
-    at (Ok routes) e told = record { lines = r.before; grid = r.grid; whole = e.0; is = e.1; verdict = end_known r.before all e.0 told }
-    at (Err (ending.Bad number k)) e told = end_decides r.before (decision.Bad number k) all e told
-    at (Err (ending.Limit which)) e told = absurd e
-    at (Err ending.Read) e told = absurd e
-    at (Err ending.NoMemory) e told = absurd e
+    at : (result : Result Routes GridEnding) → Ended l.before result → Reads all result
+    at (Ok routes) e = record { lines = l.before; grid = l.grid; whole = e.0; is = e.1; verdict = end_known l.before all e.0 l.verdict }
+    at (Err (ending.Bad number k)) e = end_decides l.before (decision.Bad number k) all e l.verdict
+    at (Err (ending.Limit which)) e = absurd e
+    at (Err ending.Read) e = absurd e
+    at (Err ending.NoMemory) e = absurd e
 
 ended_fits : (before : List GridLine) (result : Result Routes GridEnding) → Ended before result → IfOk result AreWithin
 ended_fits before (Ok routes) e = e.2
 ended_fits before (Err ending) e = tt
 
-pub ends_fit : (all then : Option (List ℕ)) (old : Reader) (stage : Stage) (number : ℕ) (result : Result Routes GridEnding) → Reached all then old stage → number ≡ old.given → ((before : List GridLine) → Stands before stage → length before ≡ number → Ended before result) → IfOk result AreWithin
-ends_fit all then old stage number result r count ended = ended_fits r.before result (ended r.before r.stands (r.count ∙ sym count))
+pub ends_fit : (all : Option (List ℕ)) (stage : Stage) (lines : ℕ) (result : Result Routes GridEnding) → IsLast all stage lines → ((before : List GridLine) → Stands before stage → length before ≡ lines → Ended before result) → IfOk result AreWithin
+ends_fit all stage lines result l ended = ended_fits l.before result (ended l.before l.stands l.count)
 
 ended_not_read : (before : List GridLine) (result : Result Routes GridEnding) → Ended before result → result ≡ Err ending.Read → ⊥
 ended_not_read before result e is = subst (Ended before) is e
 
-pub ends_not_read : (all then : Option (List ℕ)) (old : Reader) (stage : Stage) (number : ℕ) (result : Result Routes GridEnding) → Reached all then old stage → number ≡ old.given → ((before : List GridLine) → Stands before stage → length before ≡ number → Ended before result)
-    → result ≡ Err ending.Read → ⊥
-ends_not_read all then old stage number result r count ended = ended_not_read r.before result (ended r.before r.stands (r.count ∙ sym count))
+pub ends_not_read : (all : Option (List ℕ)) (stage : Stage) (lines : ℕ) (result : Result Routes GridEnding) → IsLast all stage lines → ((before : List GridLine) → Stands before stage → length before ≡ lines → Ended before result) → result ≡ Err ending.Read → ⊥
+ends_not_read all stage lines result l ended = ended_not_read l.before result (ended l.before l.stands l.count)
+
+-- what holds of whatever it answers
+pub ends_at : (result : Result Routes GridEnding) (left : Option (List ℕ)) → IsAtEnd left → IfOk result (λ _. IsAtEnd left)
+ends_at (Ok routes) left at = at
+ends_at (Err ending) left at = tt
+
+pub is_read : (why : GridEnding) → ◌≡◌ {A = Result Routes GridEnding} (Err why) (Err ending.Read) → why ≡ ending.Read
+is_read why e = cc

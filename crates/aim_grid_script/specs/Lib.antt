@@ -1,3 +1,4 @@
 pub mod Scripts
 pub mod Short
 pub mod Endings
+pub mod LinesRead

@@ -8,6 +8,7 @@ ghost use Rattle.aim_grid_read.specs.declared.lines.GridLine.{GridLine};
 ghost use Rattle.aim_routes.specs.Fits.{AreWithin};
 ghost use Rattle.aim_routes.specs.Stages.{Stands};
 ghost use Rattle.aim_grid_script.specs.Endings.{Ended};
+ghost use Rattle.aim_grid_script.specs.LinesRead.{Comes, IsTaken};
 ghost use Rattle.aim_grid_script.specs.Scripts.{Reads};
 ghost use Rattle.aim_grid_script.specs.Short.{StopsShort};
 
@@ -28,6 +29,32 @@ fn ended(stage: Stage, lines: u32) -> Result<Routes, GridEnding>
     }
 }
 
+// Reads lines to the end of the input, or to the line that decides: the stage behind them, and how many they are.
+fn read_lines<S: Source>(alloc: Global, source: &mut S) -> Result<(Stage, u32), GridEnding>
+    ensures taken { IsTaken (S.left source.old) (S.left source.new) (S.faults source.old) (S.faults source.new) }
+    ensures comes { Comes (S.left source.old) (S.left source.new) (S.faults source.old) (S.faults source.new) result }
+{
+    let mut reader = LineReader::new();
+    let mut stage = Stage::new();
+    let mut number = 0u32;
+    'lines: loop {
+        match reader.advance(source) {
+            Err(fault) => {
+                drop(stage);
+                return Err(of_fault(fault));
+            }
+            Ok(false) => return Ok((stage, number)),
+            Ok(true) => {
+                number += 1;
+                match stage.take(alloc, reader.line()) {
+                    Ok(next) => stage = next,
+                    Err(why) => return Err(of_refusal(number, why)),
+                }
+            }
+        }
+    }
+}
+
 /// Reads a script of several crossings to its end, or to the line that decides. Nothing is read behind a line that
 /// decides.
 pub fn read_grid<S: Source>(alloc: Global, source: &mut S) -> Result<Routes, GridEnding>
@@ -44,23 +71,8 @@ pub fn read_grid<S: Source>(alloc: Global, source: &mut S) -> Result<Routes, Gri
     // No more than one byte past the greatest input is taken.
     ensures most { TakesAtMost 67108865 (S.left source.old) (S.left source.new) }
 {
-    let mut reader = LineReader::new();
-    let mut stage = Stage::new();
-    let mut number = 0u32;
-    'lines: loop {
-        match reader.advance(source) {
-            Err(fault) => {
-                drop(stage);
-                return Err(of_fault(fault));
-            }
-            Ok(false) => return ended(stage, number),
-            Ok(true) => {
-                number += 1;
-                match stage.take(alloc, reader.line()) {
-                    Ok(next) => stage = next,
-                    Err(why) => return Err(of_refusal(number, why)),
-                }
-            }
-        }
+    match read_lines(alloc, source) {
+        Ok((stage, lines)) => ended(stage, lines),
+        Err(ending) => Err(ending),
     }
 }

@@ -2,7 +2,7 @@ use Rattle.std.proofs.Common.{◌≡◌, ◌-◌, ◌≤◌, None}
 use Rattle.aim_io.specs.Reader.{input, IsSound, KnowsEnd}
 use Rattle.aim_plans.proofs.Deciding.{Placed}
 use Rattle.aim_grid_script.proofs.Reaching.{Reached}
-use Rattle.aim_grid_script.proofs.reading.read_grid.Given as goal
+use Rattle.aim_grid_script.proofs.reading.read_lines.Given as goal
 
 abbrev pub invariant-lines : goal.invariant-lines
 invariant-lines g l = record {

@@ -1,0 +1,38 @@
+-- What reading the lines of a script comes to, up to the end of the input. No public clause cites this file.
+use Rattle.std.specs.Prelude.{◌≡◌, ◌≤◌, ℕ, List, length, Option, IfSome, Result, Ok, Err}
+use Rattle.std.specs.Io.KnownBytes.{IsAtEnd}
+use Rattle.aim_io.specs.Causes.{Rose}
+use Rattle.aim_plans.specs.Scripts.{TakesAtMost}
+use Rattle.aim_grid_read.specs.declared.lines.GridLine.{GridLine}
+use Rattle.aim_routes.specs.declared.stages.Stage.{Stage}
+use Rattle.aim_routes.specs.Stages.{Stands}
+use Rattle.aim_routes.specs.Verdicts.{Verdict, at_end, grid_verdict}
+use Rattle.aim_grid_script.specs.declared.endings.GridEnding.{GridEnding}
+use Rattle.aim_grid_script.specs.declared.endings.GridEnding.TheVariants as ending
+use Rattle.aim_grid_script.specs.Scripts.{IsGrid, Reads}
+use Rattle.aim_grid_script.specs.Short.{StopsShort}
+
+-- the stage stands for all lines of the input, and they are so many
+pub record IsLast (left : Option (List ℕ)) (stage : Stage) (lines : ℕ) : Type 0 where
+  pub before : List GridLine
+  pub stands : Stands before stage
+  pub grid : IsGrid before
+  pub count : length before ≡ lines
+  pub few : lines ≤ 262144
+  pub verdict : IfSome left (λ bs. ◌≡◌ {A = Verdict} (record { before = before; decision = at_end before }) (grid_verdict bs))
+
+-- a line decides, or the source fails before one does
+pub record IsStopped (left_old left_new : Option (List ℕ)) (faults_old faults_new : ℕ) (why : GridEnding) : Type 0 where
+  pub reads : Reads left_old (Err why)
+  pub short : why ≡ ending.Read → StopsShort left_old left_new
+  pub rose : why ≡ ending.Read → Rose faults_old faults_new
+
+-- what the lines come to
+abbrev pub Comes : (left_old left_new : Option (List ℕ)) (faults_old faults_new : ℕ) → Result (Stage × ℕ) GridEnding → Type 0
+Comes left_old left_new faults_old faults_new (Ok (stage, lines)) = IsLast left_old stage lines × IsAtEnd left_new
+Comes left_old left_new faults_old faults_new (Err why) = IsStopped left_old left_new faults_old faults_new why
+
+-- what was taken of the source
+pub record IsTaken (left_old left_new : Option (List ℕ)) (faults_old faults_new : ℕ) : Type 0 where
+  pub later : faults_old ≤ faults_new
+  pub most : TakesAtMost 67108865 left_old left_new
