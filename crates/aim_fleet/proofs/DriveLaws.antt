@@ -3,7 +3,8 @@ use Rattle.std.proofs.Common.{◌≡◌, ℕ, ◌<◌, ◌≤◌, ◌⊎◌, inl
 use Rattle.std.specs.Prelude.{All}
 use Rattle.std.proofs.lemmas.Bool.{cases_lt}
 use Rattle.aim_msg.specs.declared.entries.Entry.{Entry}
-use Rattle.aim_turn.specs.Models.{TurnstileModel, HasPass}
+use Rattle.aim_driver.specs.Models.{step_of}
+use Rattle.aim_turn.specs.Models.{TurnstileModel, HasPass, IsPassOf, IsSamePass}
 use Rattle.aim_turn.specs.History.{entries_of}
 use Rattle.aim_manager.specs.Seen.{caller_of}
 use Rattle.aim_manager.specs.declared.keeper.Setting.{Setting}
@@ -17,6 +18,18 @@ use Rattle.aim_agents.specs.Runs.{InRun}
 use Rattle.aim_agents.specs.Rounds.{ToldLast, Rounds}
 use Rattle.aim_agents.proofs.RunLaws.{split_since}
 use Rattle.aim_fleet.specs.Driven.{DrivenOf, Driven, IsKnown, JournalInOrder}
+
+-- a pass of the same turnstile as one of this turnstile
+pub pass_of : (t : TurnstileModel Setting) (old new : AgentPass) → IsSamePass old new → IsPassOf t old → IsPassOf t new
+pass_of t old new same of = record { table = same.table ∙ of.table; setting = same.setting ∙ of.setting }
+
+pub same_then : (old mid new : AgentPass) → IsSamePass old mid → IsSamePass mid new → IsSamePass old new
+same_then old mid new a b = record { table = b.table ∙ a.table; setting = b.setting ∙ a.setting; number = b.number ∙ a.number }
+
+pub logs_first : (xs : List AgentModel) → All (λ a. a.driver.log ≡ []) xs → All (λ a. step_of a.driver.log ≤ 0) xs
+logs_first xs new k a l =
+    let first : step_of (get_or xs k a).driver.log ≡ 0 = ap step_of (new k a l) in
+    omega arith
 
 module _ (set : Setting) where
   none_in_empty : (p : AgentPass) (since : ℕ) → p.seen ≡ [] → (k : ℕ) (e : Entry) → IsCall p since k e → ⊥
@@ -208,6 +221,27 @@ module _ (set : Setting) where
             (d.each j dd (omega arith)) (d.each k dd lk) (r.went j dd (omega arith)) (r.went k dd (omega arith)) (d.runs j k dd i lk)
             (r.runs j k dd (subst (λ s. InRun s j k) (sym sizes) i) (omega arith));
       }
+
+  -- an agent of this turnstile stays one
+  agent_went : (t : TurnstileModel Setting) (step : ℕ) (a b : AgentModel) → Went set 0 step a b → IsAgentOf t a → IsAgentOf t b
+  agent_went t step a b w of =
+      let number : b.pass.number ≡ a.pass.number = w.goes.same.number in
+      let vehicle : a.pass.number < t.setting.vehicles = of.vehicle in
+      record { pass = pass_of t a.pass b.pass w.goes.same of.pass; vehicle = omega arith; room = w.goes.room ∙ of.room }
+
+  -- what the next rounds ask of the agents
+  pub agents_of : (t : TurnstileModel Setting) (step size : ℕ) (op : AgentPass) (xs ys : List AgentModel) → Driven set step size op xs ys → All (IsAgentOf t) xs → All (IsAgentOf t) ys
+  agents_of t step size op xs ys d of k a l =
+      let len : length ys ≡ length xs = d.len in
+      let lt : k < length xs = omega arith in
+      agent_went t step (get_or xs k a) (get_or ys k a) (d.each k a lt).went (of k a lt)
+
+  pub logs_of : (step size : ℕ) (op : AgentPass) (xs ys : List AgentModel) → Driven set step size op xs ys → All (λ a. a.driver.log ≡ []) xs → All (λ a. step_of a.driver.log ≤ step) ys
+  logs_of step size op xs ys d new k a l =
+      let len : length ys ≡ length xs = d.len in
+      let lt : k < length xs = omega arith in
+      let first : step_of (get_or xs k a).driver.log ≡ 0 = ap step_of (new k a lt) in
+      (d.each k a lt).went.late (omega arith)
 
   -- an entry of the pass's number stands where the pass has seen it
   own_place : (h : List Entry) (p : AgentPass) → IsWhole p → HasPass caller_of h p → (k : ℕ) (e : Entry) → At h k e → e.caller ≡ p.number → IsCall p 0 k e

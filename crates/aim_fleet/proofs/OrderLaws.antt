@@ -1,7 +1,7 @@
 -- The orders of a drive, one after another.
 use Rattle.std.proofs.Common.{◌≡◌, ℕ, ◌+◌, ◌<◌, ◌≤◌, List, [], ◌∷◌, ◌++◌, length, length-take-le, map, take, Option, Some, Result, Ok, Err, sym, ap, ◌∙◌, subst, arith}
 use Rattle.std.specs.Prelude.{OnErr, get_or}
-use Rattle.std.proofs.lemmas.List.{get_or_default, map-append, take_more, length-map}
+use Rattle.std.proofs.lemmas.List.{get_or_default, map-append, take_all, take_more, length-map}
 use Rattle.aim_msg.specs.declared.entries.Entry.{Entry}
 use Rattle.aim_paths.specs.Intersection.{Intersection}
 use Rattle.aim_plans.specs.declared.scripts.Ordered.{Ordered}
@@ -19,6 +19,10 @@ given_more mine more orders i d e lt given is own =
     ∙ (λ j. given j ++ own j ∷ [])
     ∙ sym (map-append (λ (x : Ordered). Some x) (take i orders) (get_or orders i d ∷ []))
     ∙ ap (map (λ (x : Ordered). Some x)) (sym (take_more orders i d lt))
+
+-- all orders were given
+pub given_all : (mine more : List Entry) (orders : List Ordered) (i : ℕ) → more ≡ mine → CarryOrders mine (take i orders) → length orders ≤ i → CarryOrders more orders
+given_all mine more orders i same given le = ap (map order_of) same ∙ given ∙ ap (map (λ (x : Ordered). Some x)) (take_all i orders le)
 
 -- no more orders were given than those
 pub given_count : (mine : List Entry) (orders : List Ordered) (i : ℕ) → i ≤ length orders → CarryOrders mine (take i orders) → length mine ≡ i

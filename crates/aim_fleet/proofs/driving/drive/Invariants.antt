@@ -1,5 +1,8 @@
-use Rattle.std.proofs.Common.{length, take}
-use Rattle.aim_turn.specs.Models.{IsSamePass}
+use Rattle.std.proofs.Common.{◌≤◌, length, take}
+use Rattle.std.specs.Prelude.{All}
+use Rattle.aim_driver.specs.Models.{step_of}
+use Rattle.aim_turn.specs.Models.{IsPassOf, IsSamePass}
+use Rattle.aim_agent.specs.Agents.{IsAgentOf}
 use Rattle.aim_agents.specs.Rounds.{run_size}
 use Rattle.aim_fleet.specs.Driven.{Driven}
 use Rattle.aim_fleet.specs.Orders.{CarryOrders, IsReached}
@@ -10,5 +13,8 @@ invariant-loop-ordered g l = record {
   same : IsSamePass l.fn.operator l.operator;
   driven : Driven l.manager.setting l.step (run_size (length l.fn.agents) l.workers) l.operator l.fn.agents l.agents;
   given : CarryOrders l.operator.mine (take l.ordered-index l.orders);
+  operator : IsPassOf l.manager l.operator;
+  own : All (IsAgentOf l.manager) l.agents;
+  last : All (λ a. step_of a.driver.log ≤ l.step) l.agents;
   reached : IsReached l.step l.ordered-index l.until l.orders;
 }
