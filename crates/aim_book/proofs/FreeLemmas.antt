@@ -42,6 +42,22 @@ fast_is i p r sheet asking good at = go (is_fast_made p) refl (at ∙ ap (λ o. 
     go false e f = absurd (let q : Some sheet ≡ None = rw e at f in cc)
     go true e f = (e, (let q : Some sheet ≡ Some r.first = rw e at f in let s : sheet ≡ r.first = cc in rw s (asking.prepared.fast p (good_params i p r asking good) e).cells))
 
+-- it is the first one
+pub fast_first : (i : Intersection) (p : Params) (r : Request) (sheet : Spans) → IsAsking i p r → bad i p ≡ None → Some sheet ≡ fast_sheet r → sheet ≡ r.first
+fast_first i p r sheet asking good at = go (is_fast_made p) (at ∙ ap (λ o. option_and_then (λ q. if is_fast_made q then Some r.first else None) o) (good_params i p r asking good))
+  where
+    go : (b : Bool) → Some sheet ≡ (if b then Some r.first else None) → sheet ≡ r.first
+    go false e = absurd (cc)
+    go true e = cc
+
+-- where there is none, the fast trial isn't made
+pub fast_none : (i : Intersection) (p : Params) (r : Request) → IsAsking i p r → bad i p ≡ None → None ≡ fast_sheet r → is_fast_made p ≡ false
+fast_none i p r asking good at = go (is_fast_made p) (at ∙ ap (λ o. option_and_then (λ q. if is_fast_made q then Some r.first else None) o) (good_params i p r asking good))
+  where
+    go : (b : Bool) → None ≡ (if b then Some r.first else None) → b ≡ false
+    go false e = refl
+    go true e = absurd (cc)
+
 -- the crossing steps of the fast trial, where that is made
 pub fast_steps : (i : Intersection) (p : Params) (r : Request) (s : TrialSteps) → IsAsking i p r → bad i p ≡ None → is_fast_made p ≡ true → s ≡ r.steps → s.fast ≡ crossing_steps i p true
 fast_steps i p r s asking good made is =

@@ -22,9 +22,12 @@ use Rattle.aim_session.specs.declared.sessions.Look.{Look}
 use Rattle.aim_session.specs.declared.sessions.Look.TheVariants as look
 use Rattle.aim_session.specs.Looks.{is_fresh_look}
 use Rattle.aim_session.proofs.SessionLaws.{sessions_same}
+use Rattle.aim_book.specs.Books.{IsBook}
+use Rattle.aim_book.specs.Idle.{joined}
 use Rattle.aim_book.specs.Managed.{IsManaged}
 use Rattle.aim_book.specs.Reserved.{AreReserved}
 use Rattle.aim_book.specs.declared.desks.Desk.{Desk}
+use Rattle.aim_book.specs.declared.idle.IdleDesk.{IdleDesk}
 use Rattle.aim_reservations.specs.declared.reservations.Reservations.{Reservations}
 
 pub not_fresh : (l : Look) → (l ≡ look.Fresh → ⊥) → is_fresh_look l ≡ false
@@ -151,3 +154,29 @@ or_false false = refl
 pub or_true : (b : Bool) → (b || true) ≡ true
 or_true true = refl
 or_true false = refl
+
+-- a book is one in any ledger, and in none
+pub in_any : {L M : Type 0} (i : Intersection) (n room : ℕ) (h : List Entry) (capacity : ℕ) (d : IdleDesk) (calls : List (Option (ℕ × ℕ))) → IsBook i n room h capacity (joined {L = L} d) calls → IsBook i n room h capacity (joined {L = M} d) calls
+in_any i n room h capacity d calls b = let m = b.managed in let r = m.desk.reserved in record {
+  managed = record {
+    valid = m.valid;
+    legal = m.legal;
+    few = m.few;
+    desk = record {
+      sessions = m.desk.sessions;
+      callers = m.desk.callers;
+      reserved = record { many = r.many; rows = r.rows; size = r.size; horizon = r.horizon; current = r.current; cells = r.cells };
+      changes = m.desk.changes;
+      distances = m.desk.distances;
+      sixteen = m.desk.sixteen;
+      lights = m.desk.lights;
+      stopped = m.desk.stopped;
+    };
+    calls_are = m.calls_are;
+    calls_many = m.calls_many;
+  };
+  fits = b.fits;
+  reserved = b.reserved;
+  most = b.most;
+  timeline = b.timeline;
+}

@@ -296,10 +296,11 @@ impl<L: Ledger> Book<L> {
     }
 }
 
-ghost use Rattle.std.specs.Prelude.{◌≡◌, ◌<◌, ◌≤◌, [], IsTrue, IfOk};
+ghost use Rattle.std.specs.Prelude.{◌≡◌, ℕ, ◌<◌, ◌≤◌, [], List, Option, None, IsTrue, IfOk, replicate};
 ghost use Rattle.std.specs.List.{list_any};
 ghost use Rattle.aim_msg.specs.declared.entries.TheConstants.{MOST_ENTRIES, MOST_VEHICLES};
 ghost use Rattle.aim_reservations.specs.Blocking.{is_lit};
+ghost use Rattle.aim_book.specs.Managed.{IsManaged};
 
 // Whether some policy of the layout has lights.
 fn has_lights(layout: &Layout) -> bool
@@ -313,6 +314,30 @@ fn has_lights(layout: &Layout) -> bool
     false
 }
 
+// What is kept of the empty history of so many vehicles, with room for so many changes of policies.
+fn new_desk<L: Ledger>(
+    alloc: Global,
+    layout: &Layout,
+    vehicles: u32,
+    room: u32,
+) -> Result<Desk<L>, AllocError>
+    requires vehicles { vehicles ≤ MOST_VEHICLES }
+    requires room { room ≤ MOST_ENTRIES }
+    ensures managed { IfOk result (λ desk. (calls : List (Option (ℕ × ℕ))) → calls ≡ replicate vehicles None → IsManaged layout.now vehicles [] 0 desk calls) }
+    ensures timeline { IfOk result (λ desk. desk.timeline.room ≡ room) }
+{
+    let n = layout.ground().grid().n;
+    let horizon = layout.ground().times().horizon;
+    Ok(Desk {
+        sessions: Sessions::new(alloc, vehicles)?,
+        timeline: Timeline::new(alloc, room)?,
+        reservations: Reservations::new(alloc, n, horizon, vehicles)?,
+        distances: Distances::new(),
+        has_lights: has_lights(layout),
+        stopped: false,
+    })
+}
+
 // A book of so many vehicles and so many entries.
 fn opened<L: Ledger>(
     alloc: Global,
@@ -324,22 +349,15 @@ fn opened<L: Ledger>(
     requires room { room ≤ MOST_ENTRIES }
     ensures { IfOk result (λ b. b ≡ record { layout = layout; vehicles = vehicles; room = room; journal = [] }) }
 {
-    let n = layout.ground().grid().n;
-    let horizon = layout.ground().times().horizon;
-    let desk = Desk {
-        sessions: Sessions::new(alloc, vehicles)?,
-        reservations: Reservations::new(alloc, n, horizon, vehicles)?,
-        timeline: Timeline::new(alloc, room)?,
-        distances: Distances::new(),
-        has_lights: has_lights(&layout),
-        stopped: false,
-    };
+    let journal = Vec::with_capacity(alloc, room as usize)?;
+    let approaches = Approaches::new(alloc, vehicles)?;
+    let desk = new_desk(alloc, &layout, vehicles, room)?;
     Ok(Book {
-        approaches: Approaches::new(alloc, vehicles)?,
-        journal: Vec::with_capacity(alloc, room as usize)?,
         layout,
         vehicles,
         room,
+        journal,
         desk,
+        approaches,
     })
 }

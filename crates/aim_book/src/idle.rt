@@ -211,6 +211,8 @@ fn opened<L: Ledger>(
     ensures vehicles { (result ≡ Err OpenFault.Vehicles) ↔ ((vehicles ≡ 0) ⊎ (MOST_VEHICLES < vehicles)) }
     ensures room { (result ≡ Err OpenFault.Room) ↔ ((0 < vehicles) × (vehicles ≤ MOST_VEHICLES) × ((room ≡ 0) ⊎ (MOST_ENTRIES < room))) }
 {
-    let book = Book::<L>::open(alloc, layout, vehicles, room)?;
-    Ok(book.leave(Steps::new(blank)))
+    match Book::<L>::open(alloc, layout, vehicles, room) {
+        Ok(book) => Ok(book.leave(Steps::new(blank))),
+        Err(fault) => Err(fault),
+    }
 }

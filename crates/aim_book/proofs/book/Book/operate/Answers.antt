@@ -1,9 +1,14 @@
-use Rattle.std.proofs.Common.{◌≡◌, length, sym, ◌∙◌, ap, arith, length-append, subst}
+use Rattle.std.proofs.Common.{◌≡◌, ◌+◌, [], ◌∷◌, ◌++◌, length, sym, ◌∙◌, ap, arith, length-append, subst}
+use Rattle.std.specs.Prelude.{max, min, ◌-◌, ◌*◌}
 use Rattle.aim_rules.specs.Answer.{answer}
 use Rattle.aim_msg.specs.declared.entries.Act.TheVariants as act
+use Rattle.aim_msg.specs.declared.entries.Entry.{Entry}
 use Rattle.aim_msg.specs.declared.entries.TheConstants.{OPERATOR}
+use Rattle.aim_rules.specs.History.{now_of}
 use Rattle.aim_rules.specs.Kept.{changes}
 use Rattle.aim_rules.specs.Legal.{IsOfLayout}
+use Rattle.aim_rules.proofs.HistoryLaws.{now_of-max}
+use Rattle.aim_book.proofs.SameLemmas.{now_next}
 use Rattle.aim_book.proofs.SheetLemmas.{changes_fit}
 use Rattle.aim_book.proofs.book.Book.operate.Goals as goal
 
@@ -30,3 +35,13 @@ pub returns-clause-reply : goal.returns-clause-reply
 returns-clause-reply g c =
     let b = c.self.inside in
     subst (λ v. c.operate-reply.result ≡ answer v.layout v.journal OPERATOR c.args.moment (act.Order c.args.order)) c.self.view_is (c.operate-reply.ensures.reply b.vehicles b.journal.items b.approaches c.self.invariant.managed)
+
+pub returns-clause-cost : goal.returns-clause-cost
+returns-clause-cost g c =
+    let b = c.self.inside in
+    let h = b.journal.items in
+    let reserved = c.self.invariant.managed.desk.reserved in
+    let e : Entry = record { caller = OPERATOR; moment = c.args.moment; act = act.Order c.args.order; reply = c.operate-reply.result } in
+    let later : now_of (h ++ e ∷ []) 0 ≡ max (now_of h 0) c.args.moment = now_next h e ∙ now_of-max h c.args.moment in
+    let cost : c.operate-reply.new.steps ≡ c.args.steps.now + b.layout.grid.n * min (max (now_of h 0) c.args.moment - now_of h 0) b.layout.times.horizon = rw (reserved.size, reserved.current, reserved.horizon) at c.operate-reply.ensures.cost in
+    rw (← c.self.view_is) (rw (c.push_reserved.ensures.items, later) (omega (arith, cost)))

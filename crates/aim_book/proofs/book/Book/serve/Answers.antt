@@ -1,7 +1,8 @@
-use Rattle.std.proofs.Common.{◌≡◌, ◌<◌, ◌≤◌, ◌+◌, [], ◌∷◌, ◌++◌, length, sym, ◌∙◌, ap, arith, subst}
+use Rattle.std.proofs.Common.{◌≡◌, ◌<◌, ◌≤◌, ◌+◌, [], ◌∷◌, ◌++◌, length, length-append, sym, ◌∙◌, ap, arith, subst}
 use Rattle.aim_msg.specs.declared.entries.Act.TheVariants as act
 use Rattle.aim_msg.specs.declared.entries.Entry.{Entry}
 use Rattle.std.specs.Prelude.{max, min, ◌-◌, ◌*◌}
+use Rattle.aim_rules.specs.Answer.{answer}
 use Rattle.aim_rules.specs.History.{fresh, now_of}
 use Rattle.aim_rules.specs.Kept.{kept}
 use Rattle.aim_rules.proofs.HistoryLaws.{now_of-max}
@@ -15,6 +16,31 @@ use Rattle.aim_book.proofs.CostLemmas.{exchanged_is}
 use Rattle.aim_book.proofs.SheetLemmas.{count_is}
 use Rattle.aim_book.proofs.SameLemmas.{now_next}
 use Rattle.aim_book.proofs.book.Book.serve.Goals as goal
+
+pub invariant_of-self : goal.invariant_of-self
+invariant_of-self g c =
+    let b = c.self.inside in
+    let h = b.journal.items in
+    let managed = c.self.invariant.managed in
+    let m : IsManaged b.layout (length b.desk.sessions) h (now_of h 0) b.desk b.approaches = subst (λ k. IsManaged b.layout k h (now_of h 0) b.desk b.approaches) (sym managed.desk.callers) managed in
+    let e : Entry = record { caller = c.args.vehicle; moment = c.args.moment; act = act.Message c.args.prepared.message; reply = c.serve-reply.result } in
+    let next = c.serve-reply.ensures.managed h m (let q : c.len-place.result ≡ length h = omega (arith, c.len-place.ensures) in q) in
+    record {
+      managed = rw (c.push_reserved.ensures.items, c.message-message.ensures.message) (subst (λ k. IsManaged b.layout k (h ++ e ∷ []) (now_of (h ++ e ∷ []) 0) c.serve-reply.new.self c.serve-reply.new.approaches) managed.desk.callers next);
+      fits = rw (c.push_reserved.ensures.items, length-append) (omega (arith, c.self.invariant.fits, c.len-place.ensures, c.if-place-self.false));
+      reserved = omega (arith, c.self.invariant.reserved, c.push_reserved.ensures.capacity);
+      most = c.self.invariant.most;
+      timeline = ap (λ t. t.room) c.serve-reply.ensures.timeline ∙ c.self.invariant.timeline;
+    }
+
+pub returns-clause-reply : goal.returns-clause-reply
+returns-clause-reply g c =
+    let b = c.self.inside in
+    let h = b.journal.items in
+    let managed = c.self.invariant.managed in
+    let m : IsManaged b.layout (length b.desk.sessions) h (now_of h 0) b.desk b.approaches = subst (λ k. IsManaged b.layout k h (now_of h 0) b.desk b.approaches) (sym managed.desk.callers) managed in
+    let said = c.serve-reply.ensures.reply h m (let q : c.len-place.result ≡ length h = omega (arith, c.len-place.ensures) in q) in
+    subst (λ v. c.serve-reply.result ≡ answer v.layout v.journal c.args.vehicle c.args.moment (act.Message c.args.prepared.message)) c.self.view_is said
 
 pub returns-clause-sheets : goal.returns-clause-sheets
 returns-clause-sheets g c =

@@ -3,13 +3,18 @@ use Rattle.std.specs.Prelude.{slice_set}
 use Rattle.aim_emerg.specs.Calls.{call_of}
 use Rattle.aim_rules.specs.History.{fresh, now_of, params_of}
 use Rattle.aim_book.proofs.ManagedLemmas.{answer_new, known_of, tells}
-use Rattle.aim_book.proofs.ServedLemmas.{managed_without, row_tiles}
+use Rattle.aim_book.proofs.ServedLemmas.{managed_without, row_room, row_tiles}
 use Rattle.aim_book.proofs.desks.Desk.serve_at_once.Goals as goal
 
 pub give_up-requires-clause-own : goal.give_up-requires-clause-own
 give_up-requires-clause-own g c =
     let m = c.requires.managed in
     rw c.keep_distance.ensures.rest (row_tiles c.args.layout.now (length c.args.self.now.sessions) (fresh m.0) (now_of m.0 m.1) c.args.vehicle c.args.self.now.reservations m.2.desk.reserved c.requires.vehicle)
+
+pub give_up-requires-clause-room : goal.give_up-requires-clause-room
+give_up-requires-clause-room g c =
+    let m = c.requires.managed in
+    rw (c.keep_distance.ensures.rest, c.requires.room) (row_room c.args.layout.now (length c.args.self.now.sessions) (fresh m.0) (now_of m.0 m.1) c.args.vehicle c.args.self.now.reservations m.2.desk.reserved c.requires.vehicle)
 
 pub returns-clause-reply : goal.returns-clause-reply
 returns-clause-reply g c = λ h moment m.

@@ -13,7 +13,7 @@ use Rattle.aim_reservations.specs.Rows.{row_of}
 use Rattle.aim_book.specs.Reserved.{rows_exchanged}
 use Rattle.aim_book.proofs.CostLemmas.{moved_fits}
 use Rattle.aim_book.proofs.ManagedLemmas.{answer_new, known_of, tells}
-use Rattle.aim_book.proofs.ServedLemmas.{calling_noted, later_granted, managed_next, row_tiles, tiles_granted}
+use Rattle.aim_book.proofs.ServedLemmas.{calling_noted, later_granted, managed_next, row_room, row_tiles, tiles_granted}
 use Rattle.aim_book.proofs.desks.Desk.serve_fresh.Goals as goal
 
 pub answer_fresh-reply-requires-clause-there : goal.answer_fresh-reply-requires-clause-there
@@ -37,6 +37,11 @@ pub keep-requires-2-clause-own : goal.keep-requires-2-clause-own
 keep-requires-2-clause-own g c =
     let m = c.requires.managed in
     rw c.keep_distance.ensures.rest (row_tiles c.args.layout.now (length c.args.self.now.sessions) (fresh m.0) (now_of m.0 m.1) c.args.vehicle c.args.self.now.reservations m.2.desk.reserved c.requires.vehicle)
+
+pub keep-requires-2-clause-room : goal.keep-requires-2-clause-room
+keep-requires-2-clause-room g c =
+    let m = c.requires.managed in
+    rw (c.keep_distance.ensures.rest, c.requires.room) (row_room c.args.layout.now (length c.args.self.now.sessions) (fresh m.0) (now_of m.0 m.1) c.args.vehicle c.args.self.now.reservations m.2.desk.reserved c.requires.vehicle)
 
 pub keep-requires-2-clause-tiles : goal.keep-requires-2-clause-tiles
 keep-requires-2-clause-tiles g c = λ confirmed.
