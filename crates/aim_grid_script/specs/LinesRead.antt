@@ -5,12 +5,19 @@ use Rattle.aim_io.specs.Causes.{Rose}
 use Rattle.aim_plans.specs.Scripts.{TakesAtMost}
 use Rattle.aim_grid_read.specs.declared.lines.GridLine.{GridLine}
 use Rattle.aim_routes.specs.declared.stages.Stage.{Stage}
-use Rattle.aim_routes.specs.Stages.{Stands}
+use Rattle.aim_routes.specs.declared.stages.Refusal.{Refusal}
+use Rattle.aim_routes.specs.Stages.{Judged, Stands}
 use Rattle.aim_routes.specs.Verdicts.{Verdict, at_end, grid_verdict}
 use Rattle.aim_grid_script.specs.declared.endings.GridEnding.{GridEnding}
 use Rattle.aim_grid_script.specs.declared.endings.GridEnding.TheVariants as ending
+use Rattle.aim_grid_script.specs.Endings.{of_refusal}
 use Rattle.aim_grid_script.specs.Scripts.{IsGrid, Reads}
 use Rattle.aim_grid_script.specs.Short.{StopsShort}
+
+-- the stage after the line of that number, or what decides
+abbrev pub IsTold : Stage → List ℕ → ℕ → Result Stage GridEnding → Type 0
+IsTold stage line number (Ok next) = (before : List GridLine) → Stands before stage → Judged before line (Ok next)
+IsTold stage line number (Err why) = (refused : Refusal) × (why ≡ of_refusal number refused) × ((before : List GridLine) → Stands before stage → Judged before line (Err refused))
 
 -- the stage stands for all lines of the input, and they are so many
 pub record IsLast (left : Option (List ℕ)) (stage : Stage) (lines : ℕ) : Type 0 where

@@ -8,7 +8,7 @@ ghost use Rattle.aim_grid_read.specs.declared.lines.GridLine.{GridLine};
 ghost use Rattle.aim_routes.specs.Fits.{AreWithin};
 ghost use Rattle.aim_routes.specs.Stages.{Stands};
 ghost use Rattle.aim_grid_script.specs.Endings.{Ended};
-ghost use Rattle.aim_grid_script.specs.LinesRead.{Comes, IsTaken};
+ghost use Rattle.aim_grid_script.specs.LinesRead.{Comes, IsTaken, IsTold};
 ghost use Rattle.aim_grid_script.specs.Scripts.{Reads};
 ghost use Rattle.aim_grid_script.specs.Short.{StopsShort};
 
@@ -29,6 +29,16 @@ fn ended(stage: Stage, lines: u32) -> Result<Routes, GridEnding>
     }
 }
 
+// Takes the line of that number.
+fn take_line(stage: Stage, alloc: Global, line: &[u8], number: u32) -> Result<Stage, GridEnding>
+    ensures { IsTold stage line.now number result }
+{
+    match stage.take(alloc, line) {
+        Ok(next) => Ok(next),
+        Err(why) => Err(of_refusal(number, why)),
+    }
+}
+
 // Reads lines to the end of the input, or to the line that decides: the stage behind them, and how many they are.
 fn read_lines<S: Source>(alloc: Global, source: &mut S) -> Result<(Stage, u32), GridEnding>
     ensures taken { IsTaken (S.left source.old) (S.left source.new) (S.faults source.old) (S.faults source.new) }
@@ -46,9 +56,9 @@ fn read_lines<S: Source>(alloc: Global, source: &mut S) -> Result<(Stage, u32), 
             Ok(false) => return Ok((stage, number)),
             Ok(true) => {
                 number += 1;
-                match stage.take(alloc, reader.line()) {
+                match take_line(stage, alloc, reader.line(), number) {
                     Ok(next) => stage = next,
-                    Err(why) => return Err(of_refusal(number, why)),
+                    Err(ending) => return Err(ending),
                 }
             }
         }
