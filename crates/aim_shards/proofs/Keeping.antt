@@ -1,10 +1,11 @@
 -- What a pass keeps.
-use Rattle.std.proofs.Common.{◌≡◌, ◌≢◌, ℕ, ◌+◌, ◌<◌, ◌≤◌, List, [], ◌∷◌, ◌++◌, length, get_or, length-append, refl, subst, sym, ap, ◌∙◌, arith, Option}
-use Rattle.std.proofs.lemmas.List.{get_or_default}
+use Rattle.std.proofs.Common.{◌≡◌, ◌≢◌, ℕ, ◌+◌, ◌<◌, ◌≤◌, List, [], ◌∷◌, ◌++◌, length, map, take, get_or, length-append, refl, subst, sym, ap, ◌∙◌, arith, Option}
+use Rattle.std.proofs.lemmas.List.{get_or_default, map-append, take_more}
 use Rattle.aim_pool.specs.Sheets.{Spans}
 use Rattle.aim_shards.specs.Sets.{Quarters, part, set_at, IsOf}
 use Rattle.aim_shards.specs.Cuts.{AreCut}
 use Rattle.atomic_table.specs.Table.{Me}
+use Rattle.atomic_table.specs.Seated.{TableId}
 use Rattle.aim_shards.specs.declared.claims.ClaimEntry.{ClaimEntry}
 use Rattle.aim_shards.specs.declared.quarter.Quarter.{Quarter}
 use Rattle.aim_shards.specs.declared.view.View.{View}
@@ -13,11 +14,21 @@ use Rattle.aim_shards.specs.declared.view.Terms.{Terms}
 use Rattle.aim_shards.specs.Ruled.{working}
 use Rattle.aim_shards.specs.Working.{Works}
 use Rattle.aim_shards.specs.Passes.{Keeps}
+use Rattle.aim_shards.specs.Models.{PassModel, ShardsModel, new_pass}
 use Rattle.aim_shards.proofs.Histories.{stands_more, stands_short}
 
 -- a pass that is new
 pub keeps_new : (n calls capacity : ℕ) (terms : Terms) (standing : List ClaimEntry) (m : Me (Option Quarter) View) → m ≡ (working terms n [] [], []) → (standing ≡ []) × (calls ≤ capacity) → Keeps n calls 0 standing capacity m
 keeps_new n calls capacity terms standing m new has = subst (Keeps n calls 0 standing capacity) (sym new) record { rests = record { is = refl }; made_is = refl; within = omega arith; stands_is = has.0; wide = has.1 }
+
+-- one more number has its pass
+pub passes_more : (s : ShardsModel) (terms : Terms) (numbers : List ℕ) (i n calls : ℕ) (table : TableId) (m : Me (Option Quarter) View) (passes passes' : List PassModel) → i < length numbers → passes ≡ map (new_pass s) (take i numbers) → passes' ≡ passes ++ record { table = table; number = n; calls = calls; quarters = m.0.terms.sets; mine = m.0.mine } ∷ []
+    → table ≡ s.table → n ≡ get_or numbers i 0 → calls ≡ s.calls → terms.sets ≡ s.quarters → m ≡ (working terms (get_or numbers i 0) [] [], []) → passes' ≡ map (new_pass s) (take (i + 1) numbers)
+passes_more s terms numbers i n calls table m passes passes' lt before more table_is number_is calls_is sets_are is' =
+    let sets : m.0.terms.sets ≡ s.quarters = ap (λ (y : Me (Option Quarter) View). y.0.terms.sets) is' ∙ sets_are in
+    let mine : m.0.mine ≡ [] = ap (λ (y : Me (Option Quarter) View). y.0.mine) is' in
+    more ∙ ((λ j. before j ++ record { table = table_is j; number = number_is j; calls = calls_is j; quarters = sets j; mine = mine j } ∷ [])
+    ∙ sym (ap (map (new_pass s)) (take_more numbers i 0 lt) ∙ map-append (new_pass s) (take i numbers) (get_or numbers i 0 ∷ [])))
 
 pub keeps_room : {n calls made capacity : ℕ} {standing : List ClaimEntry} {m : Me (Option Quarter) View} → Keeps n calls made standing capacity m → made ≢ calls → length standing < capacity
 keeps_room {m = m} k ne = omega (arith, ap length k.stands_is, stands_short m.0.mine, k.made_is, k.within, k.wide, ne)
