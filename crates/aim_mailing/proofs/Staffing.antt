@@ -1,6 +1,7 @@
 -- The callers that a run begins with.
-use Rattle.std.proofs.Common.{◌≡◌, ℕ, ◌<◌, List, [], length, map, get_or, refl, sym, ap, ◌∙◌, subst}
+use Rattle.std.proofs.Common.{◌≡◌, ℕ, zero, suc, ◌+◌, ◌*◌, ◌/◌, ◌%◌, min, ◌<◌, ◌≤◌, List, [], length, map, get_or, refl, sym, ap, ◌∙◌, subst, arith}
 use Rattle.std.specs.Prelude.{All}
+use Rattle.std.proofs.lemmas.Grind.{div_ceil_times}
 use Rattle.std.proofs.lemmas.List.{length-map}
 use Rattle.aim_msg.specs.declared.entries.Entry.{Entry}
 use Rattle.aim_msg.specs.declared.entries.TheConstants.{OPERATOR}
@@ -15,6 +16,13 @@ use Rattle.aim_mailing.specs.Runs.{IsRun}
 use Rattle.aim_mailing.specs.Calling.{AllByPlace, AreStaff, HasMade, IsNewCaller, Works}
 use Rattle.aim_mailing.proofs.Journals.{own_of, run_of, setting_of}
 use Rattle.aim_mailing.proofs.Steps.{works_new}
+
+-- some callers, cut into at most so many runs, are at least one a run
+pub some_size : (n workers size : ℕ) → 0 < n → 0 < workers → size ≡ n / workers + min 1 (n % workers) → 0 < size
+some_size n workers zero some work is =
+    let t = div_ceil_times n workers work in
+    let none : n ≤ 0 * workers = subst (λ q. n ≤ q * workers) (sym is) t.0 in absurd (omega (arith, none, some))
+some_size n workers (suc m) some work is = omega arith
 
 -- callers of new clients, in their order
 pub staff_is : (s : EventScript) (m : ServerModel) (spans : ℕ) (clients : List ClientModel) (callers : List Caller) → m.setting ≡ setting_of s → spans ≡ s.layout.grid.spans → map (λ c. c.client) callers ≡ clients → length clients ≡ s.vehicles

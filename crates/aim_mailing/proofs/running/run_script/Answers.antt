@@ -1,9 +1,22 @@
-use Rattle.std.proofs.Common.{List, sym, subst}
+use Rattle.std.proofs.Common.{◌≡◌, ◌≤◌, ◌<◌, List, length, sym, subst, arith}
 use Rattle.std.specs.Prelude.{All}
+use Rattle.aim_msg.specs.declared.entries.TheConstants.{LATEST_MOMENT}
 use Rattle.aim_events.specs.declared.scripts.Event.{Event}
 use Rattle.aim_mailing.specs.Calling.{AllByPlace, HasMade, Works}
-use Rattle.aim_mailing.proofs.Staffing.{staff_own, staff_run, staff_works}
+use Rattle.aim_mailing.proofs.Journals.{moments_of}
+use Rattle.aim_mailing.proofs.Staffing.{some_size, staff_own, staff_run, staff_works}
 use Rattle.aim_mailing.proofs.running.run_script.Goals as goal
+
+pub beside-served-requires-clause-size : goal.beside-served-requires-clause-size
+beside-served-requires-clause-size g c κs within =
+    let count : length c.in_ok-staff.staff.callers.items ≡ c.args.script.now.vehicles = (let staff = c.in_ok-staff.ensures.callers in staff.count) in
+    let some : 0 < c.args.script.now.vehicles = (let fit = c.requires.script in fit.some_vehicles) in
+    let len : c.len.result ≡ length c.in_ok-staff.staff.callers.items = omega arith in
+    some_size c.len.result c.args.workers c.div_ceil-size.result (omega (arith, len, count, some)) c.requires.workers c.div_ceil-size.ensures
+
+pub beside-served-requires-clause-moments : goal.beside-served-requires-clause-moments
+beside-served-requires-clause-moments g c κs within =
+    subst (λ (es : List Event). All (λ e. e.moment ≤ LATEST_MOMENT) es) (sym c.deref.ensures.value) (moments_of c.args.script.now c.requires.script)
 
 pub beside-served-requires-clause-works : goal.beside-served-requires-clause-works
 beside-served-requires-clause-works g c κs within =
