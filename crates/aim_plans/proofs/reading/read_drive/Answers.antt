@@ -92,3 +92,26 @@ returns-in-Ok-false-clause-reads g c =
 
 pub returns-in-Ok-false-clause-fits : goal.returns-in-Ok-false-clause-fits
 returns-in-Ok-false-clause-fits g c = fits_of c.lines.draft c.end.result c.end.ensures
+
+pub returns-in-Err-clause-source : goal.returns-in-Err-clause-source
+returns-in-Err-clause-source g c = omega (arith, c.lines.invariant.later, c.advance.ensures.later)
+
+pub returns-in-Err-take-clause-source : goal.returns-in-Err-take-clause-source
+returns-in-Err-take-clause-source g c = omega (arith, c.lines.invariant.later, c.advance.ensures.later)
+
+pub returns-in-Ok-false-clause-source : goal.returns-in-Ok-false-clause-source
+returns-in-Ok-false-clause-source g c = omega (arith, c.lines.invariant.later, c.advance.ensures.later)
+
+pub end-requires-clause-count : goal.end-requires-clause-count
+end-requires-clause-count g c = c.lines.invariant.number ∙ sym c.lines.invariant.count
+
+pub end-requires-clause-few : goal.end-requires-clause-few
+end-requires-clause-few g c = omega (arith, c.lines.invariant.number, c.lines.invariant.sound.few)
+
+pub lines-smaller : goal.lines-smaller
+lines-smaller g c =
+    let after : c.advance.new.self ≡ after_call c.lines.reader c.advance.new.self true = rw c.in-Ok-true.field-0-test at c.in-Ok-true.ensures.after in
+    omega (arith, ap (λ (r : Reader). r.given) after, c.advance.ensures.sound.few)
+
+pub overflow_add-number : goal.overflow_add-number
+overflow_add-number g c = omega (arith, c.lines.invariant.number, c.lines.invariant.sound.few)
