@@ -1,4 +1,9 @@
-use Rattle.std.proofs.Common.{◌≡◌, ◌∙◌, length, length-take, ap, arith, refl}
+use Rattle.std.proofs.Common.{◌≡◌, ◌∙◌, Some, None, true, if◌then◌else◌, length, length-take, ap, arith, refl, sym}
+use Rattle.std.specs.Option.{option_or}
+use Rattle.aim_msg.specs.declared.replies.Field.TheVariants as field
+use Rattle.aim_rules.specs.Bad.{needs_too_many_spans}
+use Rattle.aim_simulate.specs.Fields.{bad_crossing}
+use Rattle.aim_simulate.proofs.FieldLemmas.{fields}
 use Rattle.aim_buffers.proofs.requests.write_request.Goals as goal
 
 pub write_trials-requires-clause-rects : goal.write_trials-requires-clause-rects
@@ -36,3 +41,17 @@ returns-in-Err-clause-first_room c = ap (λ sheet. sheet.room) c.clear.ensures �
 
 pub returns-in-Err-clause-second_room : goal.returns-in-Err-clause-second_room
 returns-in-Err-clause-second_room c = ap (λ sheet. sheet.room) c.clear-in-Err.ensures ∙ c.write_trials.ensures.second_room
+
+pub returns-in-Some-clause-field : goal.returns-in-Some-clause-field
+returns-in-Some-clause-field c =
+    let i = c.args.layout.now in
+    let p = c.args.params.now in
+    sym (fields i p ∙ ap (λ o. option_or o (if needs_too_many_spans i p then Some field.Spans else None)) (sym c.bad_crossing.ensures ∙ c.in-Some.is))
+
+pub returns-in-Err-clause-field : goal.returns-in-Err-clause-field
+returns-in-Err-clause-field c =
+    let i = c.args.layout.now in
+    let p = c.args.params.now in
+    let none : bad_crossing i p ≡ None = sym c.bad_crossing.ensures ∙ c.in_default.is in
+    let full : needs_too_many_spans i p ≡ true = c.in-Err.ensures.full in
+    sym (fields i p ∙ ap (λ o. option_or o (if needs_too_many_spans i p then Some field.Spans else None)) none ∙ ap (λ b. if b then Some field.Spans else None) full)

@@ -51,3 +51,18 @@ loop-row-preserved c =
       before = ok.before;
       room = cc;
     }
+
+pub returns-clause-cells : goal.returns-clause-cells
+returns-clause-cells c = λ s r k.
+    let end : c.loop-row.row ≡ c.args.last + 1 = omega arith in
+    rw end at (c.loop-row.invariant.cells s r k)
+
+pub returns-clause-count : goal.returns-clause-count
+returns-clause-count c =
+    let end : c.loop-row.row ≡ c.args.last + 1 = omega arith in
+    rw end at c.loop-row.invariant.count
+
+pub returns-clause-before : goal.returns-clause-before
+returns-clause-before c =
+    let end : c.loop-row.row ≡ c.args.last + 1 = omega arith in
+    rw end at c.loop-row.invariant.before
