@@ -6,3 +6,4 @@ pub mod WindowLemmas
 pub mod StepLemmas
 pub mod SpanLemmas
 pub mod RequestLemmas
+mod WrittenLemmas

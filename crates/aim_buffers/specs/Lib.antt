@@ -3,3 +3,4 @@ pub mod Counts
 pub mod Cells
 pub mod Moves
 pub mod Requests
+pub mod Written

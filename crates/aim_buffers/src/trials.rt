@@ -12,6 +12,7 @@ ghost use Rattle.aim_simulate.specs.Windows.{AreRects, AreSteady, IsWindow, is_u
 ghost use Rattle.aim_simulate.specs.Reaches.{AreReaches};
 ghost use Rattle.aim_buffers.specs.Cells.{HaveCells};
 ghost use Rattle.aim_buffers.specs.Moves.{IsFirst, IsMoved, IsTrial, MayMove};
+ghost use Rattle.aim_buffers.specs.Written.{IsWritten};
 
 use crate::rows::write_step;
 use aim_geometry::{Grid, TileRect, Times};
@@ -178,6 +179,35 @@ fn step_at(arrive: usize, edge: usize, t: usize) -> u32
     (arrive + t - edge) as u32
 }
 
+// Writes the cells of step t of a trial, counted from its edge buffer on, behind those of the steps before it.
+fn write_next(
+    sheet: &mut Sheet,
+    windows: &mut Windows,
+    layout: &Layout,
+    params: &Params,
+    fast: bool,
+    rects: &[TileRect],
+    is_steady: bool,
+    reaches: &[Reach],
+    t: usize,
+) -> Result<(), SheetFull>
+    requires trial { IsTrial layout.now params.now fast rects.now reaches.now }
+    requires steady { is_steady ≡ true → AreSteady rects.now }
+    requires near { t < length reaches.now + 2 * layout.now.times.edge }
+    requires written { IsWritten layout.now params.now fast rects.now reaches.now windows.old.outer windows.old.inner sheet.old.spans t }
+    ensures written { OnOk result (IsWritten layout.now params.now fast rects.now reaches.now windows.new.outer windows.new.inner sheet.new.spans (t + 1)) }
+    ensures full { OnErr result (sheet.old.room < span_count layout.now params.now fast) }
+    ensures room { sheet.new.room ≡ sheet.old.room }
+{
+    let (n, times) = side_and_times(layout);
+    let edge = times.edge as usize;
+    let (first, last) = move_outer(&mut windows.outer, rects, is_steady, reaches, edge, t);
+    let shown = move_inner(&mut windows.inner, rects, is_steady, reaches, &times, t);
+    let rows = rows_or(shown, &windows.inner.rows);
+    let step = step_at(params.arrive as usize, edge, t);
+    write_step(sheet, n, step, first, last, rows, &windows.outer.rows)
+}
+
 // Writes the cells of a trial into an empty sheet, step by step, with windows that stand on the first rectangle.
 fn write_steps(
     sheet: &mut Sheet,
@@ -199,15 +229,13 @@ fn write_steps(
     ensures full { OnErr result (sheet.old.room < span_count layout.now params.now fast) }
     ensures room { sheet.new.room ≡ sheet.old.room }
 {
-    let (n, times) = side_and_times(layout);
+    let (_, times) = side_and_times(layout);
     let edge = times.edge as usize;
-    let arrive = params.arrive as usize;
-    for t in edge.saturating_sub(arrive)..reaches.len() + 2 * edge {
-        let (first, last) = move_outer(&mut windows.outer, rects, is_steady, reaches, edge, t);
-        let shown = move_inner(&mut windows.inner, rects, is_steady, reaches, &times, t);
-        let rows = rows_or(shown, &windows.inner.rows);
-        let step = step_at(arrive, edge, t);
-        write_step(sheet, n, step, first, last, rows, &windows.outer.rows)?;
+    let first = edge.saturating_sub(params.arrive as usize);
+    for t in first..reaches.len() + 2 * edge {
+        write_next(
+            sheet, windows, layout, params, fast, rects, is_steady, reaches, t,
+        )?;
     }
     Ok(())
 }

@@ -58,3 +58,13 @@ returns-clause-spans c = c.in_ok-write_cells.ensures.count
 
 pub returns-clause-steps : goal.returns-clause-steps
 returns-clause-steps c = c.fill_reaches-count.ensures.count
+
+pub slice_bounds-reaches-end : goal.slice_bounds-reaches-end
+slice_bounds-reaches-end c =
+    let steps = (good_crossing c.args.layout.now c.args.params.now c.requires.good).steps c.args.fast in
+    omega (arith, steps, c.fill_reaches-count.ensures.count, c.type_inv.reaches)
+
+pub overflow_cast-result : goal.overflow_cast-result
+overflow_cast-result c =
+    let steps = (good_crossing c.args.layout.now c.args.params.now c.requires.good).steps c.args.fast in
+    omega (arith, steps, c.fill_reaches-count.ensures.count)
