@@ -3,7 +3,7 @@ use Rattle.std.proofs.Common.{◌≡◌, ℕ, Bool, true, false, List, [], ◌�
 use Rattle.atomic_table.specs.Table.{Me, rest}
 use Rattle.aim_turn.specs.declared.view.View.{View}
 use Rattle.aim_turn.specs.History.{entries_of, Begins}
-use Rattle.aim_turn.specs.Turned.{seated, turning, queued, counted, rested, Meaning, Drew, Came, Looked, Added, Passed, Rests, Entered, Leaves, Left}
+use Rattle.aim_turn.specs.Turned.{seated, turning, queued, counted, rested, Meaning, Drew, Waits, Came, Looked, Added, Passed, Rests, Entered, Leaves, Left}
 use Rattle.aim_turn.proofs.Steps.{inside}
 
 abbrev value_of : {K : Type 0} → List (ℕ × Option K) → Option K
@@ -14,18 +14,32 @@ module _ {K S E : Type 0} {M : Meaning K S E} where
   pub ready : {s : S} {n found : ℕ} {m m' : Me (Option K) (View S E)} → Rests M s n m → (d : Drew M m found m') → m' ≡ (queued (seated (Some s) m.0.numbers (Some n) m.0.seen m.0.mine) d.ticket, [])
   ready at_rest d = d.after ∙ ap (λ (y : Me (Option K) (View S E)). (queued y.0 d.ticket, y.1)) at_rest.is
 
-  -- what the look tells, after a draw and looks that told nothing
-  pub comes : {s : S} {n found now : ℕ} {m m' l l' : Me (Option K) (View S E)} → Rests M s n m → (d : Drew M m found m') → l ≡ m' → Looked M l now l' → now ≡ found
-      → Came M (queued (seated (Some s) m.0.numbers (Some n) m.0.seen m.0.mine) d.ticket, []) l'
-  comes {now = now} {l' = l'} at_rest d same told is =
-      let told' = subst (λ (y : Me (Option K) (View S E)). Looked M y now l') (same ∙ ready at_rest d) told in
-      told'.came d.ticket refl (is ∙ d.word)
+  -- with the ticket that was drawn the seat waits for its turn
+  pub waiting : {s : S} {n found : ℕ} {m m' : Me (Option K) (View S E)} → Rests M s n m → Drew M m found m' → Waits M s n found m'
+  waiting {s = s} {n = n} {m = m} at_rest d = record {
+    ticket = d.ticket;
+    word = d.word;
+    is = subst (λ (y : Me (Option K) (View S E)). y ≡ (queued (seated (Some s) y.0.numbers (Some n) y.0.seen y.0.mine) d.ticket, [])) (sym (ready at_rest d)) refl;
+  }
 
-  pub held : {v : View S E} {m' : Me (Option K) (View S E)} → Came M (v, []) m' → (k : K) × (m'.1 ≡ (0, Some k) ∷ [])
-  held came = (came.value, ap (λ (y : Me (Option K) (View S E)). y.1) came.after)
+  -- a look, after looks that told nothing: the turn came with it where the ticket is served, and else nothing did
+  looked : {l l' m : Me (Option K) (View S E)} {now : ℕ} → l ≡ m → Looked M l now l' → Looked M m now l'
+  looked {l' = l'} {now = now} same told = subst (λ (y : Me (Option K) (View S E)). Looked M y now l') same told
 
-  pub entered : {s : S} {n t : ℕ} {m m' m'' : Me (Option K) (View S E)} {k : K} → Came M (queued (seated (Some s) m.0.numbers (Some n) m.0.seen m.0.mine) t, []) m' → m'.1 ≡ (0, Some k) ∷ [] → m'' ≡ (m'.0, (0, None) ∷ []) → Entered M s n m k m''
-  entered {s = s} {n = n} {t = t} {m = m} {k = k} came in_hand is =
+  ticket_of : {s : S} {n found : ℕ} {m : Me (Option K) (View S E)} → (w : Waits M s n found m) → m.0.ticket ≡ Some w.ticket
+  ticket_of w = ap (λ (y : Me (Option K) (View S E)). y.0.ticket) w.is
+
+  pub comes : {s : S} {n found now : ℕ} {m l l' : Me (Option K) (View S E)} → Waits M s n found m → l ≡ m → Looked M l now l' → now ≡ found → Came M m l'
+  comes w same told is = (looked same told).came w.ticket (ticket_of w) (is ∙ w.word)
+
+  pub stays : {s : S} {n found now : ℕ} {m l l' : Me (Option K) (View S E)} → Waits M s n found m → l ≡ m → Looked M l now l' → (now ≡ found → ⊥) → l' ≡ m
+  stays w same told other = (looked same told).waits w.ticket (ticket_of w) (λ e. other (e ∙ sym w.word))
+
+  pub held : {v : View S E} {m m' : Me (Option K) (View S E)} → m ≡ (v, []) → Came M m m' → (k : K) × (m'.1 ≡ (0, Some k) ∷ [])
+  held is came = (came.value, ap (λ (y : Me (Option K) (View S E)). y.1) came.after ∙ ap (λ (y : Me (Option K) (View S E)). (0, Some came.value) ∷ y.1) is)
+
+  taken : {s : S} {n t : ℕ} {m m' m'' : Me (Option K) (View S E)} {k : K} → Came M (queued (seated (Some s) m.0.numbers (Some n) m.0.seen m.0.mine) t, []) m' → m'.1 ≡ (0, Some k) ∷ [] → m'' ≡ (m'.0, (0, None) ∷ []) → Entered M s n m k m''
+  taken {s = s} {n = n} {t = t} {m = m} {k = k} came in_hand is =
       let same : came.value ≡ k = inside came.value k (ap value_of (sym (ap (λ (y : Me (Option K) (View S E)). y.1) came.after) ∙ in_hand)) in
       let all : M.entries k ≡ came.log = sym (ap M.entries same) ∙ came.stands in
       let set : M.setting k ≡ s = sym (ap M.setting same) ∙ inside _ _ came.setting in
@@ -37,6 +51,9 @@ module _ {K S E : Type 0} {M : Meaning K S E} where
         seen = subst (λ l. Begins m.0.seen l) (sym all) came.seen;
         mine = ap (entries_of M.caller_of n) all ∙ came.mine n refl;
       }
+
+  pub entered : {s : S} {n found : ℕ} {m w m' m'' : Me (Option K) (View S E)} {k : K} → Rests M s n m → Drew M m found w → Came M w m' → m'.1 ≡ (0, Some k) ∷ [] → m'' ≡ (m'.0, (0, None) ∷ []) → Entered M s n m k m''
+  entered {m' = m'} at_rest d came in_hand is = taken (subst (λ (y : Me (Option K) (View S E)). Came M y m') (ready at_rest d) came) in_hand is
 
   -- the seat, with the value back in its slot
   pub put : {s : S} {n : ℕ} {m m' : Me (Option K) (View S E)} {k : K} {made : Bool} → (l : Leaves M s n m k made) → m' ≡ (m.0, (0, Some k) ∷ rest m.1) → m' ≡ (turning (Some s) m.0.numbers (Some n) l.ticket m.0.seen m.0.mine, (0, Some k) ∷ [])

@@ -3,6 +3,7 @@ pub mod Histories
 pub mod Steps
 pub mod Enters
 pub mod Calls
+pub mod Deals
 pub mod Seats
 pub mod Opens
 pub mod Tallies

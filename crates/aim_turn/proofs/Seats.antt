@@ -1,5 +1,5 @@
 -- Seats that are made, cut, joined and refreshed keep the rule.
-use Rattle.std.proofs.Common.{◌≡◌, ℕ, suc, ◌+◌, ◌%◌, ◌^◌, ◌<◌, false, List, [], ◌∷◌, ◌++◌, length, set, get_or, drop, drop-cons, refl, sym, ap, ◌∙◌, subst, ⊎_elim, inl, inr, arith, Some, None, Option}
+use Rattle.std.proofs.Common.{◌≡◌, ℕ, ◌+◌, ◌%◌, ◌^◌, ◌<◌, false, List, [], ◌∷◌, ◌++◌, length, set, get_or, drop, refl, sym, ap, ◌∙◌, subst, ⊎_elim, inl, inr, arith, Some, None, Option}
 use mathlib.Core.Option.{some, none}
 use mathlib.Core.Option as maybe
 use mathlib.Core.Logic.{dite}
@@ -16,6 +16,7 @@ use Rattle.aim_turn.specs.Models.{MeetsFront}
 use Rattle.aim_turn.specs.Turned.{Every, total, tail_of, longer, own, blank, claims, waits, waiting, named, seated, spent, front_of, rest_of, next_of, gathered, fresh, Fits, Meaning, Home, Turned, Refreshed, Sits, Shows, dealing_view}
 use Rattle.aim_turn.proofs.Totals.{total_set, total-append, set_at, Every-append, Every_front, Every_back}
 use Rattle.aim_turn.proofs.Histories.{begins_self, longer_holds, longer_left, longer_right, entries_of_longer}
+use Rattle.aim_turn.proofs.Deals.{front_number}
 use Rattle.aim_turn.proofs.Steps.{Opened, Found, Apart, Drawn, none_some, inside, off_on, same_view, opened_of, found_set, drawn_set, apart_set, each_set, home_set}
 
 pub off_of : {K S E : Type 0} {caller_of : E → ℕ} {n : ℕ} {m : Me (Option K) (View S E)} → Sits caller_of n m → m.0.turn ≡ false
@@ -311,24 +312,8 @@ module _ {K S E : Type 0} (M : Meaning K S E) where
         mine = ap (entries_of M.caller_of n) seen ∙ log_of w sits is r ∙ sym mine;
       }
 
-  -- the numbers from the i-th on are still to give, and the i-th is dealt
-  front_number : (s : S) (ns : List ℕ) (i : ℕ) (m : Me (Option K) (View S E)) → i < length ns → m ≡ (dealing_view s ns (drop i ns), []) → m ≡ (dealing_view s ns (get_or ns i 0 ∷ drop (i + 1) ns), [])
-  front_number s ns i m b is = is ∙ ap (λ l. (dealing_view s ns l, [])) (drop-cons ns i 0 b ∙ ap (λ k. get_or ns i 0 ∷ drop k ns) (next i))
-    where
-      next : (k : ℕ) → suc k ≡ k + 1
-      next k = omega arith
-
   pub deals_as : (s : S) (numbers : List ℕ) (id : ℕ) (ns : List ℕ) (i : ℕ) (m : Me (Option K) (View S E)) → i < length ns → m ≡ (dealing_view s ns (drop i ns), []) → Splits (Turned M s numbers) id m.0 (rest_of m.0) (next_of m.0.setting m.0.numbers m.0.seen m.0.to_give)
   deals_as s numbers id ns i m b is =
       let e = front_number s ns i m b is in
       deals s numbers id m.0 s (get_or ns i 0) (drop (i + 1) ns) (ap (λ (y : Me (Option K) (View S E)). y.0.setting) e) (ap (λ (y : Me (Option K) (View S E)). y.0.ticket) e) (ap (λ (y : Me (Option K) (View S E)). y.0.turn) e) (ap (λ (y : Me (Option K) (View S E)). y.0.number) e) (ap (λ (y : Me (Option K) (View S E)). y.0.seen) e)
       (ap (λ (y : Me (Option K) (View S E)). y.0.to_give) e)
-
-  pub root_dealt : (s : S) (ns : List ℕ) (i : ℕ) (m m' : Me (Option K) (View S E)) → i < length ns → m ≡ (dealing_view s ns (drop i ns), []) → m' ≡ (rest_of m.0, m.1) → m' ≡ (dealing_view s ns (drop (i + 1) ns), [])
-  root_dealt s ns i m m' b is e = e ∙ ap (λ (y : Me (Option K) (View S E)). (rest_of y.0, y.1)) (front_number s ns i m b is)
-
-  pub seat_dealt : (s : S) (ns : List ℕ) (i : ℕ) (m w : Me (Option K) (View S E)) → i < length ns → m ≡ (dealing_view s ns (drop i ns), []) → w ≡ (next_of m.0.setting m.0.numbers m.0.seen m.0.to_give, []) → w ≡ (seated (Some s) ns (Some (get_or ns i 0)) [] [], [])
-  seat_dealt s ns i m w b is e = e ∙ ap (λ (y : Me (Option K) (View S E)). (next_of y.0.setting y.0.numbers y.0.seen y.0.to_give, [])) (front_number s ns i m b is)
-
-  pub new_sits : (s : S) (ns : List ℕ) (n : ℕ) (w : Me (Option K) (View S E)) → w ≡ (seated (Some s) ns (Some n) [] [], []) → Sits M.caller_of n w
-  new_sits s ns n w e = subst (Sits M.caller_of n) (sym e) record { is = refl; mine = refl }

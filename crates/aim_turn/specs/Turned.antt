@@ -222,6 +222,12 @@ module _ {K S E : Type 0} (M : Meaning K S E) where
   pub record Rests (s : S) (n : ℕ) (m : Me (Option K) (View S E)) : Type 0 where
     pub is : m ≡ (seated (Some s) m.0.numbers (Some n) m.0.seen m.0.mine, [])
 
+  -- the seat of the number n, at rest but for the ticket that it drew, which the word found spells
+  pub record Waits (s : S) (n found : ℕ) (m : Me (Option K) (View S E)) : Type 0 where
+    pub ticket : ℕ
+    pub word : found ≡ ticket % 2 ^ 64
+    pub is : m ≡ (queued (seated (Some s) m.0.numbers (Some n) m.0.seen m.0.mine) ticket, [])
+
   -- the turn came to the number n, which has the slot in hand, and took the kept value k out of it
   pub record Entered (s : S) (n : ℕ) (m : Me (Option K) (View S E)) (k : K) (m' : Me (Option K) (View S E)) : Type 0 where
     pub ticket : ℕ

@@ -1,6 +1,6 @@
 //! The turnstile: a ticket lock with one history.
 ghost use Rattle.std.specs.Prelude.{◌≡◌, ◌≢◌, ℕ, List, [], ◌∷◌, ◌++◌, ◌+◌, ◌^◌, ◌<◌, ◌≤◌, length, map, sum_by, vec_capacity, Contains, IsPermutation, All, AllPairs, IfOk, Some};
-ghost use Rattle.aim_turn.specs.Turned.{meaning, Rests, Drew, Entered, Leaves, Left, opening_view, Gathers, Ends};
+ghost use Rattle.aim_turn.specs.Turned.{meaning, Rests, Drew, Waits, Came, Entered, Leaves, Left, opening_view, Gathers, Ends};
 ghost use Rattle.aim_turn.specs.History.{entries_of};
 ghost use Rattle.aim_turn.specs.Models.{IsPassOf, IsSamePass, MakesCall, HasPass, MeetsFront, PassModel, new_pass};
 
@@ -64,6 +64,25 @@ fn draw<K: Kept>(desk: &Desk<K>, seat: &mut Chair<K>) -> u64
     desk.shared.fetch_add::<Draw>(seat, TICKET, 1)
 }
 
+// Waits for the ticket's turn, which brings the kept value.
+fn wait<K: Kept, R: Wait>(rt: &R, desk: &Desk<K>, seat: &mut Chair<K>, ticket: u64)
+    requires desk { (seat.old.table_id ≡ desk.now.shared.table_id) × (desk.now.shared.table_id.words ≡ 3) }
+    requires waits { (number : ℕ) × Waits (meaning K.setting K.entries K.caller_of K.is_lawful)
+        (K.setting desk.now.shared.key.kept.value) number ticket seat.old.me }
+    ensures seat { (seat.new.table_id ≡ seat.old.table_id) × (seat.new.id ≡ seat.old.id) }
+    ensures came { Came (meaning K.setting K.entries K.caller_of K.is_lawful) seat.old.me seat.new.me }
+{
+    let mut looks = 0u32;
+    for _ in rt.forever() {
+        let serving = desk.shared.load::<Look>(seat, SERVING);
+        if serving == ticket {
+            return;
+        }
+        pause(ticket, serving, looks);
+        looks = looks.saturating_add(1);
+    }
+}
+
 // Draws a ticket, waits for its turn, and takes the kept value.
 fn enter<K: Kept, R: Wait>(rt: &R, desk: &Desk<K>, seat: &mut Chair<K>, number: u32) -> K
     requires desk { (seat.old.table_id ≡ desk.now.shared.table_id) × (desk.now.shared.table_id.words ≡ 3) }
@@ -74,16 +93,8 @@ fn enter<K: Kept, R: Wait>(rt: &R, desk: &Desk<K>, seat: &mut Chair<K>, number: 
         (K.setting desk.now.shared.key.kept.value) number seat.old.me result seat.new.me }
 {
     let ticket = draw(desk, seat);
-    let mut looks = 0u32;
-    for _ in rt.forever() {
-        let serving = desk.shared.load::<Look>(seat, SERVING);
-        if serving == ticket {
-            return take(desk, seat);
-        }
-        pause(ticket, serving, looks);
-        looks = looks.saturating_add(1);
-    }
-    unreachable!()
+    wait(rt, desk, seat, ticket);
+    take(desk, seat)
 }
 
 // Gives the kept value back, counts the entry if one was made, and serves the next ticket.
