@@ -57,11 +57,14 @@ none_alone R other None r = refl
 none_alone R other (Some x) r = absurd (other x r)
 
 -- lists of as many vehicles, none of which has called
-pub listed_new : (calls : List (Option (ℕ × ℕ))) (callers : List ℕ) (marked : List Bool) (n : ℕ) → calls ≡ replicate n None → callers ≡ [] → marked ≡ replicate n false → IsListed calls callers marked
-listed_new calls callers marked n none empty free = rw (none, empty, free) (listed_none n)
+pub listed_new : (calls : List (Option (ℕ × ℕ))) (callers : List ℕ) (marked : List Bool) (n most : ℕ) → calls ≡ replicate n None → callers ≡ [] → marked ≡ replicate n false → n ≤ most → IsListed calls callers marked × (length calls ≤ most)
+listed_new calls callers marked n most none empty free room = (
+  rw (none, empty, free) (listed_none n),
+  subst (λ k. k ≤ most) (sym (ap (λ (l : List (Option (ℕ × ℕ))). length l) none ∙ length-replicate {A = Option (ℕ × ℕ)} n None)) room,
+)
 
 -- as long as a vehicle is not listed, there is room for it
-pub room_left : (calls : List (Option (ℕ × ℕ))) (callers : List ℕ) (marked : List Bool) (v : ℕ) → IsListed calls callers marked → v < length calls → get_or marked v false ≡ false → length callers < length calls
+room_left : (calls : List (Option (ℕ × ℕ))) (callers : List ℕ) (marked : List Bool) (v : ℕ) → IsListed calls callers marked → v < length calls → get_or marked v false ≡ false → length callers < length calls
 room_left calls callers marked v is l free =
     let m : v < length marked = let a = is.long in omega arith in
     let e = marked_more marked v m free in
@@ -70,7 +73,7 @@ room_left calls callers marked v is l free =
     let a = is.long in let b = is.count in omega arith
 
 -- a vehicle of the list calls again, or one clears its call
-pub listed_same : (calls : List (Option (ℕ × ℕ))) (callers : List ℕ) (marked : List Bool) (v : ℕ) (call : Option (ℕ × ℕ)) → IsListed calls callers marked → v < length calls → (is_some call ≡ true → get_or marked v false ≡ true) →
+listed_same : (calls : List (Option (ℕ × ℕ))) (callers : List ℕ) (marked : List Bool) (v : ℕ) (call : Option (ℕ × ℕ)) → IsListed calls callers marked → v < length calls → (is_some call ≡ true → get_or marked v false ≡ true) →
     ((lane arrive : ℕ) → call ≡ Some (lane, arrive) → (lane < 16) × (arrive ≤ LATEST_MOMENT)) → IsListed (set calls v call) callers marked
 listed_same calls callers marked v call is l known range =
     let size = length-set calls v call in record {
@@ -88,7 +91,7 @@ listed_same calls callers marked v call is l known range =
       ];
     }
 
-pub listed_more : (calls : List (Option (ℕ × ℕ))) (callers : List ℕ) (marked : List Bool) (v : ℕ) (call : Option (ℕ × ℕ)) → IsListed calls callers marked → v < length calls → get_or marked v false ≡ false →
+listed_more : (calls : List (Option (ℕ × ℕ))) (callers : List ℕ) (marked : List Bool) (v : ℕ) (call : Option (ℕ × ℕ)) → IsListed calls callers marked → v < length calls → get_or marked v false ≡ false →
     ((lane arrive : ℕ) → call ≡ Some (lane, arrive) → (lane < 16) × (arrive ≤ LATEST_MOMENT)) → IsListed (set calls v call) (callers ++ v ∷ []) (set marked v true)
 listed_more calls callers marked v call is l free range =
     let there : v < length marked = let a = is.long in omega arith in record {
@@ -113,7 +116,7 @@ listed_more calls callers marked v call is l free range =
     }
 
 -- a vehicle that calls is listed from then on
-pub listed_noted : (calls : List (Option (ℕ × ℕ))) (callers new : List ℕ) (marked : List Bool) (v : ℕ) (call : Option (ℕ × ℕ)) → IsListed calls callers marked → v < length calls →
+listed_noted : (calls : List (Option (ℕ × ℕ))) (callers new : List ℕ) (marked : List Bool) (v : ℕ) (call : Option (ℕ × ℕ)) → IsListed calls callers marked → v < length calls →
     ((lane arrive : ℕ) → call ≡ Some (lane, arrive) → (lane < 16) × (arrive ≤ LATEST_MOMENT)) → new ≡ (if get_or marked v false then callers else callers ++ v ∷ []) → IsListed (set calls v call) new (set marked v true)
 listed_noted calls callers new marked v call is l range e = go (get_or marked v false) refl
   where
@@ -170,6 +173,13 @@ read_range calls callers marked v is l = go (get_or calls v None) refl
     go None e = tt
     go (Some (lane, arrive)) e = is.range v lane arrive l e
 
+-- the same of a vehicle of the list
+pub range_read : (calls : List (Option (ℕ × ℕ))) (callers read : List ℕ) (marked : List Bool) (k : ℕ) (x : Option (ℕ × ℕ)) → IsListed calls callers marked → read ≡ callers → k < length read → x ≡ get_or calls (get_or read k 0) x →
+    IfSome x (λ c. (c.0 < 16) × (c.1 ≤ LATEST_MOMENT))
+range_read calls callers read marked k x is same l at =
+    let below : get_or read k 0 < length calls = subst (λ (xs : List ℕ). get_or xs k 0 < length calls) (sym same) (is.below k 0 (subst (λ (xs : List ℕ). k < length xs) same l)) in
+    subst (λ (o : Option (ℕ × ℕ)). IfSome o (λ c. (c.0 < 16) × (c.1 ≤ LATEST_MOMENT))) (get_or-read calls (get_or read k 0) x None below at) (read_range calls callers marked (get_or read k 0) is below)
+
 -- one more vehicle of the list
 pub called_more : (calls : List (Option (ℕ × ℕ))) (callers : List ℕ) (k lanes new now horizon lane : ℕ) (x : Option (ℕ × ℕ)) → k < length callers → get_or callers k 0 < length calls → x ≡ get_or calls (get_or callers k 0) x →
     has_lane lanes lane ≡ list_any (λ w. is_call_in now horizon lane (get_or calls w None)) (take k callers) → has_lane new lane ≡ is_call_in now horizon lane x →
@@ -186,3 +196,32 @@ pub called_all : (calls : List (Option (ℕ × ℕ))) (callers : List ℕ) (mark
     list_any (λ w. is_call_in now horizon lane (get_or calls w None)) (take k callers) ≡ list_any (is_call_in now horizon lane) calls
 called_all calls callers marked k now horizon lane is past =
     ap (list_any (λ w. is_call_in now horizon lane (get_or calls w None))) (take_all k callers past) ∙ calls_listed calls callers marked (is_call_in now horizon lane) is refl
+
+-- a place in a list
+pub within : {X : Type 0} (xs ys : List X) (len k : ℕ) → xs ≡ ys → length xs ≡ len → k < length ys → k < len
+within {X = X} xs ys len k same size l = subst (λ n. k < n) size (subst (λ (zs : List X). k < length zs) (sym same) l)
+
+-- a vehicle of the list has its place among the calls
+pub listed_within : (calls : List (Option (ℕ × ℕ))) (callers read : List ℕ) (marked : List Bool) (len k : ℕ) → IsListed calls callers marked → length calls ≡ len → read ≡ callers → k < length read → get_or read k 0 < len
+listed_within calls callers read marked len k is size same l =
+    subst (λ n. get_or read k 0 < n) size (subst (λ (xs : List ℕ). get_or xs k 0 < length calls) (sym same) (is.below k 0 (subst (λ (xs : List ℕ). k < length xs) same l)))
+
+-- a call is noted, and its vehicle listed
+pub noted : (calls now : List (Option (ℕ × ℕ))) (callers new : List ℕ) (marked marked' : List Bool) (v most most' : ℕ) (call : Option (ℕ × ℕ)) → IsListed calls callers marked × (length calls ≤ most) → v < length calls →
+    IfSome call (λ c. (c.0 < 16) × (c.1 ≤ LATEST_MOMENT)) → now ≡ set calls v call → marked' ≡ set marked v true → new ≡ (if get_or marked v false then callers else callers ++ v ∷ []) → most' ≡ most → IsListed now new marked' × (length now ≤ most')
+noted calls now callers new marked marked' v most most' call is l range set_is marked_is new_is same = (
+  rw (set_is, marked_is) (listed_noted calls callers new marked v call is.0 l (call_range call range) new_is),
+  rw (set_is, same, length-set calls v call) is.1,
+)
+
+-- a call is cleared
+pub cleared : (calls now : List (Option (ℕ × ℕ))) (callers : List ℕ) (marked : List Bool) (v most : ℕ) (call : Option (ℕ × ℕ)) → IsListed calls callers marked × (length calls ≤ most) → v < length calls →
+    IfSome call (λ c. (c.0 < 16) × (c.1 ≤ LATEST_MOMENT)) → now ≡ set calls v call → false ≡ is_some call → IsListed now callers marked × (length now ≤ most)
+cleared calls now callers marked v most call is l range set_is none = (
+  rw set_is (listed_same calls callers marked v call is.0 l (λ some. absurd (cc (none, some))) (call_range call range)),
+  rw (set_is, length-set calls v call) is.1,
+)
+
+-- a vehicle that isn't listed finds room
+pub room_for : (calls : List (Option (ℕ × ℕ))) (callers : List ℕ) (marked : List Bool) (v most : ℕ) → IsListed calls callers marked × (length calls ≤ most) → v < length calls → get_or marked v false ≡ false → length callers < most
+room_for calls callers marked v most is l free = let less = room_left calls callers marked v is.0 l free in let room = is.1 in omega (arith, less, room)

@@ -24,10 +24,11 @@ impl Callers {
         ensures none { IfOk result (λ c. (c.list.items ≡ []) × (c.is_listed.items ≡ replicate vehicles false)) }
         ensures room { IfOk result (λ c. vehicles ≤ vec_capacity c.list) }
     {
-        Ok(Callers {
-            list: Vec::with_capacity(alloc, vehicles as usize)?,
-            is_listed: vec![in alloc; false; vehicles as usize]?,
-        })
+        let list = Vec::with_capacity(alloc, vehicles as usize)?;
+        match vec![in alloc; false; vehicles as usize] {
+            Ok(is_listed) => Ok(Callers { list, is_listed }),
+            Err(error) => Err(error),
+        }
     }
 
     // Lists the vehicle, if it isn't listed.
@@ -38,10 +39,34 @@ impl Callers {
         ensures list { self.new.list.items ≡ (if slice_index_or self.old.is_listed.items vehicle false then self.old.list.items else self.old.list.items ++ vehicle ∷ []) }
         ensures capacity { vec_capacity self.new.list ≡ vec_capacity self.old.list }
     {
-        if !mem::replace(&mut self.is_listed[vehicle as usize], true) {
+        if !mark(&mut self.is_listed, vehicle) {
             self.list.push_reserved(vehicle);
         }
     }
+}
+
+// Marks the vehicle, and tells whether it was marked.
+fn mark(marked: &mut Vec<bool>, vehicle: u32) -> bool
+    requires there { vehicle < length marked.old.items }
+    ensures was { result ≡ slice_index_or marked.old.items vehicle false }
+    ensures marked { marked.new.items ≡ slice_set marked.old.items vehicle true }
+{
+    mem::replace(&mut marked[vehicle as usize], true)
+}
+
+// No call of any of so many vehicles.
+fn no_calls(alloc: Global, vehicles: u32) -> Result<Vec<Option<(u8, u32)>>, NoMemory>
+    ensures { IfOk result (λ c. c.items ≡ replicate vehicles None) }
+{
+    vec![in alloc; None; vehicles as usize]
+}
+
+// Sets the vehicle's call.
+fn set(calls: &mut Vec<Option<(u8, u32)>>, vehicle: u32, call: Option<(u8, u32)>)
+    requires there { vehicle < length calls.old.items }
+    ensures { calls.new.items ≡ slice_set calls.old.items vehicle call }
+{
+    calls[vehicle as usize] = call;
 }
 
 /// Each vehicle's last call of an emergency, a lane and an arrival, or none.
@@ -69,10 +94,11 @@ impl Approaches {
     pub fn new(alloc: Global, vehicles: u32) -> Result<Approaches, NoMemory>
         ensures { IfOk result (λ a. a ≡ replicate vehicles None) }
     {
-        Ok(Approaches {
-            calls: vec![in alloc; None; vehicles as usize]?,
-            callers: Callers::new(alloc, vehicles)?,
-        })
+        let calls = no_calls(alloc, vehicles)?;
+        match Callers::new(alloc, vehicles) {
+            Ok(callers) => Ok(Approaches { calls, callers }),
+            Err(error) => Err(error),
+        }
     }
 
     /// Sets the vehicle's call, or clears it.
@@ -81,7 +107,7 @@ impl Approaches {
         requires range { IfSome call (λ c. (c.0 < 16) × (c.1 ≤ LATEST_MOMENT)) }
         ensures { self.new ≡ slice_set self.old vehicle call }
     {
-        self.calls[vehicle as usize] = call;
+        set(&mut self.calls, vehicle, call);
         if call.is_some() {
             self.callers.add(vehicle);
         }

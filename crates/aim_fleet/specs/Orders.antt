@@ -1,14 +1,19 @@
 -- The orders of a drive.
-use Rattle.std.specs.Prelude.{◌≡◌, ℕ, ◌<◌, ◌≤◌, List, length, map, slice_index_or, Option, Some, None}
+use Rattle.std.specs.Prelude.{◌≡◌, ℕ, ◌<◌, ◌≤◌, List, length, map, slice_index_or, Option, Some, None, Result}
 use Rattle.aim_msg.specs.declared.entries.Act.TheVariants as act
 use Rattle.aim_msg.specs.declared.entries.Act.{Act}
 use Rattle.aim_msg.specs.declared.entries.Entry.{Entry}
 use Rattle.aim_msg.specs.declared.entries.TheConstants.{OPERATOR}
+use Rattle.aim_msg.specs.declared.replies.Reply.{Reply}
 use Rattle.aim_paths.specs.Intersection.{Intersection}
 use Rattle.aim_rules.specs.Legal.{IsOfLayout}
 use Rattle.aim_plans.specs.declared.scripts.Ordered.{Ordered}
+use Rattle.aim_book.specs.declared.book.Full.{Full}
+use Rattle.aim_turn.specs.Models.{IsSamePass}
+use Rattle.aim_manager.specs.Seen.{IsServed}
 use Rattle.aim_manager.specs.declared.keeper.Setting.{Setting}
 use Rattle.aim_agent.specs.Agents.{AgentModel, AgentPass}
+use Rattle.aim_agents.specs.Rounds.{Rounds}
 use Rattle.aim_fleet.specs.Driven.{Driven}
 
 -- They are of the layout, at steps below the last one, and their moments don't fall.
@@ -41,3 +46,17 @@ pub record FoundFull (s : Setting) (until size : ℕ) (op : AgentPass) (xs ys : 
 pub record IsReached (step place until : ℕ) (orders : List Ordered) : Type 0 where
   pub below : step ≤ until
   pub ahead : (k : ℕ) (d : Ordered) → place ≤ k → k < length orders → step ≤ (slice_index_or orders k d).moment
+
+-- The agents took their turns of the steps from `step` on and below the order's moment, and then the operator gave the
+-- order, with this result. No public clause cites it.
+pub record Given (s : Setting) (step : ℕ) (order : Ordered) (size : ℕ) (result : Result Reply Full) (op op' : AgentPass) (xs ys : List AgentModel) : Type 0 where
+  pub mid : AgentPass
+  pub rounds : Rounds s step order.moment size op mid xs ys
+  pub same : IsSamePass mid op'
+  pub served : IsServed s order.moment (act.Order order.order) result mid op'
+
+-- All orders were given, the last of them at this step, or none. No public clause cites it.
+pub record AllGiven (s : Setting) (step size : ℕ) (op : AgentPass) (xs ys : List AgentModel) (orders : List Ordered) : Type 0 where
+  pub driven : Driven s step size op xs ys
+  pub carried : CarryOrders op.mine orders
+  pub below : (until : ℕ) → AreOrders s.layout s.vehicles until orders → step ≤ until

@@ -1,12 +1,12 @@
-use Rattle.std.proofs.Common.{◌≤◌, length, take}
+use Rattle.std.proofs.Common.{ℕ, ◌≤◌, length, take}
 use Rattle.std.specs.Prelude.{All}
 use Rattle.aim_driver.specs.Models.{step_of}
 use Rattle.aim_turn.specs.Models.{IsPassOf, IsSamePass}
 use Rattle.aim_agent.specs.Agents.{IsAgentOf}
 use Rattle.aim_agents.specs.Rounds.{run_size}
 use Rattle.aim_fleet.specs.Driven.{Driven}
-use Rattle.aim_fleet.specs.Orders.{CarryOrders, IsReached}
-use Rattle.aim_fleet.proofs.driving.drive.Given as goal
+use Rattle.aim_fleet.specs.Orders.{AreOrders, CarryOrders, IsReached}
+use Rattle.aim_fleet.proofs.driving.give_all.Given as goal
 
 abbrev pub invariant-loop-ordered : goal.invariant-loop-ordered
 invariant-loop-ordered g l = record {
@@ -16,5 +16,5 @@ invariant-loop-ordered g l = record {
   operator : IsPassOf l.manager l.operator;
   own : All (IsAgentOf l.manager) l.agents;
   last : All (λ a. step_of a.driver.log ≤ l.step) l.agents;
-  reached : IsReached l.step l.ordered-index l.until l.orders;
+  reached : (until : ℕ) → AreOrders l.manager.setting.layout l.manager.setting.vehicles until l.orders → IsReached l.step l.ordered-index until l.orders;
 }
