@@ -10,8 +10,8 @@ took the time since the one before it was written. Behind each function stand th
 checker's, Proof the search for the answers that nobody wrote, Answers those that somebody did.
 
 What a library has is read once, in the first function that needs it, most often in Kinds, Tie, Given, Code or Reads, and no cut
-of that function makes it less. So of each of these sorts the longest part of a crate counts as long as the second, and what it
-took beyond is told behind the share.
+of that function makes it less. Two functions may each be the first for some of the libraries. So of each of these sorts the two
+longest parts of a crate count as long as the third, and what they took beyond is told behind the share.
 """
 import collections
 import os
@@ -72,8 +72,8 @@ def first_readings(functions):
         took = [(sum(took for part, took in parts.items() if part.split("-")[0] == sort), function)
                 for function, parts in functions.items()]
         took.sort(reverse=True)
-        if len(took) > 1:
-            beyond[took[0][1]] += took[0][0] - took[1][0]
+        for seconds, function in took[:2] if len(took) > 2 else []:
+            beyond[function] += seconds - took[2][0]
     return beyond
 
 
