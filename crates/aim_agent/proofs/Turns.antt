@@ -1,5 +1,5 @@
 -- The calls of a turn, one after the other, and what the turn is then.
-use Rattle.std.proofs.Common.{◌≡◌, ℕ, ◌+◌, ◌≤◌, inl, inr, List, [], ◌∷◌, ◌++◌, length, Some, None, Result, Ok, Err, refl, sym, ap, ◌∙◌, subst, arith, add-zero}
+use Rattle.std.proofs.Common.{◌≡◌, ℕ, ◌+◌, ◌≤◌, inl, inr, List, [], ◌∷◌, ◌++◌, length, Some, None, Result, Ok, Err, IsErrAnd, MatchResult, refl, sym, ap, ◌∙◌, subst, arith, add-zero}
 use Rattle.std.specs.Prelude.{OnOk}
 use Rattle.std.proofs.lemmas.List.{map-append}
 use Rattle.aim_msg.specs.declared.entries.Act.TheVariants as act
@@ -25,6 +25,15 @@ use Rattle.aim_agent.proofs.Passes.{same_self, same_trans, sees_self, sees_full,
 use Rattle.aim_agent.proofs.Places.{sees_none, only_call}
 use Rattle.aim_agent.proofs.Courses.{split_since, carry_more}
 use Rattle.aim_agent.proofs.Sheets.{full_is}
+
+-- what holds of a failed result, by what it failed with
+pub failed_with : {A E : Type 0} (P : A → Type 0) (Q : E → Type 0) (r : Result A E) (e : E) → IsErrAnd r (λ t. t ≡ e) → Q e → MatchResult r P Q
+failed_with P Q (Ok a) e with holds = absurd with
+failed_with P Q (Err t) e with holds = subst Q (sym with) holds
+
+-- a call, told of the agent as it is seen
+pub called_as : (s : Setting) (step : ℕ) (m : Message) (r : Result (Unit {0}) Trouble) (a old new : AgentModel) → old ≡ a → Called s step m r old new → Called s step m r a new
+called_as s step m r a old new same called = subst (λ x. Called s step m r x new) same called
 
 -- some calls of a turn were made
 pub record Making (s : Setting) (step : ℕ) (a b : AgentModel) : Type 0 where

@@ -1,5 +1,5 @@
 -- Bounds on stations.
-use Rattle.std.proofs.Common.{◌≡◌, ℕ, ◌+◌, ◌-◌, ◌*◌, ◌/◌, ◌^◌, ◌<◌, ◌≤◌, ap, arith, ◌∙◌}
+use Rattle.std.proofs.Common.{◌≡◌, ℕ, ◌+◌, ◌-◌, ◌*◌, ◌/◌, ◌^◌, ◌<◌, ◌≤◌, Fits, w64, ap, arith, ◌∙◌}
 use Rattle.std.proofs.Math.Nat.{mul-le-mul, mul-le-mul_left, add-mul-div_left, div-eq_of_eq-mul_left, div-le_of_le-mul}
 use Rattle.std.proofs.Math.Decide.{dec_lt}
 use Rattle.std.proofs.Math.Nat.{pow-suc, pow-zero}
@@ -20,6 +20,21 @@ curve_le m j x y z top h p q r =
 
 pub square_le : (m : ℕ) → m ≤ 4096 → m * m * 1000000 ≤ 16777216000000
 square_le m h = let s : m * m ≤ 4096 * 4096 = mul-le-mul h h in omega arith
+
+-- the terms of a curve fit a word of 64 bits, and so do their sums
+pub terms_fit : (m j x y z : ℕ) → m ≤ 4096 → j ≤ m → x ≤ 1000000 → y ≤ 1000000 → z ≤ 1000000
+    → Fits w64 ((m - j) * (m - j) * x) × Fits w64 (2 * j * (m - j) * y) × Fits w64 (j * j * z) × Fits w64 ((m - j) * (m - j) * x + 2 * j * (m - j) * y) × Fits w64 ((m - j) * (m - j) * x + 2 * j * (m - j) * y + j * j * z)
+terms_fit m j x y z most h p q r =
+    let all = curve_le m j x y z 1000000 h p q r in
+    let square = square_le m most in
+    (omega (arith, all, square), omega (arith, all, square), omega (arith, all, square), omega (arith, all, square), omega (arith, all, square))
+
+-- the products of two parts of a curve fit as well
+pub parts_fit : (m j : ℕ) → m ≤ 4096 → j ≤ m → Fits w64 ((m - j) * (m - j)) × Fits w64 (2 * j * (m - j)) × Fits w64 (j * j) × Fits w64 (m * m)
+parts_fit m j most h =
+    let fit = terms_fit m j 1 1 1 most h (omega arith) (omega arith) (omega arith) in
+    let square = square_le m most in
+    (omega (arith, fit.0), omega (arith, fit.1), omega (arith, fit.2), omega (arith, square))
 
 line_le : (m j x y top : ℕ) → j ≤ m → x ≤ top → y ≤ top → (m - j) * x + j * y ≤ m * top
 line_le m j x y top h p q =

@@ -1,5 +1,5 @@
 -- What a link delivers is the first thing that comes, and one thing less is under way then.
-use Rattle.std.proofs.Common.{◌≡◌, ◌⊎◌, inl, inr, ℕ, zero, suc, ◌+◌, ◌<◌, ◌≤◌, min, Bool, true, false, not, nat_le, nat_lt, List, [], ◌∷◌, length, get_or, set, fold, sum_by, position, slice_get, Option, Some, None, option_and_then, option_map, if◌then◌else◌, refl, sym, ◌∙◌, ap, subst, take, arith}
+use Rattle.std.proofs.Common.{◌≡◌, ◌⊎◌, inl, inr, ℕ, zero, suc, ◌+◌, ◌<◌, ◌≤◌, min, Fits, w32, Bool, true, false, not, nat_le, nat_lt, List, [], ◌∷◌, length, get_or, set, fold, sum_by, position, slice_get, Option, Some, None, option_and_then, option_map, if◌then◌else◌, refl, sym, ◌∙◌, ap, subst, take, arith}
 use Rattle.std.specs.List.{position_or_len}
 use Rattle.std.proofs.lemmas.Bool.Decides.{nat_tests}
 use Rattle.std.proofs.lemmas.Option.{slice_get_within, slice_get-get_or, slice_get_past, get_or_from_slice_get}
@@ -276,10 +276,25 @@ nothing_found {X} l step none = go (next_place l step) refl
 pub stands_there : {X : Type 0} (sent : List (Sending X)) (place : ℕ) (s : Sending X) → place < length sent → s ≡ get_or sent place s → slice_get sent place ≡ Some s
 stands_there sent place s within is = slice_get-get_or sent place s within ∙ ap (λ t. Some t) (sym is)
 
+-- a place where a sending stands is within the list
+pub place_within : {X : Type 0} (sent : List (Sending X)) (place len : ℕ) → len ≡ length sent → (s : Sending X) × (slice_get sent place ≡ Some s) × (s.came < 2) → place < len
+place_within sent place len size there = subst (λ n. place < n) (sym size) (slice_get_within sent place there.0 there.1)
+
+-- a sending that came less than twice may be noted once more
+pub came_fits : {X : Type 0} (sent : List (Sending X)) (place : ℕ) (s : Sending X) → (t : Sending X) × (slice_get sent place ≡ Some t) × (t.came < 2) → slice_get sent place ≡ Some s → Fits w32 (s.came + 1)
+came_fits sent place s there stands =
+    let same : there.0.came ≡ s.came = ap (λ t. t.came) (some_is there.0 s (sym there.1 ∙ stands)) in
+    let few = there.2 in
+    omega (arith, same, few)
+
 -- the sendings after that one came once more
 pub noted_there : {X : Type 0} (sent : List (Sending X)) (place : ℕ) (s new : Sending X) → slice_get sent place ≡ Some s → new ≡ record s { came = s.came + 1 }
     → set sent place new ≡ came_again sent place (slice_get sent place)
 noted_there sent place s new stands is = rw (stands, is) refl
+
+-- the sending of the place that is found came less than twice
+pub found_there : {X : Type 0} (l : LinkModel X) (step k : ℕ) → next_place l step ≡ Some k → (s : Sending X) × (slice_get l.sent k ≡ Some s) × (s.came < 2)
+found_there l step k found = let n = next_is l step k found in (n.sending, n.stands, few_before l step k found n.sending n.stands)
 
 -- where no place is found nothing is delivered
 pub nothing_delivered : {X : Type 0} (l : LinkModel X) (step : ℕ) → next_place l step ≡ None → None ≡ delivered l step

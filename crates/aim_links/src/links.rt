@@ -2,6 +2,7 @@
 
 ghost use Rattle.std.specs.Prelude.{◌≡◌, ℕ, ◌+◌, ◌^◌, ◌<◌, ◌≤◌, [], ◌∷◌, ◌++◌, Some, None, length, slice_get, option_map, OnOk, OnErr, IfNone};
 ghost use Rattle.std.specs.Option.{ForSome};
+ghost use Rattle.aim_links.specs.declared.links.Sending.{Sending};
 ghost use Rattle.aim_links.specs.Links.{new_link, sent_on, sooner, is_step, next_due, fate_at, earliest, first_at, first_by, item_of, came_again, delivered, after_delivery};
 
 use crate::NoMemory;
@@ -22,7 +23,7 @@ pub enum Fate {
 }
 
 /// An item that was sent, and what became of it.
-#[derive(Clone, Copy)]
+#[derive(Drop)]
 pub struct Sending<T> {
     /// The step at which it was sent.
     pub step: u32,
@@ -135,12 +136,13 @@ fn put<T: Copy>(sent: &mut Vec<Sending<T>>, sending: Sending<T>) -> Result<(), N
     Ok(())
 }
 
-// Notes that it came once more, and gives its item.
-fn take<T: Copy>(sending: &mut Sending<T>) -> T
-    requires few { sending.old.came < 2 }
-    ensures item { result ≡ sending.old.item }
-    ensures sending { sending.new ≡ record sending.old { came = sending.old.came + 1 } }
+// Notes that the sending of that place came once more, and gives its item.
+fn take<T: Copy>(sent: &mut Vec<Sending<T>>, place: usize) -> T
+    requires there { (s : Sending T) × (slice_get sent.old.items place ≡ Some s) × (s.came < 2) }
+    ensures item { option_map item_of (slice_get sent.old.items place) ≡ Some result }
+    ensures sent { sent.new.items ≡ came_again sent.old.items place (slice_get sent.old.items place) }
 {
+    let sending = &mut sent[place];
     sending.came += 1;
     sending.item
 }
@@ -191,7 +193,7 @@ impl<T: Copy> Link<T> {
         ensures none { IfNone result (self.new ≡ self.old) }
     {
         match first_due(self.lag, &self.sent, step) {
-            Some(place) => Some(take(&mut self.sent[place])),
+            Some(place) => Some(take(&mut self.sent, place)),
             None => None,
         }
     }
