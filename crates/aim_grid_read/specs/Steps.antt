@@ -1,5 +1,5 @@
 -- Reading word by word. Only contracts of private functions cite it.
-use Rattle.std.specs.Prelude.{false, [], None, Result, Ok, get_or}
+use Rattle.std.specs.Prelude.{ℕ, List, false, [], None, Result, Ok, get_or}
 use Rattle.aim_msg.specs.Texts.{Words}
 use Rattle.aim_msg.specs.declared.messages.Params.{Params}
 use Rattle.aim_msg.specs.declared.script.LineKind.{LineKind}
@@ -21,8 +21,12 @@ params_in words = do
   turn ← read_in turns turn_of lane.1
   vehicle_in lane.0 turn.0 0 turn.1
 
+-- the leg of the numbers V, CROSSING, FIRST, LEAD and RESEND
+abbrev pub leg_of : List ℕ → Params → GridLine
+leg_of ns params = line.Leg (get_or ns 0 0) (get_or ns 1 0) (record { first = get_or ns 2 0; lead = get_or ns 3 0; resend = get_or ns 4 0; params = params; changes = []; cancel = None; ahead = false })
+
 unfoldable pub leg_in : Words → Result GridLine LineKind
 leg_in words = do
   n ← numbers_in [] 5 words
   params ← params_in n.1
-  Ok (line.Leg (get_or n.0 0 0) (get_or n.0 1 0) (record { first = get_or n.0 2 0; lead = get_or n.0 3 0; resend = get_or n.0 4 0; params = params.0; changes = []; cancel = None; ahead = false }))
+  Ok (leg_of n.0 params.0)

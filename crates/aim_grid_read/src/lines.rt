@@ -4,7 +4,7 @@ ghost use Rattle.std.specs.Prelude.{◌≡◌, ◌<◌, ◌≤◌, ◌==◌, [],
 ghost use Rattle.aim_words.specs.Faults.{words_of};
 ghost use Rattle.aim_words.specs.Steps.{Gives};
 ghost use Rattle.aim_grid_read.specs.Legs.{form_of, grid_line_at, plain_at};
-ghost use Rattle.aim_grid_read.specs.Steps.{crossings_in, leg_in, params_in};
+ghost use Rattle.aim_grid_read.specs.Steps.{crossings_in, leg_in, leg_of, params_in};
 
 use aim_driver::{Changes, DrivePlan};
 use aim_msg::{Line, LineKind, Params};
@@ -81,11 +81,13 @@ fn params(words: &mut Words<'_>) -> Result<Params, LineKind>
     fields::vehicle(words, lane, turn, 0)
 }
 
-// The plan of a vehicle that changes and cancels nothing, and enters no earlier than it asked.
-fn plan(first: u32, lead: u32, resend: u32, params: Params) -> DrivePlan
-    ensures { result ≡ record { first = first; lead = lead; resend = resend; params = params; changes = []; cancel = None; ahead = false } }
+// The plan of a vehicle at a crossing, by V, CROSSING, FIRST, LEAD and RESEND. It changes and cancels nothing, and enters
+// no earlier than it asked.
+fn leg_of(numbers: [u32; 5], params: Params) -> GridLine
+    ensures { result ≡ leg_of numbers params }
 {
-    DrivePlan {
+    let [vehicle, crossing, first, lead, resend] = numbers;
+    let plan = DrivePlan {
         first,
         lead,
         resend,
@@ -93,6 +95,11 @@ fn plan(first: u32, lead: u32, resend: u32, params: Params) -> DrivePlan
         changes: Changes::none(),
         cancel: None,
         ahead: false,
+    };
+    GridLine::Leg {
+        vehicle,
+        crossing,
+        plan,
     }
 }
 
@@ -101,14 +108,11 @@ fn plan(first: u32, lead: u32, resend: u32, params: Params) -> DrivePlan
 fn leg(words: &mut Words<'_>) -> Result<GridLine, LineKind>
     ensures { result ≡ leg_in words.old }
 {
-    let [vehicle, crossing, first, lead, resend] = numbers::<5>(words)?;
-    let params = params(words)?;
-    let plan = plan(first, lead, resend, params);
-    Ok(GridLine::Leg {
-        vehicle,
-        crossing,
-        plan,
-    })
+    let numbers = numbers::<5>(words)?;
+    match params(words) {
+        Ok(params) => Ok(leg_of(numbers, params)),
+        Err(kind) => Err(kind),
+    }
 }
 
 // A line of any script.
