@@ -2,6 +2,7 @@
 
 ghost use Rattle.std.specs.Prelude.{◌≡◌, ℕ, ◌<◌, ◌&&◌, ◌||◌, true, length};
 ghost use Rattle.aim_geometry.specs.Rects.{tile_at};
+ghost use Rattle.aim_paths.specs.LaneTiles.{in_lane_tiles};
 ghost use Rattle.aim_paths.specs.Policies.{has_lane as has_lane_of};
 ghost use Rattle.aim_light.specs.Claimed.{is_other, is_tile_of};
 
@@ -16,11 +17,20 @@ pub fn claimed_rows(layout: &Layout, lanes: u16, except: Option<u8>) -> [u64; 64
     let _ground = layout.ground();
     let mut rows = [0; 64];
     for lane in 0..layout.lanes() as u8 {
-        if is_counted(lanes, except, lane) {
-            unite(&mut rows, &lane_rows(layout, lane));
-        }
+        unite_counted(&mut rows, layout, lanes, except, lane);
     }
     rows
+}
+
+// Sets the bits of the lane's tiles too, if the lane is one of the set and not the one excepted.
+fn unite_counted(rows: &mut [u64; 64], layout: &Layout, lanes: u16, except: Option<u8>, lane: u8)
+    requires few { lane < 16 }
+    requires there { lane < length layout.now.lanes }
+    ensures { (row col : ℕ) → row < 64 → col < 64 → tile_at rows.new row col ≡ (tile_at rows.old row col || (is_other except lane && has_lane_of lanes lane && in_lane_tiles layout.now lane row col)) }
+{
+    if is_counted(lanes, except, lane) {
+        unite(rows, &lane_rows(layout, lane));
+    }
 }
 
 // Whether the lane is one of the set, and not the one excepted.

@@ -1,23 +1,32 @@
-use Rattle.std.proofs.Common.{refl, ℕ, ◌∙◌, ap, sym, ◌&&◌, ◌||◌}
-use Rattle.std.proofs.lemmas.List.{get_or-replicate}
-use Rattle.std.proofs.lemmas.Nat.Bits.{bit_at-zero}
+use Rattle.std.proofs.Common.{refl, length, ◌&&◌}
 use Rattle.aim_geometry.specs.Rects.{tile_at}
 use Rattle.aim_paths.specs.LaneTiles.{in_lane_tiles}
-use Rattle.aim_light.proofs.UnitedRows.{counted_more, or_false}
+use Rattle.aim_paths.specs.Policies.{has_lane}
+use Rattle.aim_light.specs.Claimed.{is_other}
+use Rattle.aim_light.proofs.Places.{fewer_left}
+use Rattle.aim_light.proofs.UnitedRows.{counted_more, lanes_fit, lane_few, lane_there, none_counted, all_counted}
 use Rattle.aim_light.proofs.claims.claimed_rows.Goals as goal
-use Rattle.aim_light.proofs.claims.claimed_rows.Goals.{then-is_counted, else-is_counted}
+
+pub overflow_cast-lane-end : goal.overflow_cast-lane-end
+overflow_cast-lane-end c = lanes_fit c.args.layout.now c.lanes-lane-end.result c.ground-ground.ensures.valid c.lanes-lane-end.ensures
 
 pub loop-lane-init : goal.loop-lane-init
-loop-lane-init c = λ row col r l. rw (get_or-replicate {A = ℕ} 64 row 0 0 r, bit_at-zero col) refl
+loop-lane-init c = λ row col r l. none_counted row col r
+
+pub unite_counted-requires-clause-few : goal.unite_counted-requires-clause-few
+unite_counted-requires-clause-few c = lane_few c.args.layout.now c.lanes-lane-end.result c.loop-lane.lane c.ground-ground.ensures.valid c.lanes-lane-end.ensures c.loop-lane-test.true
+
+pub unite_counted-requires-clause-there : goal.unite_counted-requires-clause-there
+unite_counted-requires-clause-there c = lane_there c.args.layout.now c.lanes-lane-end.result c.loop-lane.lane c.lanes-lane-end.ensures c.loop-lane-test.true
+
+pub loop-lane-smaller : goal.loop-lane-smaller
+loop-lane-smaller c = fewer_left c.loop-lane.lane c.lanes-lane-end.result c.loop-lane-test.true
 
 pub loop-lane-preserved : goal.loop-lane-preserved
 loop-lane-preserved c = λ row col r l.
-    let tile = in_lane_tiles c.args.layout.now c.loop-lane.lane row col in
-    elim c.if-is_counted.branch [
-      | then-is_counted w ↦ counted_more c.loop-lane.lane _ (tile_at c.loop-lane.rows row col) _ tile (c.loop-lane.invariant row col r l)
-          (ap (λ b. b && tile) (sym c.is_counted.ensures ∙ w.if-is_counted.true))
-          (ap (λ rows. tile_at rows row col) w.rows-is ∙ w.unite.ensures row col r ∙ ap (λ b. tile_at c.loop-lane.rows row col || b) (w.lane_rows.ensures row col r l))
-      | else-is_counted w ↦ counted_more c.loop-lane.lane _ (tile_at c.loop-lane.rows row col) _ _ (c.loop-lane.invariant row col r l)
-          (ap (λ b. b && tile) (sym c.is_counted.ensures ∙ w.if-is_counted.false))
-          (ap (λ rows. tile_at rows row col) w.rows-is ∙ sym (or_false (tile_at c.loop-lane.rows row col)))
-    ]
+    counted_more c.loop-lane.lane _ (tile_at c.loop-lane.rows row col) _ _ (c.loop-lane.invariant row col r l) refl (c.unite_counted.ensures row col r l)
+
+pub returns : goal.returns
+returns c = λ row col r l.
+    all_counted (λ k. is_other c.args.except k && has_lane c.args.lanes k && in_lane_tiles c.args.layout.now k row col) c.lanes-lane-end.result c.loop-lane.lane (length c.args.layout.now.lanes) (tile_at c.loop-lane.rows row col)
+    c.loop-lane.auto.lane-end c.loop-lane-test.false c.lanes-lane-end.ensures (c.loop-lane.invariant row col r l)
