@@ -1,5 +1,5 @@
 -- The policy at a step, by the changes.
-use Rattle.std.proofs.Common.{◌≡◌, ℕ, ◌-◌, ◌<◌, ◌≤◌, Bool, true, false, List, [], ◌∷◌, ◌++◌, length, map, get_or, Some, None, arith, refl, sym, ◌∙◌, ap, length-append, leb}
+use Rattle.std.proofs.Common.{◌≡◌, ℕ, ◌-◌, ◌<◌, ◌≤◌, Bool, true, false, List, [], ◌∷◌, ◌++◌, length, map, get_or, Some, None, arith, refl, sym, ◌∙◌, ap, subst, length-append}
 use Rattle.std.specs.Prelude.{nat_le, if◌then◌else◌, unwrap_or}
 use Rattle.std.proofs.Math.Decide.{dec_lt}
 use Rattle.std.proofs.Math.Seq.{get_or-append_seam}
@@ -10,10 +10,9 @@ use Rattle.aim_rules.specs.Kept.{policy_in}
 use Rattle.aim_rules.proofs.Lists.{from_front}
 use Rattle.aim_rules.proofs.PolicyLaws.{policy_in-snoc}
 use Rattle.aim_rules.proofs.TestLemmas.{is_most, more_than, le_true}
-use Rattle.std.specs.List.Sorted.{IsPartitionPoint}
 use Rattle.aim_switch.specs.declared.timelines.Change.{Change}
 use Rattle.aim_switch.specs.Changes.{start}
-use Rattle.aim_switch.specs.Stored.{change_of}
+use Rattle.aim_switch.specs.Stored.{IsPoint, change_of}
 
 pub policy_in-more : (fs : List InForce) (f : InForce) (s : ℕ) → policy_in (fs ++ f ∷ []) s ≡ (if nat_le f.from s then f else policy_in fs s)
 policy_in-more fs f s = policy_in-snoc fs (Some f) s ∙ go (nat_le f.from s)
@@ -83,19 +82,16 @@ policy_in-since s fs = from_front (λ fs. (policy_in fs s).from ≤ s) (omega ar
       | no l ↦ (let n : x.from ≤ s = omega arith in rw (policy_in-more xs x s, le_true x.from s n) n)
     ]
 
-abbrev IsPoint : List Change → ℕ → ℕ → Type 0
-IsPoint xs s k = IsPartitionPoint (λ y. leb y.from s ≡ true) (λ y. leb y.from s ≡ false) xs k
-
 none_stored : Change
 none_stored = record { policy = 0; from = 0 }
 
 -- what a search of the stored changes finds
-pub found_none : (xs : List Change) (s : ℕ) → IsPoint xs s 0 → start ≡ policy_in (map change_of xs) s
+found_none : (xs : List Change) (s : ℕ) → IsPoint xs s 0 → start ≡ policy_in (map change_of xs) s
 found_none xs s point = sym (policy_in-none s (map change_of xs) (λ j d l.
     let m : j < length xs = omega (arith, length-map xs change_of) in
     rw (get_or-map change_of xs j none_stored d m) (more_than (get_or xs j none_stored).from s (point.1 j none_stored (omega arith) m))))
 
-pub found_at : (xs : List Change) (s k : ℕ) (x : Change) → IsPoint xs s k → k ≤ length xs → 0 < k → x ≡ get_or xs (k - 1) x → change_of x ≡ policy_in (map change_of xs) s
+found_at : (xs : List Change) (s k : ℕ) (x : Change) → IsPoint xs s k → k ≤ length xs → 0 < k → x ≡ get_or xs (k - 1) x → change_of x ≡ policy_in (map change_of xs) s
 found_at xs s k x point most some read =
     let l : k - 1 < length xs = omega arith in
     let m : k - 1 < length (map change_of xs) = omega (arith, length-map xs change_of) in
@@ -105,3 +101,15 @@ found_at xs s k x point most some read =
     let n : j < length xs = omega (arith, length-map xs change_of) in
     rw (get_or-map change_of xs j none_stored start n) (more_than (get_or xs j none_stored).from s (point.1 j none_stored (omega arith) n)))
     ∙ here)
+
+-- the same of what the search read
+pub none_begun : (xs read : List Change) (fs : List InForce) (s n : ℕ) → read ≡ xs → map change_of xs ≡ fs → IsPoint read s n → n ≡ 0 → start ≡ policy_in fs s
+none_begun xs read fs s n same seen point none = subst (λ l. start ≡ policy_in l s) seen (found_none xs s (subst (λ k. IsPoint xs s k) none (subst (λ l. IsPoint l s n) same point)))
+
+pub last_begun : (xs read : List Change) (fs : List InForce) (s n : ℕ) (x : Change) → read ≡ xs → map change_of xs ≡ fs → IsPoint read s n → n ≤ length read → (n ≡ 0 → ⊥) → x ≡ get_or xs (n - 1) x → change_of x ≡ policy_in fs s
+last_begun xs read fs s n x same seen point most some at =
+    let few : n ≤ length xs = subst (λ (l : List Change). n ≤ length l) same most in
+    subst (λ l. change_of x ≡ policy_in l s) seen (found_at xs s n x (subst (λ l. IsPoint l s n) same point) few (omega (arith, some)) at)
+
+pub since_step : (fs : List InForce) (s : ℕ) (f : InForce) → f ≡ policy_in fs s → f.from ≤ s
+since_step fs s f is = subst (λ (g : InForce). g.from ≤ s) (sym is) (policy_in-since s fs)

@@ -2,11 +2,13 @@
 
 ghost use Rattle.std.specs.Prelude.{◌≡◌, ℕ, ◌+◌, ◌-◌, ◌<◌, ◌≤◌, [], ◌∷◌, ◌++◌, true, length, slice_get, IfOk};
 ghost use Rattle.std.specs.List.{list_any, range_with_len};
+ghost use Rattle.std.specs.List.Sorted.{IsNonDecreasingBy};
 ghost use Rattle.aim_geometry.specs.Rects.{tile_at};
 ghost use Rattle.aim_paths.specs.Policies.{has_lane};
 ghost use Rattle.aim_rules.specs.Kept.{policy_in};
 ghost use Rattle.aim_rules.specs.Lights.{green_lanes};
 ghost use Rattle.aim_switch.specs.Changes.{green_in, is_claimed_for, latest};
+ghost use Rattle.aim_switch.specs.Stored.{IsPoint};
 
 use crate::NoMemory;
 use aim_light::{Plan, claimed_rows, green_within};
@@ -42,6 +44,15 @@ impl Model for Timeline {
     ghost invariant = { λ t. (t.room ≤ vec_capacity t.changes) × (IsNonDecreasingBy (λ c. c.from) t.changes.items) };
 }
 
+// How many of the changes are in force at the step or were so before.
+fn begun(changes: &[Change], step: u32) -> usize
+    requires order { IsNonDecreasingBy (λ c. c.from) changes.now }
+    ensures most { result ≤ length changes.now }
+    ensures point { IsPoint changes.now step result }
+{
+    changes.partition_point(|change| change.from <= step)
+}
+
 impl Timeline {
     /// A timeline without a change, and with the room for so many.
     pub fn new(alloc: Global, room: u32) -> Result<Timeline, NoMemory>
@@ -67,10 +78,7 @@ impl Timeline {
         ensures policy { record { policy = result.0; from = result.1 } ≡ policy_in self.now.pushed step }
         ensures since { result.1 ≤ step }
     {
-        let count = self
-            .changes
-            .as_slice()
-            .partition_point(|change| change.from <= step);
+        let count = begun(&self.changes, step);
         if count == 0 {
             return (0, 0);
         }
