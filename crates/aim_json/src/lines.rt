@@ -7,7 +7,7 @@ ghost use Rattle.aim_msg.specs.Texts.{turn_word};
 ghost use Rattle.aim_msg.specs.Lines.{has_lane, KeepsRanges, IsFateList};
 ghost use Rattle.aim_json.specs.Members.{count, word, with_members, counts_of};
 ghost use Rattle.aim_json.specs.Objects.{members_in};
-ghost use Rattle.aim_json.specs.Lines.{body_json, fate_json, fates_json, json_of, lanes_json, message_json, of_form, of_kind, params_members, shape_members, vehicle_members, way_members, window_members};
+ghost use Rattle.aim_json.specs.Lines.{body_json, fate_json, fates_json, json_of, lanes_json, message_json, of_form, of_kind, params_members, shape_members, vehicle_members, window_members};
 
 use crate::object::Object;
 use crate::words::{class_text, kind_text, name_value, turn_text, window_text};
@@ -96,6 +96,22 @@ fn numbered(alloc: Global, form: &str, rows: &[(&str, u32)]) -> Result<Value, Al
 {
     let mut object = Object::with(alloc, "form", form)?;
     object.counts(rows)?;
+    Ok(object.value())
+}
+
+// A line of a form with no further member.
+fn bare(alloc: Global, form: &str) -> Result<Value, AllocError>
+    ensures { IfOk result (λ v. view v ≡ of_form form.now []) }
+{
+    Ok(Object::with(alloc, "form", form)?.value())
+}
+
+// A line of a form with one member, which is a number.
+fn single(alloc: Global, form: &str, name: &str, n: u32) -> Result<Value, AllocError>
+    ensures { IfOk result (λ v. view v ≡ of_form form.now ((name.now, count n) ∷ [])) }
+{
+    let mut object = Object::with(alloc, "form", form)?;
+    object.count(name, u64::from(n))?;
     Ok(object.value())
 }
 
@@ -272,19 +288,40 @@ fn put_window(object: &mut Object, version: u8, ahead: bool) -> Result<(), Alloc
     Ok(())
 }
 
-// The plan with these numbers.
+// Adds the numbers that a plan begins with.
+fn put_start(
+    object: &mut Object,
+    vehicle: u32,
+    first: u32,
+    lead: u32,
+    resend: u32,
+) -> Result<(), AllocError>
+    ensures { OnOk result (members_in object.new ≡ with_members ((codes "v", count vehicle) ∷ (codes "first", count first) ∷ (codes "lead", count lead) ∷ (codes "resend", count resend) ∷ []) (members_in object.old)) }
+{
+    object.counts(&[
+        ("v", vehicle),
+        ("first", first),
+        ("lead", lead),
+        ("resend", resend),
+    ])
+}
+
+// A line of the form `plan` in a script of that version.
 #[tactic(auto, using(crate::proofs::Lists::with_members_append))]
 fn plan_value(
     alloc: Global,
     version: u8,
-    rows: &[(&str, u32)],
+    vehicle: u32,
+    first: u32,
+    lead: u32,
+    resend: u32,
     params: &Params,
     ahead: bool,
 ) -> Result<Value, AllocError>
-    ensures { IfOk result (λ v. view v ≡ of_form (codes "plan") ((counts_of rows.now ++ way_members params.now) ++ (vehicle_members params.now ++ window_members version ahead))) }
+    ensures { IfOk result (λ v. view v ≡ json_of version (Line.PlanFor vehicle first lead resend params.now ahead)) }
 {
     let mut object = Object::with(alloc, "form", "plan")?;
-    object.counts(rows)?;
+    put_start(&mut object, vehicle, first, lead, resend)?;
     put_way(&mut object, params.lane, params.turn)?;
     put_vehicle(&mut object, params)?;
     put_window(&mut object, version, ahead)?;
@@ -328,30 +365,48 @@ fn link_value(
     Ok(object.value())
 }
 
+// A line of the form `change`.
+fn change_value(alloc: Global, vehicle: u32, step: u32, lead: u32) -> Result<Value, AllocError>
+    ensures { IfOk result (λ v. view v ≡ json_of 1 (Line.ChangeAt vehicle step lead)) }
+{
+    numbered(
+        alloc,
+        "change",
+        &[("v", vehicle), ("step", step), ("lead", lead)],
+    )
+}
+
+// A line of the form `cancel`.
+fn cancel_value(alloc: Global, vehicle: u32, step: u32) -> Result<Value, AllocError>
+    ensures { IfOk result (λ v. view v ≡ json_of 1 (Line.CancelAt vehicle step)) }
+{
+    numbered(alloc, "cancel", &[("v", vehicle), ("step", step)])
+}
+
 /// The value of a line of a script of that version.
 pub(crate) fn line_value(alloc: Global, version: u8, line: &Line) -> Result<Value, AllocError>
     requires { KeepsRanges version line.now }
     ensures { IfOk result (λ v. view v ≡ json_of version line.now) }
 {
     match line {
-        Line::Version(n) => numbered(alloc, "aim", &[("n", *n)]),
+        Line::Version(n) => single(alloc, "aim", "n", *n),
         Line::Grid(grid) => grid_value(alloc, grid),
         Line::Times(times) => times5_value(alloc, times),
         Line::Times6(times) => times6_value(alloc, times),
-        Line::Lanes(n) => numbered(alloc, "lanes", &[("n", *n)]),
+        Line::Lanes(n) => single(alloc, "lanes", "n", *n),
         Line::Move { lane, turn, shape } => move_value(alloc, *lane, *turn, shape),
         Line::Policy { name, kind } => policy_value(alloc, name, *kind),
         Line::Phase { red, green, lanes } => phase_value(alloc, *red, *green, *lanes),
-        Line::Vehicles(n) => numbered(alloc, "vehicles", &[("n", *n)]),
-        Line::Begin => numbered(alloc, "begin", &[]),
+        Line::Vehicles(n) => single(alloc, "vehicles", "n", *n),
+        Line::Begin => bare(alloc, "begin"),
         Line::Event {
             vehicle,
             moment,
             message,
         } => event_value(alloc, *vehicle, *moment, message),
         Line::SwitchTo { moment, name } => switch_value(alloc, *moment, name),
-        Line::StopAt { moment } => numbered(alloc, "stop", &[("moment", *moment)]),
-        Line::Until(step) => numbered(alloc, "until", &[("step", *step)]),
+        Line::StopAt { moment } => single(alloc, "stop", "moment", *moment),
+        Line::Until(step) => single(alloc, "until", "step", *step),
         Line::PlanFor {
             vehicle,
             first,
@@ -360,31 +415,16 @@ pub(crate) fn line_value(alloc: Global, version: u8, line: &Line) -> Result<Valu
             params,
             ahead,
         } => plan_value(
-            alloc,
-            version,
-            &[
-                ("v", *vehicle),
-                ("first", *first),
-                ("lead", *lead),
-                ("resend", *resend),
-            ],
-            params,
-            *ahead,
+            alloc, version, *vehicle, *first, *lead, *resend, params, *ahead,
         ),
         Line::ChangeAt {
             vehicle,
             step,
             lead,
-        } => numbered(
-            alloc,
-            "change",
-            &[("v", *vehicle), ("step", *step), ("lead", *lead)],
-        ),
-        Line::CancelAt { vehicle, step } => {
-            numbered(alloc, "cancel", &[("v", *vehicle), ("step", *step)])
-        }
+        } => change_value(alloc, *vehicle, *step, *lead),
+        Line::CancelAt { vehicle, step } => cancel_value(alloc, *vehicle, *step),
         Line::Up { vehicle, fates } => link_value(alloc, "up", *vehicle, fates),
         Line::Down { vehicle, fates } => link_value(alloc, "down", *vehicle, fates),
-        Line::End => numbered(alloc, "end", &[]),
+        Line::End => bare(alloc, "end"),
     }
 }
