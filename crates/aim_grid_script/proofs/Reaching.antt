@@ -1,5 +1,6 @@
 -- What a script of several crossings comes to, line after line.
-use Rattle.std.proofs.Common.{◌≡◌, ◌⊎◌, inl, inr, ℕ, zero, suc, ◌+◌, ◌<◌, ◌≤◌, List, [], ◌∷◌, ◌++◌, length, take, Option, Some, None, Result, Ok, Err, IfSome, IfOk, refl, sym, ap, ◌∙◌, subst, length-append, Bool, true, false, arith, slice_get}
+use Rattle.std.proofs.Common.{◌≡◌, ◌⊎◌, inl, inr, ℕ, zero, suc, ◌+◌, ◌-◌, ◌<◌, ◌≤◌, Fits, w32, List, [], ◌∷◌, ◌++◌, length, take, Option, Some, None, Result, Ok, Err, IfSome, IfOk, refl, sym, ap, ◌∙◌, subst, length-append, Bool, true, false, arith, slice_get}
+use Rattle.std.specs.Bool.{OnFalse, OnTrue}
 use Rattle.std.specs.Option.{unwrap_or}
 use Rattle.std.specs.Io.KnownBytes.{Consumes, IsAtEnd, Keeps}
 use Rattle.std.proofs.KnownBytes.{prepend_known-nil}
@@ -9,8 +10,8 @@ use Rattle.aim_io.specs.declared.lines.LineFault.{LineFault}
 use Rattle.aim_io.specs.declared.lines.LineFault.TheVariants.{Read, Long, Bytes, Lines}
 use Rattle.aim_io.specs.Causes.{Rose}
 use Rattle.aim_io.specs.Known.{WhereKnown}
-use Rattle.aim_io.specs.Lines.{InputFault, LongLine, TooManyBytes, TooManyLines, fault_of, Outcome, Line, Stop, HasNoEnd, IsOpen}
-use Rattle.aim_io.specs.Reader.{Reader, input, coming, fresh, Answers, IsSound, KnowsEnd, taken_by, after_call}
+use Rattle.aim_io.specs.Lines.{InputFault, LongLine, TooManyBytes, TooManyLines, fault_of, Outcome, Line, Stop, HasNoEnd, IsOpen, ShowsFault, ShowsNothing}
+use Rattle.aim_io.specs.Reader.{Reader, input, coming, fresh, Answers, Gave, IsSound, KnowsEnd, taken_by, after_call}
 use Rattle.aim_io.specs.Taken.{TookLines}
 use Rattle.aim_io.proofs.LoopLemmas.{decides_line, decided_line, decided_end, decided_fault, took_line, took_none, took_kept, took_part}
 use Rattle.aim_plans.specs.Scripts.{TakesAtMost}
@@ -37,7 +38,7 @@ use Rattle.aim_routes.specs.Verdicts.{Judgement, Verdict, at_end, decides, goes_
 use Rattle.aim_grid_script.specs.declared.endings.GridEnding.{GridEnding}
 use Rattle.aim_grid_script.specs.declared.endings.GridEnding.TheVariants as ending
 use Rattle.aim_grid_script.specs.Endings.{Ended, of_fault as ending_of_fault, of_refusal}
-use Rattle.aim_grid_script.specs.LinesRead.{IsLast}
+use Rattle.aim_grid_script.specs.LinesRead.{Comes, GoesTo, IsBroken, IsLast, IsStopped, IsTaken, IsTold, Steps}
 use Rattle.aim_grid_script.specs.Scripts.{Decides, IsGrid, Reads}
 use Rattle.aim_grid_script.specs.Short.{StopsShort, TookScript, script_after}
 
@@ -130,7 +131,7 @@ script_more start (x ∷ lines) line before e = at (judge start (Line x)) refl (
 script_push : (lines : List (List ℕ)) (line : List ℕ) (before : List GridLine) (l : GridLine) → script_after [] lines ≡ Some before → judge before (Line line) ≡ goes_on l → script_after [] (lines ++ line ∷ []) ≡ Some (before ++ l ∷ [])
 script_push lines line before l e j = script_more [] lines line before e ∙ rw j refl
 
-pub goes_further : (all then now : Option (List ℕ)) (old new : Reader) (stage next : Stage) → Reached all then old stage → ((before : List GridLine) → Stands before stage → Judged before new.line (Ok next)) → Answers old new then now (Ok true)
+goes_further : (all then now : Option (List ℕ)) (old new : Reader) (stage next : Stage) → Reached all then old stage → ((before : List GridLine) → Stands before stage → Judged before new.line (Ok next)) → Answers old new then now (Ok true)
     → Consumes then now (taken_by new true) → new ≡ after_call old new true → old.ended ≡ false → IsOpen new.line → Reached all now new next
 goes_further all then now old new stage next r judged answers taken after going line =
     let j = judged r.before r.stands in
@@ -165,16 +166,16 @@ begins_fresh left stage stands = record {
   took = λ still. record { lines = []; took = subst (λ now. TookLines left now []) (sym (prepend_known-nil left)) (took_none left); is = refl };
 }
 
-pub begins : (left : Option (List ℕ)) (reader : Reader) (stage : Stage) → reader ≡ fresh → Stands [] stage → Reached left (input reader left) reader stage
+begins : (left : Option (List ℕ)) (reader : Reader) (stage : Stage) → reader ≡ fresh → Stands [] stage → Reached left (input reader left) reader stage
 begins left reader stage new stands = subst (λ r. Reached left (input r left) r stage) (sym new) (begins_fresh left stage stands)
 
-pub begins_sound : (reader : Reader) → reader ≡ fresh → IsSound reader
+begins_sound : (reader : Reader) → reader ≡ fresh → IsSound reader
 begins_sound reader new = subst IsSound (sym new) (record { few = omega arith; read = omega arith; ended = λ e. refl })
 
-pub begins_knowing : (reader : Reader) (left : Option (List ℕ)) → reader ≡ fresh → KnowsEnd reader left
+begins_knowing : (reader : Reader) (left : Option (List ℕ)) → reader ≡ fresh → KnowsEnd reader left
 begins_knowing reader left new e = absurd (cc (ap (λ (r : Reader). r.ended) new, e))
 
-pub begins_placed : (reader : Reader) (left : Option (List ℕ)) → reader ≡ fresh → Placed left (input reader left) reader.place
+begins_placed : (reader : Reader) (left : Option (List ℕ)) → reader ≡ fresh → Placed left (input reader left) reader.place
 begins_placed reader left new = subst (λ r. Placed left (input r left) r.place) (sym new) (subst (λ now. Placed left now 0) (sym (prepend_known-nil left)) (placed_start left))
 
 -- ---- a line that decides
@@ -183,7 +184,7 @@ line_decides : (before : List GridLine) (d : GridDecision) (old new : Reader) (a
 line_decides before d old new all then now j known answers =
     decides_all before d all (decided_line (verdict_from before) grid_verdict (decided before d) old new all then now (λ more. rw j refl) known answers)
 
-pub is_refused : (all then now : Option (List ℕ)) (old new : Reader) (stage : Stage) (number : ℕ) (refused : Refusal) → Reached all then old stage → ((before : List GridLine) → Stands before stage → Judged before new.line (Err refused)) → number ≡ old.given + 1
+is_refused : (all then now : Option (List ℕ)) (old new : Reader) (stage : Stage) (number : ℕ) (refused : Refusal) → Reached all then old stage → ((before : List GridLine) → Stands before stage → Judged before new.line (Err refused)) → number ≡ old.given + 1
     → Answers old new then now (Ok true) → Reads all (Err (of_refusal number refused))
 is_refused all then now old new stage number (refusal.Bad k) r judged count answers =
     let same : number_after r.before ≡ number = omega (arith, r.count, count) in
@@ -192,7 +193,7 @@ is_refused all then now old new stage number (refusal.Limit which) r judged coun
 is_refused all then now old new stage number refusal.NoMemory r judged count answers = tt
 
 -- a refused line is no failing source
-pub refused_not_read : (number : ℕ) (refused : Refusal) → of_refusal number refused ≡ ending.Read → ⊥
+refused_not_read : (number : ℕ) (refused : Refusal) → of_refusal number refused ≡ ending.Read → ⊥
 refused_not_read number (refusal.Bad k) e = cc
 refused_not_read number (refusal.Limit which) e = cc
 refused_not_read number refusal.NoMemory e = cc
@@ -214,28 +215,28 @@ fault_decides : (all then now : Option (List ℕ)) (old new : Reader) (before : 
 fault_decides all then now old new before fault other known answers =
     decides_all before (fault_decision fault) all (decided_fault (verdict_from before) grid_verdict (λ f. decided before (fault_decision f)) old new all then now fault other (fault_told before) known answers)
 
-pub is_faulty : (all then now : Option (List ℕ)) (old new : Reader) (stage : Stage) (fault : LineFault) → Reached all then old stage → Answers old new then now (Err fault) → Reads all (Err (ending_of_fault fault))
+is_faulty : (all then now : Option (List ℕ)) (old new : Reader) (stage : Stage) (fault : LineFault) → Reached all then old stage → Answers old new then now (Err fault) → Reads all (Err (ending_of_fault fault))
 is_faulty all then now old new stage Read r answers = tt
 is_faulty all then now old new stage (Long number) r answers = fault_decides all then now old new r.before (Long number) (λ e. cc) r.leaves answers
 is_faulty all then now old new stage Bytes r answers = fault_decides all then now old new r.before Bytes (λ e. cc) r.leaves answers
 is_faulty all then now old new stage Lines r answers = fault_decides all then now old new r.before Lines (λ e. cc) r.leaves answers
 
 -- the source has failed
-pub fault_is_read : (fault : LineFault) → ending_of_fault fault ≡ ending.Read → fault ≡ Read
+fault_is_read : (fault : LineFault) → ending_of_fault fault ≡ ending.Read → fault ≡ Read
 fault_is_read Read e = refl
 fault_is_read (Long number) e = absurd (cc)
 fault_is_read Bytes e = absurd (cc)
 fault_is_read Lines e = absurd (cc)
 
 -- the count rose since it was first asked for
-pub rose_later : (first before now : ℕ) → first ≤ before → Rose before now → Rose first now
+rose_later : (first before now : ℕ) → first ≤ before → Rose before now → Rose first now
 rose_later first before now later rose = grind arith
 
 -- what a fault leaves of the reader
 abbrev pub Failed : Reader → Reader → LineFault → Type 0
 Failed old new fault = new ≡ record old { held = new.held; line = []; fault = Some fault }
 
-pub stops_short : (all then left : Option (List ℕ)) (old new : Reader) (stage : Stage) (fault : LineFault) → Reached all then old stage → Failed old new fault → Keeps then (input new left) → new.ended ≡ false → HasNoEnd new.held → StopsShort all left
+stops_short : (all then left : Option (List ℕ)) (old new : Reader) (stage : Stage) (fault : LineFault) → Reached all then old stage → Failed old new fault → Keeps then (input new left) → new.ended ≡ false → HasNoEnd new.held → StopsShort all left
 stops_short all then left old new stage fault r after keeps going none =
     let before = r.took (sym (ap (λ (x : Reader). x.ended) after) ∙ going) in record {
       lines = before.lines;
@@ -245,12 +246,12 @@ stops_short all then left old new stage fault r after keeps going none =
     }
 
 -- so much was taken where the reader failed
-pub failed_most : (all then left : Option (List ℕ)) (old new : Reader) (fault : LineFault) → Placed all then old.place → Failed old new fault → Keeps then (input new left) → IsSound new → TakesAtMost 67108865 all left
+failed_most : (all then left : Option (List ℕ)) (old new : Reader) (fault : LineFault) → Placed all then old.place → Failed old new fault → Keeps then (input new left) → IsSound new → TakesAtMost 67108865 all left
 failed_most all then left old new fault placed after keeps sound =
     most all left new (subst (Placed all (input new left)) (sym (ap (λ (x : Reader). x.place) after)) (placed_kept all then (input new left) old.place placed keeps)) sound
 
 -- so much was taken where it gave a line, or none at the end
-pub given_most : (all then left : Option (List ℕ)) (old new : Reader) (more : Bool) → Placed all then old.place → Consumes then (input new left) (taken_by new more) → new ≡ after_call old new more → IsSound new → TakesAtMost 67108865 all left
+given_most : (all then left : Option (List ℕ)) (old new : Reader) (more : Bool) → Placed all then old.place → Consumes then (input new left) (taken_by new more) → new ≡ after_call old new more → IsSound new → TakesAtMost 67108865 all left
 given_most all then left old new more placed taken after sound = most all left new (placed_more all then (input new left) old new more placed taken after) sound
 
 -- ---- the end of the input
@@ -303,3 +304,151 @@ ends_at (Err ending) left at = tt
 
 pub is_read : (why : GridEnding) → ◌≡◌ {A = Result Routes GridEnding} (Err why) (Err ending.Read) → why ≡ ending.Read
 is_read why e = cc
+
+-- ---- what one line comes to
+
+pub gave : (old new : Reader) (left after : Option (List ℕ)) (told more : Bool) → told ≡ more → old.fault ≡ None → OnTrue told (IsOpen new.line) → Consumes (input old left) (input new after) (taken_by new told) → new ≡ after_call old new told
+    → OnFalse told (new.ended ≡ true) → OnTrue told (old.ended ≡ false) → (new.ended ≡ true → OnTrue told (0 < length new.line) × (new.held ≡ [])) → IsSound new → (KnowsEnd old left → KnowsEnd new after)
+    → (KnowsEnd old left → old.fault ≡ None → Answers old new (input old left) (input new after) (Ok told)) → Gave old new left after more
+gave old new left after told more is no_fault line taken same end going last sound knows step = subst (Gave old new left after) is (record {
+  no_fault = no_fault;
+  is_open = line;
+  taken = taken;
+  after = same;
+  end = end;
+  going = going;
+  last = last;
+  sound = sound;
+  knows = knows;
+  step = λ known. step known no_fault;
+})
+
+pub takes : (old new : Reader) (left after : Option (List ℕ)) (now then : ℕ) (stage next : Stage) (number : ℕ) (line : List ℕ) → now ≤ then → line ≡ new.line → Gave old new left after true → IsTold stage line number (Ok next)
+    → Steps old new left after now then stage number (Ok (next, true))
+takes old new left after now then stage next number line later is gave told = record { later = later; to = (gave, subst (λ l. IsTold stage l number (Ok next)) is told) }
+
+pub refuses : (old new : Reader) (left after : Option (List ℕ)) (now then : ℕ) (stage : Stage) (why : GridEnding) (number : ℕ) (line : List ℕ) → now ≤ then → line ≡ new.line → Gave old new left after true → IsTold stage line number (Err why)
+    → Steps old new left after now then stage number (Err why)
+refuses old new left after now then stage why number line later is gave told = record { later = later; to = inr (gave, subst (λ l. IsTold stage l number (Err why)) is told) }
+
+pub breaks : (old new : Reader) (left after : Option (List ℕ)) (now then : ℕ) (stage : Stage) (number : ℕ) (fault : LineFault) (why : GridEnding) → now ≤ then → why ≡ ending_of_fault fault → old.fault ≡ None → IsSound new
+    → (old.fault ≡ None → Failed old new fault) → Keeps (input old left) (input new after) → (old.fault ≡ None → (fault ≡ Read) ⊎ ShowsFault new.given new.place new.held fault)
+    → (◌≡◌ {A = Result Bool LineFault} (Err fault) (Err Read) → old.fault ≡ None → ShowsNothing new.given new.place new.held × (new.ended ≡ false) × Rose now then)
+    → (KnowsEnd old left → old.fault ≡ None → Answers old new (input old left) (input new after) (Err fault)) → Steps old new left after now then stage number (Err why)
+breaks old new left after now then stage number fault why later is none sound failed keeps shows read step = record {
+  later = later;
+  to = inl (record {
+    fault = fault;
+    is = is;
+    faulted = record {
+      after = failed none;
+      keeps = keeps;
+      shows = shows none;
+      read = λ e. let told = read (ap Err e) none in (told.0, told.1);
+      step = λ known. step known none;
+    };
+    rose = λ e. let told = read (ap Err e) none in told.2;
+    sound = sound;
+  });
+}
+
+-- ---- a step: one line more, or what is answered
+
+-- what is known of the reading of a script: what it had at the start, and what there is now
+pub record Reading (all left : Option (List ℕ)) (first now : ℕ) (reader : Reader) (stage : Stage) (number : ℕ) : Type 0 where
+  pub reached : Reached all (input reader left) reader stage
+  pub counted : number ≡ reader.given
+  pub no_fault : reader.fault ≡ None
+  pub sound : IsSound reader
+  pub knows : KnowsEnd reader left
+  pub placed : Placed all (input reader left) reader.place
+  pub later : first ≤ now
+
+pub reading_begins : (left : Option (List ℕ)) (faults : ℕ) (reader : Reader) (stage : Stage) → reader ≡ fresh → Stands [] stage → Reading left left faults faults reader stage 0
+reading_begins left faults reader stage new stands = record {
+  reached = begins left reader stage new stands;
+  counted = sym (ap (λ (r : Reader). r.given) new);
+  no_fault = ap (λ (r : Reader). r.fault) new;
+  sound = begins_sound reader new;
+  knows = begins_knowing reader left new;
+  placed = begins_placed reader left new;
+  later = omega arith;
+}
+
+-- no more lines than allowed, so the next number fits
+reading_few : (all left : Option (List ℕ)) (first now : ℕ) (reader : Reader) (stage : Stage) (number : ℕ) → Reading all left first now reader stage number → number ≤ 262144
+reading_few all left first now reader stage number i = omega (arith, i.counted, i.sound.few)
+
+pub reading_fits : (all left : Option (List ℕ)) (first now : ℕ) (reader : Reader) (stage : Stage) (number : ℕ) → Reading all left first now reader stage number → Fits w32 (number + 1)
+reading_fits all left first now reader stage number i = let few = reading_few all left first now reader stage number i in omega (arith, few)
+
+pub reading_goes : (all left after : Option (List ℕ)) (first now then : ℕ) (old new : Reader) (stage next : Stage) (number : ℕ) (more : Bool) → more ≡ true → Reading all left first now old stage number → Steps old new left after now then stage (number + 1) (Ok (next, more))
+    → Reading all after first then new next (number + 1)
+reading_goes all left after first now then old new stage next number more is i step =
+    let s : Steps old new left after now then stage (number + 1) (Ok (next, true)) = subst (λ b. Steps old new left after now then stage (number + 1) (Ok (next, b))) is step in
+    let gave = s.to.0 in
+    let given : new.given ≡ old.given + 1 = ap (λ (r : Reader). r.given) gave.after in record {
+      reached = goes_further all (input old left) (input new after) old new stage next i.reached s.to.1 (gave.step i.knows) gave.taken gave.after gave.going gave.is_open;
+      counted = omega (arith, i.counted, given);
+      no_fault = ap (λ (r : Reader). r.fault) gave.after ∙ i.no_fault;
+      sound = gave.sound;
+      knows = gave.knows i.knows;
+      placed = placed_more all (input old left) (input new after) old new true i.placed gave.taken gave.after;
+      later = omega (arith, i.later, s.later);
+    }
+
+-- then there are fewer lines to come
+pub reading_less : (all left after : Option (List ℕ)) (first now then : ℕ) (old new : Reader) (stage next : Stage) (number : ℕ) (more : Bool) → more ≡ true → Reading all left first now old stage number → Steps old new left after now then stage (number + 1) (Ok (next, more))
+    → 262144 - (number + 1) < 262144 - number
+reading_less all left after first now then old new stage next number more is i step =
+    let few = reading_few all after first then new next (number + 1) (reading_goes all left after first now then old new stage next number more is i step) in omega (arith, few)
+
+pub reading_ends : (all left after : Option (List ℕ)) (first now then : ℕ) (old new : Reader) (stage same : Stage) (number : ℕ) (more : Bool) → more ≡ false → Reading all left first now old stage number → Steps old new left after now then stage (number + 1) (Ok (same, more))
+    → Comes all after first then (Ok (same, number))
+reading_ends all left after first now then old new stage same number more is i step =
+    let s : Steps old new left after now then stage (number + 1) (Ok (same, false)) = subst (λ b. Steps old new left after now then stage (number + 1) (Ok (same, b))) is step in
+    let gave = s.to.0 in (
+      subst (λ x. IsLast all x number) (sym s.to.1) (last all (input old left) (input new after) old new stage number i.reached i.counted i.sound (gave.step i.knows)),
+      gave.knows i.knows gave.end,
+    )
+
+reading_breaks : (all left after : Option (List ℕ)) (first now then : ℕ) (old new : Reader) (stage : Stage) (number : ℕ) (why : GridEnding) → Reading all left first now old stage number → IsBroken old new left after now then why
+    → IsStopped all after first then why
+reading_breaks all left after first now then old new stage number why i b =
+    let f = b.faulted in record {
+      reads = subst (λ w. Reads all (Err w)) (sym b.is) (is_faulty all (input old left) (input new after) old new stage b.fault i.reached (f.step i.knows));
+      short = λ is.
+          let read = f.read (fault_is_read b.fault (sym b.is ∙ is)) in
+          stops_short all (input old left) after old new stage b.fault i.reached f.after f.keeps read.1 read.0.is_open.no_end;
+      rose = λ is. rose_later first now then i.later (b.rose (fault_is_read b.fault (sym b.is ∙ is)));
+    }
+
+reading_refuses : (all left after : Option (List ℕ)) (first now then : ℕ) (old new : Reader) (stage : Stage) (number : ℕ) (why : GridEnding) → Reading all left first now old stage number → Gave old new left after true → IsTold stage new.line (number + 1) (Err why)
+    → IsStopped all after first then why
+reading_refuses all left after first now then old new stage number why i gave told = record {
+  reads = subst (λ w. Reads all (Err w)) (sym told.1) (is_refused all (input old left) (input new after) old new stage (number + 1) told.0 i.reached told.2 (ap (λ n. n + 1) i.counted) (gave.step i.knows));
+  short = λ is. absurd (refused_not_read (number + 1) told.0 (sym told.1 ∙ is));
+  rose = λ is. absurd (refused_not_read (number + 1) told.0 (sym told.1 ∙ is));
+}
+
+pub reading_stops : (all left after : Option (List ℕ)) (first now then : ℕ) (old new : Reader) (stage : Stage) (number : ℕ) (why : GridEnding) → Reading all left first now old stage number → Steps old new left after now then stage (number + 1) (Err why)
+    → Comes all after first then (Err why)
+reading_stops all left after first now then old new stage number why i s = at s.to
+  where
+    at : IsBroken old new left after now then why ⊎ (Gave old new left after true × IsTold stage new.line (number + 1) (Err why)) → IsStopped all after first then why
+    at (inl b) = reading_breaks all left after first now then old new stage number why i b
+    at (inr g) = reading_refuses all left after first now then old new stage number why i g.0 g.1
+
+-- what was taken of the source with such a step
+pub reading_took : (all left after : Option (List ℕ)) (first now then : ℕ) (old new : Reader) (stage : Stage) (number : ℕ) (result : Result (Stage × Bool) GridEnding) → Reading all left first now old stage number
+    → Steps old new left after now then stage (number + 1) result → IsTaken all after first then
+reading_took all left after first now then old new stage number result i s = record { later = omega (arith, i.later, s.later); most = at result s.to }
+  where
+    by : (more : Bool) → Gave old new left after more → TakesAtMost 67108865 all after
+    by more gave = given_most all (input old left) after old new more i.placed gave.taken gave.after gave.sound
+
+    at : (result : Result (Stage × Bool) GridEnding) → GoesTo old new left after now then stage (number + 1) result → TakesAtMost 67108865 all after
+    at (Ok (next, true)) to = by true to.0
+    at (Ok (same, false)) to = by false to.0
+    at (Err why) (inl b) = failed_most all (input old left) after old new b.fault i.placed b.faulted.after b.faulted.keeps b.sound
+    at (Err why) (inr g) = by true g.0

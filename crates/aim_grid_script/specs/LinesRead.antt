@@ -1,7 +1,10 @@
 -- What reading the lines of a script comes to, up to the end of the input. No public clause cites this file.
-use Rattle.std.specs.Prelude.{◌≡◌, ◌≤◌, ℕ, List, length, Option, IfSome, Result, Ok, Err}
+use Rattle.std.specs.Prelude.{◌≡◌, ◌≤◌, ◌⊎◌, ℕ, List, length, Bool, true, false, Option, IfSome, Result, Ok, Err}
 use Rattle.std.specs.Io.KnownBytes.{IsAtEnd}
+use Rattle.aim_io.specs.declared.lines.LineFault.{LineFault}
+use Rattle.aim_io.specs.declared.lines.LineFault.TheVariants as cause
 use Rattle.aim_io.specs.Causes.{Rose}
+use Rattle.aim_io.specs.Reader.{Faulted, Gave, IsSound, Reader}
 use Rattle.aim_plans.specs.Scripts.{TakesAtMost}
 use Rattle.aim_grid_read.specs.declared.lines.GridLine.{GridLine}
 use Rattle.aim_routes.specs.declared.stages.Stage.{Stage}
@@ -10,7 +13,7 @@ use Rattle.aim_routes.specs.Stages.{Judged, Stands}
 use Rattle.aim_routes.specs.Verdicts.{Verdict, at_end, grid_verdict}
 use Rattle.aim_grid_script.specs.declared.endings.GridEnding.{GridEnding}
 use Rattle.aim_grid_script.specs.declared.endings.GridEnding.TheVariants as ending
-use Rattle.aim_grid_script.specs.Endings.{of_refusal}
+use Rattle.aim_grid_script.specs.Endings.{of_fault, of_refusal}
 use Rattle.aim_grid_script.specs.Scripts.{IsGrid, Reads}
 use Rattle.aim_grid_script.specs.Short.{StopsShort}
 
@@ -18,6 +21,27 @@ use Rattle.aim_grid_script.specs.Short.{StopsShort}
 abbrev pub IsTold : Stage → List ℕ → ℕ → Result Stage GridEnding → Type 0
 IsTold stage line number (Ok next) = (before : List GridLine) → Stands before stage → Judged before line (Ok next)
 IsTold stage line number (Err why) = (refused : Refusal) × (why ≡ of_refusal number refused) × ((before : List GridLine) → Stands before stage → Judged before line (Err refused))
+
+-- the reader answered a fault, which ends the reading so
+pub record IsBroken (old new : Reader) (left_old left_new : Option (List ℕ)) (faults_old faults_new : ℕ) (why : GridEnding) : Type 0 where
+  pub fault : LineFault
+  pub is : why ≡ of_fault fault
+  pub faulted : Faulted old new left_old left_new fault
+  pub rose : fault ≡ cause.Read → Rose faults_old faults_new
+  pub sound : IsSound new
+
+-- what asking for the line of that number, and taking it, comes to: with `true` the stage behind it, with `false` the same
+-- stage at the end of the input
+abbrev pub GoesTo : (old new : Reader) (left_old left_new : Option (List ℕ)) (faults_old faults_new : ℕ) → Stage → ℕ → Result (Stage × Bool) GridEnding → Type 0
+GoesTo old new left_old left_new faults_old faults_new stage number (Ok (next, true)) = Gave old new left_old left_new true × IsTold stage new.line number (Ok next)
+GoesTo old new left_old left_new faults_old faults_new stage number (Ok (same, false)) = Gave old new left_old left_new false × (same ≡ stage)
+GoesTo old new left_old left_new faults_old faults_new stage number (Err why) =
+    IsBroken old new left_old left_new faults_old faults_new why ⊎ (Gave old new left_old left_new true × IsTold stage new.line number (Err why))
+
+-- it comes to that, and the source's faults are no fewer
+pub record Steps (old new : Reader) (left_old left_new : Option (List ℕ)) (faults_old faults_new : ℕ) (stage : Stage) (number : ℕ) (result : Result (Stage × Bool) GridEnding) : Type 0 where
+  pub later : faults_old ≤ faults_new
+  pub to : GoesTo old new left_old left_new faults_old faults_new stage number result
 
 -- the stage stands for all lines of the input, and they are so many
 pub record IsLast (left : Option (List ℕ)) (stage : Stage) (lines : ℕ) : Type 0 where

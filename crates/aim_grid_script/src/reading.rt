@@ -1,6 +1,6 @@
 //! Reads a script of several crossings.
 
-ghost use Rattle.std.specs.Prelude.{◌≡◌, ◌≤◌, Err, IfOk, List, length};
+ghost use Rattle.std.specs.Prelude.{◌≡◌, ◌≤◌, Err, IfOk, List, None, length};
 ghost use Rattle.std.specs.Io.KnownBytes.{IsAtEnd};
 ghost use Rattle.aim_io.specs.Causes.{Rose};
 ghost use Rattle.aim_plans.specs.Scripts.{TakesAtMost};
@@ -8,7 +8,7 @@ ghost use Rattle.aim_grid_read.specs.declared.lines.GridLine.{GridLine};
 ghost use Rattle.aim_routes.specs.Fits.{AreWithin};
 ghost use Rattle.aim_routes.specs.Stages.{Stands};
 ghost use Rattle.aim_grid_script.specs.Endings.{Ended};
-ghost use Rattle.aim_grid_script.specs.LinesRead.{Comes, IsTaken, IsTold};
+ghost use Rattle.aim_grid_script.specs.LinesRead.{Comes, IsTaken, IsTold, Steps};
 ghost use Rattle.aim_grid_script.specs.Scripts.{Reads};
 ghost use Rattle.aim_grid_script.specs.Short.{StopsShort};
 
@@ -39,6 +39,30 @@ fn take_line(stage: Stage, alloc: Global, line: &[u8], number: u32) -> Result<St
     }
 }
 
+// Reads the line of that number and takes it: the stage behind it, or at the end of the input, with `false`, the same.
+fn read_line<S: Source>(
+    alloc: Global,
+    source: &mut S,
+    reader: &mut LineReader,
+    stage: Stage,
+    number: u32,
+) -> Result<(Stage, bool), GridEnding>
+    requires { reader.old.fault ≡ None }
+    ensures { Steps reader.old reader.new (S.left source.old) (S.left source.new) (S.faults source.old) (S.faults source.new) stage number result }
+{
+    match reader.advance(source) {
+        Ok(true) => match take_line(stage, alloc, reader.line(), number) {
+            Ok(next) => Ok((next, true)),
+            Err(ending) => Err(ending),
+        },
+        Ok(false) => Ok((stage, false)),
+        Err(fault) => {
+            drop(stage);
+            Err(of_fault(fault))
+        }
+    }
+}
+
 // Reads lines to the end of the input, or to the line that decides: the stage behind them, and how many they are.
 fn read_lines<S: Source>(alloc: Global, source: &mut S) -> Result<(Stage, u32), GridEnding>
     ensures taken { IsTaken (S.left source.old) (S.left source.new) (S.faults source.old) (S.faults source.new) }
@@ -48,19 +72,13 @@ fn read_lines<S: Source>(alloc: Global, source: &mut S) -> Result<(Stage, u32), 
     let mut stage = Stage::new();
     let mut number = 0u32;
     'lines: loop {
-        match reader.advance(source) {
-            Err(fault) => {
-                drop(stage);
-                return Err(of_fault(fault));
-            }
-            Ok(false) => return Ok((stage, number)),
-            Ok(true) => {
+        match read_line(alloc, source, &mut reader, stage, number + 1) {
+            Ok((next, true)) => {
+                stage = next;
                 number += 1;
-                match take_line(stage, alloc, reader.line(), number) {
-                    Ok(next) => stage = next,
-                    Err(ending) => return Err(ending),
-                }
             }
+            Ok((last, false)) => return Ok((last, number)),
+            Err(ending) => return Err(ending),
         }
     }
 }
