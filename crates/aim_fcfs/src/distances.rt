@@ -27,6 +27,24 @@ impl Model for Distances {
     ghost invariant = { λ d. length d.least ≡ 16 };
 }
 
+// The lesser of a distance that is kept, if there is one, and another.
+fn lesser(kept: Option<u64>, distance: u64) -> u64
+    ensures { result ≡ min_with distance kept }
+{
+    match kept {
+        Some(least) => least.min(distance),
+        None => distance,
+    }
+}
+
+// Sets the lane's distance.
+fn set(least: &mut [Option<u64>; 16], lane: u8, distance: Option<u64>)
+    requires { lane < 16 }
+    ensures { least.new ≡ slice_set least.old lane distance }
+{
+    least[lane as usize] = distance;
+}
+
 impl Distances {
     /// No distance was refused.
     pub fn new() -> Distances
@@ -52,11 +70,8 @@ impl Distances {
         requires { lane < 16 }
         ensures { self.new ≡ slice_set self.old lane (Some (min_with distance (slice_index_or self.old lane None))) }
     {
-        let least = match self.least[lane as usize] {
-            Some(least) => least.min(distance),
-            None => distance,
-        };
-        self.least[lane as usize] = Some(least);
+        let least = lesser(self.least[lane as usize], distance);
+        set(&mut self.least, lane, Some(least));
     }
 
     /// A vehicle of the lane was confirmed.
@@ -64,7 +79,7 @@ impl Distances {
         requires { lane < 16 }
         ensures { self.new ≡ slice_set self.old lane None }
     {
-        self.least[lane as usize] = None;
+        set(&mut self.least, lane, None);
     }
 }
 
