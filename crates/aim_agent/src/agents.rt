@@ -34,7 +34,7 @@ pub trait Gate: Sync {
 }
 
 /// Why an agent does nothing more.
-#[derive(Clone, Copy, Debug, PartialEq, Eq)]
+#[derive(Clone, Copy, PartialEq, Eq)]
 pub enum Trouble {
     /// There was no memory for an item of its log or of a link.
     NoMemory,

@@ -16,7 +16,7 @@ use std::marker::Model;
 use std::sync::ledger::Ledger;
 
 /// Why a book isn't opened.
-#[derive(Clone, Copy, Debug, PartialEq, Eq)]
+#[derive(Clone, Copy, Debug)]
 pub enum OpenFault {
     /// There is no memory for the book.
     NoMemory,
@@ -27,7 +27,7 @@ pub enum OpenFault {
 }
 
 /// The journal has as many entries as it has room for.
-#[derive(Clone, Copy, Debug, PartialEq, Eq)]
+#[derive(Clone, Copy, PartialEq, Eq)]
 pub struct Full;
 
 /// A manager for one thread. Its journal has room for a fixed number of entries, and is always a legal history. All its

@@ -27,7 +27,7 @@ const ROOM: usize = 4096;
 
 /// Why no next line is given. A reader that has answered a fault answers it again for ever, and
 /// reads no more.
-#[derive(Clone, Copy, Debug, PartialEq, Eq)]
+#[derive(Clone, Copy, PartialEq, Eq)]
 pub enum LineFault {
     /// The source has failed.
     Read,

@@ -8,7 +8,7 @@ ghost use Rattle.aim_io.specs.Pieces.{TellsLast};
 
 /// A read or a write has failed: the count of faults of the source or sink rose in that call, or
 /// stands at its last value, 18,446,744,073,709,551,615.
-#[derive(Clone, Copy, Debug, PartialEq, Eq)]
+#[derive(Clone, Copy, PartialEq, Eq)]
 pub struct Failed;
 
 /// Where bytes come from. A source may tell which bytes it has left, and counts its faults.

@@ -18,7 +18,7 @@ use serde_json::Value;
 use std::alloc::Global;
 
 /// Why bytes aren't read as a line.
-#[derive(Clone, Copy, PartialEq, Eq, Debug, Drop)]
+#[derive(Clone, Copy, PartialEq, Eq)]
 pub enum JsonFault {
     /// Memory has run out.
     NoMemory,

@@ -57,7 +57,7 @@ pub enum MoveShape {
 }
 
 /// A policy's name: `len` bytes, 1 to 16, each a lower-case letter, a digit or `-`. The rest of the array is 0.
-#[derive(Clone, Copy, PartialEq, Eq)]
+#[derive(Clone, Copy)]
 pub struct Name {
     pub bytes: [u8; 16],
     pub len: u8,

@@ -12,7 +12,7 @@ use std::alloc::Global;
 use std::marker::Model;
 
 /// There is no room for a further span.
-#[derive(Clone, Copy, Debug)]
+#[derive(Clone, Copy)]
 pub struct SheetFull;
 
 /// Spans in order, in the room that was made for them.

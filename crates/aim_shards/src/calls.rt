@@ -24,7 +24,7 @@ pub struct Claimed {
 }
 
 /// The caller has made all its calls.
-#[derive(Clone, Copy, Drop)]
+#[derive(Clone, Copy)]
 pub struct Full;
 
 /// What is called while the turns are held.

@@ -24,7 +24,7 @@ use std::alloc::{AllocError, Global};
 use std::snapshot::Snapshot;
 
 /// Why shards were not opened.
-#[derive(Clone, Copy, Debug, PartialEq, Eq)]
+#[derive(Clone, Copy, Debug)]
 pub enum ShardFault {
     /// There is no memory for it.
     NoMemory,
