@@ -10,8 +10,9 @@ took the time since the one before it was written. Behind each function stand th
 checker's, Proof the search for the answers that nobody wrote, Answers those that somebody did.
 
 What a library has is read once, in the first function that needs it, most often in Kinds, Tie, Given, Code or Reads, and no cut
-of that function makes it less. Two functions may each be the first for some of the libraries. So of each of these sorts the two
-longest parts of a crate count as long as the third, and what they took beyond is told behind the share.
+of that function makes it less. So where a function's parts come to more than a twelfth, the crate is checked once more, from
+nothing but these parts. What the same sorts of parts of the other functions take then beyond what they had taken is their
+reading, which had fallen to this function by chance: it isn't counted, and told behind the share.
 """
 import collections
 import os
@@ -23,6 +24,7 @@ import time
 
 ROOT = os.path.dirname(os.path.dirname(os.path.realpath(__file__)))
 READING = ("Kinds", "Tie", "Given", "Code", "Reads")
+TWELFTH = 1 / 12
 
 
 def part_of(name, crate):
@@ -38,21 +40,31 @@ def part_of(name, crate):
     return ".".join(whole), words[-1]
 
 
-def check(crate):
-    """Checks the crate from nothing with one job, and gives when it began, since the epoch, and when it ended."""
+def kept(crate):
+    """Gives the folder of what the crate's newest check keeps."""
+    folders = [entry.path for entry in os.scandir(f"{ROOT}/crates/{crate}/out/incremental") if entry.is_dir()]
+    return max(folders, key=os.path.getmtime)
+
+
+def check(crate, function=None):
+    """Checks the crate with one job, from nothing or but the parts of this function, and gives how long it took, in seconds, and
+    the files that it wrote with the times at which it did, in this order; None where it took others from elsewhere."""
     folder = f"{ROOT}/crates/{crate}"
     subprocess.run(["rt", "check"], cwd=folder, check=True, capture_output=True)
-    shutil.rmtree(f"{folder}/out/incremental")
+    if function is None:
+        shutil.rmtree(f"{folder}/out/incremental")
+    else:
+        for entry in list(os.scandir(kept(crate))):
+            if entry.name.startswith("Rattle") and (part_of(entry.name, crate) or ("",))[0] != function:
+                os.remove(entry.path)
     start = time.time()
     subprocess.run(["rt", "check", "--jobs", "1"], cwd=folder, check=True, capture_output=True)
-    return start, time.time()
-
-
-def written(crate):
-    """Gives the kept files of the crate's newest check with the times at which they were written, in this order."""
-    kept = [entry.path for entry in os.scandir(f"{ROOT}/crates/{crate}/out/incremental") if entry.is_dir()]
-    newest = max(kept, key=os.path.getmtime)
-    return sorted((entry.stat().st_mtime, entry.name) for entry in os.scandir(newest) if entry.name.startswith("Rattle"))
+    end = time.time()
+    files = sorted((entry.stat().st_mtime, entry.name) for entry in os.scandir(kept(crate)) if entry.name.startswith("Rattle"))
+    own = [function] if function else []
+    if any(when < start and (part_of(name, crate) or ("",))[0] not in own for when, name in files):
+        return None
+    return end - start, [(when, name) for when, name in files if when >= start]
 
 
 def times(crate, files):
@@ -65,32 +77,40 @@ def times(crate, files):
     return functions
 
 
-def first_readings(functions):
-    """Gives how many seconds of each function are the reading of what no function before it had needed."""
-    beyond = collections.Counter()
-    for sort in READING:
-        took = [(sum(took for part, took in parts.items() if part.split("-")[0] == sort), function)
-                for function, parts in functions.items()]
-        took.sort(reverse=True)
-        for seconds, function in took[:2] if len(took) > 2 else []:
-            beyond[function] += seconds - took[2][0]
-    return beyond
+def reading(parts):
+    """Gives how many of a function's seconds went into parts in which libraries are read."""
+    return sum(took for part, took in parts.items() if part.split("-")[0] in READING)
+
+
+def fallen(crate, function, functions):
+    """Gives how many seconds of this function were the reading of what the others need too, or None where it can't be told."""
+    found = check(crate, function)
+    if found is None:
+        return None
+    without = times(crate, found[1])
+    if function in without:
+        return None
+    return sum(max(0, reading(without[other]) - reading(functions[other])) for other in functions if other != function)
 
 
 def show(crate, least, most):
-    start, end = check(crate)
-    files = written(crate)
-    if files[0][0] < start:
+    found = check(crate)
+    if found is None:
         print(f"{crate}: the toolchain took parts of it from another copy on this machine, so nothing is known", flush=True)
         return
+    whole, files = found
     functions = times(crate, files)
-    beyond = first_readings(functions)
-    own = {function: sum(parts.values()) - beyond[function] for function, parts in functions.items()}
-    whole = end - start
-    for function, seconds in sorted(own.items(), key=lambda found: -found[1])[:most]:
+    shares = []
+    for function, parts in functions.items():
+        took = sum(parts.values())
+        others = fallen(crate, function, functions) if took > TWELFTH * whole and reading(parts) > 0 else 0
+        if others is None:
+            print(f"{crate}: what {function} read for others can't be told", flush=True)
+        shares.append((took - (others or 0), others or 0, function))
+    for seconds, others, function in sorted(shares, reverse=True)[:most]:
         if seconds > least * whole:
             of_it = ", ".join(f"{part} {took:.1f}" for part, took in functions[function].most_common(3))
-            print(f"{crate:16} {whole:6.1f} s {100 * seconds / whole:5.1f} % +{100 * beyond[function] / whole:4.1f} %"
+            print(f"{crate:16} {whole:6.1f} s {100 * seconds / whole:5.1f} % +{100 * others / whole:4.1f} %"
                   f"  {function} ({of_it})", flush=True)
 
 
@@ -101,7 +121,7 @@ def main():
         return
     for crate in sorted(os.listdir(f"{ROOT}/crates")):
         if crate.startswith("aim") and os.path.isdir(f"{ROOT}/crates/{crate}/out"):
-            show(crate, 1 / 12, 100)
+            show(crate, TWELFTH, 100)
 
 
 if __name__ == "__main__":
