@@ -1,9 +1,9 @@
 -- Elements of lists in which one element was changed or added.
-use Rattle.std.proofs.Common.{◌≡◌, ℕ, ◌<◌, ◌≤◌, ◌⊎◌, inl, inr, List, [], ◌∷◌, ◌++◌, length, slice_get, get_or, set, replicate, Some, arith, refl, sym, ◌∙◌, ap, length-append}
+use Rattle.std.proofs.Common.{◌≡◌, ℕ, ◌+◌, ◌<◌, ◌≤◌, ◌⊎◌, inl, inr, List, [], ◌∷◌, ◌++◌, length, slice_get, get_or, set, replicate, take, Some, arith, refl, sym, ◌∙◌, ap, length-append}
 use Rattle.std.proofs.Math.Decide.{dec_lt}
-use Rattle.std.proofs.Math.Seq.{get_or-append_seam}
+use Rattle.std.proofs.Math.Seq.{get_or-append_seam, take-length}
 use Rattle.std.proofs.lemmas.Bool.{cases_eq}
-use Rattle.std.proofs.lemmas.List.{length-set, get_or-set_same, get_or-set_other, get_or_append_left, get_or-replicate, length-replicate}
+use Rattle.std.proofs.lemmas.List.{length-set, replicate_more, take_more, get_or-set_same, get_or-set_other, get_or_append_left, get_or-replicate, length-replicate}
 use Rattle.std.proofs.lemmas.Option.{get_or_from_slice_get, slice_get-get_or, slice_get_past, slice_get_read, slice_get_within}
 
 pub slice_get-set_same : {X : Type 0} (xs : List X) (k : ℕ) (y : X) → k < length xs → slice_get (set xs k y) k ≡ Some y
@@ -49,3 +49,17 @@ replicate_all n j y p e =
 -- an element that was read is the element, whatever stands for those that aren't there
 pub get_or-read : {X : Type 0} (xs : List X) (k : ℕ) (x d : X) → k < length xs → x ≡ get_or xs k x → get_or xs k d ≡ x
 get_or-read xs k x d h e = get_or_from_slice_get xs k x d (slice_get_read xs (length xs) k x refl h e)
+
+-- a list that has one more of the same
+pub same_more : {X : Type 0} (n : ℕ) (y x : X) (old new : List X) → old ≡ replicate n y → x ≡ y → new ≡ old ++ x ∷ [] → new ≡ replicate (n + 1) y
+same_more n y x old new o is e = rw (e, o, is) (replicate_more n y)
+
+-- a copy that has one more of the elements
+pub copied_more : {X : Type 0} (xs : List X) (k : ℕ) (x d : X) (old new : List X) → k < length xs → old ≡ take k xs → x ≡ get_or xs k d → new ≡ old ++ x ∷ [] → new ≡ take (k + 1) xs
+copied_more xs k x d old new h o is e = rw (e, o, is) (sym (take_more xs k d h))
+
+-- a copy that has all the elements
+pub copied_all : {X : Type 0} (xs : List X) (k : ℕ) (copies : List X) → k ≤ length xs → length xs ≤ k → copies ≡ take k xs → copies ≡ xs
+copied_all xs k copies most all e =
+    let end : k ≡ length xs = omega arith in
+    rw (e, end) (take-length xs)

@@ -7,3 +7,4 @@ pub mod SoundLemmas
 pub mod ShareLemmas
 pub mod AddedLemmas
 pub mod MadeLemmas
+pub mod PolicyLemmas

@@ -54,3 +54,40 @@ place_inside (Line x0 y0 x1 y1 m) side j h l =
 place_inside (Curve x0 y0 x1 y1 x2 y2 m) side j h l =
     let e = inside (Curve x0 y0 x1 y1 x2 y2 m) side h in
     (on_curve_le x0 x1 x2 m j side l e.0 e.1.1.0 e.1.1.1.1.0, on_curve_le y0 y1 y2 m j side l e.1.0 e.1.1.1.0 e.1.1.1.1.1.0)
+
+-- the numbers of a line and of a curve within their ranges, and one of their stations
+pub record IsLine (side x0 y0 x1 y1 m j : ℕ) : Type 0 where
+  pub parts : 0 < m
+  pub most : m ≤ 4096
+  pub place : j ≤ m
+  pub from_x : x0 ≤ side
+  pub from_y : y0 ≤ side
+  pub to_x : x1 ≤ side
+  pub to_y : y1 ≤ side
+
+pub record IsCurve (side x0 y0 x1 y1 x2 y2 m j : ℕ) : Type 0 where
+  pub parts : 0 < m
+  pub most : m ≤ 4096
+  pub place : j ≤ m
+  pub from_x : x0 ≤ side
+  pub from_y : y0 ≤ side
+  pub by_x : x1 ≤ side
+  pub by_y : y1 ≤ side
+  pub to_x : x2 ≤ side
+  pub to_y : y2 ≤ side
+
+pub line_numbers : (s : Shape) (side x0 y0 x1 y1 m j : ℕ) → s ≡ Line x0 y0 x1 y1 m → is_bad_shape side s ≡ false → j ≤ parts_of s → IsLine side x0 y0 x1 y1 m j
+line_numbers s side x0 y0 x1 y1 m j is h l =
+    let b : is_bad_shape side (Line x0 y0 x1 y1 m) ≡ false = rw is at h in
+    let k : j ≤ m = rw is at l in
+    let p = parts_most (Line x0 y0 x1 y1 m) side b in
+    let e = inside (Line x0 y0 x1 y1 m) side b in
+    record { parts = p.0; most = p.1; place = k; from_x = e.0; from_y = e.1.0; to_x = e.1.1.0; to_y = e.1.1.1.0 }
+
+pub curve_numbers : (s : Shape) (side x0 y0 x1 y1 x2 y2 m j : ℕ) → s ≡ Curve x0 y0 x1 y1 x2 y2 m → is_bad_shape side s ≡ false → j ≤ parts_of s → IsCurve side x0 y0 x1 y1 x2 y2 m j
+curve_numbers s side x0 y0 x1 y1 x2 y2 m j is h l =
+    let b : is_bad_shape side (Curve x0 y0 x1 y1 x2 y2 m) ≡ false = rw is at h in
+    let k : j ≤ m = rw is at l in
+    let p = parts_most (Curve x0 y0 x1 y1 x2 y2 m) side b in
+    let e = inside (Curve x0 y0 x1 y1 x2 y2 m) side b in
+    record { parts = p.0; most = p.1; place = k; from_x = e.0; from_y = e.1.0; by_x = e.1.1.0; by_y = e.1.1.1.0; to_x = e.1.1.1.1.0; to_y = e.1.1.1.1.1.0 }

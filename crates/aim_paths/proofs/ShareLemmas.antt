@@ -51,3 +51,8 @@ share_tile-none i a b x y h k few none =
     let e = has_bit_and (slice_index x r) (slice_index y r) c in
     rw (← h r c (omega arith) (omega arith), ← k r c (omega arith) (omega arith))
     (sym e ∙ rw (none r (omega arith), bit_at-zero c) refl)))
+
+-- a row in which two words share a bit
+pub bit_shared : (a b : List ℕ) (row : ℕ) → row < 64 → (bit_and (slice_index a row) (slice_index b row) ≡ 0 → ⊥) → slice_index a row < 2 ^ 64 →
+    (r : ℕ) × (r < 64) × (0 < bit_and (slice_index a r) (slice_index b r)) × (slice_index a r < 2 ^ 64)
+bit_shared a b row h n f = (row, h, omega arith, f)

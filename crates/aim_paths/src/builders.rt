@@ -335,7 +335,7 @@ fn bare_lanes(alloc: Global, lanes: u32) -> Result<Vec<LanePaths>, NoMemory>
 {
     let mut bare = Vec::with_capacity(alloc, lanes as usize)?;
     for _ in 0..lanes {
-        bare.push(LanePaths::new(alloc)?)?;
+        bare.push_reserved(LanePaths::new(alloc)?);
     }
     Ok(bare)
 }
@@ -346,7 +346,7 @@ fn no_tiles(alloc: Global, lanes: u32) -> Result<Vec<[u64; 64]>, NoMemory>
 {
     let mut tiles = Vec::with_capacity(alloc, lanes as usize)?;
     for _ in 0..lanes {
-        tiles.push([0; 64])?;
+        tiles.push_reserved([0; 64]);
     }
     Ok(tiles)
 }

@@ -129,11 +129,14 @@ impl Layout {
     pub fn copy(&self) -> Result<Layout, NoMemory>
         ensures { IfOk result (λ l. l ≡ self.now) }
     {
+        let policies = copy_policies(self.alloc, self.policies.as_slice())?;
+        let tiles = Vec::from_slice(self.alloc, self.tiles.as_slice())?;
+        let lanes = copy_lanes(self.alloc, self.lanes.as_slice())?;
         Ok(Layout {
             ground: self.ground,
-            lanes: copy_lanes(self.alloc, self.lanes.as_slice())?,
-            tiles: copy_tiles(self.alloc, self.tiles.as_slice())?,
-            policies: copy_policies(self.alloc, self.policies.as_slice())?,
+            lanes,
+            tiles,
+            policies,
             alloc: self.alloc,
         })
     }
@@ -145,17 +148,8 @@ fn copy_lanes(alloc: Global, lanes: &[LanePaths]) -> Result<Vec<LanePaths>, NoMe
 {
     let mut copies = Vec::with_capacity(alloc, lanes.len())?;
     for lane in lanes {
-        copies.push(lane.copy(alloc)?)?;
+        copies.push_reserved(lane.copy(alloc)?);
     }
-    Ok(copies)
-}
-
-// Equal rows.
-fn copy_tiles(alloc: Global, tiles: &[[u64; 64]]) -> Result<Vec<[u64; 64]>, NoMemory>
-    ensures { IfOk result (λ v. v.items ≡ tiles.now) }
-{
-    let mut copies = Vec::with_capacity(alloc, tiles.len())?;
-    copies.extend_from_slice(tiles)?;
     Ok(copies)
 }
 
@@ -165,7 +159,7 @@ fn copy_policies(alloc: Global, policies: &[StoredPolicy]) -> Result<Vec<StoredP
 {
     let mut copies = Vec::with_capacity(alloc, policies.len())?;
     for policy in policies {
-        copies.push(policy.copy())?;
+        copies.push_reserved(policy.copy());
     }
     Ok(copies)
 }

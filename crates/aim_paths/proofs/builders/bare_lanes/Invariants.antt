@@ -1,6 +1,10 @@
-use Rattle.std.proofs.Common.{◌≡◌, replicate}
+use Rattle.std.proofs.Common.{◌≡◌, ◌≤◌, replicate, vec_capacity, vec_len}
 use Rattle.aim_paths.specs.Building.{no_paths}
 use Rattle.aim_paths.proofs.builders.bare_lanes.Given as goal
 
 abbrev pub invariant-loop : goal.invariant-loop
-invariant-loop l = l.bare.items ≡ replicate l.counter no_paths
+invariant-loop l = record {
+  count : vec_len l.bare ≡ l.counter;
+  room : l.lanes ≤ vec_capacity l.bare;
+  same : l.bare.items ≡ replicate l.counter no_paths;
+}

@@ -1,9 +1,10 @@
-use Rattle.std.proofs.Common.{◌≡◌, ◌<◌, length, arith, get_or, []}
+use Rattle.std.proofs.Common.{◌≡◌, ◌<◌, length, arith, get_or, [], ◌∙◌}
 use Rattle.aim_paths.specs.Intersection.{Intersection}
 use Rattle.aim_paths.specs.Building.{no_paths}
 use Rattle.aim_paths.proofs.Elements.{get_or-read}
 use Rattle.aim_paths.proofs.LaneTileLemmas.{HasTiles-move}
 use Rattle.aim_paths.proofs.SoundLemmas.{IsMove, IsMove-tests, IsSound-move}
+use Rattle.aim_paths.proofs.ValidLemmas.{path_read}
 use Rattle.aim_paths.proofs.builders.Builder.put.Goals as goal
 
 pub invariant_of-self : goal.invariant_of-self
@@ -16,3 +17,27 @@ invariant_of-self c =
     let sound = IsSound-move i c.args.lane c.args.turn c.args.shape.now c.self.invariant.0 m in
     let tiles = HasTiles-move i c.args.lane c.args.turn c.args.shape.now c.self.inside.tiles.items c.add_path.new.rows m.there m.free c.self.invariant.1 (rw rows c.add_path.ensures.rows) in
     rw (c.add_path.ensures.paths, ← paths) (sound, tiles, c.self.invariant.2)
+
+pub index_mut-paths-requires : goal.index_mut-paths-requires
+index_mut-paths-requires c =
+    let i : Intersection = record { grid = c.self.inside.ground.grid; times = c.self.inside.ground.times; lanes = c.self.inside.lanes.items; policies = c.self.inside.policies.items } in
+    let m : IsMove i c.args.lane c.args.turn c.args.shape.now = IsMove-tests i c.args.lane c.args.turn c.args.shape.now (rw (← c.self.view_is) at c.requires) in
+    let l = m.there in omega arith
+
+pub index_mut-rows-requires : goal.index_mut-rows-requires
+index_mut-rows-requires c =
+    let i : Intersection = record { grid = c.self.inside.ground.grid; times = c.self.inside.ground.times; lanes = c.self.inside.lanes.items; policies = c.self.inside.policies.items } in
+    let m : IsMove i c.args.lane c.args.turn c.args.shape.now = IsMove-tests i c.args.lane c.args.turn c.args.shape.now (rw (← c.self.view_is) at c.requires) in
+    let t = c.self.invariant.1.count in let l = m.there in omega arith
+
+pub add_path-requires-clause-shape : goal.add_path-requires-clause-shape
+add_path-requires-clause-shape c =
+    let i : Intersection = record { grid = c.self.inside.ground.grid; times = c.self.inside.ground.times; lanes = c.self.inside.lanes.items; policies = c.self.inside.policies.items } in
+    let m : IsMove i c.args.lane c.args.turn c.args.shape.now = IsMove-tests i c.args.lane c.args.turn c.args.shape.now (rw (← c.self.view_is) at c.requires) in
+    m.shape
+
+pub add_path-requires-clause-none : goal.add_path-requires-clause-none
+add_path-requires-clause-none c =
+    let i : Intersection = record { grid = c.self.inside.ground.grid; times = c.self.inside.ground.times; lanes = c.self.inside.lanes.items; policies = c.self.inside.policies.items } in
+    let m : IsMove i c.args.lane c.args.turn c.args.shape.now = IsMove-tests i c.args.lane c.args.turn c.args.shape.now (rw (← c.self.view_is) at c.requires) in
+    path_read i c.args.lane c.args.turn c.index_mut-paths.result.now m.there c.index_mut-paths.ensures.value ∙ m.free

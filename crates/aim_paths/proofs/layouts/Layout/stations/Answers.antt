@@ -20,3 +20,8 @@ pub returns-else-lane-len-clause-stations : goal.returns-else-lane-len-clause-st
 returns-else-lane-len-clause-stations c =
     let past : length c.args.self.now.lanes ≤ c.args.lane = omega (arith, ap (λ i. length i.lanes) c.self.view_is) in
     sym (path_past c.args.self.now c.args.lane c.args.turn past)
+
+pub returns-then-lane-len-clause-stations : goal.returns-then-lane-len-clause-stations
+returns-then-lane-len-clause-stations c =
+    let i : Intersection = record { grid = c.self.inside.ground.grid; times = c.self.inside.ground.times; lanes = c.self.inside.lanes.items; policies = c.self.inside.policies.items } in
+    rw (← c.self.view_is) (c.stations.ensures ∙ path_read i c.args.lane c.args.turn c.index.result.now (omega arith) c.index.ensures)
