@@ -1,3 +1,4 @@
 pub mod RunLemmas
 pub mod OrderLemmas
 mod ShownLemmas
+mod EndingLemmas
