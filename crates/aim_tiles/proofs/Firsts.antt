@@ -1,5 +1,5 @@
 -- From the first hit of a run to the first taken cell.
-use Rattle.std.proofs.Common.{◌≡◌, ℕ, ◌+◌, ◌-◌, ◌<◌, ◌≤◌, Bool, true, false, not, ◌&&◌, List, length, get_or, take, drop, Option, Some, None, refl, sym, ap, subst, ◌∙◌, inl, inr, arith}
+use Rattle.std.proofs.Common.{◌≡◌, ◌≢◌, ℕ, ◌+◌, ◌-◌, ◌<◌, ◌≤◌, Bool, true, false, not, ◌&&◌, List, length, get_or, take, drop, Option, Some, None, refl, sym, ap, subst, ◌∙◌, inl, inr, arith}
 use Rattle.std.specs.Prelude.{IfSome, IfNone, is_some}
 use Rattle.std.specs.declared.cmp.Ordering.TheVariants.{Less, Equal}
 use Rattle.std.specs.Ordering.{is_le, nat_cmp}
@@ -26,6 +26,10 @@ some_then (Some x) P Q step is = step x is
 pub none_then : {X : Type 0} (o : Option X) (P : Type 0) → is_some o ≡ false → IfNone o P → P
 none_then None P _ is = is
 none_then (Some x) P some is = absurd (cc)
+
+pub not_none : {X : Type 0} (o : Option X) (P : Type 0) → true ≡ is_some o → IfNone o P
+not_none None P some = absurd (cc)
+not_none (Some x) P some = tt
 
 -- the spans from place at on, as many as count
 module _ (spans : List Span) (at : ℕ) (le : at ≤ length spans) where
@@ -71,6 +75,20 @@ module _ (spans : List Span) (at : ℕ) (le : at ≤ length spans) where
 
     pub run_tiles : (size : ℕ) → AreTiles size spans → AreTiles size (take count rest)
     run_tiles size tiles cell is = tiles cell (in_run cell is)
+
+    pub run_marked : AreMarked spans → (k : ℕ) (d : Span) → k < length (take count rest) → (get_or (take count rest) k d).mask ≢ 0
+    run_marked marked k d lt is =
+        let l : k < count = omega (arith, length-run) in
+        marked (at + k) d (omega (arith, length-rest)) (ap (λ (s : Span). s.mask) (sym (run_at k d l)) ∙ is)
+
+    pub run_masks : (masks : List ℕ) → length masks ≡ 64 → count ≤ 64 → length (take count masks) ≡ length (take count rest)
+    run_masks masks len few = omega (arith, length-run, length-take count masks)
+
+    pub run_within : at + count ≤ length spans
+    run_within = omega (arith, length-rest)
+
+    pub run_cost : (now before start : ℕ) → now ≤ before + length (take count rest) → before ≤ start + at → now ≤ start + (at + count)
+    run_cost now before start p q = omega (arith, length-run)
 
     module _ (test : Span → Cell → Bool) (clear : (k : ℕ) (d : Span) → k < at → IsClear test (get_or spans k d)) where
       -- the first hit of the run is that of the spans

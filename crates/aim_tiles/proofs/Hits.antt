@@ -1,8 +1,8 @@
 -- Where a span's mask and a word of a page share a bit.
-use Rattle.std.proofs.Common.{◌≡◌, ◌≢◌, ℕ, zero, suc, ◌+◌, ◌-◌, ◌*◌, ◌%◌, ◌^◌, ◌<◌, ◌≤◌, Bool, true, false, not, ◌&&◌, List, length, get_or, drop, refl, sym, ap, subst, ◌∙◌, arith, w64}
-use Rattle.std.specs.Prelude.{◌==◌, bit_and, nat_le, nat_lt, slice_range}
+use Rattle.std.proofs.Common.{◌≡◌, ◌≢◌, ℕ, zero, suc, ◌+◌, ◌-◌, ◌*◌, ◌%◌, ◌^◌, ◌<◌, ◌≤◌, Bool, true, false, not, ◌&&◌, List, length, get_or, drop, refl, sym, ap, subst, ◌∙◌, inl, inr, arith, w64}
+use Rattle.std.specs.Prelude.{◌==◌, bit_and, nat_lt, slice_range}
 use Rattle.std.specs.Int.{bit_at, bit_not, trailing_zeros}
-use Rattle.std.proofs.lemmas.Bool.{and_parts, and_from, and_left, both_ways, false_from_ne_true, eqb-true, eq-eqb, lt-ltb, leb-true, ltb-true}
+use Rattle.std.proofs.lemmas.Bool.{cases_lt, cases_eq, and_parts, and_from, and_left, both_ways, false_from_ne_true, eqb-true, eq-eqb, lt-ltb}
 use Rattle.std.proofs.lemmas.Nat.{and_le_l}
 use Rattle.std.proofs.lemmas.Nat.Bits.{bit_at_not, bit_at-lt, bit_at-trailing_zeros}
 use Rattle.std.proofs.lemmas.List.{get_or_default, get_or-drop, get_or-take}
@@ -10,7 +10,7 @@ use Rattle.std.proofs.lemmas.List.Folds.{list_any_at}
 use Rattle.aim_pool.specs.declared.spans.Span.{Span}
 use Rattle.aim_geometry.specs.Cells.{Cell, cell_at}
 use Rattle.aim_geometry.specs.Rects.{has_bit}
-use Rattle.aim_pool.specs.Spans.{is_at, in_span, in_spans}
+use Rattle.aim_pool.specs.Spans.{is_at, in_span, in_spans, AreMarked}
 use Rattle.aim_geometry.proofs.Bits.{has_bit_and}
 use Rattle.aim_pool.proofs.Masks.{no_bit}
 use Rattle.aim_tiles.specs.Cells.{in_box, in_range}
@@ -18,6 +18,7 @@ use Rattle.aim_tiles.specs.Pages.{place_of, has_mark, is_marked}
 use Rattle.aim_tiles.specs.Searches.{is_hit, IsClear, IsFirstHit, IsRun}
 use Rattle.aim_tiles.specs.Sheets.{AreTiles}
 use Rattle.aim_tiles.proofs.Sets.{InBox, box_parts}
+use Rattle.aim_tiles.proofs.Writes.{row_of_span}
 
 turned : (a : ℕ) → a < 2 → (1 - a == 1) ≡ not (a == 1)
 turned zero _ = refl
@@ -81,13 +82,6 @@ module _ (words : List ℕ) (size horizon now : ℕ) (few : size ≤ 64) (own : 
               let zero_bit : has_bit hit c ≡ false = ap (λ b. b == 1) (t.2 c lt) in
               both_ways (has_bit hit c) zero_bit (bit_meets c h.1 ∙ h.0))),
         )
-
--- steps that are not within the horizon
-pub outside_before : (now horizon step : ℕ) → step < now → in_range now horizon step ≢ true
-outside_before now horizon step before is = let from = leb-true now step (and_parts (nat_le now step) (nat_lt step (now + horizon)) is).0 in omega arith
-
-pub outside_after : (now horizon step : ℕ) → now + horizon ≤ step → in_range now horizon step ≢ true
-outside_after now horizon step after is = let to = ltb-true step (now + horizon) (and_parts (nat_le now step) (nat_lt step (now + horizon)) is).1 in omega arith
 
 -- a hit is within the horizon
 hit_range : (words : List ℕ) (size horizon now : ℕ) (own : List Span) (span : Span) (cell : Cell)
@@ -172,3 +166,39 @@ module _ (words : List ℕ) (size horizon place : ℕ) (run : List Span) (masks 
             before = before;
             lowest = λ d c below. at_default (λ (s : Span). is_hit words size horizon now own s (cell_at (get_or run k e).step (get_or run k e).row c) ≡ false) (h.2 c below) d;
           }
+
+  -- places of the run are passed in which nothing is hit
+  module _ (now : ℕ) (few : size ≤ 64) (own : List Span) (read : List ℕ) (is_read : read ≡ slice_range words place (place + length run)) (at : ℕ)
+      (before : (j : ℕ) (d : Span) → j < at → IsClear (is_hit words size horizon now own) (get_or run j d)) where
+    pub clear_to : (k m : ℕ) → k ≤ length run → m ≡ k → ((j : ℕ) → at ≤ j → j < m → bit_and (get_or masks j 0) (get_or read j 0) ≡ 0)
+        → (j : ℕ) (d : Span) → j < k → IsClear (is_hit words size horizon now own) (get_or run j d)
+    clear_to k m le same apart j d lt = elim (cases_lt j at) [
+      | inl earlier ↦ before j d earlier
+      | inr from ↦ run_apart now few own read is_read j (omega arith) (apart j from (omega arith)) d
+    ]
+
+    module _ (k m : ℕ) (within : k < m) (long : m ≡ length run) (apart : (j : ℕ) → at ≤ j → j < k → bit_and (get_or masks j 0) (get_or read j 0) ≡ 0)
+        (own_mask : ℕ) (fits : own_mask < 2 ^ 64) (is_own : (c : ℕ) → has_bit own_mask c ≡ in_spans own (cell_at (get_or run k e).step (get_or run k e).row c)) where
+      lt : k < length run
+      lt = omega arith
+
+      pub clear_past : bit_and (bit_and (get_or run k e).mask (get_or read k 0)) (bit_not w64 own_mask) ≡ 0 → (j : ℕ) (d : Span) → j < k + 1 → IsClear (is_hit words size horizon now own) (get_or run j d)
+      clear_past none j d below = elim (cases_eq j k) [
+        | inl here ↦ subst (λ m. IsClear (is_hit words size horizon now own) (get_or run m d)) (sym here) (run_own now few own read is_read k lt own_mask fits is_own none d)
+        | inr other ↦ clear_to k k (omega arith) refl apart j d (omega arith)
+      ]
+
+      pub hit_from : bit_and (bit_and (get_or run k e).mask (get_or read k 0)) (bit_not w64 own_mask) ≢ 0 → get_or masks k 0 < 2 ^ 64 → AreTiles size run → in_range now horizon (get_or run 0 e).step ≡ true
+          → IsFirstHit (is_hit words size horizon now own) run (cell_at (get_or run k e).step (get_or run k e).row (trailing_zeros w64 (bit_and (bit_and (get_or run k e).mask (get_or read k 0)) (bit_not w64 own_mask))))
+      hit_from some mask_fits tiles range =
+          run_hit now few own read is_read k lt own_mask fits is_own some (subst (λ (m : ℕ). m < 2 ^ 64) (is_run.mask k e lt) mask_fits) tiles range (clear_to k k (omega arith) refl apart)
+
+-- the rows of a run are those of a page
+pub run_fits : (run : List Span) (masks : List ℕ) (size : ℕ) (e : Span) → 0 < length run → IsRun run masks (length run) → AreMarked run → AreTiles size run → (get_or run 0 e).row + length run ≤ size
+run_fits run masks size e some is_run marked tiles =
+    let last : length run - 1 < length run = omega arith in
+    omega (arith, row_of_span run (length run - 1) e last marked size tiles, is_run.row (length run - 1) e last)
+
+-- what a test says of a step that isn't within the horizon
+pub no_range : (b : Bool) (now horizon step : ℕ) → b ≡ in_range now horizon step → b ≡ false → in_range now horizon step ≢ true
+no_range b now horizon step is off there = both_ways b off (is ∙ there)

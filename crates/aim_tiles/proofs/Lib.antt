@@ -6,3 +6,5 @@ pub mod Views
 pub mod Hits
 pub mod Firsts
 pub mod Bounds
+pub mod Fills
+pub mod Runs

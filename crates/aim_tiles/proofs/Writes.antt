@@ -107,6 +107,14 @@ module _ (words : List ℕ) (size horizon now : ℕ) (ahead : 0 < horizon) (span
         turned (suc zero) _ = refl
         turned (suc (suc a)) h = absurd (omega arith)
 
+-- the marks after a span's bits are taken from the word at its place, where the page's place is given by an equation
+pub unmarked_one : (words new : List ℕ) (size horizon now page : ℕ) (span : Span) → 0 < horizon → span.row < size → in_range now horizon span.step ≡ true → page ≡ span.step % horizon * size → page + size ≤ length words → size ≤ 64 → span.mask < 2 ^ 64
+    → new ≡ set words (page + span.row) (bit_and (get_or words (page + span.row) 0) (bit_not w64 span.mask))
+    → (cell : Cell) → in_box size horizon now cell ≡ true → has_mark new size horizon cell ≡ (has_mark words size horizon cell && not (in_span span cell))
+unmarked_one words new size horizon now page span ahead row range place within few fits is cell box =
+    ap (λ ws. has_mark ws size horizon cell) is
+    ∙ has_mark-unmark words size horizon now ahead span row range (page + span.row) (ap (λ x. x + span.row) place) (omega (arith, within, row)) cell box few fits
+
 -- a span's cells are told apart by what the spans have
 module _ (spans : List Span) (k : ℕ) (d : Span) (lt : k < length spans) (marked : AreMarked spans) where
   some_cell : (c : ℕ) × (in_spans spans (cell_at (get_or spans k d).step (get_or spans k d).row c) ≡ true)

@@ -41,7 +41,7 @@ fn unmark_span<L: Ledger>(pages: &mut Pages<L>, now: u32, span: Span, steps: &mu
     ensures cost { steps.new ≤ steps.old + 1 }
     ensures counted { steps.old ≤ steps.new }
 {
-    if now <= span.step && span.step < now + pages.horizon() {
+    if pages.has_page(now, span.step) {
         let page = pages.page(span.step);
         pages.unmark(page + span.row as usize, span.mask, steps);
     }

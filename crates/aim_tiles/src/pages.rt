@@ -2,6 +2,7 @@
 
 ghost use Rattle.std.specs.Prelude.{◌≡◌, ℕ, ◌+◌, ◌*◌, ◌%◌, ◌^◌, ◌<◌, ◌≤◌, bit_and, bit_or, IfOk, length, slice_index, slice_range, slice_set, replicate, vec_len};
 ghost use Rattle.std.specs.Int.{bit_not, w64};
+ghost use Rattle.aim_tiles.specs.Cells.{in_range};
 
 use crate::NoMemory;
 use crate::counters::Steps;
@@ -58,6 +59,15 @@ impl<L: Ledger> Pages<L> {
         self.horizon
     }
 
+    /// Whether the step is one of those from now on that have a page.
+    #[inline]
+    pub(crate) fn has_page(&self, now: u32, step: u32) -> bool
+        requires { now ≤ 1073741824 }
+        ensures { result ≡ in_range now self.now.horizon step }
+    {
+        now <= step && step < now + self.horizon
+    }
+
     /// Where the page of a step begins.
     #[inline]
     pub(crate) fn page(&self, step: u32) -> usize
@@ -91,6 +101,17 @@ impl<L: Ledger> Pages<L> {
     {
         steps.add(count);
         &self.words[at..at + count]
+    }
+
+    /// The words of so many rows of a step, from one row on.
+    #[inline]
+    pub(crate) fn read_rows(&self, step: u32, row: u8, count: usize, steps: &mut Steps<L>) -> &[u64]
+        requires { row + count ≤ self.now.size }
+        ensures words { result.now ≡ slice_range self.now.words.items (step % self.now.horizon * self.now.size + row) (step % self.now.horizon * self.now.size + row + count) }
+        ensures len { length result.now ≡ count }
+        ensures cost { steps.new ≡ steps.old + count }
+    {
+        self.read(self.page(step) + row as usize, count, steps)
     }
 
     /// Sets the mask's bits in one word.

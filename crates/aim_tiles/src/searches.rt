@@ -68,11 +68,10 @@ fn first_in_run<L: Ledger>(
     ensures counted { steps.old ≤ steps.new }
 {
     let first = run[0];
-    if first.step < now || now + pages.horizon() <= first.step {
+    if !pages.has_page(now, first.step) {
         return None;
     }
-    let begin = pages.page(first.step) + first.row as usize;
-    let words = pages.read(begin, run.len(), steps);
+    let words = pages.read_rows(first.step, first.row, run.len(), steps);
     let mut at = 0;
     while let Some(place) = meeting_from(masks, words, at) {
         let span = run[place];
