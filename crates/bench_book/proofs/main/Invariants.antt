@@ -1,4 +1,0 @@
-use Rattle.bench_book.proofs.main.Given as goal
-
-abbrev pub ghosts-pass_day : goal.ghosts-pass_day
-ghosts-pass_day a = record { name = a.blank.name; parts = a.blank.parts }
