@@ -12,10 +12,13 @@ use Rattle.aim_plans.specs.Said.{Drive, until_of, drives_of, orders_of}
 use Rattle.aim_plans.specs.Scripts.{IsScriptOf, drive_told}
 use Rattle.aim_report.specs.Reports.{report}
 use Rattle.aim_agents.specs.Rounds.{run_size}
+use Rattle.aim_traffic.specs.Traffic.{traffic_lines}
 use Rattle.aim_drive.specs.Headline.{Headline, VehicleLog}
 use Rattle.aim_driving.specs.Ordered.{in_order}
 use Rattle.aim_driving.specs.Runs.{IsRunOf}
 use Rattle.aim_driving.specs.Commands.{IsReport}
+use Rattle.aim_driving.specs.Generated.{IsSummary}
+use Rattle.aim_driving.specs.Summaries.{summary}
 
 -- what holds of a value holds, where it follows
 pub if_ok : {A E : Type 0} {P Q : A → Type 0} (r : Result A E) → ((a : A) → P a → Q a) → IfOk r P → IfOk r Q
@@ -44,3 +47,14 @@ module _ (workers : ℕ) (lines : List Line) (s : DriveScript) (is : IsScriptOf 
     run = is_run l;
     is = told ∙ ap (λ (x : Intersection). report x h (in_order s.vehicles logs)) (same ∙ is.layout) ∙ ap (λ (n : ℕ). report (layout_of lines) h (in_order n logs)) is.vehicles;
   }
+
+-- the text that counts a run of generated traffic
+pub is_summary : (number count : ℕ) (s : DriveScript) → IsScriptOf (traffic_lines number count) s → (h : List Entry) (logs : List VehicleLog)
+    → Headline s.layout s.vehicles s.until (run_size (length s.plans.items) 1) (map drive_told s.plans.items) s.orders.items h logs
+    → (text : List ℕ) → text ≡ summary s.until h logs → IsSummary number count text
+is_summary number count s is h logs l text e = record {
+  journal = h;
+  logs = logs;
+  run = is_run 1 (traffic_lines number count) s is h logs l;
+  is = e ∙ ap (λ (n : ℕ). summary n h logs) is.until;
+}
