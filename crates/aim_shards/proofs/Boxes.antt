@@ -1,13 +1,16 @@
 -- Rectangles as spans.
-use Rattle.std.proofs.Common.{suc-mul, mul-le-mul_right, ◌≡◌, ◌≢◌, ℕ, suc, ◌+◌, ◌-◌, ◌*◌, ◌/◌, ◌%◌, ◌^◌, ◌<◌, ◌≤◌, ◌==◌, Bool, true, false, ◌&&◌, ◌||◌, refl, sym, ap, ◌∙◌, arith, leb}
+use Rattle.std.proofs.Common.{List, suc-mul, mul-le-mul_right, ◌≡◌, ◌≢◌, ℕ, suc, ◌+◌, ◌-◌, ◌*◌, ◌/◌, ◌%◌, ◌^◌, ◌<◌, ◌≤◌, ◌==◌, Bool, true, false, ◌&&◌, ◌||◌, refl, sym, ap, ◌∙◌, arith, leb}
 use Rattle.std.specs.Prelude.{bit_and, nat_le, nat_lt}
 use Rattle.std.proofs.Math.Decide.{dec_lt}
 use Rattle.std.proofs.Math.Nat.{div-le_self}
-use Rattle.std.proofs.lemmas.Bool.{and_from, lt-leb, le-leb}
+use Rattle.std.proofs.lemmas.Bool.{and_from, lt-leb, le-leb, eqb-true, eq-eqb}
 use Rattle.std.proofs.lemmas.Bool.Decides.{nat_tests}
 use Rattle.std.proofs.lemmas.Nat.{and_le_l}
 use Rattle.std.proofs.lemmas.Nat.Bits.{bit_at_ones, bit_at_ones_above, bit_at_mask_inside, bit_at_mask_below, bit_at_above, ones_shr, ones_shl}
+use Rattle.aim_geometry.specs.Cells.{Cell}
 use Rattle.aim_geometry.specs.Rects.{has_bit}
+use Rattle.aim_pool.specs.declared.spans.Span.{Span}
+use Rattle.aim_pool.specs.Spans.{in_span, in_spans}
 use Rattle.aim_geometry.proofs.Bits.{has_bit_and}
 use Rattle.aim_pool.proofs.Masks.{no_bit}
 use Rattle.aim_shards.specs.Rectangles.{is_between}
@@ -82,3 +85,26 @@ count_step k k' rows len len' e le more = omega (arith, le, more, suc-mul k rows
   where
     up : (n : ℕ) → n + 1 ≡ suc n
     up n = omega arith
+
+-- the cells of a row's span
+eq_not : (u w : ℕ) (b : Bool) → (w == u) ≡ false → (u == w) ≡ b → (u == w) ≡ false
+eq_not u w false e h = h
+eq_not u w true e h = absurd (differ (sym (eq-eqb w u (sym (eqb-true u w h))) ∙ e))
+
+eq_comm : (u w : ℕ) → (u == w) ≡ (w == u)
+eq_comm u w = go (w == u) refl
+  where
+    go : (b : Bool) → (w == u) ≡ b → (u == w) ≡ (w == u)
+    go true e = eq-eqb u w (sym (eqb-true w u e)) ∙ sym e
+    go false e = eq_not u w (u == w) e refl ∙ sym e
+
+pub row_cells : (old new : List Span) (span : Span) (step row c0 c1 : ℕ) → span.step ≡ step → span.row ≡ row → ((c : ℕ) → has_bit span.mask c ≡ is_between c0 c1 c) → ((cell : Cell) → in_spans new cell ≡ (in_spans old cell || in_span span cell))
+    → (cell : Cell) → in_spans new cell ≡ (in_spans old cell || (cell.step == step && (cell.row == row && is_between c0 c1 cell.col)))
+row_cells old new span step row c0 c1 e e' bits cells cell =
+    cells cell
+    ∙ ap (λ b. in_spans old cell || b)
+    ((λ i. ((ap (λ k. k == cell.step) e ∙ eq_comm step cell.step) i && (ap (λ k. k == cell.row) e' ∙ eq_comm row cell.row) i) && bits cell.col i) ∙ over (cell.step == step) (cell.row == row) (is_between c0 c1 cell.col))
+  where
+    over : (a b c : Bool) → ((a && b) && c) ≡ (a && (b && c))
+    over true b c = refl
+    over false b c = refl

@@ -12,7 +12,7 @@ use Rattle.aim_shards.specs.declared.view.View.{View}
 use Rattle.aim_shards.specs.Claims.{stands, stood}
 use Rattle.aim_shards.specs.declared.view.Terms.{Terms}
 use Rattle.aim_shards.specs.Ruled.{working}
-use Rattle.aim_shards.specs.Working.{Works}
+use Rattle.aim_shards.specs.Working.{Works, Carries}
 use Rattle.aim_shards.specs.Passes.{Keeps}
 use Rattle.aim_shards.specs.Models.{PassModel, ShardsModel, new_pass}
 use Rattle.aim_shards.proofs.Histories.{stands_more, stands_short}
@@ -53,3 +53,17 @@ set_there {k = k} {sets = sets} {set = set} cut same lt own is' = is' ∙ (get_o
 
 pub of_same : (sets : List Quarters) (k : ℕ) {set : Quarters} → set ≡ set_at sets k → IsOf sets set
 of_same sets k e = record { number = k; same = λ q. ap (λ (s : Quarters). part s q) e }
+
+-- with the terms and the entries that the seat's view has
+pub works_own : {n : ℕ} {terms : Terms} {mine : List ClaimEntry} {qs : List ℕ} {m : Me (Option Quarter) View} → Works n terms mine qs m → Works n m.0.terms m.0.mine qs m
+works_own {n = n} {m = m} w = record {
+  is = subst (λ (v : View). m.0 ≡ working v.terms n m.0.held v.mine) (sym w.is) w.is;
+  turns = w.turns;
+  carries = subst (λ (v : View). Carries v.terms m.0.held m.1) (sym w.is) w.carries;
+}
+
+pub calls_left : {n n' calls calls' made capacity : ℕ} {standing : List ClaimEntry} {terms : Terms} {qs : List ℕ} {m m' : Me (Option Quarter) View} → Keeps n calls made standing capacity m → made ≢ calls → Works n' terms m.0.mine qs m' → calls ≡ calls' → length m'.0.mine < calls'
+calls_left k ne w e = omega (arith, k.made_is, k.within, ne, ap (λ (v : View). length v.mine) w.is, e)
+
+pub moves_claim : (k : ℕ) {n : ℕ} {terms : Terms} {mine : List ClaimEntry} {qs : List ℕ} {m : Me (Option Quarter) View} {set : Quarters} → Works n terms mine qs m → set ≡ set_at terms.sets k → (q : ℕ) → part set q ≡ part (set_at m.0.terms.sets k) q
+moves_claim k w e q = ap (λ (s : Quarters). part s q) (e ∙ ap (λ (v : View). set_at v.terms.sets k) (sym w.is))

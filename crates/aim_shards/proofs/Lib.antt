@@ -13,9 +13,11 @@ pub mod Keeping
 pub mod Freed
 pub mod Seats
 pub mod Numbers
+pub mod Quarters
 pub mod Endings
 pub mod Merged
 pub mod OneHistory
 pub mod Rows
 pub mod Boxes
 pub mod Sheeted
+pub mod Emptied

@@ -1,14 +1,27 @@
 -- The callers' numbers, and the causes of a refused opening.
-use Rattle.std.proofs.Common.{◌≡◌, ◌≢◌, ℕ, zero, suc, ◌<◌, ◌≤◌, Bool, true, false, ◌&&◌, List, [], ◌∷◌, ◌++◌, length, length-append, get_or, refl, sym, ap, ◌∙◌, arith, Some, None, Option}
-use Rattle.std.specs.Prelude.{AllPairs, nat_le, if◌then◌else◌}
+use Rattle.std.proofs.Common.{◌≡◌, ◌≢◌, ℕ, zero, suc, ◌+◌, ◌<◌, ◌≤◌, Bool, true, false, ◌&&◌, List, [], ◌∷◌, ◌++◌, length, length-append, get_or, refl, sym, ap, ◌∙◌, subst, arith, Some, None, Option}
+use Rattle.std.specs.Prelude.{All, AllPairs, nat_le, if◌then◌else◌}
 use Rattle.std.proofs.lemmas.Bool.{and_parts}
 use Rattle.std.proofs.lemmas.Bool.Decides.{nat_tests}
+use Rattle.std.proofs.lemmas.List.Elements.{All-append, All-nil, All-cons}
 use mathlib.Core.Logic.{dite}
 use native.Mathlib.Decide.{ℕ_discrete}
 use Rattle.aim_shards.specs.declared.opening.ShardFault.{ShardFault}
 use Rattle.aim_shards.specs.declared.opening.ShardFault.TheVariants.{Callers, Calls, Sets}
 use Rattle.aim_shards.specs.Models.{count_up}
 use Rattle.aim_shards.specs.Opening.{fault_of}
+use Rattle.aim_shards.proofs.Lines.{next_of_suc}
+
+-- one number more, and all of them
+pub count_more : (n : ℕ) (xs xs' : List ℕ) → xs ≡ count_up n → xs' ≡ xs ++ n ∷ [] → xs' ≡ count_up (n + 1)
+count_more n xs xs' e e' = e' ∙ (ap (λ l. l ++ n ∷ []) e ∙ ap count_up (sym (next_of_suc n)))
+
+pub count_all : (n m : ℕ) (xs : List ℕ) → n ≤ m → m ≤ n → xs ≡ count_up n → xs ≡ count_up m
+count_all n m xs le ge e = (let same : n ≡ m = omega (arith, le, ge) in e ∙ ap count_up same)
+
+-- what holds of each holds of one more
+pub each_more : {A : Type 0} (P : A → Type 0) (xs xs' : List A) (x : A) → All P xs → P x → xs' ≡ xs ++ x ∷ [] → All P xs'
+each_more P xs xs' x h p e = subst (All P) (sym e) (All-append P xs (x ∷ []) h (All-cons P x [] p (All-nil P)))
 
 pub count_length : (n : ℕ) → length (count_up n) ≡ n
 count_length zero = refl

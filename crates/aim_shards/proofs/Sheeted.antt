@@ -79,3 +79,13 @@ sheets_none n horizon = record { count = refl; cells = λ k d cell lt. absurd (o
 
 pub fits_at : (n horizon : ℕ) (rs : List Rectangle) (i : ℕ) (r : Rectangle) → i < length rs → r ≡ get_or rs i r → All (FitsGrid n horizon) rs → FitsGrid n horizon r
 fits_at n horizon rs i r lt e fit = subst (FitsGrid n horizon) (sym e) (fit i r lt)
+
+-- what the rectangle at a place has
+pub columns_fit : {n horizon i : ℕ} (rs : List Rectangle) (d : Rectangle) → n ≤ 64 → All (FitsGrid n horizon) rs → i < length rs → ((get_or rs i d).col0 ≤ (get_or rs i d).col1) × ((get_or rs i d).col1 < 64)
+columns_fit {i = i} rs d le fit lt = (let f = fit i d lt in (f.columns, omega (arith, f.last_column, le)))
+
+pub rows_fit : {n horizon i : ℕ} (rs : List Rectangle) (d : Rectangle) → n ≤ 64 → All (FitsGrid n horizon) rs → i < length rs → ((get_or rs i d).row0 ≤ (get_or rs i d).row1) × ((get_or rs i d).row1 < 64)
+rows_fit {i = i} rs d le fit lt = (let f = fit i d lt in (f.rows, omega (arith, f.last_row, le)))
+
+pub steps_fit : {n horizon i : ℕ} (rs : List Rectangle) (d : Rectangle) → horizon ≤ 8192 → All (FitsGrid n horizon) rs → i < length rs → ((get_or rs i d).from ≤ (get_or rs i d).to) × ((get_or rs i d).to < 8192)
+steps_fit {i = i} rs d le fit lt = (let f = fit i d lt in (f.steps, omega (arith, f.last_step, le)))

@@ -26,14 +26,16 @@ fn merge_two(
     let mut i = 0;
     let mut j = 0;
     while i < left.len() && j < right.len() {
-        if left[i].ticket < right[j].ticket {
-            merged.push_reserved(left[i]);
+        let a = left[i];
+        let b = right[j];
+        if a.ticket < b.ticket {
+            merged.push_reserved(a);
             i += 1;
-        } else if right[j].ticket < left[i].ticket {
-            merged.push_reserved(right[j]);
+        } else if b.ticket < a.ticket {
+            merged.push_reserved(b);
             j += 1;
         } else {
-            merged.push_reserved(left[i]);
+            merged.push_reserved(a);
             i += 1;
             j += 1;
         }

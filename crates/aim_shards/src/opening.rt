@@ -98,10 +98,9 @@ fn four_quarters(
     ensures { IfOk result (λ v. (a : Quarter) × (b : Quarter) × (c : Quarter) × (d : Quarter) × (v.items ≡ Some a ∷ Some b ∷ Some c ∷ Some d ∷ []) × ((k : Quarter) → (k ≡ a) ⊎ (k ≡ b) ⊎ (k ≡ c) ⊎ (k ≡ d) → (q : ℕ) (sets : List Quarters) → q < 4 → AreWithin n horizon sets → Suits (record { room = room; sets = sets }) q [] k)) }
 {
     let mut slots = Vec::with_capacity(alloc, 4)?;
-    slots.push_reserved(Some(new_quarter(alloc, room, n, horizon)?));
-    slots.push_reserved(Some(new_quarter(alloc, room, n, horizon)?));
-    slots.push_reserved(Some(new_quarter(alloc, room, n, horizon)?));
-    slots.push_reserved(Some(new_quarter(alloc, room, n, horizon)?));
+    for _ in 0..4u32 {
+        slots.push_reserved(Some(new_quarter(alloc, room, n, horizon)?));
+    }
     Ok(slots)
 }
 
@@ -203,8 +202,8 @@ fn seated(
     ensures key { IfOk result (λ r. (r.0.shared.key.sets.value.items ≡ sets.now.items) × (r.0.shared.key.numbers.value.items ≡ numbers.now.items) × (r.0.shared.key.calls ≡ calls)) }
     ensures passes { IfOk result (λ r. r.1.items ≡ map (new_pass (record { table = r.0.shared.table_id; size = r.0.shared.key.size; sets = r.0.shared.key.sheets.value.items; quarters = r.0.shared.key.sets.value.items; numbers = r.0.shared.key.numbers.value.items; calls = r.0.shared.key.calls })) numbers.now.items) }
 {
-    let standings = rooms(alloc, numbers.len(), calls as usize)?;
     let mut passes = Vec::with_capacity(alloc, numbers.len())?;
+    let standings = rooms(alloc, numbers.len(), calls as usize)?;
     let (desk, root) = laid(alloc, n, horizon, sheets, sets, numbers, calls)?;
     seat_all(&desk, root, numbers, calls, standings, &mut passes);
     Ok((desk, passes))
@@ -216,28 +215,36 @@ impl Shards {
         alloc: Global,
         n: u32,
         horizon: u32,
-        sets: Vec<Sheet>,
-        numbers: Vec<u32>,
+        sets: &Vec<Sheet>,
+        numbers: &Vec<u32>,
         calls: u32,
     ) -> Result<OpenedShards, AllocError>
         requires n { (1 ≤ n) × (n ≤ 64) }
         requires horizon { (1 ≤ horizon) × (horizon ≤ 8192) }
-        requires grid { AreOnGrid n horizon sets.items }
-        requires distinct { AllPairs (λ m n. m ≢ n) numbers.items }
-        requires few { (length numbers.items ≤ 64) × (calls ≤ 1024) }
-        ensures shards { IfOk result (λ r. (r.shards.size ≡ n) × (r.shards.sets ≡ sets.items) × (r.shards.numbers ≡ numbers.items) × (r.shards.calls ≡ calls)) }
-        ensures cut { IfOk result (λ r. AreCut (half_of n) sets.items r.shards.quarters) }
-        ensures passes { IfOk result (λ r. r.passes.items ≡ map (new_pass r.shards) numbers.items) }
+        requires grid { AreOnGrid n horizon sets.now.items }
+        requires distinct { AllPairs (λ m n. m ≢ n) numbers.now.items }
+        requires few { (length numbers.now.items ≤ 64) × (calls ≤ 1024) }
+        ensures shards { IfOk result (λ r. (r.shards.size ≡ n) × (r.shards.sets ≡ sets.now.items) × (r.shards.numbers ≡ numbers.now.items) × (r.shards.calls ≡ calls)) }
+        ensures cut { IfOk result (λ r. AreCut (half_of n) sets.now.items r.shards.quarters) }
+        ensures passes { IfOk result (λ r. r.passes.items ≡ map (new_pass r.shards) numbers.now.items) }
     {
-        let quarters = quarter_all(alloc, n, &sets)?;
+        let quarters = quarter_all(alloc, n, sets)?;
         let nothing = no_cells(alloc)?;
-        let (desk, passes) = seated(alloc, n, horizon, &sets, &quarters, &numbers, calls)?;
-        let shards = Shards {
-            desk,
-            quarters,
-            nothing,
-        };
-        Ok(OpenedShards { shards, passes })
+        match seated(alloc, n, horizon, sets, &quarters, numbers, calls) {
+            Ok((desk, passes)) => {
+                let shards = Shards {
+                    desk,
+                    quarters,
+                    nothing,
+                };
+                Ok(OpenedShards { shards, passes })
+            }
+            Err(e) => {
+                drop(nothing);
+                drop(quarters);
+                Err(e)
+            }
+        }
     }
 
     /// Opens shards over a grid of `n` rows and columns and steps below the horizon, with a pass for each caller, in the
@@ -267,7 +274,7 @@ impl Shards {
         let Ok(numbers) = count_up(alloc, callers) else {
             return Err(ShardFault::NoMemory);
         };
-        match Shards::opened(alloc, n, horizon, sets, numbers, calls) {
+        match Shards::opened(alloc, n, horizon, &sets, &numbers, calls) {
             Ok(opened) => Ok(opened),
             Err(_) => Err(ShardFault::NoMemory),
         }

@@ -1,5 +1,6 @@
 use Rattle.std.proofs.Common.{refl, ◌∙◌, arith}
 use Rattle.aim_shards.proofs.Endings.{closes, not_empty, entries_at}
+use Rattle.aim_shards.proofs.Emptied.{all_taken}
 use Rattle.aim_shards.proofs.closing.finish.Goals as goal
 
 pub unreachable-requires : goal.unreachable-requires
@@ -41,3 +42,10 @@ returns c ps had count =
         };
       },
     )
+
+pub free-requires : goal.free-requires
+free-requires c =
+    let a = c.take.ensures.others in
+    let b = c.take-2.ensures.others in
+    let d = c.take-3.ensures.others in
+    let e = c.take-4.ensures.others in all_taken _ _ _ _ _ a.1 b.1 d.1 e.1 (e.2 ∙ (d.2 ∙ (b.2 ∙ (a.2 ∙ (c.close_with-closed.ensures.counts.1 ∙ c.requires.desk.1)))))

@@ -3,6 +3,9 @@ use Rattle.aim_pool.specs.Sheets.{Spans}
 use Rattle.aim_pool.specs.Spans.{in_spans}
 use Rattle.aim_shards.specs.Cuts.{half_of, lies_at}
 use Rattle.aim_shards.proofs.Cutting.{cut_more}
+use Rattle.std.proofs.Common.{List, subst}
+use Rattle.std.proofs.lemmas.List.{take_all}
+use Rattle.aim_shards.specs.Cuts.{AreCut}
 use Rattle.aim_shards.proofs.cuts.quarter_all.Goals as goal
 
 pub loop-sheet-preserved : goal.loop-sheet-preserved
@@ -16,3 +19,6 @@ loop-sheet-preserved c =
       cut = cut_more (half_of c.args.n) c.args.sets.now c.loop-sheet.quarters.items c.push_reserved.new.self.items c.loop-sheet.sheet-index c.sheet-item.result c.in_ok-quarter.field-0 c.loop-sheet-test.true i.cut p.items
           (λ q cell b. c.in_ok-quarter.ensures q cell b ∙ (λ j. in_spans (ap (λ (s : Spans). s.spans) c.sheet-item.is j) cell && lies_at (half j) q cell));
     }
+
+pub returns : goal.returns
+returns c = subst (λ (l : List Spans). AreCut (half_of c.args.n) l c.loop-sheet.quarters.items) (take_all c.loop-sheet.sheet-index c.args.sets.now (omega (arith, c.loop-sheet-test.false))) c.loop-sheet.invariant.cut

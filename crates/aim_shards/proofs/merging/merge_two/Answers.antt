@@ -3,20 +3,20 @@ use Rattle.aim_shards.proofs.Merged.{goes_left, goes_right, goes_both, merge_end
 use Rattle.aim_shards.proofs.merging.merge_two.Goals.{then-loop-i-test+else-j-right, else-loop-i-test}
 use Rattle.aim_shards.proofs.merging.merge_two.Goals as goal
 
-pub loop-i-preserved-then-left-i : goal.loop-i-preserved-then-left-i
-loop-i-preserved-then-left-i c =
+pub loop-i-preserved-then-a-b : goal.loop-i-preserved-then-a-b
+loop-i-preserved-then-a-b c =
     let i = c.loop-i.invariant in
-    record { within = omega (arith, c.loop-i-test.true); within_too = i.within_too; left = goes_left (c.args.left.now ++ c.args.right.now) c.args.left.now c.args.right.now c.loop-i.merged.items c.push_reserved.new.self.items c.loop-i.i c.loop-i.j _ c.loop-i-test.true c.if-j-right.true i.left c.if-left-i.true c.push_reserved.ensures.items; room = omega (arith, i.room, c.push_reserved.ensures.len, c.push_reserved.ensures.capacity, c.loop-i-test.true) }
+    record { within = omega (arith, c.loop-i-test.true); within_too = i.within_too; left = goes_left (c.args.left.now ++ c.args.right.now) c.args.left.now c.args.right.now c.loop-i.merged.items c.push_reserved.new.self.items c.loop-i.i c.loop-i.j _ c.loop-i-test.true c.if-j-right.true i.left c.if-a-b.true c.push_reserved.ensures.items; room = omega (arith, i.room, c.push_reserved.ensures.len, c.push_reserved.ensures.capacity, c.loop-i-test.true) }
 
-pub loop-i-preserved-then-right-j : goal.loop-i-preserved-then-right-j
-loop-i-preserved-then-right-j c =
+pub loop-i-preserved-then-b-a : goal.loop-i-preserved-then-b-a
+loop-i-preserved-then-b-a c =
     let i = c.loop-i.invariant in
-    record { within = i.within; within_too = omega (arith, c.if-j-right.true); left = goes_right (c.args.left.now ++ c.args.right.now) c.args.left.now c.args.right.now c.loop-i.merged.items c.push_reserved-then-right-j.new.self.items c.loop-i.i c.loop-i.j _ c.loop-i-test.true c.if-j-right.true i.left c.if-right-j.true c.push_reserved-then-right-j.ensures.items; room = omega (arith, i.room, c.push_reserved-then-right-j.ensures.len, c.push_reserved-then-right-j.ensures.capacity, c.if-j-right.true) }
+    record { within = i.within; within_too = omega (arith, c.if-j-right.true); left = goes_right (c.args.left.now ++ c.args.right.now) c.args.left.now c.args.right.now c.loop-i.merged.items c.push_reserved-then-b-a.new.self.items c.loop-i.i c.loop-i.j _ c.loop-i-test.true c.if-j-right.true i.left c.if-b-a.true c.push_reserved-then-b-a.ensures.items; room = omega (arith, i.room, c.push_reserved-then-b-a.ensures.len, c.push_reserved-then-b-a.ensures.capacity, c.if-j-right.true) }
 
 pub loop-i-preserved : goal.loop-i-preserved
 loop-i-preserved c =
     let i = c.loop-i.invariant in
-    record { within = omega (arith, c.loop-i-test.true); within_too = omega (arith, c.if-j-right.true); left = goes_both (c.args.left.now ++ c.args.right.now) c.args.left.now c.args.right.now c.loop-i.merged.items c.push_reserved-else-right-j.new.self.items c.loop-i.i c.loop-i.j _ c.loop-i-test.true c.if-j-right.true i.left c.requires.one (omega (arith, c.if-left-i.false, c.if-right-j.false)) c.push_reserved-else-right-j.ensures.items; room = omega (arith, i.room, c.push_reserved-else-right-j.ensures.len, c.push_reserved-else-right-j.ensures.capacity, c.loop-i-test.true, c.if-j-right.true) }
+    record { within = omega (arith, c.loop-i-test.true); within_too = omega (arith, c.if-j-right.true); left = goes_both (c.args.left.now ++ c.args.right.now) c.args.left.now c.args.right.now c.loop-i.merged.items c.push_reserved-else-b-a.new.self.items c.loop-i.i c.loop-i.j _ c.loop-i-test.true c.if-j-right.true i.left c.requires.one (omega (arith, c.if-a-b.false, c.if-b-a.false)) c.push_reserved-else-b-a.ensures.items; room = omega (arith, i.room, c.push_reserved-else-b-a.ensures.len, c.push_reserved-else-b-a.ensures.capacity, c.loop-i-test.true, c.if-j-right.true) }
 
 pub returns : goal.returns
 returns c = merge_ends (c.args.left.now ++ c.args.right.now) c.loop-i.merged.items c.extend_from_slice-2.new.self.items (drop c.loop-i.i c.args.left.now) (drop c.loop-i.j c.args.right.now) c.loop-i.invariant.left

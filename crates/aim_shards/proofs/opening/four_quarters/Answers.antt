@@ -1,27 +1,23 @@
-use Rattle.std.proofs.Common.{◌≡◌, ◌⊎◌, inl, inr, [], refl, sym, subst}
-use Rattle.aim_shards.specs.declared.quarter.Quarter.{Quarter}
-use Rattle.aim_shards.specs.Ruled.{Suits}
+use Rattle.std.proofs.Common.{refl, arith}
+use Rattle.aim_shards.proofs.Quarters.{new_none, new_more, new_four}
 use Rattle.aim_shards.proofs.opening.four_quarters.Goals as goal
 
--- what each of four quarters has
-one_of_four : (P : Quarter → Type 0) (a b c d k : Quarter) → P a → P b → P c → P d → (k ≡ a) ⊎ (k ≡ b) ⊎ (k ≡ c) ⊎ (k ≡ d) → P k
-one_of_four P a b c d k pa pb pc pd (inl e) = subst P (sym e) pa
-one_of_four P a b c d k pa pb pc pd (inr (inl e)) = subst P (sym e) pb
-one_of_four P a b c d k pa pb pc pd (inr (inr (inl e))) = subst P (sym e) pc
-one_of_four P a b c d k pa pb pc pd (inr (inr (inr e))) = subst P (sym e) pd
+pub loop-init : goal.loop-init
+loop-init c =
+    let p = c.in_ok-slots.ensures in record {
+      count = omega (arith, p.len);
+      room = omega (arith, p.capacity);
+      made = new_none c.args.room c.args.n c.args.horizon 0 c.in_ok-slots.slots.items refl p.items;
+    }
+
+pub loop-preserved : goal.loop-preserved
+loop-preserved c =
+    let i = c.loop.invariant in
+    let p = c.push_reserved.ensures in record {
+      count = omega (arith, p.len, i.count);
+      room = omega (arith, p.capacity, i.room);
+      made = new_more c.args.room c.args.n c.args.horizon c.loop.counter c.loop.slots.items c.push_reserved.new.self.items c.in_ok-new_quarter.field-0 i.made c.in_ok-new_quarter.ensures p.items;
+    }
 
 pub returns : goal.returns
-returns c =
-    let first = c.in_ok-new_quarter.field-0 in
-    let second = c.in_ok-new_quarter-2.field-0 in
-    let third = c.in_ok-new_quarter-3.field-0 in
-    let fourth = c.in_ok-new_quarter-4.field-0 in (
-      first,
-      second,
-      third,
-      fourth,
-      rw (c.push_reserved-4.ensures.items, c.push_reserved-3.ensures.items, c.push_reserved-2.ensures.items, c.push_reserved.ensures.items, c.in_ok-slots.ensures.items) refl,
-      λ k which q sets lt w.
-          one_of_four (λ k. Suits (record { room = c.args.room; sets = sets }) q [] k) first second third fourth k
-          (c.in_ok-new_quarter.ensures q sets lt w) (c.in_ok-new_quarter-2.ensures q sets lt w) (c.in_ok-new_quarter-3.ensures q sets lt w) (c.in_ok-new_quarter-4.ensures q sets lt w) which,
-    )
+returns c = new_four c.args.room c.args.n c.args.horizon c.loop.counter c.loop.slots.items c.loop.auto.counter-end c.loop-test.false c.loop.invariant.made

@@ -16,3 +16,6 @@ returns c =
     let numbers = ap (λ (s : ShardsModel). s.numbers) v in
     let f = c.finish.ensures c.args.passes.items c.gather.ensures.root (c.requires.all ∙ ap length (sym numbers)) in
     (f.0, closes_by c.self.invariant.4 (ap (λ (s : ShardsModel). s.sets) v) (ap (λ (s : ShardsModel). s.quarters) v) numbers c.self.invariant.2 f.1)
+
+pub finish-requires-clause-root : goal.finish-requires-clause-root
+finish-requires-clause-root c = (c.args.passes.items, c.gather.ensures.root, c.requires.all ∙ ap length (sym (ap (λ (s : ShardsModel). s.numbers) c.self.view_is)))

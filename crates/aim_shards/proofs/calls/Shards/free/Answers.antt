@@ -5,6 +5,10 @@ use Rattle.aim_shards.specs.Sets.{Quarters, chosen, lies_in}
 use Rattle.aim_shards.proofs.Walks.{decides_free, decides_own}
 use Rattle.aim_shards.proofs.Freed.{lies_same}
 use Rattle.aim_shards.proofs.Keeping.{keeps_room, keeps_more}
+use Rattle.std.proofs.Common.{subst}
+use Rattle.aim_shards.specs.Sets.{IsOf}
+use Rattle.aim_shards.proofs.Walks.{of_works}
+use Rattle.aim_shards.proofs.Keeping.{works_own, calls_left}
 use Rattle.aim_shards.proofs.calls.Shards.free.Goals as goal
 
 pub make-entry-requires-clause-decides : goal.make-entry-requires-clause-decides
@@ -23,3 +27,19 @@ stand-requires g c = keeps_room c.pass.invariant c.if-pass.false
 
 pub invariant_of-pass : goal.invariant_of-pass
 invariant_of-pass g c = keeps_more c.make-entry.result c.pass.invariant c.if-pass.false c.take_turns-found.ensures.works c.make-entry.ensures.made c.stand.ensures.items c.stand.ensures.room
+
+pub take_turns-found-requires-clause-of : goal.take_turns-found-requires-clause-of
+take_turns-found-requires-clause-of g c =
+    let own = ap (λ (p : PassModel). p.quarters) c.pass.view_is ∙ (c.requires.own.quarters ∙ sym (ap (λ (s : ShardsModel). s.quarters) c.self.view_is)) in
+    subst (λ (s : List Quarters). IsOf s c.choose-parts.result.now) (sym own) c.choose-parts.ensures.of
+
+pub make-entry-requires-clause-of : goal.make-entry-requires-clause-of
+make-entry-requires-clause-of g c =
+    let own = ap (λ (p : PassModel). p.quarters) c.pass.view_is ∙ (c.requires.own.quarters ∙ sym (ap (λ (s : ShardsModel). s.quarters) c.self.view_is)) in
+    of_works c.take_turns-found.ensures.works (subst (λ (s : List Quarters). IsOf s c.choose-parts.result.now) (sym own) c.choose-parts.ensures.of)
+
+pub make-entry-requires-clause-works : goal.make-entry-requires-clause-works
+make-entry-requires-clause-works g c = works_own c.take_turns-found.ensures.works
+
+pub make-entry-requires-clause-calls : goal.make-entry-requires-clause-calls
+make-entry-requires-clause-calls g c = calls_left c.pass.invariant c.if-pass.false c.take_turns-found.ensures.works (ap (λ (p : PassModel). p.calls) c.pass.view_is ∙ (c.requires.own.calls ∙ sym (ap (λ (s : ShardsModel). s.calls) c.self.view_is)))
