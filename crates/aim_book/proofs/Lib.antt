@@ -14,4 +14,7 @@ mod ChartLemmas
 mod OwnLemmas
 mod CostLemmas
 mod AtOnceLemmas
+mod StepLemmas
+mod GivenLemmas
+mod OpenLemmas
 mod Rows

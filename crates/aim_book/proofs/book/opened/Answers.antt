@@ -1,4 +1,4 @@
-use Rattle.std.proofs.Common.{arith}
+use Rattle.std.proofs.Common.{arith, refl}
 use Rattle.aim_book.proofs.book.opened.Goals as goal
 
 pub invariant_of-result : goal.invariant_of-result
@@ -10,3 +10,6 @@ invariant_of-result g c =
       most = c.requires.room;
       timeline = c.in_ok-desk.ensures.timeline;
     }
+
+pub returns : goal.returns
+returns g c = rw c.in_ok-journal.ensures.items refl

@@ -1,20 +1,20 @@
-use Rattle.std.proofs.Common.{◌≡◌, ◌<◌, ◌≤◌, ◌+◌, [], ◌∷◌, ◌++◌, length, length-append, sym, ◌∙◌, ap, arith, subst}
+use Rattle.std.proofs.Common.{◌≡◌, ◌<◌, ◌+◌, [], ◌∷◌, ◌++◌, length, sym, ◌∙◌, ap, arith, subst}
 use Rattle.aim_msg.specs.declared.entries.Act.TheVariants as act
 use Rattle.aim_msg.specs.declared.entries.Entry.{Entry}
-use Rattle.std.specs.Prelude.{max, min, ◌-◌, ◌*◌}
+use Rattle.std.specs.Prelude.{◌-◌}
 use Rattle.aim_rules.specs.Answer.{answer}
 use Rattle.aim_rules.specs.History.{fresh, now_of, params_of}
 use Rattle.aim_rules.specs.Kept.{kept}
-use Rattle.aim_rules.proofs.HistoryLaws.{now_of-max}
 use Rattle.aim_reservations.specs.Keeping.{row_count}
 use Rattle.aim_book.specs.Managed.{IsManaged}
 use Rattle.aim_reservations.specs.Rows.{row_of}
 use Rattle.aim_book.specs.Reserved.{rows_exchanged}
 use Rattle.aim_book.specs.Costs.{asked_spans, spans_exchanged}
 use Rattle.aim_book.specs.Sheets.{sheets_kept}
-use Rattle.aim_book.proofs.CostLemmas.{exchanged_is}
+use Rattle.aim_book.proofs.CostLemmas.{cost_served, exchanged_is}
 use Rattle.aim_book.proofs.SheetLemmas.{count_is}
-use Rattle.aim_book.proofs.SameLemmas.{now_next}
+use Rattle.aim_rules.specs.Legal.{IsLegal}
+use Rattle.aim_book.proofs.GivenLemmas.{one_more_fits, sheets_same, entry_added}
 use Rattle.aim_book.proofs.book.Book.serve_message.Goals as goal
 
 pub invariant_of-self : goal.invariant_of-self
@@ -25,10 +25,11 @@ invariant_of-self g c =
     let m : IsManaged b.layout (length b.desk.sessions) h (now_of h 0) b.desk b.approaches = subst (λ k. IsManaged b.layout k h (now_of h 0) b.desk b.approaches) (sym managed.desk.callers) managed in
     let e : Entry = record { caller = c.args.vehicle; moment = c.args.moment; act = act.Message c.args.message.now; reply = c.serve_message-reply.result } in
     let next = c.serve_message-reply.ensures.managed h m (let q : c.len-place.result ≡ length h = omega (arith, c.len-place.ensures) in q) in
+    let items : c.push_reserved.new.self.items ≡ h ++ e ∷ [] = c.push_reserved.ensures.items in
     record {
-      managed = rw c.push_reserved.ensures.items (subst (λ k. IsManaged b.layout k (h ++ e ∷ []) (now_of (h ++ e ∷ []) 0) c.serve_message-reply.new.self c.serve_message-reply.new.approaches) managed.desk.callers next);
-      fits = rw (c.push_reserved.ensures.items, length-append) (omega (arith, c.self.invariant.fits, c.len-place.ensures, c.if-place-self.false));
-      reserved = omega (arith, c.self.invariant.reserved, c.push_reserved.ensures.capacity);
+      managed = subst (λ js. IsManaged b.layout b.vehicles js (now_of js 0) c.serve_message-reply.new.self c.serve_message-reply.new.approaches) (sym items) (subst (λ k. IsManaged b.layout k (h ++ e ∷ []) (now_of (h ++ e ∷ []) 0) c.serve_message-reply.new.self c.serve_message-reply.new.approaches) managed.desk.callers next);
+      fits = one_more_fits c.push_reserved.new.self.items h e c.len-place.result b.room items c.self.invariant.fits (let q : c.len-place.result ≡ length h = omega (arith, c.len-place.ensures) in q) c.if-place-self.false;
+      reserved = rw c.push_reserved.ensures.capacity c.self.invariant.reserved;
       most = c.self.invariant.most;
       timeline = ap (λ t. t.room) c.serve_message-reply.ensures.timeline ∙ c.self.invariant.timeline;
     }
@@ -49,14 +50,14 @@ returns-clause-sheets g c =
     let n = length b.desk.sessions in
     let managed = c.self.invariant.managed in
     let m : IsManaged b.layout n b.journal.items (now_of b.journal.items 0) b.desk b.approaches = subst (λ k. IsManaged b.layout k b.journal.items (now_of b.journal.items 0) b.desk b.approaches) (sym managed.desk.callers) managed in
-    let l : v < n = (let q : v < b.vehicles = rw (← c.self.view_is) at c.requires.vehicle in let e = managed.desk.callers in omega arith) in
+    let l : v < n = rw managed.desk.callers (rw (← c.self.view_is) at c.requires.vehicle) in
     let before : row_count (row_of b.desk.reservations.rows.items v) ≡ sheets_kept v b.journal.items = count_is b.layout n b.journal.items v (row_of b.desk.reservations.rows.items v) m.legal (m.desk.reserved.rows v l) in
     let e : Entry = record { caller = v; moment = c.args.moment; act = act.Message c.args.message.now; reply = c.serve_message-reply.result } in
     let next = c.serve_message-reply.ensures.managed b.journal.items m (let q : c.len-place.result ≡ length b.journal.items = omega (arith, c.len-place.ensures) in q) in
     let after : row_count (row_of c.serve_message-reply.new.self.reservations.rows.items v) ≡ sheets_kept v (b.journal.items ++ e ∷ []) = count_is b.layout n (b.journal.items ++ e ∷ []) v (row_of c.serve_message-reply.new.self.reservations.rows.items v) next.legal (next.desk.reserved.rows v l) in
     let items : sheets_kept v c.push_reserved.new.self.items ≡ sheets_kept v (b.journal.items ++ e ∷ []) = ap (sheets_kept v) c.push_reserved.ensures.items in
     let journal : sheets_kept v b.journal.items ≡ sheets_kept v c.args.self.now.journal = (λ j. sheets_kept v (c.self.view_is j).journal) in
-    omega (arith, c.serve_message-reply.ensures.sheets, before, after, items, journal)
+    sheets_same _ _ _ _ _ _ _ _ c.serve_message-reply.ensures.sheets before after items journal
 
 pub returns-clause-cost : goal.returns-clause-cost
 returns-clause-cost g c =
@@ -66,13 +67,56 @@ returns-clause-cost g c =
     let h = b.journal.items in
     let managed = c.self.invariant.managed in
     let m : IsManaged b.layout n h (now_of h 0) b.desk b.approaches = subst (λ k. IsManaged b.layout k h (now_of h 0) b.desk b.approaches) (sym managed.desk.callers) managed in
-    let l : v < n = (let q : v < b.vehicles = rw (← c.self.view_is) at c.requires.vehicle in let e = managed.desk.callers in omega arith) in
+    let l : v < n = rw managed.desk.callers (rw (← c.self.view_is) at c.requires.vehicle) in
     let e : Entry = record { caller = v; moment = c.args.moment; act = act.Message c.args.message.now; reply = c.serve_message-reply.result } in
     let next = c.serve_message-reply.ensures.managed h m (let q : c.len-place.result ≡ length h = omega (arith, c.len-place.ensures) in q) in
     let rows : rows_exchanged (row_of b.desk.reservations.rows.items v) (row_of c.serve_message-reply.new.self.reservations.rows.items v) ≡ spans_exchanged b.layout v h (h ++ e ∷ [])
     = exchanged_is b.layout (kept (fresh h) v) (kept (fresh (h ++ e ∷ [])) v) (row_of b.desk.reservations.rows.items v) (row_of c.serve_message-reply.new.self.reservations.rows.items v) (m.desk.reserved.rows v l) (next.desk.reserved.rows v l) in
     let items : c.push_reserved.new.self.items ≡ h ++ e ∷ [] = c.push_reserved.ensures.items in
-    let later : now_of (h ++ e ∷ []) 0 ≡ max (now_of h 0) c.args.moment = now_next h e ∙ now_of-max h c.args.moment in
-    let cost : c.serve_message-reply.new.steps ≤ c.args.steps.now + asked_spans b.layout (params_of c.args.message.now.body) + rows_exchanged (row_of b.desk.reservations.rows.items v) (row_of c.serve_message-reply.new.self.reservations.rows.items v)
-    + b.layout.grid.n * min (max (now_of h 0) c.args.moment - now_of h 0) b.layout.times.horizon = rw (managed.desk.reserved.size, managed.desk.reserved.current, managed.desk.reserved.horizon) at c.serve_message-reply.ensures.cost in
-    rw (← c.self.view_is) (rw (items, later, ← rows) cost)
+    cost_served (record { layout = b.layout; vehicles = b.vehicles; room = b.room; journal = h }) c.args.self.now v c.push_reserved.new.self.items e (λ i. c.args.steps.now + asked_spans i (params_of c.args.message.now.body)) c.serve_message-reply.new.steps _ _ _ _ c.self.view_is items rows
+    managed.desk.reserved.size managed.desk.reserved.current managed.desk.reserved.horizon c.serve_message-reply.ensures.cost
+
+pub returns-then-place-self-clause-legal : goal.returns-then-place-self-clause-legal
+returns-then-place-self-clause-legal g c = rw (← c.self.view_is) c.self.invariant.managed.legal
+
+pub serve_message-reply-requires-clause-managed : goal.serve_message-reply-requires-clause-managed
+serve_message-reply-requires-clause-managed g c =
+    let b = c.self.inside in
+    let h = b.journal.items in
+    let managed = c.self.invariant.managed in
+    let m : IsManaged b.layout (length b.desk.sessions) h (now_of h 0) b.desk b.approaches = subst (λ k. IsManaged b.layout k h (now_of h 0) b.desk b.approaches) (sym managed.desk.callers) managed in
+    (h, m, (let q : c.len-place.result ≡ length h = omega (arith, c.len-place.ensures) in q))
+
+pub serve_message-reply-requires-clause-vehicle : goal.serve_message-reply-requires-clause-vehicle
+serve_message-reply-requires-clause-vehicle g c = rw (c.self.invariant.managed.desk.callers) (rw (← c.self.view_is) at c.requires.vehicle)
+
+pub serve_message-reply-requires-clause-room : goal.serve_message-reply-requires-clause-room
+serve_message-reply-requires-clause-room g c = rw (← c.self.view_is) at c.requires.room
+
+pub returns-clause-pool : goal.returns-clause-pool
+returns-clause-pool g c = c.serve_message-reply.ensures.pool
+
+pub serve_message-reply-requires-clause-two : goal.serve_message-reply-requires-clause-two
+serve_message-reply-requires-clause-two g c = c.requires.two
+
+pub serve_message-reply-requires-clause-count : goal.serve_message-reply-requires-clause-count
+serve_message-reply-requires-clause-count g c = c.requires.count
+
+pub serve_message-reply-requires-clause-moment : goal.serve_message-reply-requires-clause-moment
+serve_message-reply-requires-clause-moment g c = c.requires.moment
+
+pub returns-clause-legal : goal.returns-clause-legal
+returns-clause-legal g c =
+    let b = c.self.inside in
+    let h = b.journal.items in
+    let managed = c.self.invariant.managed in
+    let m : IsManaged b.layout (length b.desk.sessions) h (now_of h 0) b.desk b.approaches = subst (λ k. IsManaged b.layout k h (now_of h 0) b.desk b.approaches) (sym managed.desk.callers) managed in
+    let e : Entry = record { caller = c.args.vehicle; moment = c.args.moment; act = act.Message c.args.message.now; reply = c.serve_message-reply.result } in
+    let next = c.serve_message-reply.ensures.managed h m (let q : c.len-place.result ≡ length h = omega (arith, c.len-place.ensures) in q) in
+    rw c.push_reserved.ensures.items (subst (λ k. IsLegal b.layout k (h ++ e ∷ [])) managed.desk.callers next.legal)
+
+pub returns-clause-entry : goal.returns-clause-entry
+returns-clause-entry g c =
+    let b = c.self.inside in
+    let e : Entry = record { caller = c.args.vehicle; moment = c.args.moment; act = act.Message c.args.message.now; reply = c.serve_message-reply.result } in
+    entry_added (record { layout = b.layout; vehicles = b.vehicles; room = b.room; journal = b.journal.items }) c.args.self.now c.push_reserved.new.self.items e c.self.view_is c.push_reserved.ensures.items

@@ -20,3 +20,6 @@ returns-in-None-clause-reply g c = λ k tells calling.
     let times = c.ground-ground.ensures.valid.sound.times in
     let own : c.own_refusal.result ≡ own_refusal_by c.args.layout.now k c.args.prepared.now.message.body = rw (← c.message.ensures.message) (c.own_refusal.ensures c.args.layout.now k c.args.place times.early times.late tells) in
     asked_free c.args.layout.now k c.args.prepared.now.message.body c.args.params.now c.own_refusal.result c.early_reason.result c.answer_free.result own c.in_default.is (c.early_reason.ensures.reason k c.args.place tells calling) c.in-None.is (c.answer_free.ensures.reply k tells)
+
+pub early_reason-requires-clause-there : goal.early_reason-requires-clause-there
+early_reason-requires-clause-there g c = c.requires.there

@@ -1,6 +1,7 @@
 use Rattle.std.proofs.Common.{refl, false}
 use Rattle.aim_book.proofs.EarlyLemmas.{steady_is}
 use Rattle.aim_book.proofs.FreeLemmas.{asked_of, fast_steps, free_fast, free_refused, free_steady, never_none, steady_steps, tiles_of}
+use Rattle.aim_book.proofs.StepLemmas.{both_cost, steady_second}
 use Rattle.aim_book.proofs.desks.Desk.answer_free.Goals as goal
 
 pub returns-then-is_fast_free-clause-reply : goal.returns-then-is_fast_free-clause-reply
@@ -36,3 +37,19 @@ confirm-requires-in-None-clause-steps g c =
 pub unreachable-requires : goal.unreachable-requires
 unreachable-requires g c =
     never_none c.args.layout.now c.args.params.now c.args.prepared.now (λ sheet. sheet.now) c.cells_b.result c.requires.asking c.requires.good c.cells_b.ensures c.in_default.is
+
+pub returns-in-Some-conflict-clause-cost : goal.returns-in-Some-conflict-clause-cost
+returns-in-Some-conflict-clause-cost g c =
+    both_cost c.conflict.new.steps c.is_fast_free.new.steps c.args.steps.now _ c.in-Some.sheet.now c.args.prepared.now.second
+    (steady_second c.args.layout.now c.args.params.now c.args.prepared.now c.in-Some.sheet.now c.requires.asking c.requires.good c.in-Some.ensures) c.is_fast_free.ensures.cost c.conflict.ensures.cost
+
+pub returns-in-None-clause-cost : goal.returns-in-None-clause-cost
+returns-in-None-clause-cost g c =
+    both_cost c.conflict.new.steps c.is_fast_free.new.steps c.args.steps.now _ c.in-Some.sheet.now c.args.prepared.now.second
+    (steady_second c.args.layout.now c.args.params.now c.args.prepared.now c.in-Some.sheet.now c.requires.asking c.requires.good c.in-Some.ensures) c.is_fast_free.ensures.cost c.conflict.ensures.cost
+
+pub refuse-requires-clause-row : goal.refuse-requires-clause-row
+refuse-requires-clause-row g c = c.requires.row
+
+pub refuse-requires-clause-there : goal.refuse-requires-clause-there
+refuse-requires-clause-there g c = c.requires.caller

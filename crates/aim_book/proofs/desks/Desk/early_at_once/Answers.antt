@@ -2,6 +2,7 @@ use Rattle.std.proofs.Common.{◌≡◌, None, Some, le-ltb, ◌∙◌, sym}
 use Rattle.aim_rules.specs.Bad.{bad}
 use Rattle.aim_book.proofs.AtOnceLemmas.{if_ok}
 use Rattle.aim_book.proofs.EarlyLemmas.{early_is}
+use Rattle.aim_book.proofs.StepLemmas.{bad_first, soon_first}
 use Rattle.aim_book.proofs.desks.Desk.early_at_once.Goals as goal
 
 pub returns-in-None : goal.returns-in-None
@@ -12,3 +13,11 @@ returns-in-None g c =
     if_ok c.timely_at_once.result
     (λ why at. λ k place tells. sym (early_is i c.args.vehicle place k p c.args.self.now c.now-now.result c.standing-next.result (Some why) tells c.now-now.ensures.now c.standing-next.ensures (le-ltb _ _ c.if-now-next.false) good (sym (at k c.args.vehicle place tells))))
     c.timely_at_once.ensures
+
+pub returns-then-now-next : goal.returns-then-now-next
+returns-then-now-next g c = λ k place tells.
+    sym (soon_first c.args.layout.now c.args.vehicle place k c.args.params.now c.args.self.now c.now-now.result c.standing-next.result tells c.now-now.ensures.now c.standing-next.ensures c.if-now-next.true)
+
+pub returns-in-Some : goal.returns-in-Some
+returns-in-Some g c = λ k place tells.
+    sym (bad_first c.args.layout.now c.args.vehicle place k c.args.params.now c.args.self.now c.now-now.result c.standing-next.result tells c.now-now.ensures.now c.standing-next.ensures c.in-Some.field (le-ltb _ _ c.if-now-next.false) (sym c.in_ok-field.ensures ∙ c.in-Some.is))

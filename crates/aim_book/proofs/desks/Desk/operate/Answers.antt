@@ -43,3 +43,20 @@ returns-in-Stop-clause-managed g c = λ n h calls m of.
     let said : reply.Stopped ≡ answer i h OPERATOR c.args.moment (act.Order c.args.order) = rw c.in-Stop.is refl in
     let legal : IsLegal i n (h ++ e ∷ []) = IsLegal-append i n h e m.legal (record { moment = c.requires.moment; caller = (refl, of) }) said in
     managed_order i n h e c.args.order c.go_on.new.self _ calls refl before legal refl (rw c.in-Stop.is (sym (append-nil c.go_on.new.self.timeline.pushed))) (rw c.in-Stop.is (sym (or_true c.go_on.new.self.stopped)))
+
+pub returns-in-Switch-clause-reply : goal.returns-in-Switch-clause-reply
+returns-in-Switch-clause-reply g c = λ n h calls m.
+    let i = c.args.layout.now in
+    let before = c.go_on.ensures.managed i n h calls m in
+    let now : c.now.result ≡ now_of h c.args.moment = c.now.ensures.now ∙ before.desk.reserved.current in
+    let horizon : c.times.result.horizon ≡ i.times.horizon = rw (c.times.ensures.times, c.ground.ensures.times) refl in
+    rw (c.in-Switch.is, now, horizon) refl
+
+pub push-requires-clause-room : goal.push-requires-clause-room
+push-requires-clause-room g c = rw (c.go_on.ensures.rest) c.requires.room
+
+pub returns-in-Switch-clause-room : goal.returns-in-Switch-clause-room
+returns-in-Switch-clause-room g c = ap (λ t. t.room) c.push.ensures ∙ (λ j. (c.go_on.ensures.rest j).timeline.room)
+
+pub returns-in-Stop-clause-room : goal.returns-in-Stop-clause-room
+returns-in-Stop-clause-room g c = λ j. (c.go_on.ensures.rest j).timeline.room

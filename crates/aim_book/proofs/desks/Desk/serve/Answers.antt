@@ -13,6 +13,7 @@ use Rattle.aim_reservations.specs.Rows.{row_of}
 use Rattle.aim_book.specs.Managed.{IsManaged}
 use Rattle.aim_book.specs.Reserved.{rows_exchanged}
 use Rattle.aim_book.proofs.SameLemmas.{managed_same, not_fresh, now_next}
+use Rattle.aim_book.proofs.GivenLemmas.{cost_time_of_two, sheets_back}
 use Rattle.aim_book.proofs.desks.Desk.serve.Goals as goal
 
 pub returns-in-Fresh-clause-managed : goal.returns-in-Fresh-clause-managed
@@ -62,3 +63,47 @@ returns-in-Fresh-clause-cost g c =
     let rows : rows_exchanged (row_of c.go_on.new.self.reservations.rows.items v) (row_of c.serve_fresh.new.self.reservations.rows.items v) ≡ rows_exchanged (row_of c.args.self.now.reservations.rows.items v) (row_of c.serve_fresh.new.self.reservations.rows.items v)
     = ap (λ rs. rows_exchanged (row_of rs v) (row_of c.serve_fresh.new.self.reservations.rows.items v)) c.go_on.ensures.rows in
     omega (arith, c.serve_fresh.ensures.cost, c.go_on.ensures.cost, rows)
+
+pub returns-in-Fresh-clause-sheets : goal.returns-in-Fresh-clause-sheets
+returns-in-Fresh-clause-sheets g c = rw c.go_on.ensures.rows at c.serve_fresh.ensures.sheets
+
+pub returns-in-Fresh-clause-timeline : goal.returns-in-Fresh-clause-timeline
+returns-in-Fresh-clause-timeline g c = c.serve_fresh.ensures.timeline ∙ (λ j. (c.go_on.ensures.rest j).timeline)
+
+pub returns-in-Fresh-clause-pool : goal.returns-in-Fresh-clause-pool
+returns-in-Fresh-clause-pool g c = c.serve_fresh.ensures.pool
+
+pub returns-in_default-clause-sheets : goal.returns-in_default-clause-sheets
+returns-in_default-clause-sheets g c =
+    sheets_back c.go_on.new.self.reservations.rows.items c.args.self.now.reservations.rows.items c.args.vehicle c.give_back.new.pool.count c.args.back.now.count c.go_on.ensures.rows (ap (λ pool. pool.count) c.give_back.ensures)
+
+pub returns-in_default-clause-pool : goal.returns-in_default-clause-pool
+returns-in_default-clause-pool g c = ap (λ pool. pool.room) c.give_back.ensures
+
+pub returns-in_default-clause-timeline : goal.returns-in_default-clause-timeline
+returns-in_default-clause-timeline g c = λ j. (c.go_on.ensures.rest j).timeline
+
+pub returns-in_default-clause-cost : goal.returns-in_default-clause-cost
+returns-in_default-clause-cost g c = cost_time_of_two _ _ _ _ _ _ c.go_on.ensures.cost
+
+pub look-requires : goal.look-requires
+look-requires g c =
+    let many : length c.go_on.new.self.sessions ≡ length c.args.self.now.sessions = (λ j. length (c.go_on.ensures.rest j).sessions) in
+    rw many c.requires.vehicle
+
+pub serve_fresh-requires-clause-vehicle : goal.serve_fresh-requires-clause-vehicle
+serve_fresh-requires-clause-vehicle g c =
+    let many : length c.go_on.new.self.sessions ≡ length c.args.self.now.sessions = (λ j. length (c.go_on.ensures.rest j).sessions) in
+    rw many c.requires.vehicle
+
+pub serve_fresh-requires-clause-fresh : goal.serve_fresh-requires-clause-fresh
+serve_fresh-requires-clause-fresh g c = sym (c.look.ensures ∙ ap (λ msg. look_of (slice_index_or c.go_on.new.self.sessions c.args.vehicle no_session).last msg) c.message.ensures.message) ∙ c.in-Fresh.is
+
+pub serve_fresh-requires-clause-room : goal.serve_fresh-requires-clause-room
+serve_fresh-requires-clause-room g c = c.requires.room
+
+pub serve_fresh-requires-clause-count : goal.serve_fresh-requires-clause-count
+serve_fresh-requires-clause-count g c = c.requires.count
+
+pub serve_fresh-requires-clause-prepared : goal.serve_fresh-requires-clause-prepared
+serve_fresh-requires-clause-prepared g c = c.requires.prepared

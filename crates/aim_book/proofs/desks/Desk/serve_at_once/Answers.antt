@@ -1,9 +1,10 @@
-use Rattle.std.proofs.Common.{◌≡◌, length, sym, ◌∙◌, ap}
+use Rattle.std.proofs.Common.{◌≡◌, length, sym, ◌∙◌, ap, refl}
 use Rattle.std.specs.Prelude.{slice_set}
 use Rattle.aim_emerg.specs.Calls.{call_of}
 use Rattle.aim_rules.specs.History.{fresh, now_of, params_of}
 use Rattle.aim_book.proofs.ManagedLemmas.{answer_new, known_of, tells}
 use Rattle.aim_book.proofs.ServedLemmas.{managed_without, row_room, row_tiles}
+use Rattle.aim_book.proofs.GivenLemmas.{few_more, given_cost, given_sheets, no_less}
 use Rattle.aim_book.proofs.desks.Desk.serve_at_once.Goals as goal
 
 pub give_up-requires-clause-own : goal.give_up-requires-clause-own
@@ -43,3 +44,86 @@ returns-clause-managed g c = λ h moment m late.
     (rw (c.keep_distance.ensures.rest, c.given_up-id.ensures) at c.give_up.ensures.rows)
     (rw c.keep_distance.ensures.rest at c.give_up.ensures.table)
     (rw (c.keep_distance.ensures.rest, c.given_up-id.ensures) at c.give_up.ensures.cells)
+
+pub returns-clause-sheets : goal.returns-clause-sheets
+returns-clause-sheets g c =
+    let d = c.requires.managed.2.desk in
+    let old = c.args.self.now.reservations.rows.items in
+    given_sheets c.keep_distance.new.self.reservations.rows.items old c.give_up.new.self.rows.items c.args.vehicle c.given_up-id.result c.give_up.new.back.count c.args.back.now.count
+    (rw d.reserved.many c.requires.vehicle) (λ j. (c.keep_distance.ensures.rest j).reservations.rows.items) c.give_up.ensures.rows (ap (λ pool. pool.count) c.give_up.ensures.pool)
+
+pub returns-clause-cost : goal.returns-clause-cost
+returns-clause-cost g c =
+    let d = c.requires.managed.2.desk in
+    let old = c.args.self.now.reservations.rows.items in
+    given_cost c.keep_distance.new.self.reservations.rows.items old c.give_up.new.self.rows.items c.args.vehicle c.given_up-id.result c.give_up.new.steps c.args.steps.now
+    (rw d.reserved.many c.requires.vehicle) (λ j. (c.keep_distance.ensures.rest j).reservations.rows.items) c.give_up.ensures.rows c.give_up.ensures.cost
+
+pub returns-clause-pool : goal.returns-clause-pool
+returns-clause-pool g c = ap (λ pool. pool.room) c.give_up.ensures.pool
+
+pub returns-clause-timeline : goal.returns-clause-timeline
+returns-clause-timeline g c = λ j. (c.keep_distance.ensures.rest j).timeline
+
+pub returns-clause-err : goal.returns-clause-err
+returns-clause-err g c = tt
+
+pub returns-clause-err_calls : goal.returns-clause-err_calls
+returns-clause-err_calls g c = tt
+
+pub returns-clause-err_pool : goal.returns-clause-err_pool
+returns-clause-err_pool g c = tt
+
+pub returns-clause-err_steps : goal.returns-clause-err_steps
+returns-clause-err_steps g c = tt
+
+pub give_up-requires-clause-there : goal.give_up-requires-clause-there
+give_up-requires-clause-there g c = rw (c.keep_distance.ensures.rest, c.requires.managed.2.desk.reserved.many) c.requires.vehicle
+
+pub give_up-requires-clause-count : goal.give_up-requires-clause-count
+give_up-requires-clause-count g c = few_more c.args.back.now.count c.requires.count
+
+pub keep_distance-requires : goal.keep_distance-requires
+keep_distance-requires g c = c.requires.managed.2.desk.sixteen
+
+pub keep-requires-clause-there : goal.keep-requires-clause-there
+keep-requires-clause-there g c = c.requires.vehicle
+
+pub keep-requires-clause-fresh : goal.keep-requires-clause-fresh
+keep-requires-clause-fresh g c = c.requires.fresh
+
+pub note-requires-clause-there : goal.note-requires-clause-there
+note-requires-clause-there g c = rw c.requires.managed.2.calls_many c.requires.vehicle
+
+pub note-requires-clause-range : goal.note-requires-clause-range
+note-requires-clause-range g c = c.in_ok-call.ensures.range
+
+pub answer_at_once-requires-clause-caller : goal.answer_at_once-requires-clause-caller
+answer_at_once-requires-clause-caller g c = c.requires.vehicle
+
+pub answer_at_once-requires-clause-row : goal.answer_at_once-requires-clause-row
+answer_at_once-requires-clause-row g c = rw c.requires.managed.2.desk.reserved.many c.requires.vehicle
+
+pub returns-in_err-call-clause-sheets : goal.returns-in_err-call-clause-sheets
+returns-in_err-call-clause-sheets g c = refl
+
+pub returns-in_err-call-clause-timeline : goal.returns-in_err-call-clause-timeline
+returns-in_err-call-clause-timeline g c = refl
+
+pub returns-in_err-call-clause-pool : goal.returns-in_err-call-clause-pool
+returns-in_err-call-clause-pool g c = refl
+
+pub returns-in_err-call-clause-cost : goal.returns-in_err-call-clause-cost
+returns-in_err-call-clause-cost g c = no_less _ _
+
+pub returns-in_err-reply-clause-sheets : goal.returns-in_err-reply-clause-sheets
+returns-in_err-reply-clause-sheets g c = refl
+
+pub returns-in_err-reply-clause-timeline : goal.returns-in_err-reply-clause-timeline
+returns-in_err-reply-clause-timeline g c = refl
+
+pub returns-in_err-reply-clause-pool : goal.returns-in_err-reply-clause-pool
+returns-in_err-reply-clause-pool g c = refl
+
+pub returns-in_err-reply-clause-cost : goal.returns-in_err-reply-clause-cost
+returns-in_err-reply-clause-cost g c = no_less _ _

@@ -1,4 +1,4 @@
-use Rattle.std.proofs.Common.{◌≡◌, ◌<◌, ◌≤◌, ◌+◌, length, sym, ◌∙◌, ap, arith, subst, true, None}
+use Rattle.std.proofs.Common.{◌≡◌, ◌<◌, ◌≤◌, ◌+◌, length, sym, ◌∙◌, ap, subst, true, None}
 use Rattle.std.proofs.lemmas.List.{get_or-set_same}
 use Rattle.std.specs.Prelude.{slice_set, slice_index_or}
 use Rattle.aim_msg.specs.declared.messages.Message.{Message}
@@ -14,6 +14,7 @@ use Rattle.aim_book.specs.Reserved.{rows_exchanged}
 use Rattle.aim_book.proofs.CostLemmas.{moved_fits}
 use Rattle.aim_book.proofs.ManagedLemmas.{answer_new, known_of, tells}
 use Rattle.aim_book.proofs.ServedLemmas.{calling_noted, later_granted, managed_next, row_room, row_tiles, tiles_granted}
+use Rattle.aim_book.proofs.GivenLemmas.{kept_sheets, moved_cost}
 use Rattle.aim_book.proofs.desks.Desk.serve_fresh.Goals as goal
 
 pub answer_fresh-reply-requires-clause-there : goal.answer_fresh-reply-requires-clause-there
@@ -110,7 +111,65 @@ returns-clause-cost g c =
     let moved : spans_moved (row_of rows v) next (is_changed (row_of rows v) c.args.prepared c.answer_fresh-reply.result) ≤ rows_exchanged (row_of rows v) next
     = moved_fits c.args.layout.now managed.0 v c.args.place (row_of rows v) c.args.prepared c.answer_fresh-reply.result (managed.2.desk.reserved.rows v c.requires.vehicle) managed.3 in
     let rows_are : c.keep-2.new.self.rows.items ≡ slice_set rows v next = rw c.keep_distance.ensures.rest at c.keep-2.ensures.rows in
-    let there : v < length rows = (let q = managed.2.desk.reserved.many in let l = c.requires.vehicle in omega arith) in
+    let there : v < length rows = rw managed.2.desk.reserved.many c.requires.vehicle in
     let row_is : row_of c.keep-2.new.self.rows.items v ≡ next = ap (λ ss. row_of ss v) rows_are ∙ get_or-set_same rows v next None there in
     let kept : c.keep-2.new.steps ≤ c.answer_fresh-reply.new.steps + spans_moved (row_of rows v) next (is_changed (row_of rows v) c.args.prepared c.answer_fresh-reply.result) = rw c.keep_distance.ensures.rest at c.keep-2.ensures.cost in
-    rw row_is (omega (arith, kept, moved, c.answer_fresh-reply.ensures.cost))
+    rw row_is (moved_cost _ _ _ _ _ _ _ kept moved c.answer_fresh-reply.ensures.cost)
+
+pub keep-requires-2-clause-there : goal.keep-requires-2-clause-there
+keep-requires-2-clause-there g c = rw (c.keep_distance.ensures.rest, c.requires.managed.2.desk.reserved.many) c.requires.vehicle
+
+pub keep_distance-requires : goal.keep_distance-requires
+keep_distance-requires g c = c.requires.managed.2.desk.sixteen
+
+pub returns-clause-timeline : goal.returns-clause-timeline
+returns-clause-timeline g c = λ j. (c.keep_distance.ensures.rest j).timeline
+
+pub keep-requires-2-clause-count : goal.keep-requires-2-clause-count
+keep-requires-2-clause-count g c = c.requires.count
+
+pub keep-requires-clause-fresh : goal.keep-requires-clause-fresh
+keep-requires-clause-fresh g c = rw c.message.ensures.message c.requires.fresh
+
+pub keep-requires-clause-there : goal.keep-requires-clause-there
+keep-requires-clause-there g c = c.requires.vehicle
+
+pub returns-clause-pool : goal.returns-clause-pool
+returns-clause-pool g c = c.keep-2.ensures.pool
+
+pub answer_fresh-reply-requires-clause-row : goal.answer_fresh-reply-requires-clause-row
+answer_fresh-reply-requires-clause-row g c = rw c.requires.managed.2.desk.reserved.many c.requires.vehicle
+
+pub answer_fresh-reply-requires-clause-caller : goal.answer_fresh-reply-requires-clause-caller
+answer_fresh-reply-requires-clause-caller g c = c.requires.vehicle
+
+pub note-requires-clause-there : goal.note-requires-clause-there
+note-requires-clause-there g c = rw c.requires.managed.2.calls_many c.requires.vehicle
+
+pub note-requires-clause-range : goal.note-requires-clause-range
+note-requires-clause-range g c = c.call_in.ensures.range
+
+pub answer_fresh-reply-requires-clause-lights : goal.answer_fresh-reply-requires-clause-lights
+answer_fresh-reply-requires-clause-lights g c = c.requires.managed.2.desk.lights
+
+pub answer_fresh-reply-requires-clause-size : goal.answer_fresh-reply-requires-clause-size
+answer_fresh-reply-requires-clause-size g c = c.requires.managed.2.desk.reserved.size
+
+pub answer_fresh-reply-requires-clause-few : goal.answer_fresh-reply-requires-clause-few
+answer_fresh-reply-requires-clause-few g c = rw c.requires.managed.2.desk.reserved.many c.requires.managed.2.few
+
+pub answer_fresh-reply-requires-clause-prepared : goal.answer_fresh-reply-requires-clause-prepared
+answer_fresh-reply-requires-clause-prepared g c = c.requires.prepared
+
+pub keep-requires-2-clause-first : goal.keep-requires-2-clause-first
+keep-requires-2-clause-first g c = c.requires.prepared.first_room ∙ sym c.requires.room
+
+pub keep-requires-2-clause-second : goal.keep-requires-2-clause-second
+keep-requires-2-clause-second g c = c.requires.prepared.second_room ∙ sym c.requires.room
+
+pub returns-clause-sheets : goal.returns-clause-sheets
+returns-clause-sheets g c =
+    let rows = c.keep_distance.new.self.reservations.rows.items in
+    let v = c.args.vehicle in
+    kept_sheets rows c.args.self.now.reservations.rows.items c.keep-2.new.self.rows.items v c.keep-2.new.back.count c.args.back.now.count (row_next (row_of rows v) c.args.place c.args.prepared c.answer_fresh-reply.result)
+    (rw c.requires.managed.2.desk.reserved.many c.requires.vehicle) (λ j. (c.keep_distance.ensures.rest j).reservations.rows.items) c.keep-2.ensures.rows c.keep-2.ensures.sheets

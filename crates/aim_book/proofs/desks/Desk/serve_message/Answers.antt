@@ -1,4 +1,4 @@
-use Rattle.std.proofs.Common.{◌≡◌, [], ◌∷◌, ◌++◌, length, refl, sym, ◌∙◌, ap, arith, subst, false}
+use Rattle.std.proofs.Common.{◌≡◌, [], ◌∷◌, ◌++◌, length, refl, sym, ◌∙◌, ap, arith, subst, false, ◌+◌}
 use Rattle.aim_msg.specs.declared.entries.Act.TheVariants as act
 use Rattle.aim_msg.specs.declared.entries.Entry.{Entry}
 use Rattle.aim_rules.specs.Answer.{answer}
@@ -11,6 +11,8 @@ use Rattle.aim_reservations.specs.Rows.{row_of}
 use Rattle.aim_book.specs.Managed.{IsManaged}
 use Rattle.aim_book.specs.Reserved.{rows_exchanged}
 use Rattle.aim_book.proofs.SameLemmas.{managed_same, not_fresh, now_next}
+use Rattle.aim_reservations.specs.Keeping.{row_count}
+use Rattle.aim_book.proofs.GivenLemmas.{cost_time}
 use Rattle.aim_book.proofs.desks.Desk.serve_message.Goals as goal
 
 pub returns-in-Fresh-clause-managed : goal.returns-in-Fresh-clause-managed
@@ -57,3 +59,46 @@ returns-in-Fresh-clause-cost g c =
     let rows : rows_exchanged (row_of c.go_on.new.self.reservations.rows.items v) (row_of c.serve_new.new.self.reservations.rows.items v) ≡ rows_exchanged (row_of c.args.self.now.reservations.rows.items v) (row_of c.serve_new.new.self.reservations.rows.items v)
     = ap (λ rs. rows_exchanged (row_of rs v) (row_of c.serve_new.new.self.reservations.rows.items v)) c.go_on.ensures.rows in
     omega (arith, c.serve_new.ensures.cost, c.go_on.ensures.cost, rows)
+
+pub returns-in-Fresh-clause-sheets : goal.returns-in-Fresh-clause-sheets
+returns-in-Fresh-clause-sheets g c = rw c.go_on.ensures.rows at c.serve_new.ensures.sheets
+
+pub returns-in-Fresh-clause-timeline : goal.returns-in-Fresh-clause-timeline
+returns-in-Fresh-clause-timeline g c = c.serve_new.ensures.timeline ∙ (λ j. (c.go_on.ensures.rest j).timeline)
+
+pub returns-in-Fresh-clause-pool : goal.returns-in-Fresh-clause-pool
+returns-in-Fresh-clause-pool g c = c.serve_new.ensures.pool
+
+pub returns-in_default-clause-sheets : goal.returns-in_default-clause-sheets
+returns-in_default-clause-sheets g c = ap (λ rs. c.args.pool.now.count + row_count (row_of rs c.args.vehicle)) c.go_on.ensures.rows
+
+pub returns-in_default-clause-timeline : goal.returns-in_default-clause-timeline
+returns-in_default-clause-timeline g c = λ j. (c.go_on.ensures.rest j).timeline
+
+pub returns-in_default-clause-cost : goal.returns-in_default-clause-cost
+returns-in_default-clause-cost g c = cost_time _ _ _ _ _ c.go_on.ensures.cost
+
+pub returns-in_default-clause-pool : goal.returns-in_default-clause-pool
+returns-in_default-clause-pool g c = refl
+
+pub look-requires : goal.look-requires
+look-requires g c =
+    let many : length c.go_on.new.self.sessions ≡ length c.args.self.now.sessions = (λ j. length (c.go_on.ensures.rest j).sessions) in
+    rw many c.requires.vehicle
+
+pub serve_new-requires-clause-vehicle : goal.serve_new-requires-clause-vehicle
+serve_new-requires-clause-vehicle g c =
+    let many : length c.go_on.new.self.sessions ≡ length c.args.self.now.sessions = (λ j. length (c.go_on.ensures.rest j).sessions) in
+    rw many c.requires.vehicle
+
+pub serve_new-requires-clause-fresh : goal.serve_new-requires-clause-fresh
+serve_new-requires-clause-fresh g c = sym c.look.ensures ∙ c.in-Fresh.is
+
+pub serve_new-requires-clause-room : goal.serve_new-requires-clause-room
+serve_new-requires-clause-room g c = c.requires.room
+
+pub serve_new-requires-clause-count : goal.serve_new-requires-clause-count
+serve_new-requires-clause-count g c = c.requires.count
+
+pub serve_new-requires-clause-two : goal.serve_new-requires-clause-two
+serve_new-requires-clause-two g c = c.requires.two
