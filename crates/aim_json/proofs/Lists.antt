@@ -1,14 +1,10 @@
--- Lists and members that are made one by one.
+-- Lists that are made one by one.
 use Rattle.std.proofs.Common.{◌≡◌, ◌∙◌, sym, ℕ, ◌+◌, ◌-◌, ◌<◌, List, [], ◌∷◌, ◌++◌, suc, map, filter, if◌then◌else◌, refl, inl, inr, append_assoc, append-nil, arith}
 use Rattle.std.proofs.lemmas.Bool.{cases_Bool}
 use Rattle.std.specs.List.{range_with_len}
-use Rattle.serde_json.specs.Data.{Data, Members, put}
+use Rattle.serde_json.specs.Data.{Data}
 use Rattle.aim_msg.specs.Lines.{has_lane}
-use Rattle.aim_json.specs.Members.{Member, count, with_members}
-
-pub with_members_append : (a b : List Member) (there : Members) → with_members (a ++ b) there ≡ with_members b (with_members a there)
-with_members_append [] b there = refl
-with_members_append (m ∷ a) b there = with_members_append a b (put m.0 m.1 there)
+use Rattle.aim_json.specs.Members.{count}
 
 -- the lanes from one on: that one if it is in the set, and then the lanes from the next on
 pub lanes_next : (made : List Data) (lanes lane : ℕ) → lane < 16

@@ -1,6 +1,5 @@
 -- JSON values that are made of their parts.
 use Rattle.std.specs.Prelude.{ℕ, List, [], ◌∷◌}
-use Rattle.std.specs.Borrow.{Bor}
 use Rattle.serde_json.specs.Data.{Data, number, unsigned, string, array, object, Members, no_members, put}
 use Rattle.serde_json.specs.View.{items_of}
 
@@ -27,8 +26,3 @@ with_members (m ∷ more) there = with_members more (put m.0 m.1 there)
 -- of their names
 abbrev pub object_of : List Member → Data
 object_of members = object (with_members members no_members)
-
--- the members of rows of the code: a name and a number each
-abbrev pub counts_of : List (Bor (List ℕ) × ℕ) → List Member
-counts_of [] = []
-counts_of (row ∷ rows) = (row.0.now, count row.1) ∷ counts_of rows

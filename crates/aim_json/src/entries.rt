@@ -1,13 +1,12 @@
 //! The values of replies and entries.
 
-ghost use Rattle.std.specs.Prelude.{◌≡◌, ◌∷◌, ◌++◌, [], codes, IfOk, OnOk};
+ghost use Rattle.std.specs.Prelude.{◌≡◌, ◌∷◌, [], codes, IfOk};
 ghost use Rattle.serde_json.specs.View.{view};
-ghost use Rattle.aim_msg.specs.Texts.{pace_word};
-ghost use Rattle.aim_json.specs.Members.{count, counts_of, word};
+ghost use Rattle.aim_json.specs.Members.{count, word};
 ghost use Rattle.aim_json.specs.Lines.{of_kind};
 ghost use Rattle.aim_json.specs.Entries.{act_json, caller_json, entry_json, held_json, reason_json, reply_json};
 
-use crate::lines::{message_value, numbered_kind};
+use crate::lines::{bare_kind, message_value, single_kind};
 use crate::object::Object;
 use crate::words::{field_text, pace_text};
 use aim_msg::{Act, Entry, Order, Reason, Reply};
@@ -29,70 +28,65 @@ fn act_value(alloc: Global, act: &Act) -> Result<Value, AllocError>
     match act {
         Act::Message(message) => message_value(alloc, message),
         Act::Order(Order::Switch(policy)) => {
-            numbered_kind(alloc, "switch", &[("policy", u32::from(*policy))])
+            single_kind(alloc, "switch", "policy", u32::from(*policy))
         }
-        Act::Order(Order::Stop) => numbered_kind(alloc, "stop", &[]),
+        Act::Order(Order::Stop) => bare_kind(alloc, "stop"),
     }
-}
-
-// An object of a kind with a member that is a text.
-fn named_kind(alloc: Global, kind: &str, name: &str, text: &str) -> Result<Value, AllocError>
-    ensures { IfOk result (λ v. view v ≡ of_kind kind.now ((name.now, word text.now) ∷ [])) }
-{
-    let mut object = Object::with(alloc, "kind", kind)?;
-    object.word(name, text)?;
-    Ok(object.value())
 }
 
 fn distance_value(alloc: Global, distance: u64) -> Result<Value, AllocError>
     ensures { IfOk result (λ v. view v ≡ of_kind (codes "distance") ((codes "d", count distance) ∷ [])) }
 {
-    let mut object = Object::with(alloc, "kind", "distance")?;
-    object.count("d", distance)?;
-    Ok(object.value())
+    Object::with(alloc, "kind", "distance")
+        .member("d", Ok(Value::from(distance)))
+        .value()
+}
+
+// An object of a kind with a tile, a step and one further number.
+fn tile_kind(
+    alloc: Global,
+    kind: &str,
+    row: u8,
+    col: u8,
+    step: u32,
+    name: &str,
+    n: u32,
+) -> Result<Value, AllocError>
+    ensures { IfOk result (λ v. view v ≡ of_kind kind.now ((codes "row", count row) ∷ (codes "col", count col) ∷ (codes "step", count step) ∷ (name.now, count n) ∷ [])) }
+{
+    Object::with(alloc, "kind", kind)
+        .count("row", u32::from(row))
+        .count("col", u32::from(col))
+        .count("step", step)
+        .count(name, n)
+        .value()
 }
 
 fn reason_value(alloc: Global, reason: &Reason) -> Result<Value, AllocError>
     ensures { IfOk result (λ v. view v ≡ reason_json reason.now) }
 {
     match *reason {
-        Reason::Holds(id) => numbered_kind(alloc, "holds", &[("id", id)]),
-        Reason::NoReservation => numbered_kind(alloc, "no-reservation", &[]),
-        Reason::Begun(step) => numbered_kind(alloc, "begun", &[("step", step)]),
-        Reason::TooSoon(next) => numbered_kind(alloc, "too-soon", &[("next", next)]),
-        Reason::Bad(field) => named_kind(alloc, "bad", "field", field_text(field)),
-        Reason::Late(now) => numbered_kind(alloc, "late", &[("now", now)]),
-        Reason::Far(reach) => numbered_kind(alloc, "far", &[("reach", reach)]),
+        Reason::Holds(id) => single_kind(alloc, "holds", "id", id),
+        Reason::NoReservation => bare_kind(alloc, "no-reservation"),
+        Reason::Begun(step) => single_kind(alloc, "begun", "step", step),
+        Reason::TooSoon(next) => single_kind(alloc, "too-soon", "next", next),
+        Reason::Bad(field) => Object::with(alloc, "kind", "bad")
+            .word("field", field_text(field))
+            .value(),
+        Reason::Late(now) => single_kind(alloc, "late", "now", now),
+        Reason::Far(reach) => single_kind(alloc, "far", "reach", reach),
         Reason::Distance(distance) => distance_value(alloc, distance),
-        Reason::Emergency(lane) => {
-            numbered_kind(alloc, "emergency", &[("lane", u32::from(lane))])
-        }
+        Reason::Emergency(lane) => { single_kind(alloc, "emergency", "lane", u32::from(lane)) }
         Reason::Green {
             row,
             col,
             step,
             lane,
-        } => numbered_kind(
-            alloc,
-            "green",
-            &[
-                ("row", u32::from(row)),
-                ("col", u32::from(col)),
-                ("step", step),
-                ("lane", u32::from(lane)),
-            ],
-        ),
-        Reason::Taken { row, col, step, by } => numbered_kind(
-            alloc,
-            "taken",
-            &[
-                ("row", u32::from(row)),
-                ("col", u32::from(col)),
-                ("step", step),
-                ("by", by),
-            ],
-        ),
-        Reason::Reused(seq) => numbered_kind(alloc, "reused", &[("seq", seq)]),
+        } => tile_kind(alloc, "green", row, col, step, "lane", u32::from(lane)),
+        Reason::Taken { row, col, step, by } => {
+            tile_kind(alloc, "taken", row, col, step, "by", by)
+        }
+        Reason::Reused(seq) => single_kind(alloc, "reused", "seq", seq),
     }
 }
 
@@ -113,28 +107,38 @@ fn reject_value(
 ) -> Result<Value, AllocError>
     ensures { IfOk result (λ v. view v ≡ reply_json (Reply.Reject reason.now next held)) }
 {
-    let mut object = Object::with(alloc, "kind", "reject")?;
-    object.member("reason", reason_value(alloc, reason)?)?;
-    object.counts(&[("next", next)])?;
-    object.member("held", held_value(held))?;
-    Ok(object.value())
+    Object::with(alloc, "kind", "reject")
+        .member("reason", reason_value(alloc, reason))
+        .count("next", next)
+        .member("held", Ok(held_value(held)))
+        .value()
 }
 
-// A confirmation with these numbers.
-#[tactic(auto, using(crate::proofs::Lists::with_members_append))]
-fn confirm_value(alloc: Global, rows: &[(&str, u32)], accelerate: bool) -> Result<Value, AllocError>
-    ensures { IfOk result (λ v. view v ≡ of_kind (codes "confirm") (counts_of rows.now ++ (codes "trial", word (pace_word accelerate)) ∷ [])) }
+fn confirm_value(
+    alloc: Global,
+    id: u32,
+    start: u32,
+    early: u32,
+    late: u32,
+    accelerate: bool,
+    last: u32,
+) -> Result<Value, AllocError>
+    ensures { IfOk result (λ v. view v ≡ reply_json (Reply.Confirm id start early late accelerate last)) }
 {
-    let mut object = Object::with(alloc, "kind", "confirm")?;
-    object.counts(rows)?;
-    object.word("trial", pace_text(accelerate))?;
-    Ok(object.value())
+    Object::with(alloc, "kind", "confirm")
+        .count("id", id)
+        .count("start", start)
+        .count("early", early)
+        .count("late", late)
+        .count("last", last)
+        .word("trial", pace_text(accelerate))
+        .value()
 }
 
 fn reply_value(alloc: Global, reply: &Reply) -> Result<Value, AllocError>
     ensures { IfOk result (λ v. view v ≡ reply_json reply.now) }
 {
-    match reply {
+    match *reply {
         Reply::Confirm {
             id,
             start,
@@ -142,23 +146,17 @@ fn reply_value(alloc: Global, reply: &Reply) -> Result<Value, AllocError>
             late,
             accelerate,
             last,
-        } => confirm_value(
-            alloc,
-            &[
-                ("id", *id),
-                ("start", *start),
-                ("early", *early),
-                ("late", *late),
-                ("last", *last),
-            ],
-            *accelerate,
-        ),
-        Reply::Reject { reason, next, held } => reject_value(alloc, reason, *next, *held),
-        Reply::Ack { id } => numbered_kind(alloc, "ack", &[("id", *id)]),
-        Reply::EmergencyStop => numbered_kind(alloc, "emergency-stop", &[]),
-        Reply::Stale { last } => numbered_kind(alloc, "stale", &[("last", *last)]),
-        Reply::Switched { from } => numbered_kind(alloc, "switched", &[("from", *from)]),
-        Reply::Stopped => numbered_kind(alloc, "stopped", &[]),
+        } => confirm_value(alloc, id, start, early, late, accelerate, last),
+        Reply::Reject {
+            ref reason,
+            next,
+            held,
+        } => reject_value(alloc, reason, next, held),
+        Reply::Ack { id } => single_kind(alloc, "ack", "id", id),
+        Reply::EmergencyStop => bare_kind(alloc, "emergency-stop"),
+        Reply::Stale { last } => single_kind(alloc, "stale", "last", last),
+        Reply::Switched { from } => single_kind(alloc, "switched", "from", from),
+        Reply::Stopped => bare_kind(alloc, "stopped"),
     }
 }
 
@@ -166,11 +164,11 @@ fn reply_value(alloc: Global, reply: &Reply) -> Result<Value, AllocError>
 pub(crate) fn entry_value(alloc: Global, position: u32, entry: &Entry) -> Result<Value, AllocError>
     ensures { IfOk result (λ v. view v ≡ entry_json position entry.now) }
 {
-    let mut object = Object::new(alloc);
-    object.counts(&[("position", position)])?;
-    object.member("caller", caller_value(alloc, entry.caller, &entry.act)?)?;
-    object.counts(&[("moment", entry.moment)])?;
-    object.member("act", act_value(alloc, &entry.act)?)?;
-    object.member("reply", reply_value(alloc, &entry.reply)?)?;
-    Ok(object.value())
+    Object::new(alloc)
+        .count("position", position)
+        .member("caller", caller_value(alloc, entry.caller, &entry.act))
+        .count("moment", entry.moment)
+        .member("act", act_value(alloc, &entry.act))
+        .member("reply", reply_value(alloc, &entry.reply))
+        .value()
 }

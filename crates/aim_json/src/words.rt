@@ -1,14 +1,10 @@
 //! The words that are fixed, and names.
 
-ghost use Rattle.std.specs.Prelude.{◌≡◌, IfOk};
-ghost use Rattle.serde_json.specs.View.{view};
+ghost use Rattle.std.specs.Prelude.{◌≡◌};
 ghost use Rattle.aim_msg.specs.Texts.{turn_word, class_word, field_word, pace_word};
 ghost use Rattle.aim_msg.specs.Lines.{name_word, kind_word, window_word, IsName};
-ghost use Rattle.aim_json.specs.Members.{word};
 
 use aim_msg::{Field, Name, Turn};
-use serde_json::Value;
-use std::alloc::{AllocError, Global};
 
 pub(crate) fn turn_text(turn: Turn) -> &'static str
     ensures { result.now ≡ turn_word turn }
@@ -66,9 +62,9 @@ pub(crate) fn window_text(ahead: bool) -> &'static str
     if ahead { "early" } else { "start" }
 }
 
-// A name's text.
+/// A name's text.
 #[tactic(auto, using(crate::proofs::Names::name_is_utf8))]
-fn name_text(name: &Name) -> &str
+pub(crate) fn name_text(name: &Name) -> &str
     requires { IsName name.now }
     ensures { result.now ≡ name_word name.now }
 {
@@ -76,12 +72,4 @@ fn name_text(name: &Name) -> &str
         Ok(text) => text,
         Err(_) => unreachable!(),
     }
-}
-
-/// A name as a value.
-pub(crate) fn name_value(alloc: Global, name: &Name) -> Result<Value, AllocError>
-    requires { IsName name.now }
-    ensures { IfOk result (λ v. view v ≡ word (name_word name.now)) }
-{
-    Value::try_from_str(alloc, name_text(name))
 }
