@@ -1,14 +1,15 @@
 -- What a drive script comes to, line after line.
-use Rattle.std.proofs.Common.{◌≡◌, ℕ, ◌+◌, ◌≤◌, List, [], ◌∷◌, ◌++◌, length, Option, Some, None, Result, Ok, Err, IfSome, refl, sym, ap, ◌∙◌, length-append, Bool, true, false, arith}
+use Rattle.std.proofs.Common.{◌≡◌, ℕ, ◌+◌, ◌≤◌, List, [], ◌∷◌, ◌++◌, length, Option, Some, None, Result, Ok, Err, IfSome, refl, sym, ap, ◌∙◌, subst, length-append, Bool, true, false, arith}
+use Rattle.std.specs.Prelude.{IfOk}
 use Rattle.std.specs.Option.{unwrap_or}
 use Rattle.std.specs.Io.KnownBytes.{Consumes, Keeps, prepend_known}
-use Rattle.std.proofs.KnownBytes.{Consumes-nil, Consumes-trans, Consumes-kept}
+use Rattle.std.proofs.KnownBytes.{Consumes-nil, Consumes-trans, Consumes-kept, prepend_known-nil}
 use Rattle.aim_io.specs.declared.lines.LineFault.{LineFault}
 use Rattle.aim_io.specs.declared.lines.LineFault.TheVariants.{Read, Long, Bytes, Lines}
 use Rattle.aim_io.specs.Causes.{Rose}
 use Rattle.aim_io.specs.Known.{WhereKnown}
 use Rattle.aim_io.specs.Lines.{InputFault, LongLine, TooManyBytes, TooManyLines, fault_of, Outcome, Line, Stop}
-use Rattle.aim_io.specs.Reader.{Reader, input, coming, Answers, IsSound, taken_by, after_call}
+use Rattle.aim_io.specs.Reader.{Reader, fresh, input, coming, Answers, IsSound, KnowsEnd, taken_by, after_call}
 use Rattle.aim_io.proofs.LoopLemmas.{decides_line, decided_line, decided_end, decided_fault}
 use Rattle.aim_msg.specs.declared.script.Line.{Line as ScriptLine}
 use Rattle.aim_script.specs.declared.decisions.Decision.{Decision}
@@ -26,7 +27,7 @@ use Rattle.aim_plans.specs.declared.drafts.Refusal.{Refusal}
 use Rattle.aim_plans.specs.declared.drafts.Refusal.TheVariants as refusal
 use Rattle.aim_plans.specs.Verdicts.{judge, verdict_from, drive_verdict}
 use Rattle.aim_plans.specs.Scripts.{Decides, Reads, TakesAtMost}
-use Rattle.aim_plans.specs.Short.{script_after}
+use Rattle.aim_plans.specs.Short.{TookScript, script_after}
 use Rattle.aim_plans.specs.Drafts.{Ends, Judged, at_fault, refused}
 
 abbrev decided : List ScriptLine → Decision → Verdict
@@ -115,6 +116,19 @@ fault_is_read (Long number) e = absurd (cc)
 fault_is_read Bytes e = absurd (cc)
 fault_is_read Lines e = absurd (cc)
 
+-- a line that isn't taken, or the end, is no failure of the source
+pub refused_unread : (number : ℕ) (why : Refusal) → ◌≡◌ {A = Result DriveScript Ending} (Err (refused number why)) (Err ending.Read) → ⊥
+refused_unread number (refusal.Bad kind) e = cc
+refused_unread number (refusal.Limit which) e = cc
+refused_unread number refusal.NoMemory e = cc
+
+pub ends_unread : (before : List ScriptLine) (r : Result DriveScript Ending) → Ends before r → r ≡ Err ending.Read → ⊥
+ends_unread before r ends e = subst (Ends before) e ends
+
+pub with_script : (r : Result DriveScript Ending) (P : Type 0) → P → IfOk r (λ _. P)
+with_script (Ok s) P p = p
+with_script (Err why) P p = tt
+
 -- the count rose since it was first asked for
 pub rose_later : (first before now : ℕ) → first ≤ before → Rose before now → Rose first now
 rose_later first before now later rose = grind arith
@@ -175,3 +189,33 @@ most all left new p sound = record {
   taken = Consumes-trans all (input new left) left _ _ p.taken (held_consumes left new.held);
   within = omega (arith, length-append p.gone new.held, p.count, sound.read);
 }
+
+-- ---- the start
+
+pub starts_sound : (reader : Reader) → reader ≡ fresh → IsSound reader
+starts_sound reader new = subst IsSound (sym new) (record { few = omega arith; read = omega arith; ended = λ e. refl })
+
+pub starts_knowing : (reader : Reader) (left : Option (List ℕ)) → reader ≡ fresh → KnowsEnd reader left
+starts_knowing reader left new e = absurd (cc (ap (λ (r : Reader). r.ended) new, e))
+
+pub starts_placed : (reader : Reader) (left : Option (List ℕ)) → reader ≡ fresh → Placed left (input reader left) reader.place
+starts_placed reader left new = subst (λ r. Placed left (input r left) r.place) (sym new) (subst (λ now. Placed left now 0) (sym (prepend_known-nil left)) (placed_start left))
+
+decides_fresh : (left : Option (List ℕ)) → WhereKnown left (input fresh left) (λ bytes rest. verdict_from [] (coming fresh rest) ≡ drive_verdict bytes)
+decides_fresh None = tt
+decides_fresh (Some bytes) = refl
+
+pub starts_deciding : (reader : Reader) (before : List ScriptLine) (left : Option (List ℕ)) → reader ≡ fresh → before ≡ [] → WhereKnown left (input reader left) (λ bytes rest. verdict_from before (coming reader rest) ≡ drive_verdict bytes)
+starts_deciding reader before left new none =
+    subst (λ r. WhereKnown left (input r left) (λ bytes rest. verdict_from before (coming r rest) ≡ drive_verdict bytes)) (sym new)
+    (subst (λ ls. WhereKnown left (input fresh left) (λ bytes rest. verdict_from ls (coming fresh rest) ≡ drive_verdict bytes)) (sym none) (decides_fresh left))
+
+pub starts_taking : (reader : Reader) (before : List ScriptLine) (left : Option (List ℕ)) → reader ≡ fresh → before ≡ [] → TookScript left (input reader left) before
+starts_taking reader before left new none = record {
+  lines = [];
+  took = record { taken = subst (λ r. Consumes left (input r left) []) (sym new) (subst (λ now. Consumes left now []) (sym (prepend_known-nil left)) (Consumes-nil left)); no_end = tt };
+  is = ap (λ ls. Some ls) (sym none);
+}
+
+pub no_fewer : (n : ℕ) → n ≤ n
+no_fewer n = omega arith

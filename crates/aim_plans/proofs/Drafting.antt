@@ -1,5 +1,5 @@
 -- A draft with one more line.
-use Rattle.std.proofs.Common.{◌≡◌, ◌⊎◌, ℕ, zero, suc, ◌<◌, ◌≤◌, Bool, true, ◌||◌, List, [], ◌∷◌, ◌++◌, length, take, Some, None, Ok, refl, sym, ap, ◌∙◌, subst, inl, inr, arith, slice_get}
+use Rattle.std.proofs.Common.{◌≡◌, ◌⊎◌, ℕ, zero, suc, ◌<◌, ◌≤◌, Bool, true, ◌||◌, List, [], ◌∷◌, ◌++◌, length, take, Some, None, Result, Ok, Err, refl, sym, ap, ◌∙◌, subst, inl, inr, arith, slice_get}
 use Rattle.std.specs.Option.{unwrap_or}
 use Rattle.std.proofs.lemmas.List.{take-append-le}
 use Rattle.std.proofs.Math.Seq.{take-append_seam}
@@ -8,18 +8,23 @@ use Rattle.aim_msg.specs.declared.script.Line.TheVariants as line
 use Rattle.aim_msg.specs.Lines.{KeepsRanges}
 use Rattle.aim_read.proofs.LineSpelled.{line_was_spelled}
 use Rattle.aim_read.specs.Reading.{line_at}
+use Rattle.aim_msg.specs.declared.script.LineKind.{LineKind}
 use Rattle.aim_script.specs.declared.decisions.Decision.TheVariants as decision
+use Rattle.aim_script.specs.declared.decisions.Kind.TheVariants as kind_of
 use Rattle.aim_script.specs.declared.settings.Setting.{Setting}
 use Rattle.aim_script.specs.Headers.{HasName}
 use Rattle.aim_script.specs.Order.{is_end}
-use Rattle.aim_script.specs.Said.{last_of, version_in, vehicles_in, name_in, calls_of}
-use Rattle.aim_script.specs.Verdicts.{at_end}
+use Rattle.aim_script.specs.Said.{last_of, version_in, version_after, vehicles_in, name_in, calls_of}
+use Rattle.aim_script.specs.Verdicts.{at_end, decides, goes_on, number_after, unless_limited}
 use Rattle.aim_script.proofs.AppendLemmas.{IsSilent, last_of_more, version_same, names_same, layout_same, vehicles_same}
 use Rattle.aim_plans.specs.Order.{place_after, is_begin, is_until, is_of_body}
 use Rattle.aim_plans.specs.Kinds.{kind_of_fault, limit_of}
 use Rattle.aim_plans.specs.Scripts.{IsDrive}
-use Rattle.aim_plans.specs.Drafts.{AreNamed, IsDraft, IsOpened, Stands, is_open}
+use Rattle.aim_plans.specs.Verdicts.{of_read, unless_bad}
+use Rattle.aim_plans.specs.Drafts.{AreNamed, IsDraft, IsOpened, Judged, Stands, Takes, is_open}
 use Rattle.aim_plans.specs.declared.drafts.Part.{Part}
+use Rattle.aim_plans.specs.declared.drafts.Refusal.{Refusal}
+use Rattle.aim_plans.specs.declared.drafts.Refusal.TheVariants as refusal
 use Rattle.aim_plans.proofs.Kinding.{only_late}
 
 some_is : {A : Type 0} (x y : A) → Some x ≡ Some y → x ≡ y
@@ -114,3 +119,19 @@ read_name bytes n l is = named n l (line_was_spelled n bytes l (sym is)).1
 
 pub ends_whole : (lines : List Line) → is_end (last_of lines) ≡ true → at_end lines ≡ decision.Whole (length (calls_of lines))
 ends_whole lines over = rw over refl
+
+-- a line that is taken, behind lines that are these
+pub taken_behind : (before lines items : List Line) (l : Line) → before ≡ lines → kind_of_fault before l ≡ None → limit_of before l ≡ None → items ≡ before ++ l ∷ [] → (of_read lines (Ok l) ≡ goes_on l) × (items ≡ lines ++ l ∷ [])
+taken_behind before lines items l same kind limit is =
+    (ap (λ ls. unless_bad ls l (kind_of_fault ls l)) (sym same) ∙ ap (unless_bad before l) kind ∙ ap (unless_limited l) limit, is ∙ ap (λ ls. ls ++ l ∷ []) same)
+
+-- bytes that read as a line come to what the line comes to
+pub judged_line : (before : List Line) (bytes : List ℕ) (n : ℕ) (l : Line) (r : Result (List Line) Refusal) → version_after before ≡ n → Ok l ≡ line_at n bytes → Takes before l r → Judged before bytes r
+judged_line before bytes n l (Ok after) version read t = (l, ap (of_read before) (ap (λ v. line_at v bytes) version ∙ sym read) ∙ t.0, t.1)
+judged_line before bytes n l (Err (refusal.Bad why)) version read t = ap (of_read before) (ap (λ v. line_at v bytes) version ∙ sym read) ∙ t
+judged_line before bytes n l (Err (refusal.Limit which)) version read t = ap (of_read before) (ap (λ v. line_at v bytes) version ∙ sym read) ∙ t
+judged_line before bytes n l (Err refusal.NoMemory) version read t = tt
+
+-- bytes that don't read
+pub judged_unread : (before : List Line) (bytes : List ℕ) (n : ℕ) (why : LineKind) → version_after before ≡ n → Err why ≡ line_at n bytes → of_read before (line_at (version_after before) bytes) ≡ decides (decision.Bad (number_after before) (kind_of.Spelling why))
+judged_unread before bytes n why version read = ap (of_read before) (ap (λ v. line_at v bytes) version ∙ sym read)

@@ -1,22 +1,24 @@
 -- The header of a drive is that of any script.
-use Rattle.std.proofs.Common.{◌≡◌, ℕ, Bool, true, false, List, [], ◌∷◌, ◌++◌, Option, Some, None, refl, sym, ap, ◌∙◌}
+use Rattle.std.proofs.Common.{◌≡◌, ℕ, Bool, true, false, not, ◌||◌, List, [], ◌∷◌, ◌++◌, Option, Some, None, refl, sym, ap, ◌∙◌}
+use Rattle.std.specs.Prelude.{if◌then◌else◌}
 use Rattle.aim_msg.specs.declared.script.Line.{Line}
 use Rattle.aim_msg.specs.declared.script.Line.TheVariants as line
 use Rattle.aim_paths.specs.Intersection.{Intersection}
+use Rattle.aim_script.specs.declared.decisions.Kind.{Kind}
 use Rattle.aim_script.specs.declared.decisions.Kind.TheVariants as why
 use Rattle.aim_script.specs.declared.headers.Header.{Header}
 use Rattle.aim_script.specs.declared.headers.Place.{Place as HeaderPlace}
 use Rattle.aim_script.specs.declared.headers.Place.TheVariants as header_place
 use Rattle.aim_script.specs.declared.settings.Setting.{Setting}
 use Rattle.aim_script.specs.Order.{Part, part_after, belongs as belongs_in_header, may_follow as may_follow_in_header, to_version, to_ground, to_times, to_lanes, in_moves, in_policies, to_begin, in_body, nothing}
-use Rattle.aim_script.specs.Kinds.{kinds as header_kinds, kind_of_fault as header_kind}
+use Rattle.aim_script.specs.Kinds.{Test, kinds as header_kinds, kind_of_fault as header_kind, is_bad_version, has_grid_fault, has_buffers_fault, has_times_fault, is_bad_lane, is_no_move, is_wide, is_bad_policy, is_no_phase, is_no_vehicle as is_no_vehicle_of_any, is_bad_moment as is_bad_moment_of_any, is_out_of_order as is_out_of_any}
 use Rattle.aim_script.specs.Headers.{Stands as StandsAsHeader, IsSet, part_of}
 use Rattle.aim_script.specs.Said.{last_of, layout_of, vehicles_in}
 use Rattle.aim_script.proofs.AppendLemmas.{IsSilent, last_of_more, layout_same}
 use Rattle.aim_script.proofs.KindLemmas.{first_kind, first_kind_is}
 use Rattle.aim_plans.specs.declared.places.Place.TheVariants as place
-use Rattle.aim_plans.specs.Order.{place_after}
-use Rattle.aim_plans.specs.Kinds.{kinds, kind_of_fault, limit_of, vehicles_limit}
+use Rattle.aim_plans.specs.Order.{place_after, belongs, may_follow}
+use Rattle.aim_plans.specs.Kinds.{kinds, kind_of_fault, lacks_plan, is_out_of_order, is_no_vehicle, is_bad_moment, is_no_driver, limit_of, vehicles_limit}
 use Rattle.aim_plans.specs.Drafts.{IsOpened, is_open}
 use Rattle.aim_plans.proofs.Kinding.{kind_is}
 
@@ -86,18 +88,63 @@ header_form to_begin l h b = absurd (cc)
 header_form in_body l h b = absurd (cc)
 header_form nothing l h b = absurd (cc)
 
+-- the tests that both tables share
+abbrev shared : List (Kind × Test)
+shared =
+    (why.Version, is_bad_version)
+    ∷ (why.Grid, has_grid_fault)
+    ∷ (why.Buffers, has_buffers_fault)
+    ∷ (why.Times, has_times_fault)
+    ∷ (why.Lane, is_bad_lane)
+    ∷ (why.Move, is_no_move)
+    ∷ (why.Spacing, is_wide)
+    ∷ (why.Policy, is_bad_policy)
+    ∷ (why.Phase, is_no_phase)
+    ∷ []
+
+abbrev last_rows : List (Kind × Test)
+last_rows = (why.Vehicle, is_no_vehicle) ∷ (why.Moment, is_bad_moment) ∷ (why.Driver, is_no_driver) ∷ []
+
+abbrev last_header_rows : List (Kind × Test)
+last_header_rows = (why.Vehicle, is_no_vehicle_of_any) ∷ (why.Moment, is_bad_moment_of_any) ∷ []
+
+-- tables that end alike tell the same behind what they share
+ends_same : (rows some others : List (Kind × Test)) (before : List Line) (l : Line) → first_kind some before l ≡ first_kind others before l → first_kind (rows ++ some) before l ≡ first_kind (rows ++ others) before l
+ends_same [] some others before l e = e
+ends_same (row ∷ rows) some others before l e = ap (λ o. if row.1 before l then Some row.0 else o) (ends_same rows some others before l e)
+
+last_same : (before : List Line) (l : Line) → is_headed l ≡ true → first_kind last_rows before l ≡ first_kind last_header_rows before l
+last_same before (line.Version n) h = refl
+last_same before (line.Grid g) h = refl
+last_same before (line.Times t) h = refl
+last_same before (line.Times6 t) h = refl
+last_same before (line.Lanes n) h = refl
+last_same before (line.Move lane turn s) h = refl
+last_same before (line.Policy name k) h = refl
+last_same before (line.Phase red green lanes) h = refl
+last_same before (line.Vehicles n) h = refl
+last_same before l h = absurd (cc)
+
+needs_no_plan : (before : List Line) (l : Line) → is_headed l ≡ true → lacks_plan before l ≡ false
+needs_no_plan before (line.ChangeAt v step lead) h = absurd (cc)
+needs_no_plan before (line.CancelAt v step) h = absurd (cc)
+needs_no_plan before (line.Up v fates) h = absurd (cc)
+needs_no_plan before (line.Down v fates) h = absurd (cc)
+needs_no_plan before l h = refl
+
+first_same : (out out_of_header : Bool) (some other : Option Kind) → out ≡ out_of_header → some ≡ other → (if out then Some why.Order else some) ≡ (if out_of_header then Some why.Order else other)
+first_same out out_of_header some other e f = ap (λ b. if b then Some why.Order else some) e ∙ ap (λ o. if out_of_header then Some why.Order else o) f
+
+in_place : (follows follows_in_header lacks : Bool) → follows ≡ follows_in_header → lacks ≡ false → not follows || lacks ≡ not follows_in_header
+in_place true follows_in_header lacks e f = f ∙ ap not e
+in_place false follows_in_header lacks e f = ap not e
+
 -- a line that may stand there has the same kind
-same_rows : (before : List Line) (l : Line) → place_after (last_of before) ≡ place.InHeader → may_follow_in_header (last_of before) l ≡ true → is_headed l ≡ true → first_kind kinds before l ≡ first_kind header_kinds before l
-same_rows before (line.Version n) at b h = rw (at, b) refl
-same_rows before (line.Grid g) at b h = rw (at, b) refl
-same_rows before (line.Times t) at b h = rw (at, b) refl
-same_rows before (line.Times6 t) at b h = rw (at, b) refl
-same_rows before (line.Lanes n) at b h = rw (at, b) refl
-same_rows before (line.Move lane turn s) at b h = rw (at, b) refl
-same_rows before (line.Policy name k) at b h = rw (at, b) refl
-same_rows before (line.Phase red green lanes) at b h = rw (at, b) refl
-same_rows before (line.Vehicles n) at b h = rw (at, b) refl
-same_rows before l at b h = absurd (cc)
+same_rows : (before : List Line) (l : Line) → place_after (last_of before) ≡ place.InHeader → is_headed l ≡ true → first_kind kinds before l ≡ first_kind header_kinds before l
+same_rows before l at h =
+    first_same (is_out_of_order before l) (is_out_of_any before l) (first_kind (shared ++ last_rows) before l) (first_kind (shared ++ last_header_rows) before l)
+    (in_place (may_follow (last_of before) l) (may_follow_in_header (last_of before) l) (lacks_plan before l) (ap (λ p. belongs p (last_of before) l) at) (needs_no_plan before l h))
+    (ends_same shared last_rows last_header_rows before l (last_same before l h))
 
 out_of_order : (before : List Line) (l : Line) → place_after (last_of before) ≡ place.InHeader → may_follow_in_header (last_of before) l ≡ false → first_kind kinds before l ≡ first_kind header_kinds before l
 out_of_order before l at b = rw (at, b) refl
@@ -106,7 +153,7 @@ same_first : (before : List Line) (l : Line) → is_heading (part_after (last_of
 same_first before l h = go (may_follow_in_header (last_of before) l) refl
   where
     go : (b : Bool) → may_follow_in_header (last_of before) l ≡ b → first_kind kinds before l ≡ first_kind header_kinds before l
-    go true b = same_rows before l (in_header (last_of before) h) b (header_form (part_after (last_of before)) l h b)
+    go true b = same_rows before l (in_header (last_of before) h) (header_form (part_after (last_of before)) l h b)
     go false b = out_of_order before l (in_header (last_of before) h) b
 
 heading : (before : List Line) (h : Header) → StandsAsHeader before h → is_heading (part_after (last_of before)) ≡ true

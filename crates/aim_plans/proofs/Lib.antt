@@ -1,6 +1,8 @@
+pub mod Adding
 pub mod Scanning
 pub mod Kinding
 pub mod Naming
+pub mod Placing
 pub mod Heading
 pub mod Drafting
 pub mod Deciding

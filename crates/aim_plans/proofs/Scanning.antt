@@ -1,7 +1,7 @@
 -- How what is found and counted goes on with one more line.
 use Rattle.std.proofs.Common.{◌≡◌, ℕ, ◌+◌, ◌<◌, ◌≤◌, List, [], ◌∷◌, ◌++◌, length, take, filter_map, get_or, Option, Some, None, refl, sym, ap, ◌∙◌, length-append, arith}
 use Rattle.std.specs.Option.{option_or, option_to_list}
-use Rattle.std.proofs.lemmas.List.{take_more, reverse-append, append-nil}
+use Rattle.std.proofs.lemmas.List.{take_more, take_all, reverse-append, append-nil}
 use Rattle.aim_geometry.specs.Bounded.{find_map}
 use Rattle.aim_driver.specs.declared.plans.PlannedChange.{PlannedChange}
 use Rattle.aim_driver.specs.Plans.{last_change}
@@ -22,6 +22,9 @@ pub given_next : {X Y : Type 0} (f : X → Option Y) (xs : List X) (i : ℕ) (d 
 given_next f xs i d old given new lt was here is =
     is ∙ ap (λ o. old ++ option_to_list o) here ∙ ap (λ ys. ys ++ option_to_list (f (get_or xs i d))) was
     ∙ sym (ap (filter_map f) (take_more xs i d lt) ∙ filter_map-one f (take i xs) (get_or xs i d))
+
+pub given_all : {X Y : Type 0} (f : X → Option Y) (xs : List X) (i : ℕ) (old : List Y) → length xs ≤ i → old ≡ filter_map f (take i xs) → old ≡ filter_map f xs
+given_all f xs i old le is = is ∙ ap (filter_map f) (take_all i xs le)
 
 -- what is kept of all that are given
 pub kept_next : {X Y Z : Type 0} (f : X → Option Y) (keep : List Y → Z) (add : Z → Option Y → Z) (xs : List X) (i : ℕ) (d : X) (old : Z) (given : Option Y) (new : Z)

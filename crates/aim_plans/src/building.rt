@@ -196,19 +196,30 @@ pub(crate) fn script_of(
     requires opened { IsOpened lines.now setting }
     ensures { IfOk result (IsScriptOf lines.now) }
 {
-    let plans = plans_of(alloc, lines)?;
-    let orders = orders_of(alloc, &setting, lines)?;
+    let orders = match orders_of(alloc, &setting, lines) {
+        Ok(orders) => orders,
+        Err(why) => {
+            drop(setting);
+            return Err(why);
+        }
+    };
     let until = until_of(lines);
     let Setting {
         layout,
         vehicles,
         ..
     } = setting;
-    Ok(DriveScript {
-        layout,
-        vehicles,
-        until,
-        plans,
-        orders,
-    })
+    match plans_of(alloc, lines) {
+        Ok(plans) => Ok(DriveScript {
+            layout,
+            vehicles,
+            until,
+            plans,
+            orders,
+        }),
+        Err(why) => {
+            drop(layout);
+            Err(why)
+        }
+    }
 }

@@ -55,7 +55,10 @@ fn headed(header: Header, alloc: Global, line: &Line) -> Result<Part, Refusal>
         Ok(Headed::Whole(setting)) => {
             let spans = setting.layout.ground().grid().spans;
             match vehicles_limit(spans, setting.vehicles) {
-                Some(limit) => Err(Refusal::Limit(limit)),
+                Some(limit) => {
+                    drop(setting);
+                    Err(Refusal::Limit(limit))
+                }
                 None => Ok(Part::Opened(setting)),
             }
         }
@@ -71,9 +74,11 @@ fn opened(setting: Setting, lines: &[Line], line: &Line) -> Result<Part, Refusal
     ensures { Leads lines.now line.now result }
 {
     if let Some(kind) = fault(lines, &setting, line) {
+        drop(setting);
         return Err(Refusal::Bad(kind));
     }
     if let Some(limit) = limit(lines, line) {
+        drop(setting);
         return Err(Refusal::Limit(limit));
     }
     Ok(Part::Opened(setting))
@@ -154,7 +159,10 @@ impl Draft {
             Err(why) => Err(why),
             Ok(part) => match lines.push(*line) {
                 Ok(()) => Ok(Draft { lines, part }),
-                Err(_) => Err(Refusal::NoMemory),
+                Err(_) => {
+                    drop(part);
+                    Err(Refusal::NoMemory)
+                }
             },
         }
     }
@@ -166,7 +174,10 @@ impl Draft {
         let version = self.part.version(&self.lines).number();
         match read_line(bytes, version) {
             Ok(line) => self.take_line(alloc, &line),
-            Err(kind) => Err(Refusal::Bad(Kind::Spelling(kind))),
+            Err(kind) => {
+                drop(self);
+                Err(Refusal::Bad(Kind::Spelling(kind)))
+            }
         }
     }
 
@@ -184,7 +195,10 @@ impl Draft {
                     Err(_) => Err(Ending::NoMemory),
                 }
             }
-            _part => Err(Ending::Bad(count + 1, Kind::End)),
+            other => {
+                drop(other);
+                Err(Ending::Bad(count + 1, Kind::End))
+            }
         }
     }
 }

@@ -2,7 +2,7 @@ use Rattle.std.proofs.Common.{map, refl, get_or}
 use Rattle.aim_msg.specs.declared.script.Line.TheVariants as line
 use Rattle.aim_plans.specs.Said.{drive_in}
 use Rattle.aim_plans.specs.Scripts.{drive_told}
-use Rattle.aim_plans.proofs.Scanning.{given_next}
+use Rattle.aim_plans.proofs.Scanning.{given_next, given_all}
 use Rattle.aim_plans.proofs.building.plans_of.Goals as goal
 
 pub loop-line-preserved : goal.loop-line-preserved
@@ -11,3 +11,6 @@ loop-line-preserved c =
     let i = c.loop-line.line-index in
     given_next (drive_in lines) lines i (line.Version 0) (map drive_told c.loop-line.plans.items) (drive_in lines (get_or lines i (line.Version 0))) (map drive_told c.add_planned.new.plans.items) c.loop-line-test.true c.loop-line.invariant refl
     c.in_ok-add_planned.ensures
+
+pub returns : goal.returns
+returns c = given_all (drive_in c.args.lines.now) c.args.lines.now c.loop-line.line-index (map drive_told c.loop-line.plans.items) c.loop-line-test.false c.loop-line.invariant

@@ -1,8 +1,9 @@
-use Rattle.std.proofs.Common.{Err, [], ◌∷◌, ◌++◌, arith, ◌≡◌, ◌+◌, true, false, sym, ap, ◌∙◌, subst}
+use Rattle.std.proofs.Common.{Err, [], ◌∷◌, ◌++◌, length, arith, ◌≡◌, ◌+◌, true, false, sym, ap, ◌∙◌, subst}
+use Rattle.std.specs.Io.KnownBytes.{IsAtEnd}
 use Rattle.aim_plans.specs.Drafts.{Judged}
 use Rattle.aim_io.proofs.LoopLemmas.{took_kept, took_line, took_part}
 use Rattle.aim_io.specs.Reader.{Reader, after_call}
-use Rattle.aim_plans.proofs.Deciding.{end_line, fault_is_read, fault_reads, goes_length, goes_on_line, most, placed_kept, placed_more, refused_reads, rose_later, script_push}
+use Rattle.aim_plans.proofs.Deciding.{end_line, ends_unread, fault_is_read, fault_reads, goes_length, goes_on_line, most, no_fewer, placed_kept, placed_more, refused_reads, refused_unread, rose_later, script_push, starts_deciding, starts_knowing, starts_placed, starts_sound, starts_taking, with_script}
 use Rattle.aim_plans.proofs.Fitting.{fits_of}
 use Rattle.aim_plans.proofs.reading.read_drive.Goals as goal
 
@@ -115,3 +116,35 @@ lines-smaller g c =
 
 pub overflow_add-number : goal.overflow_add-number
 overflow_add-number g c = omega (arith, c.lines.invariant.number, c.lines.invariant.sound.few)
+
+pub returns-in-Ok-false-clause-ended : goal.returns-in-Ok-false-clause-ended
+returns-in-Ok-false-clause-ended g c =
+    with_script c.end.result (IsAtEnd (g.S.Source.left c.advance.new.source)) (c.advance.ensures.knows c.lines.invariant.knows (rw c.in-Ok-false.field-0-test at c.in-Ok-false.ensures.end))
+
+pub returns-in-Err-take-clause-short : goal.returns-in-Err-take-clause-short
+returns-in-Err-take-clause-short g c is = absurd (refused_unread (c.lines.number + 1) c.in-Err-take.why (rw c.after_refusal.ensures at is))
+
+pub returns-in-Err-take-clause-read : goal.returns-in-Err-take-clause-read
+returns-in-Err-take-clause-read g c is = absurd (refused_unread (c.lines.number + 1) c.in-Err-take.why (rw c.after_refusal.ensures at is))
+
+pub returns-in-Ok-false-clause-short : goal.returns-in-Ok-false-clause-short
+returns-in-Ok-false-clause-short g c is = absurd (ends_unread c.lines.draft c.end.result c.end.ensures is)
+
+pub returns-in-Ok-false-clause-read : goal.returns-in-Ok-false-clause-read
+returns-in-Ok-false-clause-read g c is = absurd (ends_unread c.lines.draft c.end.result c.end.ensures is)
+
+pub lines-init : goal.lines-init
+lines-init g c =
+    let reader = c.new-reader.result in
+    let left = g.S.Source.left c.args.source.now in
+    let given = ap (λ (r : Reader). r.given) c.new-reader.ensures in record {
+      number = sym given;
+      count = ap length c.new-draft.ensures ∙ sym given;
+      no_fault = ap (λ (r : Reader). r.fault) c.new-reader.ensures;
+      sound = starts_sound reader c.new-reader.ensures;
+      knows = starts_knowing reader left c.new-reader.ensures;
+      decides = starts_deciding reader c.new-draft.result left c.new-reader.ensures c.new-draft.ensures;
+      placed = starts_placed reader left c.new-reader.ensures;
+      took = λ going. starts_taking reader c.new-draft.result left c.new-reader.ensures c.new-draft.ensures;
+      later = no_fewer (g.S.Source.faults c.args.source.now);
+    }
