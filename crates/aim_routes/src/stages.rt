@@ -89,7 +89,10 @@ fn begun(alloc: Global, number: u32) -> Result<Header, aim_script::Refusal>
 {
     match Header::new().take(alloc, &Line::Version(number)) {
         Ok(Headed::More(header)) => Ok(header),
-        Ok(Headed::Whole(_setting)) => Err(aim_script::Refusal::Bad(Kind::Order)),
+        Ok(Headed::Whole(setting)) => {
+            drop(setting);
+            Err(aim_script::Refusal::Bad(Kind::Order))
+        }
         Err(why) => Err(why),
     }
 }
@@ -132,7 +135,10 @@ fn ended(header: Header, alloc: Global, number: u32) -> Result<Layout, aim_scrip
                 Err(aim_script::Refusal::Bad(Kind::Version))
             }
         }
-        Ok(Headed::More(_header)) => Err(aim_script::Refusal::Bad(Kind::Order)),
+        Ok(Headed::More(header)) => {
+            drop(header);
+            Err(aim_script::Refusal::Bad(Kind::Order))
+        }
         Err(why) => Err(ending(why, same)),
     }
 }
@@ -181,7 +187,10 @@ fn settled(
     ensures { Settles version layouts.items vehicles result }
 {
     match vehicles_limit(spans_in(&layouts), vehicles) {
-        Some(limit) => Err(Refusal::Limit(limit)),
+        Some(limit) => {
+            drop(layouts);
+            Err(Refusal::Limit(limit))
+        }
         None => Ok(Stage::Begin(Routes {
             version,
             layouts,
@@ -202,7 +211,10 @@ fn last_setting(
 {
     match header.take(alloc, &Line::Vehicles(vehicles)) {
         Ok(Headed::Whole(setting)) => Ok(setting),
-        Ok(Headed::More(_header)) => Err(aim_script::Refusal::Bad(Kind::Order)),
+        Ok(Headed::More(header)) => {
+            drop(header);
+            Err(aim_script::Refusal::Bad(Kind::Order))
+        }
         Err(why) => Err(why),
     }
 }
@@ -223,7 +235,11 @@ fn joined(
     } = setting;
     match whole.push(layout) {
         Ok(()) => settled(alloc, whole, version, vehicles),
-        Err(_) => Err(Refusal::NoMemory),
+        Err(failed) => {
+            drop(failed);
+            drop(whole);
+            Err(Refusal::NoMemory)
+        }
     }
 }
 
@@ -246,9 +262,18 @@ fn further_block(
     ensures { (before : List AnyLine) (header : AnyHeader) → AreBlocks before record { count = count; whole = whole; header = header } → (let p = parted before in EndsBlock p.block number (Ok layout)) → Takes before (line_of.Plain (plain.Version number)) result }
 {
     match begun(alloc, number) {
-        Err(why) => Err(told(why)),
+        Err(why) => {
+            drop(layout);
+            drop(whole);
+            Err(told(why))
+        }
         Ok(header) => match whole.push(layout) {
-            Err(_) => Err(Refusal::NoMemory),
+            Err(failed) => {
+                drop(failed);
+                drop(header);
+                drop(whole);
+                Err(Refusal::NoMemory)
+            }
             Ok(()) => Ok(Stage::Blocks(Blocks {
                 count,
                 whole,
@@ -263,16 +288,20 @@ impl Blocks {
     fn next(self, alloc: Global, number: u32) -> Result<Stage, Refusal>
         ensures { (before : List AnyLine) → AreBlocks before self → Takes before (line_of.Plain (plain.Version number)) result }
     {
+        if has_all(self.count, &self.whole) {
+            drop(self);
+            return Err(OUT_OF_ORDER);
+        }
         let Blocks {
             count,
             whole,
             header,
         } = self;
-        if has_all(count, &whole) {
-            return Err(OUT_OF_ORDER);
-        }
         match ended(header, alloc, number) {
-            Err(why) => Err(told(why)),
+            Err(why) => {
+                drop(whole);
+                Err(told(why))
+            }
             Ok(layout) => further_block(count, whole, layout, alloc, number),
         }
     }
@@ -312,8 +341,15 @@ impl Blocks {
             header,
         } = self;
         match header.take(alloc, line) {
-            Err(why) => Err(told(why)),
-            Ok(Headed::Whole(_setting)) => Err(OUT_OF_ORDER),
+            Err(why) => {
+                drop(whole);
+                Err(told(why))
+            }
+            Ok(Headed::Whole(setting)) => {
+                drop(setting);
+                drop(whole);
+                Err(OUT_OF_ORDER)
+            }
             Ok(Headed::More(header)) => Ok(Stage::Blocks(Blocks {
                 count,
                 whole,
@@ -331,7 +367,10 @@ impl Blocks {
             GridLine::Plain(Line::Version(number)) => self.next(alloc, *number),
             GridLine::Plain(Line::Vehicles(vehicles)) => self.close(alloc, *vehicles),
             GridLine::Plain(line) => self.more(alloc, line),
-            _ => Err(OUT_OF_ORDER),
+            _ => {
+                drop(self);
+                Err(OUT_OF_ORDER)
+            }
         }
     }
 }
@@ -441,7 +480,8 @@ fn travels(routes: Routes, line: GridLine) -> Result<Stage, Refusal>
             },
         ),
         GridLine::Plain(Line::End) => after_end(routes),
-        _other => {
+        other => {
+            drop(other);
             drop(routes);
             Err(OUT_OF_ORDER)
         }
@@ -497,7 +537,10 @@ impl Stage {
         let version = self.version().number();
         match read_grid_line(bytes, version) {
             Ok(line) => self.take_line(alloc, line),
-            Err(kind) => Err(Refusal::Bad(GridKind::Plain(Kind::Spelling(kind)))),
+            Err(kind) => {
+                drop(self);
+                Err(Refusal::Bad(GridKind::Plain(Kind::Spelling(kind))))
+            }
         }
     }
 
