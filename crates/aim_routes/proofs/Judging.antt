@@ -12,7 +12,7 @@ use Rattle.aim_script.specs.declared.headers.Place.{Place}
 use Rattle.aim_script.specs.declared.headers.Place.TheVariants as place
 use Rattle.aim_script.specs.Headers.{Stands as StandsAsHeader, part_of}
 use Rattle.aim_script.specs.Kinds.{kind_of_fault as header_kind, kinds as header_kinds}
-use Rattle.aim_script.specs.Order.{belongs}
+use Rattle.aim_script.specs.Order.{Part as HeaderPart, belongs, to_version, to_ground, to_times, to_lanes, in_moves, in_policies, to_begin, in_body, nothing}
 use Rattle.aim_script.specs.Said.{layout_of, vehicles_in as vehicles_in_plain}
 use Rattle.aim_script.proofs.KindLemmas.{first_kind, first_kind_is, out_of_order}
 use Rattle.aim_grid_read.specs.declared.lines.GridLine.{GridLine}
@@ -77,24 +77,49 @@ other (plain.Down v' fates) b v = record { kind = λ count p. refl; limit = λ b
 other plain.End b v = record { kind = λ count p. refl; limit = λ before. refl }
 
 -- such a line that a header takes says something of a layout
+abbrev is_heading : HeaderPart → Bool
+is_heading to_version = true
+is_heading to_ground = true
+is_heading to_times = true
+is_heading to_lanes = true
+is_heading in_moves = true
+is_heading in_policies = true
+is_heading to_begin = false
+is_heading in_body = false
+is_heading nothing = false
+
+heading_of : (p : Place) → is_heading (part_of p) ≡ true
+heading_of place.Version = refl
+heading_of place.Grid = refl
+heading_of (place.Times g) = refl
+heading_of (place.Lanes s) = refl
+heading_of (place.Moves b) = refl
+heading_of (place.Policies b names) = refl
+
+form_in : (p : HeaderPart) (l : Line) → is_heading p ≡ true → belongs p l ≡ true → begins_block l ≡ false → vehicles_in_plain l ≡ None → is_of_layout l ≡ true
+form_in to_version (plain.Version n) h b f v = absurd (cc)
+form_in to_version l h b f v = absurd (cc)
+form_in to_ground (plain.Grid g) h b f v = refl
+form_in to_ground l h b f v = absurd (cc)
+form_in to_times (plain.Times t) h b f v = refl
+form_in to_times (plain.Times6 t) h b f v = refl
+form_in to_times l h b f v = absurd (cc)
+form_in to_lanes (plain.Lanes n) h b f v = refl
+form_in to_lanes l h b f v = absurd (cc)
+form_in in_moves (plain.Move lane turn s) h b f v = refl
+form_in in_moves (plain.Policy name k) h b f v = refl
+form_in in_moves (plain.Vehicles n) h b f v = absurd (cc)
+form_in in_moves l h b f v = absurd (cc)
+form_in in_policies (plain.Policy name k) h b f v = refl
+form_in in_policies (plain.Phase red green lanes) h b f v = refl
+form_in in_policies (plain.Vehicles n) h b f v = absurd (cc)
+form_in in_policies l h b f v = absurd (cc)
+form_in to_begin l h b f v = absurd (cc)
+form_in in_body l h b f v = absurd (cc)
+form_in nothing l h b f v = absurd (cc)
+
 layout_form : (p : Place) (l : Line) → belongs (part_of p) l ≡ true → begins_block l ≡ false → vehicles_in_plain l ≡ None → is_of_layout l ≡ true
-layout_form place.Version (plain.Version n) b f v = absurd (cc)
-layout_form place.Version l b f v = absurd (cc)
-layout_form place.Grid (plain.Grid g) b f v = refl
-layout_form place.Grid l b f v = absurd (cc)
-layout_form (place.Times g) (plain.Times t) b f v = refl
-layout_form (place.Times g) (plain.Times6 t) b f v = refl
-layout_form (place.Times g) l b f v = absurd (cc)
-layout_form (place.Lanes s) (plain.Lanes n) b f v = refl
-layout_form (place.Lanes s) l b f v = absurd (cc)
-layout_form (place.Moves x) (plain.Move lane turn s) b f v = refl
-layout_form (place.Moves x) (plain.Policy name k) b f v = refl
-layout_form (place.Moves x) (plain.Vehicles n) b f v = absurd (cc)
-layout_form (place.Moves x) l b f v = absurd (cc)
-layout_form (place.Policies x names) (plain.Policy name k) b f v = refl
-layout_form (place.Policies x names) (plain.Phase red green lanes) b f v = refl
-layout_form (place.Policies x names) (plain.Vehicles n) b f v = absurd (cc)
-layout_form (place.Policies x names) l b f v = absurd (cc)
+layout_form p l b f v = form_in (part_of p) l (heading_of p) b f v
 
 pub taken_form : (block : List Line) (h : Header) (l : Line) → StandsAsHeader block h → header_kind block l ≡ None → begins_block l ≡ false → vehicles_in_plain l ≡ None → is_of_layout l ≡ true
 taken_form block h l st none f v = go (belongs (part_of h.place) l) refl
