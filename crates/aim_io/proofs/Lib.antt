@@ -4,5 +4,6 @@ pub mod InputLemmas
 pub mod LinesLemmas
 pub mod LookLemmas
 pub mod LoopLemmas
+pub mod MemoryLemmas
 pub mod ReadingLemmas
 pub mod WindowLemmas

@@ -1,7 +1,11 @@
 -- The first line of the bytes that are held.
-use Rattle.std.proofs.Common.{◌≡◌, ℕ, ◌+◌, ◌<◌, ◌≤◌, List, [], ◌∷◌, ◌++◌, length, take, drop, min, sym, ap, ◌∙◌, subst, arith}
+use Rattle.std.proofs.Common.{◌≡◌, ℕ, ◌+◌, ◌<◌, ◌≤◌, List, [], ◌∷◌, ◌++◌, length, take, drop, min, sym, ap, ◌∙◌, subst, arith, get_or, suc, zero, add-one, drop-cons, Some, None, ◌≢◌}
 use Rattle.std.proofs.Math.Seq.{take-add}
 use Rattle.std.proofs.lemmas.List.{length-take, length-append, length-drop, take-append-drop, take-take, take_at, drop_at, append_assoc}
+use Rattle.std.specs.Prelude.{IfSome, IfNone}
+use Rattle.std.specs.List.{AllWithin, HoldsAt}
+use Rattle.std.specs.Option.{MatchOption}
+use Rattle.std.specs.declared.option.Option.{Option}
 use Rattle.aim_io.specs.Lines.{HasNoEnd, EndsAt, ShowsBytes}
 
 -- a byte 10 behind so many bytes stands there
@@ -67,3 +71,27 @@ ends_past bytes seen at fits none ends =
       no_end = no_end_past bytes seen at none ends.no_end;
       split = split_at bytes front tail (seen + at) whole size;
     }
+
+-- ---- what a search for the first byte 10 says
+
+no_end_within : (bytes : List ℕ) (n : ℕ) → AllWithin (λ b. b ≢ 10) bytes 0 n → n ≤ length bytes → HasNoEnd (take n bytes)
+no_end_within bytes zero within fits = tt
+no_end_within [] (suc n) within fits = tt
+no_end_within (b ∷ bytes) (suc n) within fits =
+    (within 0 b (omega arith) (omega arith), no_end_within bytes n (λ k d low high. within (suc k) d (omega arith) (omega arith)) (omega arith))
+
+no_end_all : (bytes : List ℕ) → AllWithin (λ b. b ≢ 10) bytes 0 (length bytes) → HasNoEnd bytes
+no_end_all [] within = tt
+no_end_all (b ∷ bytes) within = (within 0 b (omega arith) (omega arith), no_end_all bytes (λ k d low high. within (suc k) d (omega arith) (omega arith)))
+
+split_first : (bytes : List ℕ) (at : ℕ) → at < length bytes → get_or bytes at 10 ≡ 10 → bytes ≡ take at bytes ++ 10 ∷ drop (at + 1) bytes
+split_first bytes at fits is =
+    let rest : drop at bytes ≡ 10 ∷ drop (suc at) bytes = drop-cons bytes at 10 fits ∙ ap (λ (b : ℕ). b ∷ drop (suc at) bytes) is in
+    sym (take-append-drop at bytes) ∙ ap (λ (l : List ℕ). take at bytes ++ l) (rest ∙ ap (λ (n : ℕ). 10 ∷ drop n bytes) (sym (add-one at)))
+
+pub ends_first : (bytes : List ℕ) (r : Option ℕ)
+    → MatchOption r (AllWithin (λ b. b ≢ 10) bytes 0 (length bytes)) (λ i. (i < length bytes) × HoldsAt (λ b. b ≡ 10) bytes i × AllWithin (λ b. b ≢ 10) bytes 0 i)
+    → IfSome r (EndsAt bytes) × IfNone r (HasNoEnd bytes)
+ends_first bytes None within = (tt, no_end_all bytes within)
+ends_first bytes (Some at) first =
+    (record { fits = first.0; no_end = no_end_within bytes at first.2 (omega (arith, first.0)); split = split_first bytes at first.0 (first.1 10) }, tt)

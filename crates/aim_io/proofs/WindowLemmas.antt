@@ -1,5 +1,6 @@
 -- A window of a list: what stands from a start up to an end.
-use Rattle.std.proofs.Common.{◌≡◌, ℕ, ◌+◌, ◌-◌, ◌≤◌, List, [], ◌++◌, length, take, drop, ap, ◌∙◌, arith}
+use Rattle.std.proofs.Common.{◌≡◌, ℕ, ◌+◌, ◌-◌, ◌≤◌, List, [], ◌++◌, length, take, drop, ap, ◌∙◌, sym, subst, true, false, nat_lt, arith}
+use Rattle.std.proofs.lemmas.Bool.{lt-ltb}
 use Rattle.std.proofs.Math.Seq.{take-add}
 use Rattle.std.proofs.lemmas.List.{length-take, length-drop, drop-take, take-take, drop-append-le, drop_all}
 
@@ -32,3 +33,21 @@ window_grows old new start stop n ordered fits same =
 -- one that ends where it starts
 pub window_none : (bytes : List ℕ) (start stop : ℕ) → start ≡ stop → drop start (take stop bytes) ≡ []
 window_none bytes start stop same = rw same (window_empty bytes stop)
+
+-- one that is known by another name
+pub in_window : (bytes held : List ℕ) (start stop n : ℕ) → drop start (take stop bytes) ≡ held → start ≤ stop → n ≤ length held
+    → n ≤ length (take (stop - start) (drop start bytes))
+in_window bytes held start stop n is ordered fits =
+    subst (λ (l : List ℕ). n ≤ length l) (sym is ∙ window bytes start stop ordered) fits
+
+size_held : (bytes held : List ℕ) (start stop : ℕ) → length bytes ≡ 4096 → stop ≤ 4096 → drop start (take stop bytes) ≡ held → length held ≡ stop - start
+size_held bytes held start stop size fits is = sym (ap (λ (l : List ℕ). length l) is) ∙ length_window bytes start stop (omega arith)
+
+pub none_held : (bytes held : List ℕ) (start stop : ℕ) → length bytes ≡ 4096 → stop ≤ 4096 → drop start (take stop bytes) ≡ held → stop - start ≡ 0
+    → false ≡ nat_lt 0 (length held)
+none_held bytes held start stop size fits is none = sym (ap (nat_lt 0) (size_held bytes held start stop size fits is ∙ none))
+
+pub some_held : (bytes held : List ℕ) (start stop : ℕ) → length bytes ≡ 4096 → stop ≤ 4096 → drop start (take stop bytes) ≡ held → (stop - start ≡ 0 → ⊥)
+    → true ≡ nat_lt 0 (length held)
+some_held bytes held start stop size fits is some =
+    sym (lt-ltb 0 (length held) (omega (arith, size_held bytes held start stop size fits is)))

@@ -1,5 +1,6 @@
-use Rattle.std.proofs.Common.{arith}
-use Rattle.aim_io.proofs.WindowLemmas.{window, length_window, window_none}
+use Rattle.std.proofs.Common.{ap, arith}
+use Rattle.aim_io.specs.Reader.{Reader}
+use Rattle.aim_io.proofs.WindowLemmas.{window, length_window, window_none, in_window}
 use Rattle.aim_io.proofs.lines.LineReader.look.Goals as goal
 
 pub returns-clause-says : goal.returns-clause-says
@@ -18,3 +19,8 @@ pub look_at-requires-clause-is_open : goal.look_at-requires-clause-is_open
 look_at-requires-clause-is_open c =
     let is_open = rw (← c.self.view_is) at c.requires.is_open in
     rw (window c.self.inside.bytes c.self.inside.start c.self.inside.end c.self.invariant.0) at is_open
+
+pub look_at-requires-clause-in_range : goal.look_at-requires-clause-in_range
+look_at-requires-clause-in_range c =
+    in_window c.self.inside.bytes c.args.self.now.held c.self.inside.start c.self.inside.end c.args.seen (ap (λ (r : Reader). r.held) c.self.view_is)
+    c.self.invariant.0 c.requires.in_range
