@@ -33,7 +33,6 @@ use Rattle.atomic_table.proofs.shared.Seat.TheSendSync as seat
 use Rattle.atomic_table.specs.contracts.badge.Badge as Badge
 use Rattle.atomic_table.specs.contracts.shared.Seat as Seat
 use Rattle.crossbeam_channel.proofs.bells.Bell.TheSendSync as bell
-use Rattle.crossbeam_channel.proofs.flavors.array.Key.TheSendSync as key
 use Rattle.crossbeam_channel.proofs.flavors.array.Rows.TheSendSync as rows
 use Rattle.crossbeam_channel.proofs.flavors.array.ruled.Both.TheSendSync as both
 use Rattle.crossbeam_channel.proofs.flavors.array.ruled.Receiving.TheSendSync as receiving
@@ -43,6 +42,7 @@ use Rattle.crossbeam_channel.specs.contracts.flavors.array.Key as Key
 use Rattle.aim_mailbox.specs.contracts.letter.Letter as Letter
 use Rattle.aim_mailbox.specs.contracts.letter.Setting as Setting
 use Rattle.aim_mailbox.specs.contracts.letter.Word as Word
+use Rattle.aim_mailbox.specs.contracts.post.Hand as Hand
 use Rattle.aim_mailbox.specs.contracts.post.Intake as Intake
 use Rattle.aim_mailbox.specs.contracts.post.Intake.TheInside as IntakeInside
 use Rattle.aim_mailbox.specs.contracts.post.Note as Note
@@ -88,15 +88,16 @@ letter_send = search (sendable, crosses, word_send) depth 20
 letter_slot_send : IsSend (Option.the_row Letter.the_row)
 letter_slot_send = search (sendable, crosses, letter_send) depth 30
 
-letter_key_send : IsSend (Key.the_row Letter.the_row)
-letter_key_send = search (sendable, crosses, key.the_send, letter_send) depth 30
-
 letter_badge_send : IsSend (Badge.the_row (Key.the_row Letter.the_row))
 letter_badge_send = search (sendable, crosses, badge.the_send) depth 30
 
+-- the kinds of what a slot holds are named here, and in `response_seat_send`: found by comparing, they take too much memory
+letter_seat_send : IsSend (Seat.the_field (Badge.the_row (Key.the_row Letter.the_row)) (Doing.the_row Letter.the_row Hand.the_row)).row
+letter_seat_send = seat.the_send (Badge.the_row (Key.the_row Letter.the_row)) (Doing.the_row Letter.the_row Hand.the_row) letter_badge_send
+
 -- a note is a pass of the requests' channel, and a response brings one
 note_inside : IsSend NoteInside.the_row
-note_inside = declared_send NoteInside.the_type (seat.the_send _ _ letter_badge_send, tt)
+note_inside = declared_send NoteInside.the_type (letter_seat_send, tt)
 
 note_send : IsSend Note.the_row
 note_send = search (sendable, note_inside)
@@ -107,20 +108,16 @@ response_send = search (sendable, crosses, reply.the_send, full.the_send, pool_s
 response_slot_send : IsSend (Option.the_row Response.the_row)
 response_slot_send = search (sendable, crosses, response_send) depth 30
 
-response_key_send : IsSend (Key.the_row Response.the_row)
-response_key_send = search (sendable, crosses, key.the_send, response_send) depth 30
-
 response_badge_send : IsSend (Badge.the_row (Key.the_row Response.the_row))
 response_badge_send = search (sendable, crosses, badge.the_send) depth 30
 
--- the kinds of what a slot holds are named here: found by comparing, they take too much memory
 response_seat_send : IsSend (Seat.the_field (Badge.the_row (Key.the_row Response.the_row)) (Doing.the_row Response.the_row Slate.the_row)).row
 response_seat_send = seat.the_send (Badge.the_row (Key.the_row Response.the_row)) (Doing.the_row Response.the_row Slate.the_row) response_badge_send
 
 ruleset ends = (sending.the_send, receiving.the_send, both.the_send, both.the_sync, rows.the_send, rows.the_sync, table.the_send, table.the_sync, bell.the_send, bell.the_sync)
 
 port_inside : IsSend PortInside.the_row
-port_inside = declared_send PortInside.the_type (search (sendable, crosses), (search (sendable, crosses, ends, letter_badge_send, letter_slot_send) depth 40, (seat.the_send _ _ letter_badge_send, tt)))
+port_inside = declared_send PortInside.the_type (search (sendable, crosses), (search (sendable, crosses, ends, letter_badge_send, letter_slot_send) depth 40, (letter_seat_send, tt)))
 
 port_send : IsSend Port.the_row
 port_send = search (sendable, port_inside)
@@ -128,19 +125,19 @@ port_send = search (sendable, port_inside)
 intake_inside : IsSend IntakeInside.the_row
 intake_inside =
     declared_send IntakeInside.the_type
-    (search (sendable, crosses, ends, letter_badge_send, letter_slot_send) depth 40, (search (sendable, crosses, ends, letter_badge_send, letter_slot_send) depth 40, (seat.the_send _ _ letter_badge_send, tt)))
+    (search (sendable, crosses, ends, letter_badge_send, letter_slot_send) depth 40, (search (sendable, crosses, ends, letter_badge_send, letter_slot_send) depth 40, (letter_seat_send, tt)))
 
 intake_send : IsSend Intake.the_row
 intake_send = search (sendable, intake_inside)
 
 inlet_inside : IsSend InletInside.the_row
-inlet_inside = declared_send InletInside.the_type (search (sendable, crosses, ends, response_badge_send, response_key_send, response_slot_send) depth 40, (response_seat_send, tt))
+inlet_inside = declared_send InletInside.the_type (search (sendable, crosses, ends, response_badge_send, response_slot_send) depth 40, (response_seat_send, tt))
 
 inlet_send : IsSend Inlet.the_row
 inlet_send = search (sendable, inlet_inside)
 
 slip_inside : IsSend SlipInside.the_row
-slip_inside = declared_send SlipInside.the_type (search (sendable, crosses, ends, response_badge_send, response_key_send, response_slot_send) depth 40, (response_seat_send, (search (sendable, crosses), tt)))
+slip_inside = declared_send SlipInside.the_type (search (sendable, crosses, ends, response_badge_send, response_slot_send) depth 40, (response_seat_send, (search (sendable, crosses), tt)))
 
 slip_send : IsSend Slip.the_row
 slip_send = search (sendable, slip_inside)

@@ -7,4 +7,5 @@ pub mod OwnEntries
 pub mod Posts
 pub mod Responses
 pub mod Settles
+pub mod Tries
 pub mod Views

@@ -1,11 +1,12 @@
 -- A mailbox that is new.
-use Rattle.std.proofs.Common.{◌≡◌, ℕ, ◌+◌, ◌<◌, true≢false, List, [], ◌∷◌, ◌++◌, length, sym, refl, ap, ◌∙◌, subst, arith, inl, map, length-append, Option, Some, get_or}
-use mathlib.Core.Option.{some}
+use Rattle.std.proofs.Common.{◌≡◌, ℕ, ◌+◌, ◌<◌, true≢false, List, [], ◌∷◌, ◌++◌, length, sym, refl, ap, ◌∙◌, subst, arith, inl, map, length-append, Option, Some, Result, Ok, Err, ◌↔◌, get_or}
+use mathlib.Core.Option.{some, some-ne-none}
 use lib.ListN.{get_elem?}
 use Rattle.std.proofs.lemmas.List.{map-append, length-map, get_or_default}
 use Rattle.atomic_table.proofs.Lists.{at_longer, at_last, at_index}
 use Rattle.aim_msg.specs.declared.entries.Entry.{Entry}
 use Rattle.aim_rules.specs.Legal.{IsLegal}
+use Rattle.aim_book.specs.declared.book.OpenFault.TheVariants as fault
 use Rattle.aim_book.specs.Sheets.{sheets_kept}
 use Rattle.aim_book.specs.State.{State}
 use Rattle.aim_mailbox.specs.declared.letter.Letter.{Letter}
@@ -97,8 +98,45 @@ client_more terms intake slips clients s c n slips_n clients_n setting is old =
     })
 
 module _ {A : Type 0} where
+  nowhere : (xs : List A) (p : ℕ) (x : A) → xs ≡ [] → get_elem? xs p ≡ some x → ⊥
+  nowhere xs p x none at = some-ne-none x (sym at ∙ ap (λ l. get_elem? l p) none)
+
   pub length-snoc : (new old : List A) (x : A) (n : ℕ) → new ≡ old ++ x ∷ [] → length old ≡ n → length new ≡ n + 1
   length-snoc new old x n is len = let e = ap length is in omega (arith, e, length-append old (x ∷ []), len)
+
+-- what opening the book says of a fault stays of the mailbox that was opened with it, and of a fault that is another
+ok_err : {A E : Type 0} (a : A) (e : E) → ◌≡◌ {A = Result A E} (Ok a) (Err e) → ⊥
+ok_err a e i = cc
+
+err_is : (A : Type 0) {E : Type 0} (e f : E) → ◌≡◌ {A = Result A E} (Err e) (Err f) → e ≡ f
+err_is A e f i = cc
+
+module _ {A B E : Type 0} where
+  pub ok_iff : (a : A) (b : B) (e : E) (P : Type 0) → ◌≡◌ {A = Result A E} (Ok a) (Err e) ↔ P → ◌≡◌ {A = Result B E} (Ok b) (Err e) ↔ P
+  ok_iff a b e P h = (λ i. absurd (ok_err b e i), λ p. absurd (ok_err a e (h.1 p)))
+
+  pub err_iff : (a : A) (e f : E) (P : Type 0) → (e ≡ f → ⊥) → ◌≡◌ {A = Result A E} (Ok a) (Err f) ↔ P → ◌≡◌ {A = Result B E} (Err e) (Err f) ↔ P
+  err_iff a e f P other h = (λ i. absurd (other (err_is B e f i)), λ p. absurd (ok_err a f (h.1 p)))
+
+pub not_vehicles : fault.NoMemory ≡ fault.Vehicles → ⊥
+not_vehicles i = cc
+
+pub not_room : fault.NoMemory ≡ fault.Room → ⊥
+not_room i = cc
+
+-- the ends of a mailbox that has no client
+pub staffed_none : (terms : Setting) (intake : IntakeModel) (slips : List SlipModel) (clients : List ClientModel) → intake.setting ≡ Some terms → intake.got ≡ [] → intake.made ≡ 0 → intake.known ≡ [] → slips ≡ [] → clients ≡ []
+    → IsStaffed terms 0 intake slips clients
+staffed_none terms intake slips clients setting got made known a b = record {
+  setting = setting;
+  got = got;
+  known = known;
+  made = made;
+  slip_count = ap length a;
+  client_count = ap length b;
+  blank = λ p s at. absurd (nowhere slips p s a at);
+  each = λ p c at. absurd (nowhere clients p c b at);
+}
 
 -- one client more
 pub staffed_more : (terms : Setting) (n spans : ℕ) (intake intake' : IntakeModel) (slips slips' : List SlipModel) (clients clients' : List ClientModel) (s : SlipModel) (c : ClientModel)

@@ -8,6 +8,7 @@ mod post;
 mod response;
 mod server;
 mod slip;
+mod waits;
 
 pub use aim_book::{Full, OpenFault};
 pub use client::{Client, Ended};

@@ -1,6 +1,7 @@
 //! A mailbox is opened.
-ghost use Rattle.std.specs.Prelude.{◌≡◌, ◌↔◌, ◌⊎◌, ℕ, ◌<◌, ◌≤◌, [], length, slice_index_or, IfOk, Err};
+ghost use Rattle.std.specs.Prelude.{◌≡◌, ◌↔◌, ◌⊎◌, ℕ, ◌<◌, ◌≤◌, [], length, slice_index_or, vec_capacity, IfOk, Err, Some};
 ghost use Rattle.aim_msg.specs.declared.entries.TheConstants.{MOST_ENTRIES, MOST_VEHICLES};
+ghost use Rattle.aim_rules.specs.Legal.{IsLegal};
 ghost use Rattle.aim_mailbox.specs.Calls.{ClientModel, IsNewClient};
 ghost use Rattle.aim_mailbox.specs.Post.{hired};
 ghost use Rattle.aim_mailbox.specs.Mail.{HasSpans, IsNewSlip, IsStaffed, channel_of, letters_of, setting_of};
@@ -59,8 +60,76 @@ fn hire<R: Wait>(
         kept: 0,
         note: intake.note(),
     };
-    let (slip, inlet) = Slip::open(rt, alloc, first)?;
-    Ok((slip, Client::new(port, inlet)))
+    match Slip::open(rt, alloc, first) {
+        Ok((slip, inlet)) => Ok((slip, Client::new(port, inlet))),
+        Err(error) => {
+            drop(port);
+            Err(error)
+        }
+    }
+}
+
+// The channel of the requests of a mailbox for the book.
+fn opened_intake<L: Ledger, R: Wait>(
+    rt: &R,
+    alloc: Global,
+    book: &Book<L>,
+    room: u32,
+) -> Result<Intake, AllocError>
+    requires vehicles { 0 < book.now.vehicles }
+    requires room { room ≡ book.now.room }
+    ensures { IfOk result (λ i. (i.setting ≡ Some (setting_of book.now)) × (i.got ≡ []) × (i.made ≡ 0) × (i.known ≡ [])) }
+{
+    let vehicles = book.vehicles();
+    let setting = Setting {
+        layout: book.layout().copy()?,
+        vehicles,
+        room,
+    };
+    Intake::open(rt, alloc, vehicles as usize, setting)
+}
+
+// The same, with room for the clients, of whom there is none yet.
+fn unstaffed<L: Ledger, R: Wait>(
+    rt: &R,
+    alloc: Global,
+    book: &Book<L>,
+    room: u32,
+) -> Result<Staff, AllocError>
+    requires vehicles { 0 < book.now.vehicles }
+    requires room { room ≡ book.now.room }
+    ensures { IfOk result (λ m. IsStaffed (setting_of book.now) 0 m.intake m.slips.items m.clients.items × (book.now.vehicles ≤ vec_capacity m.slips) × (book.now.vehicles ≤ vec_capacity m.clients)) }
+{
+    let vehicles = book.vehicles() as usize;
+    let slips = Vec::with_capacity(alloc, vehicles)?;
+    let clients = Vec::with_capacity(alloc, vehicles)?;
+    let intake = opened_intake(rt, alloc, book, room)?;
+    Ok(Staff {
+        intake,
+        slips,
+        clients,
+    })
+}
+
+// Makes a client for each vehicle.
+fn hire_all<L: Ledger, R: Wait>(
+    rt: &R,
+    alloc: Global,
+    book: &Book<L>,
+    staff: &mut Staff,
+) -> Result<(), AllocError>
+    requires none { IsStaffed (setting_of book.now) 0 staff.old.intake staff.old.slips.items staff.old.clients.items }
+    requires room { (book.now.vehicles ≤ vec_capacity staff.old.slips) × (book.now.vehicles ≤ vec_capacity staff.old.clients) }
+    ensures { IfOk result (λ _. IsStaffed (setting_of book.now) book.now.vehicles staff.new.intake staff.new.slips.items staff.new.clients.items) }
+{
+    let vehicles = book.vehicles();
+    let spans = spans_of(book.layout());
+    for vehicle in 0..vehicles {
+        let (slip, client) = hire(rt, alloc, &mut staff.intake, vehicle, spans)?;
+        staff.slips.push_reserved(slip);
+        staff.clients.push_reserved(client);
+    }
+    Ok(())
 }
 
 // The channels of a mailbox for the book, with a client for each vehicle.
@@ -74,33 +143,33 @@ fn staffed<L: Ledger, R: Wait>(
     requires room { room ≡ book.now.room }
     ensures { IfOk result (λ m. IsStaffed (setting_of book.now) book.now.vehicles m.intake m.slips.items m.clients.items) }
 {
-    let vehicles = book.vehicles();
-    let spans = spans_of(book.layout());
-    let mut slips = Vec::with_capacity(alloc, vehicles as usize)?;
-    let mut clients = Vec::with_capacity(alloc, vehicles as usize)?;
-    let setting = Setting {
-        layout: book.layout().copy()?,
-        vehicles,
-        room,
-    };
-    let mut intake = Intake::open(rt, alloc, vehicles as usize, setting)?;
-    for vehicle in 0..vehicles {
-        match hire(rt, alloc, &mut intake, vehicle, spans) {
-            Ok((slip, client)) => {
-                slips.push_reserved(slip);
-                clients.push_reserved(client);
-            }
-            Err(error) => {
-                intake.let_go();
-                return Err(error);
-            }
+    let mut staff = unstaffed(rt, alloc, book, room)?;
+    match hire_all(rt, alloc, book, &mut staff) {
+        Ok(()) => Ok(staff),
+        Err(error) => {
+            drop(staff);
+            Err(error)
         }
     }
-    Ok(Staff {
+}
+
+// A server at the desk, with the clients.
+fn employed<L: Ledger>(desk: Desk<L>, staff: Staff) -> OpenedMail<L>
+    requires book { (desk.book.journal ≡ []) × IsLegal desk.book.layout desk.book.vehicles desk.book.journal × (desk.book.vehicles ≤ MOST_VEHICLES) }
+    requires staff { IsStaffed (setting_of desk.book) desk.book.vehicles staff.intake staff.slips.items staff.clients.items }
+    ensures server { result.server.setting ≡ setting_of desk.book }
+    ensures count { length result.clients.items ≡ desk.book.vehicles }
+    ensures clients { (k : ℕ) (d : ClientModel) → k < desk.book.vehicles → IsNewClient result.server k (slice_index_or result.clients.items k d) }
+{
+    let Staff {
         intake,
         slips,
         clients,
-    })
+    } = staff;
+    OpenedMail {
+        server: Server::new(desk, intake, slips),
+        clients,
+    }
 }
 
 impl Mailbox {
@@ -124,19 +193,15 @@ impl Mailbox {
         ensures room { (result ≡ Err OpenFault.Room) ↔ ((0 < vehicles) × (vehicles ≤ MOST_VEHICLES) × ((room ≡ 0) ⊎ (MOST_ENTRIES < room))) }
     {
         let book = Book::open(alloc, layout, vehicles, room)?;
-        let steps = Steps::new(blank);
         match staffed(rt, alloc, &book, room) {
-            Ok(
-                Staff {
-                    intake,
-                    slips,
-                    clients,
-                },
-            ) => Ok(OpenedMail {
-                server: Server::new(Desk { book, steps }, intake, slips),
-                clients,
-            }),
-            Err(AllocError) => Err(OpenFault::NoMemory),
+            Ok(staff) => {
+                let steps = Steps::new(blank);
+                Ok(employed(Desk { book, steps }, staff))
+            }
+            Err(AllocError) => {
+                book.into_journal();
+                Err(OpenFault::NoMemory)
+            }
         }
     }
 }

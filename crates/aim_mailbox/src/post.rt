@@ -2,9 +2,10 @@
 ghost use Rattle.std.specs.Prelude.{◌≡◌, ◌<◌, ◌+◌, ◌++◌, [], ◌∷◌, None, IfOk, Some};
 ghost use Rattle.crossbeam_channel.specs.Claims.{view, IsSeatAt};
 ghost use Rattle.crossbeam_channel.specs.Ends.{sends_on, receives_on};
-ghost use Rattle.aim_mailbox.specs.Post.{client, client_at, reader, note, heeded, Begun, NoteModel, sent_more, got_more, IntakeModel, PortModel, posted, received, hired, new_port, took_in, Settled, IsFor, told, blank, telling};
+ghost use Rattle.aim_mailbox.specs.Post.{client, client_at, reader, note, heeded, Begun, NoteModel, sent_more, got_more, IntakeModel, PortModel, posted, received, hired, new_port, took_in, Settled, IsFor, told, telling};
 
 use crate::letter::{Letter, Setting, Word};
+use crate::waits::{pass_over, receive_until, send_until};
 use crossbeam_channel::protocol::{Join, Lesson, Outcome, Protocol, Split};
 use crossbeam_channel::{Pass, RuledReceiver, RuledSender, bounded_with};
 use std::alloc::{AllocError, Global};
@@ -158,26 +159,6 @@ type PostReceiver = RuledReceiver<Letter, Hand, InOrder>;
 
 type PostPass = Pass<Letter, Hand>;
 
-// Tells the setting.
-fn tell<R: Wait>(rt: &R, sender: &PostSender, pass: &mut PostPass, setting: Setting)
-    requires seat { IsSeatAt (sends_on sender.now) pass.old }
-    requires blank { view pass.old ≡ blank }
-    ensures seat { IsSeatAt (sends_on sender.now) pass.new }
-    ensures told { view pass.new ≡ telling (Some setting) }
-{
-    let mut letter = Letter {
-        from: 0,
-        word: Word::Opening(setting),
-    };
-    for _ in rt.forever() {
-        match sender.send_as::<Tells, R>(rt, pass, letter) {
-            Ok(()) => return,
-            Err(e) => letter = e.into_inner(),
-        }
-    }
-    unreachable!()
-}
-
 // Hears the setting.
 fn hear_opening<R: Wait>(rt: &R, receiver: &PostReceiver, pass: &mut PostPass)
     requires seat { IsSeatAt (receives_on receiver.now) pass.old }
@@ -185,46 +166,18 @@ fn hear_opening<R: Wait>(rt: &R, receiver: &PostReceiver, pass: &mut PostPass)
     ensures seat { IsSeatAt (receives_on receiver.now) pass.new }
     ensures heard { view pass.new ≡ reader (view pass.old).setting [] 0 [] }
 {
-    for _ in rt.forever() {
-        if receiver.recv_as::<HearsOpening, R>(rt, pass).is_ok() {
-            return;
-        }
-    }
-    unreachable!()
+    pass_over::<Letter, Hand, InOrder, HearsOpening, R>(rt, receiver, pass);
 }
 
-// Sends a letter, and tries again where it is handed back.
-fn send<R: Wait>(rt: &R, sender: &PostSender, pass: &mut PostPass, mut letter: Letter)
+// Sends a letter.
+fn send<R: Wait>(rt: &R, sender: &PostSender, pass: &mut PostPass, letter: Letter)
     requires seat { IsSeatAt (sends_on sender.now) pass.old }
     requires client { view pass.old ≡ client_at (view pass.old).setting letter.from (view pass.old).sent (view pass.old).got }
     requires word { IsFor (view pass.old).setting letter.word }
     ensures seat { IsSeatAt (sends_on sender.now) pass.new }
     ensures sent { view pass.new ≡ client_at (view pass.old).setting letter.from ((view pass.old).sent ++ letter ∷ []) (view pass.old).got }
 {
-    for _ in rt.forever() {
-        match sender.send_as::<Sends, R>(rt, pass, letter) {
-            Ok(()) => return,
-            Err(e) => letter = e.into_inner(),
-        }
-    }
-    unreachable!()
-}
-
-// Receives a letter, and tries again where there was none.
-fn receive<R: Wait>(rt: &R, receiver: &PostReceiver, pass: &mut PostPass) -> Letter
-    requires seat { IsSeatAt (receives_on receiver.now) pass.old }
-    requires reader { view pass.old ≡ reader (view pass.old).setting (view pass.old).got (view pass.old).made (view pass.old).known }
-    ensures seat { IsSeatAt (receives_on receiver.now) pass.new }
-    ensures got { view pass.new ≡ got_more (view pass.old) result }
-    ensures from { result.from < (view pass.old).made }
-    ensures word { IsFor (view pass.old).setting result.word }
-{
-    for _ in rt.forever() {
-        if let Ok(letter) = receiver.recv_as::<Gets, R>(rt, pass) {
-            return letter;
-        }
-    }
-    unreachable!()
+    send_until::<Letter, Hand, InOrder, Sends, R>(rt, sender, pass, letter);
 }
 
 /// A client's end.
@@ -326,10 +279,17 @@ impl Intake {
         requires { 0 < capacity }
         ensures { IfOk result (λ i. (i.setting ≡ Some setting) × (i.got ≡ []) × (i.made ≡ 0) × (i.known ≡ [])) }
     {
-        let (sender, receiver, mut pass) = bounded_with::<Letter, Hand, InOrder, Global>(
+        let Ok((sender, receiver, mut pass)) = bounded_with::<Letter, Hand, InOrder, Global>(
             alloc, capacity,
-        )?;
-        tell(rt, &sender, &mut pass, setting);
+        ) else {
+            drop(setting);
+            return Err(AllocError);
+        };
+        let letter = Letter {
+            from: 0,
+            word: Word::Opening(setting),
+        };
+        send_until::<Letter, Hand, InOrder, Tells, R>(rt, &sender, &mut pass, letter);
         hear_opening(rt, &receiver, &mut pass);
         Ok(Intake {
             sender,
@@ -355,7 +315,7 @@ impl Intake {
         ensures from { result.from < self.old.made }
         ensures word { IsFor self.old.setting result.word }
     {
-        receive(rt, &self.receiver, &mut self.pass)
+        receive_until::<Letter, Hand, InOrder, Gets, R>(rt, &self.receiver, &mut self.pass)
     }
 
     /// A note of what was received.
@@ -387,7 +347,4 @@ impl Intake {
     {
         self.sender.learn_as::<Settles>(&mut self.pass);
     }
-
-    /// Lets go of this end. That it may be is proved here once, and not wherever one goes out of scope.
-    pub fn let_go(self) {}
 }

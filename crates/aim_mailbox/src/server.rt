@@ -237,7 +237,7 @@ pub fn settle<L: Ledger>(served: Served<L>, mut ended: Vec<Ended>) -> Vec<Entry>
         slips[from as usize].meet(inlet);
     }
     intake.settled();
-    intake.let_go();
+    drop(intake);
     sheets_are_those_of_own_entries();
     let Desk { book, steps: _ } = desk;
     book.into_journal()

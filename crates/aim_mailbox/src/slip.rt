@@ -2,10 +2,11 @@
 ghost use Rattle.std.specs.Prelude.{◌≡◌, ◌++◌, [], ◌∷◌, true, false, IfOk, List, Some};
 ghost use Rattle.crossbeam_channel.specs.Claims.{view, IsSeatAt};
 ghost use Rattle.crossbeam_channel.specs.Ends.{sends_on, receives_on};
-ghost use Rattle.aim_mailbox.specs.Slips.{blank_slate, telling_slate, slate, whole_slate, put_more, heard_more, Lawful, SlipModel, InletModel, put_on, heard_on};
+ghost use Rattle.aim_mailbox.specs.Slips.{telling_slate, slate, whole_slate, put_more, heard_more, Lawful, SlipModel, InletModel, put_on, heard_on};
 ghost use Rattle.aim_mailbox.specs.declared.response.Response.{Response};
 
 use crate::response::Response;
+use crate::waits::{pass_over, receive_until, send_until};
 use crossbeam_channel::protocol::{Join, Lesson, Outcome, Protocol, Split};
 use crossbeam_channel::{Pass, RuledReceiver, RuledSender, bounded_with};
 use std::alloc::{AllocError, Global};
@@ -125,22 +126,6 @@ type SlipReceiver = RuledReceiver<Response, Slate, Answering>;
 
 type SlipPass = Pass<Response, Slate>;
 
-// Sends the first response.
-fn tell<R: Wait>(rt: &R, sender: &SlipSender, pass: &mut SlipPass, mut response: Response)
-    requires seat { IsSeatAt (sends_on sender.now) pass.old }
-    requires blank { view pass.old ≡ blank_slate }
-    ensures seat { IsSeatAt (sends_on sender.now) pass.new }
-    ensures told { view pass.new ≡ telling_slate (Some response) }
-{
-    for _ in rt.forever() {
-        match sender.send_as::<TellsFirst, R>(rt, pass, response) {
-            Ok(()) => return,
-            Err(e) => response = e.into_inner(),
-        }
-    }
-    unreachable!()
-}
-
 // Receives the first response.
 fn hear_first<R: Wait>(rt: &R, receiver: &SlipReceiver, pass: &mut SlipPass)
     requires seat { IsSeatAt (receives_on receiver.now) pass.old }
@@ -148,47 +133,7 @@ fn hear_first<R: Wait>(rt: &R, receiver: &SlipReceiver, pass: &mut SlipPass)
     ensures seat { IsSeatAt (receives_on receiver.now) pass.new }
     ensures heard { view pass.new ≡ whole_slate (view pass.old).first }
 {
-    for _ in rt.forever() {
-        if receiver.recv_as::<HearsFirst, R>(rt, pass).is_ok() {
-            return;
-        }
-    }
-    unreachable!()
-}
-
-// Sends a response, and tries again where it is handed back.
-fn put<R: Wait>(rt: &R, sender: &SlipSender, pass: &mut SlipPass, mut response: Response)
-    requires seat { IsSeatAt (sends_on sender.now) pass.old }
-    requires puts { (view pass.old).puts ≡ true }
-    requires ready { (view pass.old).ready ≡ true }
-    requires lawful { Lawful (view pass.old).first ((view pass.old).put ++ response ∷ []) }
-    ensures seat { IsSeatAt (sends_on sender.now) pass.new }
-    ensures put { view pass.new ≡ put_more (view pass.old) response }
-{
-    for _ in rt.forever() {
-        match sender.send_as::<Puts, R>(rt, pass, response) {
-            Ok(()) => return,
-            Err(e) => response = e.into_inner(),
-        }
-    }
-    unreachable!()
-}
-
-// Receives a response, and tries again where there was none.
-fn hear<R: Wait>(rt: &R, receiver: &SlipReceiver, pass: &mut SlipPass) -> Response
-    requires seat { IsSeatAt (receives_on receiver.now) pass.old }
-    requires hears { (view pass.old).hears ≡ true }
-    requires ready { (view pass.old).ready ≡ true }
-    ensures seat { IsSeatAt (receives_on receiver.now) pass.new }
-    ensures heard { view pass.new ≡ heard_more (view pass.old) result }
-    ensures lawful { Lawful (view pass.new).first (view pass.new).heard }
-{
-    for _ in rt.forever() {
-        if let Ok(response) = receiver.recv_as::<Hears, R>(rt, pass) {
-            return response;
-        }
-    }
-    unreachable!()
+    pass_over::<Response, Slate, Answering, HearsFirst, R>(rt, receiver, pass);
 }
 
 /// The client's end.
@@ -217,7 +162,7 @@ impl Inlet {
         ensures heard { self.new ≡ heard_on self.old result }
         ensures lawful { Lawful self.new.first self.new.heard }
     {
-        hear(rt, &self.receiver, &mut self.pass)
+        receive_until::<Response, Slate, Answering, Hears, R>(rt, &self.receiver, &mut self.pass)
     }
 }
 
@@ -253,10 +198,13 @@ impl Slip {
         ensures slip { IfOk result (λ r. (r.0.put ≡ []) × (r.0.ended ≡ false) × (r.0.first ≡ Some first)) }
         ensures inlet { IfOk result (λ r. r.1 ≡ record { table = r.0.table; key = r.0.key; first = r.0.first; heard = [] }) }
     {
-        let (sender, receiver, mut pass) = bounded_with::<Response, Slate, Answering, Global>(
+        let Ok((sender, receiver, mut pass)) = bounded_with::<Response, Slate, Answering, Global>(
             alloc, 1,
-        )?;
-        tell(rt, &sender, &mut pass, first);
+        ) else {
+            drop(first);
+            return Err(AllocError);
+        };
+        send_until::<Response, Slate, Answering, TellsFirst, R>(rt, &sender, &mut pass, first);
         hear_first(rt, &receiver, &mut pass);
         let other = sender.another::<Ends>(&mut pass);
         let inlet = Inlet {
@@ -276,7 +224,12 @@ impl Slip {
         requires lawful { Lawful self.old.first (self.old.put ++ response ∷ []) }
         ensures { self.new ≡ put_on self.old response }
     {
-        put(rt, &self.sender, &mut self.pass, response);
+        send_until::<Response, Slate, Answering, Puts, R>(
+            rt,
+            &self.sender,
+            &mut self.pass,
+            response,
+        );
     }
 
     /// Notes that the client has ended.

@@ -1,4 +1,4 @@
-use Rattle.std.proofs.Common.{ap, ◌∙◌, refl, arith}
+use Rattle.std.proofs.Common.{ap, ◌∙◌, refl, arith, subst, sym, ◌<◌}
 use Rattle.aim_mailbox.proofs.Deals.{answered, lawful_put, same_slips, serves_of, slip_at}
 use Rattle.aim_mailbox.proofs.server.answer.Goals as goal
 
@@ -53,3 +53,8 @@ returns-clause-stands g c =
       note = s.1;
       serves = serves_of _ _ c.args.from c.args.moment c.args.prepared _ e.entry e.err e.full e.legal;
     })
+
+pub kept-kept-requires : goal.kept-kept-requires
+kept-kept-requires g c =
+    let e = c.serve-answer.ensures in
+    subst (λ n. c.args.from < n) (sym (serves_of _ _ c.args.from c.args.moment c.args.prepared _ e.entry e.err e.full e.legal).same.vehicles) c.requires.from

@@ -1,4 +1,4 @@
-use Rattle.std.proofs.Common.{ap, sym, ◌∙◌, subst, arith, ◌≡◌, List, [], ◌∷◌, ◌++◌, map, ℕ, refl}
+use Rattle.std.proofs.Common.{ap, sym, ◌∙◌, subst, arith, ◌≡◌, List, [], ◌∷◌, ◌++◌, map, ℕ, refl, append-nil}
 use lib.ListN.{get_elem?}
 use Rattle.aim_mailbox.specs.declared.letter.Letter.{Letter}
 use Rattle.aim_mailbox.specs.Post.{Every, of}
@@ -71,3 +71,12 @@ returns-clause-clients g c =
 pub returns-clause-operator : goal.returns-clause-operator
 returns-clause-operator g c =
     rw (c.into_journal.ensures.journal, c.served.invariant.0.entries) (no_operator _ _ c.served.invariant.3 c.served.invariant.0.known)
+
+pub loop-end-init : goal.loop-end-init
+loop-end-init g c = record { got = refl; table = refl; key = refl; slips = refl; gone = ([], sym (append-nil _), c.served.invariant.2, tt) }
+
+pub returns-clause-legal : goal.returns-clause-legal
+returns-clause-legal g c = rw (c.into_journal.ensures.journal, ← c.served.view_is) c.into_journal.ensures.legal
+
+pub returns-clause-room : goal.returns-clause-room
+returns-clause-room g c = rw (c.into_journal.ensures.journal, ← c.served.view_is) c.served.invariant.0.within

@@ -1,4 +1,4 @@
-use Rattle.std.proofs.Common.{sym, ◌∙◌, arith}
+use Rattle.std.proofs.Common.{refl, sym, ◌∙◌, arith}
 use Rattle.aim_mailbox.proofs.Deals.{ended_more, run_same, same_book_trans, same_intake_trans, same_slips_trans, still_made}
 use Rattle.aim_mailbox.proofs.server.Server.run.Goals as goal
 
@@ -34,3 +34,12 @@ pub returns : goal.returns
 returns g c =
     let i = c.loop-client.invariant in
     run_same _ _ _ _ _ _ i.book i.intake i.slips ∙ c.self.view_is
+
+pub loop-client-init : goal.loop-client-init
+loop-client-init g c = record {
+  stands = c.self.invariant.0;
+  book = record { layout = refl; vehicles = refl; room = refl };
+  intake = record { table = refl; key = refl; setting = refl; made = refl; known = refl };
+  slips = (refl, λ p a at. (a, at, record { table = refl; key = refl; ended = λ e. e }));
+  ended = λ p less. absurd (omega (arith, less));
+}
