@@ -3,3 +3,4 @@ pub mod Runs
 pub mod Commands
 pub mod Summaries
 pub mod Generated
+pub mod Endings

@@ -4,13 +4,13 @@ ghost use Rattle.std.specs.Prelude.{◌≡◌, ◌⊎◌, ◌<◌, ◌≤◌, �
 ghost use Rattle.std.specs.Io.KnownBytes.{Appends, IsAtEnd};
 ghost use Rattle.aim_io.specs.Causes.{Rose};
 ghost use Rattle.aim_io.specs.Known.{AppendsFront};
-ghost use Rattle.aim_msg.specs.Texts.{spaced};
 ghost use Rattle.aim_msg.specs.declared.script.Line.{Line};
-ghost use Rattle.aim_script.specs.Decided.{decision_words, printed, status_of};
+ghost use Rattle.aim_script.specs.Decided.{status_of};
 ghost use Rattle.aim_plans.specs.Fits.{IsFit};
 ghost use Rattle.aim_plans.specs.Scripts.{IsScriptOf, TakesAtMost};
 ghost use Rattle.aim_plans.specs.Short.{StopsShort};
 ghost use Rattle.aim_driving.specs.Commands.{Completes, IsReport, Shows, ShowsFront};
+ghost use Rattle.aim_driving.specs.Endings.{EndsWith, Refuses};
 
 use crate::reports::report_of;
 use aim_agent::Gate;
@@ -37,9 +37,7 @@ fn status_of(decision: Decision) -> u8
 
 // Writes the one line of a script that isn't whole, and answers the status.
 fn put_refused<K: Sink>(sink: &mut K, decision: Decision) -> u8
-    ensures whole { (result ≡ 5) ⊎ ((result ≡ status_of decision) × Appends (K.held sink.old) (K.held sink.new) (printed (spaced (decision_words decision)))) }
-    ensures front { result ≡ 5 → AppendsFront (K.held sink.old) (K.held sink.new) (printed (spaced (decision_words decision))) }
-    ensures write { result ≡ 5 → Rose (K.faults sink.old) (K.faults sink.new) }
+    ensures refuses { Refuses decision (K.held sink.old) (K.held sink.new) (K.faults sink.old) (K.faults sink.new) result }
     ensures sink { K.faults sink.old ≤ K.faults sink.new }
 {
     let mut line = [0; 400];
@@ -47,6 +45,19 @@ fn put_refused<K: Sink>(sink: &mut K, decision: Decision) -> u8
     match put_all(sink, &line[..len]) {
         Ok(()) => status_of(decision),
         Err(_) => 5,
+    }
+}
+
+// Writes why there is no whole script, where that isn't for the source or for memory, and answers the status.
+fn put_ending<K: Sink>(sink: &mut K, ending: Ending) -> u8
+    ensures ends { EndsWith ending (K.held sink.old) (K.held sink.new) (K.faults sink.old) (K.faults sink.new) result }
+    ensures sink { K.faults sink.old ≤ K.faults sink.new }
+{
+    match ending {
+        Ending::Bad(number, why) => put_refused(sink, Decision::Bad(number, why)),
+        Ending::Limit(which) => put_refused(sink, Decision::Limit(which)),
+        Ending::Read => 4,
+        Ending::NoMemory => 7,
     }
 }
 
@@ -152,10 +163,7 @@ pub fn drive<R: Threads + Wait + Sync, S: Source, K: Sink, G: Gate>(
     ensures complete { IfSome (S.left source.old) (λ bytes. Completes bytes (S.faults source.old) (S.faults source.new) (K.faults sink.old) (K.faults sink.new) result) }
 {
     match read_drive(alloc, source) {
-        Err(Ending::Read) => 4,
-        Err(Ending::NoMemory) => 7,
-        Err(Ending::Bad(number, why)) => put_refused(sink, Decision::Bad(number, why)),
-        Err(Ending::Limit(which)) => put_refused(sink, Decision::Limit(which)),
         Ok(script) => put_run(rt, alloc, script, workers, sink, gate),
+        Err(ending) => put_ending(sink, ending),
     }
 }
