@@ -9,7 +9,7 @@ ghost use Rattle.aim_replay.specs.Replays.{LastNeededBy, ReplaysBy, StopsShortBy
 ghost use Rattle.aim_replay.specs.Texts.{text_by};
 ghost use Rattle.aim_script.specs.Spellings.{by_words};
 ghost use Rattle.aim.specs.declared.words.Command.{Command};
-ghost use Rattle.aim.specs.Commands.{IsWithin, asked_in, command_of as command_in, is_replay, reads_input, reads_whole, spelled_in};
+ghost use Rattle.aim.specs.Commands.{IsWithin, asked_in, command_of as command_in, is_replay, reads_input, reads_whole, reports, spelled_in};
 ghost use Rattle.aim_plans.specs.Scripts.{TakesAtMost as TakesAtMostOfDrive};
 ghost use Rattle.aim_plans.specs.Short.{StopsShort as StopsShortDrive};
 ghost use Rattle.aim_driving.specs.Commands.{Completes as CompletesDrive, Shows as ShowsDrive, ShowsFront as ShowsFrontOfDrive};
@@ -104,6 +104,51 @@ fn replay_as<S: Source, K: Sink>(
     }
 }
 
+// Runs the script of the source that the command reads whole, and reports it.
+fn report_by<R: Threads + Wait + Sync, S: Source, K: Sink, G: Gate>(
+    rt: &R,
+    alloc: Global,
+    command: Command,
+    source: &mut S,
+    sink: &mut K,
+    gate: &G,
+) -> u8
+    requires within { IsWithin command }
+    requires reports { reports command ≡ true }
+    ensures ended { result ≡ 0 → IsAtEnd (S.left source.new) }
+    ensures memory { result ≡ 7 → Appends (K.held sink.old) (K.held sink.new) [] }
+    ensures drive { (workers : ℕ) → command ≡ Command.Drive workers
+        → Reports (ShowsDrive workers) (ShowsFrontOfDrive workers) StopsShortDrive CompletesDrive
+        (S.left source.old) (S.left source.new) (S.faults source.old) (S.faults source.new)
+        (K.held sink.old) (K.held sink.new) (K.faults sink.old) (K.faults sink.new) result }
+    ensures grid { (workers : ℕ) → command ≡ Command.Grid workers
+        → Reports ShowsGrid ShowsFrontOfGrid StopsShortGrid CompletesGrid
+        (S.left source.old) (S.left source.new) (S.faults source.old) (S.faults source.new)
+        (K.held sink.old) (K.held sink.new) (K.faults sink.old) (K.faults sink.new) result }
+    ensures shards { (workers : ℕ) → command ≡ Command.Shards workers
+        → Reports Shows ShowsFront StopsShortClaims CompletesShards
+        (S.left source.old) (S.left source.new) (S.faults source.old) (S.faults source.new)
+        (K.held sink.old) (K.held sink.new) (K.faults sink.old) (K.faults sink.new) result }
+    ensures mail { (workers : ℕ) → command ≡ Command.Mail workers
+        → Reports ShowsMail ShowsFrontOfMail StopsShortMail CompletesMail
+        (S.left source.old) (S.left source.new) (S.faults source.old) (S.faults source.new)
+        (K.held sink.old) (K.held sink.new) (K.faults sink.old) (K.faults sink.new) result }
+    ensures scripts { reads_whole command ≡ true → TakesAtMostOfDrive 67108865 (S.left source.old) (S.left source.new) }
+    ensures read { result ≡ 4 → Rose (S.faults source.old) (S.faults source.new) }
+    ensures write { result ≡ 5 → Rose (K.faults sink.old) (K.faults sink.new) }
+    ensures source { S.faults source.old ≤ S.faults source.new }
+    ensures sink { K.faults sink.old ≤ K.faults sink.new }
+    ensures statuses { (result ≡ 0) ⊎ ((result ≡ 3) ⊎ ((result ≡ 4) ⊎ ((result ≡ 5) ⊎ ((result ≡ 6) ⊎ (result ≡ 7))))) }
+{
+    match command {
+        Command::Drive(workers) => drive(rt, alloc, workers, source, sink, gate),
+        Command::Grid(workers) => grid(rt, alloc, workers, source, sink, gate),
+        Command::Shards(workers) => shards(rt, alloc, workers, source, sink, &NoHold),
+        Command::Mail(workers) => mail(rt, alloc, workers, source, sink),
+        _ => unreachable!(),
+    }
+}
+
 // Does what the command asks for.
 fn obey<R: Threads + Wait + Sync, S: Source, K: Sink, G: Gate>(
     rt: &R,
@@ -160,11 +205,10 @@ fn obey<R: Threads + Wait + Sync, S: Source, K: Sink, G: Gate>(
         Command::Replay | Command::ReplayJson | Command::Chart(_) => {
             replay_as(alloc, command, source, sink)
         }
-        Command::Drive(workers) => drive(rt, alloc, workers, source, sink, gate),
-        Command::Grid(workers) => grid(rt, alloc, workers, source, sink, gate),
         Command::Generate(number, count) => generate(rt, alloc, number, count, sink),
-        Command::Shards(workers) => shards(rt, alloc, workers, source, sink, &NoHold),
-        Command::Mail(workers) => mail(rt, alloc, workers, source, sink),
+        Command::Drive(_) | Command::Grid(_) | Command::Shards(_) | Command::Mail(_) => {
+            report_by(rt, alloc, command, source, sink, gate)
+        }
     }
 }
 
