@@ -1,10 +1,10 @@
 -- The calls of one caller, one after another.
 use Rattle.std.proofs.Common.{◌≡◌, ℕ, suc, ◌+◌, ◌<◌, ◌≤◌, ◌==◌, Bool, true, false, ◌&&◌, nat_lt, List, [], ◌∷◌, ◌++◌, length, take, drop, Option, Some, None, refl, sym, ap, ◌∙◌, subst, arith, length-append, slice_get, add-one}
-use Rattle.std.specs.Prelude.{get_or}
+use Rattle.std.specs.Prelude.{get_or, slice_index}
 use Rattle.std.specs.Option.{unwrap_or, option_to_list}
 use Rattle.std.proofs.Math.Seq.{take-suc}
 use Rattle.std.proofs.lemmas.Bool.{and_parts, ltb-true, eqb-true}
-use Rattle.std.proofs.lemmas.List.{append_assoc, append-nil, take-append-drop}
+use Rattle.std.proofs.lemmas.List.{append_assoc, append-nil, get_or_default, length-map, map_push, take-append-drop}
 use Rattle.std.proofs.lemmas.List.Elements.{filter_map-append}
 use Rattle.aim_shards.specs.declared.claims.ClaimEntry.{ClaimEntry}
 use Rattle.aim_claims.specs.declared.decisions.Kind.{Kind}
@@ -16,7 +16,8 @@ use Rattle.aim_claims.specs.declared.script.Ask.TheVariants as ask
 use Rattle.aim_claims.specs.Said.{ask_in, asked_of, set_in, sets_of, terms_of}
 use Rattle.aim_claims.specs.Kinds.{IsScript, kind_of_fault, unless_fits}
 use Rattle.aim_claims.proofs.Growing.{order_of}
-use Rattle.aim_callers.specs.Following.{act_of, Follows, FollowsFrom}
+use Rattle.aim_shards.specs.Models.{IsPassOf, IsSamePass, PassModel, ShardsModel}
+use Rattle.aim_callers.specs.Following.{act_of, Follows, FollowsFrom, tickets_of}
 use Rattle.aim_callers.specs.Calling.{Can, Steps}
 
 pub follows_more : (earlier : List ClaimEntry) (asks : List Ask) (es : List ClaimEntry) (a : Ask) (e : ClaimEntry) → FollowsFrom earlier asks es → e.act ≡ act_of (earlier ++ es) a → FollowsFrom earlier (asks ++ a ∷ []) (es ++ e ∷ [])
@@ -96,3 +97,17 @@ can_in n i lines l sets mine a s at all f e = can_at n (take i lines) l sets min
 -- after the line at a place
 pub follows_next : (n i : ℕ) (lines : List ShardLine) (d : ShardLine) (old new : List ClaimEntry) → i < length lines → Follows (asked_of n (take i lines)) old → Steps (ask_in n (get_or lines i d)) old new → Follows (asked_of n (take (i + 1) lines)) new
 follows_next n i lines d old new lt f s = rw (add-one i) (subst (λ ls. Follows (asked_of n ls) new) (sym (take-suc lines i d lt)) (follows_step n (take i lines) (get_or lines i d) old new f s))
+
+-- what stays of a pass at a call
+pub own_same : (s : ShardsModel) (old new : PassModel) → IsSamePass old new → IsPassOf s old → IsPassOf s new
+own_same s old new same own = record { table = same.table ∙ own.table; calls = same.calls ∙ own.calls; quarters = same.quarters ∙ own.quarters }
+
+-- the ticket of one entry more
+pub tickets_more : (old new : List ClaimEntry) (e : ClaimEntry) (before after : List ℕ) → before ≡ tickets_of old → after ≡ before ++ e.ticket ∷ [] → new ≡ old ++ e ∷ [] → after ≡ tickets_of new
+tickets_more old new e before after were more is = more ∙ ap (λ l. l ++ e.ticket ∷ []) were ∙ sym (map_push (λ (x : ClaimEntry). x.ticket) old e) ∙ ap tickets_of (sym is)
+
+-- the ticket of the entry of a number
+pub ticket_at : (tickets : List ℕ) (mine : List ClaimEntry) (call ticket : ℕ) → tickets ≡ tickets_of mine → call < length mine → ticket ≡ get_or tickets call ticket → ticket ≡ slice_index (tickets_of mine) call
+ticket_at tickets mine call ticket are lt is =
+    let count : length tickets ≡ length mine = ap length are ∙ length-map mine (λ (x : ClaimEntry). x.ticket) in
+    is ∙ get_or_default tickets call ticket 0 (omega (arith, count, lt)) ∙ ap (λ l. get_or l call 0) are

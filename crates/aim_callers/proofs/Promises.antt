@@ -1,10 +1,14 @@
 -- What the command promises of a script that was read, and where none was.
-use Rattle.std.proofs.Common.{◌≡◌, ℕ, ◌≤◌, ◌⊎◌, inl, inr, List, [], Option, Some, None, refl, sym, ap, ◌∙◌, subst, arith}
+use Rattle.std.proofs.Common.{◌≡◌, ℕ, ◌≤◌, ◌⊎◌, inl, inr, List, Option, Some, None, refl, sym, ap, ◌∙◌, subst, arith}
 use Rattle.std.specs.Prelude.{IfSome}
 use Rattle.std.specs.Io.KnownBytes.{Appends}
+use Rattle.std.proofs.KnownBytes.{Appends-nil}
 use Rattle.aim_io.specs.Causes.{Rose}
+use Rattle.aim_io.specs.Known.{AppendsFront}
+use Rattle.aim_msg.specs.Texts.{spaced}
+use Rattle.aim_shards.specs.declared.claims.ClaimEntry.{ClaimEntry}
 use Rattle.aim_claims.specs.Comes.{Comes}
-use Rattle.aim_claims.specs.Texts.{status_of}
+use Rattle.aim_claims.specs.Texts.{printed, refused_words, status_of}
 use Rattle.aim_claims.specs.Verdicts.{Verdict}
 use Rattle.aim_claims.specs.declared.decisions.Refused.{Refused}
 use Rattle.aim_claims.specs.declared.decisions.Refused.TheVariants as refused
@@ -13,43 +17,83 @@ use Rattle.aim_claims.specs.declared.reading.Stop.{Stop}
 use Rattle.aim_claims.specs.declared.reading.Stop.TheVariants as stop
 use Rattle.aim_callers.specs.Commands.{Completes, Shows, ShowsFront, Writes, WritesFront, status_for}
 use Rattle.aim_callers.specs.Puts.{Puts, status_after}
+use Rattle.aim_callers.specs.Running.{IsRun}
+use Rattle.aim_callers.specs.Texts.{history_text}
 
 -- ---- a script that was read
 
 abbrev AnyOf : ℕ → Option Refused → Type 0
 AnyOf n why = (n ≡ status_for why) ⊎ ((n ≡ 5) ⊎ (n ≡ 7))
 
+pub no_memory : (r : Refused) (n : ℕ) → n ≡ status_of r → n ≡ 7 → ⊥
+no_memory (refused.Bad number kind) n is seven = omega (arith, is, seven)
+no_memory (refused.Limit which) n is seven = omega (arith, is, seven)
+
 -- the one line of a script that isn't whole
-pub refused_puts : (lines : List ShardLine) (why : Option Refused) (r : Refused) (old new : Option (List ℕ)) (before now result : ℕ) → why ≡ Some r → (result ≡ 5) ⊎ ((result ≡ status_of r) × Writes [] (Some r) old new)
-    → (result ≡ 5 → WritesFront [] (Some r) old new) → (result ≡ 5 → Rose before now) → before ≤ now → Puts lines why old new before now result
-refused_puts lines why r old new before now result is whole front write sink =
-    subst (λ (w : Option Refused). Puts lines w old new before now result) (sym is) (record {
-      whole = λ own. at r own whole;
-      front = λ five. (let f = front five in record { text = f.text; is = f.is; written = f.written });
-      memory = λ seven. absurd (none r seven whole);
-      write = write;
-      sink = sink;
-      statuses = elim whole [ inl five ↦ inr (inl five) | inr own ↦ inl own.0 ];
-    })
+pub refused_whole : (lines : List ShardLine) (r : Refused) (old new : Option (List ℕ)) (before now n : ℕ) → n ≡ status_of r → Appends old new (printed (spaced (refused_words r))) → before ≤ now → Puts lines (Some r) old new before now n
+refused_whole lines r old new before now n is written sink = record {
+  whole = λ own. record { text = printed (spaced (refused_words r)); is = refl; written = written };
+  front = λ five. absurd (other r is five);
+  memory = λ seven. absurd (no_memory r n is seven);
+  write = λ five. absurd (other r is five);
+  sink = sink;
+  statuses = inl is;
+}
   where
-    same : (r : Refused) → Writes [] (Some r) old new → Writes lines (Some r) old new
-    same r w = record { text = w.text; is = w.is; written = w.written }
+    other : (r : Refused) → n ≡ status_of r → n ≡ 5 → ⊥
+    other (refused.Bad number kind) is five = omega (arith, is, five)
+    other (refused.Limit which) is five = omega (arith, is, five)
 
-    at : (r : Refused) → result ≡ status_of r → (result ≡ 5) ⊎ ((result ≡ status_of r) × Writes [] (Some r) old new) → Writes lines (Some r) old new
-    at r own (inr told) = same r told.1
-    at (refused.Bad number kind) own (inl five) = absurd (omega arith)
-    at (refused.Limit which) own (inl five) = absurd (omega arith)
-
-    none : (r : Refused) → result ≡ 7 → (result ≡ 5) ⊎ ((result ≡ status_of r) × Writes [] (Some r) old new) → ⊥
-    none r seven (inl five) = omega arith
-    none (refused.Bad number kind) seven (inr told) = omega (arith, told.0)
-    none (refused.Limit which) seven (inr told) = omega (arith, told.0)
+-- a front of it
+pub refused_front : (lines : List ShardLine) (r : Refused) (old new : Option (List ℕ)) (before now : ℕ) → AppendsFront old new (printed (spaced (refused_words r))) → Rose before now → before ≤ now → Puts lines (Some r) old new before now 5
+refused_front lines r old new before now written rose sink = record {
+  whole = λ own. absurd (other r own);
+  front = λ five. record { text = printed (spaced (refused_words r)); is = refl; written = written };
+  memory = λ seven. absurd (omega (arith, seven));
+  write = λ five. rose;
+  sink = sink;
+  statuses = inr (inl refl);
+}
+  where
+    other : (r : Refused) → 5 ≡ status_of r → ⊥
+    other (refused.Bad number kind) own = omega (arith, own)
+    other (refused.Limit which) own = omega (arith, own)
 
 -- the history of a whole script
-pub run_puts : (lines : List ShardLine) (why : Option Refused) (old new : Option (List ℕ)) (before now result : ℕ) → why ≡ None → (result ≡ 0 → Writes lines None old new) → (result ≡ 5 → WritesFront lines None old new)
-    → (result ≡ 7 → Appends old new []) → (result ≡ 5 → Rose before now) → before ≤ now → (result ≡ 0) ⊎ ((result ≡ 5) ⊎ (result ≡ 7)) → Puts lines why old new before now result
-run_puts lines why old new before now result is whole front memory write sink statuses =
-    subst (λ (w : Option Refused). Puts lines w old new before now result) (sym is) (record { whole = whole; front = front; memory = memory; write = write; sink = sink; statuses = statuses })
+pub run_whole : (lines : List ShardLine) (log : List ClaimEntry) (old new : Option (List ℕ)) (before now : ℕ) → IsRun lines log → Appends old new (history_text log) → before ≤ now → Puts lines None old new before now 0
+run_whole lines log old new before now run written sink = record {
+  whole = λ own. record { text = history_text log; is = (log, run, refl); written = written };
+  front = λ five. absurd (omega (arith, five));
+  memory = λ seven. absurd (omega (arith, seven));
+  write = λ five. absurd (omega (arith, five));
+  sink = sink;
+  statuses = inl refl;
+}
+
+-- a front of it
+pub run_front : (lines : List ShardLine) (log : List ClaimEntry) (old new : Option (List ℕ)) (before now : ℕ) → IsRun lines log → AppendsFront old new (history_text log) → Rose before now → before ≤ now → Puts lines None old new before now 5
+run_front lines log old new before now run written rose sink = record {
+  whole = λ own. absurd (omega (arith, own));
+  front = λ five. record { text = history_text log; is = (log, run, refl); written = written };
+  memory = λ seven. absurd (omega (arith, seven));
+  write = λ five. rose;
+  sink = sink;
+  statuses = inr (inl refl);
+}
+
+-- nothing, for want of memory
+pub run_unmade : (lines : List ShardLine) (old : Option (List ℕ)) (before : ℕ) → Puts lines None old old before before 7
+run_unmade lines old before = record {
+  whole = λ own. absurd (omega (arith, own));
+  front = λ five. absurd (omega (arith, five));
+  memory = λ seven. Appends-nil old;
+  write = λ five. absurd (omega (arith, five));
+  sink = omega arith;
+  statuses = inr (inr refl);
+}
+
+pub puts_for : (lines : List ShardLine) (why w : Option Refused) (old new : Option (List ℕ)) (before now n : ℕ) → why ≡ w → Puts lines w old new before now n → Puts lines why old new before now n
+puts_for lines why w old new before now n is p = subst (λ (v : Option Refused). Puts lines v old new before now n) (sym is) p
 
 -- the status of a whole text is the script's
 pub own_status : (n : ℕ) (why : Option Refused) → AnyOf n why → (n ≡ 0) ⊎ ((n ≡ 3) ⊎ (n ≡ 6)) → n ≡ status_for why

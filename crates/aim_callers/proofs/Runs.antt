@@ -2,6 +2,7 @@
 use Rattle.std.proofs.Common.{◌≡◌, ◌≢◌, ℕ, zero, suc, ◌+◌, ◌<◌, ◌≤◌, List, [], ◌∷◌, ◌++◌, length, map, refl, sym, ap, ◌∙◌, subst, arith, Ok, Err, Result}
 use Rattle.std.specs.Prelude.{All, IfOk, get_or}
 use Rattle.std.proofs.lemmas.Bool.{eq-eqb, ne_eqb}
+use Rattle.std.proofs.lemmas.List.{length-map}
 use Rattle.std.proofs.lemmas.List.Elements.{All-map}
 use mathlib.Core.Logic.{dite}
 use native.Mathlib.Decide.{ℕ_discrete}
@@ -95,6 +96,10 @@ opened_is lines t sheets o e are size sets numbers calls passes = record {
   calls = calls;
   passes = passes ∙ ap (λ (u : Terms). map (new_pass o.shards) (count_up u.callers)) e;
 }
+
+-- there is a pass for each number
+pub as_many : (lines : List ShardLine) (o : OpenedShards) → IsOpened lines o → length o.passes.items ≡ length o.shards.numbers
+as_many lines o is = (let t = terms_of lines in ap length is.passes ∙ length-map (count_up t.callers) (new_pass o.shards) ∙ ap length (sym is.numbers))
 
 -- the callers of an opening have made their calls
 pub run_opened : (lines told : List ShardLine) (o : OpenedShards) (ps : List PassModel) (log : List ClaimEntry) → told ≡ lines → IsOpened lines o → All (HasDone o.shards told) ps → IsHistory o.shards.sets log

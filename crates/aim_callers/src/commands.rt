@@ -1,11 +1,12 @@
 //! The command that runs a script of claims: from bytes to bytes.
 
-ghost use Rattle.std.specs.Prelude.{◌≡◌, ◌⊎◌, ◌<◌, ◌≤◌, [], None, Some, length, IfSome};
+ghost use Rattle.std.specs.Prelude.{◌≡◌, ◌⊎◌, ◌<◌, ◌≤◌, List, [], None, Some, length, IfSome};
 ghost use Rattle.std.specs.Io.KnownBytes.{Appends, IsAtEnd};
 ghost use Rattle.aim_io.specs.Causes.{Rose};
+ghost use Rattle.aim_claims.specs.declared.lines.ShardLine.{ShardLine};
 ghost use Rattle.aim_claims.specs.Short.{StopsShort};
 ghost use Rattle.aim_claims.specs.Texts.{status_of};
-ghost use Rattle.aim_callers.specs.Commands.{Completes, Shows, ShowsFront, Writes, WritesFront};
+ghost use Rattle.aim_callers.specs.Commands.{Completes, Shows, ShowsFront};
 ghost use Rattle.aim_callers.specs.Puts.{Puts, status_after};
 
 use crate::running::run_script;
@@ -29,10 +30,8 @@ fn status_of(refused: Refused) -> u8
 
 // Writes why a script isn't whole, and answers the status.
 fn put_refused<K: Sink>(sink: &mut K, refused: Refused) -> u8
-    ensures whole { (result ≡ 5) ⊎ ((result ≡ status_of refused) × Writes [] (Some refused) (K.held sink.old) (K.held sink.new)) }
-    ensures front { result ≡ 5 → WritesFront [] (Some refused) (K.held sink.old) (K.held sink.new) }
-    ensures write { result ≡ 5 → Rose (K.faults sink.old) (K.faults sink.new) }
-    ensures sink { K.faults sink.old ≤ K.faults sink.new }
+    ensures puts { (lines : List ShardLine) → Puts lines (Some refused) (K.held sink.old) (K.held sink.new) (K.faults sink.old) (K.faults sink.new) result }
+    ensures memory { result ≡ 7 → ⊥ }
 {
     let mut line = [0; 400];
     let len = refused_line(refused, &mut line);
@@ -53,12 +52,7 @@ fn put_run<R: Threads + Wait + Sync, K: Sink, H: Hold>(
 ) -> u8
     requires some { 0 < length script.now }
     requires workers { 0 < workers }
-    ensures whole { result ≡ 0 → Writes script.now None (K.held sink.old) (K.held sink.new) }
-    ensures front { result ≡ 5 → WritesFront script.now None (K.held sink.old) (K.held sink.new) }
-    ensures memory { result ≡ 7 → Appends (K.held sink.old) (K.held sink.new) [] }
-    ensures write { result ≡ 5 → Rose (K.faults sink.old) (K.faults sink.new) }
-    ensures sink { K.faults sink.old ≤ K.faults sink.new }
-    ensures statuses { (result ≡ 0) ⊎ ((result ≡ 5) ⊎ (result ≡ 7)) }
+    ensures { Puts script.now None (K.held sink.old) (K.held sink.new) (K.faults sink.old) (K.faults sink.new) result }
 {
     match run_script(rt, alloc, script, workers, hold) {
         Err(_) => 7,

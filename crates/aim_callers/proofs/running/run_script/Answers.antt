@@ -3,7 +3,7 @@ use Rattle.aim_shards.specs.Closing.{AreMade}
 use Rattle.aim_shards.specs.History.{IsHistory}
 use Rattle.aim_claims.specs.Said.{sets_of, terms_of}
 use Rattle.aim_callers.specs.Running.{IsRun}
-use Rattle.aim_callers.proofs.Runs.{all_new, if_ok, run_opened}
+use Rattle.aim_callers.proofs.Runs.{all_new, as_many, if_ok, run_opened}
 use Rattle.aim_callers.proofs.running.run_script.Goals as goal
 
 pub called-requires-clause-sets : goal.called-requires-clause-sets
@@ -17,6 +17,9 @@ called-requires-clause-new g c κs within =
     let o = c.in_ok-opened.ensures in
     let t = terms_of c.args.script.now in
     all_new c.in_ok-opened.opened.shards c.in_ok-opened.opened.passes.items t.callers o.calls o.passes
+
+pub history-requires-clause-all : goal.history-requires-clause-all
+history-requires-clause-all g c = c.in-Ok.ensures.count ∙ as_many c.args.script.now c.in_ok-opened.opened c.in_ok-opened.ensures
 
 pub history-requires-clause-own : goal.history-requires-clause-own
 history-requires-clause-own g c k d lt =
