@@ -2,15 +2,20 @@
 use Rattle.std.proofs.Common.{◌≡◌, ℕ, ◌+◌, ◌<◌, inl, inr, List, [], ◌∷◌, ◌++◌, length, map, get_or, sym, ap, ◌∙◌, subst, arith}
 use Rattle.std.proofs.lemmas.Bool.{cases_lt}
 use Rattle.std.proofs.lemmas.List.{get_or_append_left, get_or_push, length_push, map_push}
+use Rattle.aim_pool.specs.Pools.{Stock}
 use Rattle.aim_mailbox.specs.Calls.{ClientModel}
 use Rattle.aim_mailing.specs.declared.callers.Caller.{Caller}
 use Rattle.aim_mailing.specs.Calling.{IsNewCaller}
+
+-- the caller of a client that has made no call
+abbrev pub caller_with : ℕ → ClientModel → Stock → Caller
+caller_with vehicle client sheets = record { vehicle = vehicle; client = client; sheets = sheets; place = 0 }
 
 pub clients_more : (yielded : List ClientModel) (client : ClientModel) (old new : List Caller) (c : Caller) → map (λ c. c.client) old ≡ yielded → c.client ≡ client → new ≡ old ++ c ∷ [] → map (λ c. c.client) new ≡ yielded ++ client ∷ []
 clients_more yielded client old new c so_far own is =
     ap (λ (l : List Caller). map (λ c. c.client) l) is ∙ map_push (λ (x : Caller). x.client) old c ∙ ap (λ l. l ++ c.client ∷ []) so_far ∙ ap (λ x. yielded ++ x ∷ []) own
 
-pub seats_more : (spans vehicle : ℕ) (client : ClientModel) (old new : List Caller) (c : Caller) → vehicle ≡ length old → c ≡ record { vehicle = vehicle; client = client; sheets = record { count = 3; room = spans }; place = 0 } → new ≡ old ++ c ∷ []
+pub seats_more : (spans vehicle : ℕ) (client : ClientModel) (old new : List Caller) (c : Caller) → vehicle ≡ length old → c ≡ caller_with vehicle client (record { count = 3; room = spans }) → new ≡ old ++ c ∷ []
     → ((k : ℕ) (d : Caller) → k < length old → IsNewCaller k spans (get_or old k d)) → (k : ℕ) (d : Caller) → k < length new → IsNewCaller k spans (get_or new k d)
 seats_more spans vehicle client old new c number made is seats k d lt =
     let n : length new ≡ length old + 1 = ap (λ (l : List Caller). length l) is ∙ length_push old c in

@@ -1,6 +1,6 @@
 //! A caller: the client of a vehicle, which makes the calls of the vehicle's events.
 
-ghost use Rattle.std.specs.Prelude.{◌≡◌, ◌≤◌, ◌<◌, ◌+◌, length, take, slice_index_or, All, IfOk};
+ghost use Rattle.std.specs.Prelude.{◌≡◌, ◌≤◌, ◌<◌, ◌+◌, length, take, slice_index_or, All};
 ghost use Rattle.aim_msg.specs.declared.entries.TheConstants.{LATEST_MOMENT};
 ghost use Rattle.aim_buffers.specs.Requests.{IsPreparedFor};
 ghost use Rattle.aim_events.specs.declared.scripts.Event.{Event};
@@ -13,11 +13,10 @@ use aim_mailbox::Client;
 use aim_msg::Message;
 use aim_paths::Layout;
 use aim_pool::Pool;
-use std::alloc::{AllocError, Global};
 use std::sync::Wait;
 
-// How many sheets a caller has: two for a call, and one that the book may keep.
-const SHEETS: u32 = 3;
+/// How many sheets a caller has: two for a call, and one that the book may keep.
+pub(crate) const SHEETS: u32 = 3;
 
 /// The client of a vehicle, with its sheets, and how far it has come: the vehicle's events before that place in the list
 /// of all events are called.
@@ -27,26 +26,6 @@ pub(crate) struct Caller {
     pub(crate) client: Client,
     pub(crate) sheets: Pool,
     pub(crate) place: usize,
-}
-
-impl Caller {
-    /// The caller of a client that has made no call, with sheets of so many spans.
-    pub(crate) fn new(
-        alloc: Global,
-        vehicle: u32,
-        client: Client,
-        spans: u32,
-    ) -> Result<Caller, AllocError>
-        ensures { IfOk result (λ c. c ≡ record { vehicle = vehicle; client = client; sheets = record { count = 3; room = spans }; place = 0 }) }
-    {
-        let sheets = Pool::new(alloc, SHEETS, spans)?;
-        Ok(Caller {
-            vehicle,
-            client,
-            sheets,
-            place: 0,
-        })
-    }
 }
 
 // The place of the vehicle's first event from that place on, or the number of all events where there is none.
@@ -74,7 +53,10 @@ fn prepared_with(layout: &Layout, sheets: &mut Pool, message: &Message) -> Prepa
     ensures message { result.message ≡ message.now }
     ensures prepared { IsPreparedFor layout.now result }
 {
-    let (Ok(first), Ok(second)) = (sheets.take(), sheets.take()) else {
+    let Ok(first) = sheets.take() else {
+        unreachable!()
+    };
+    let Ok(second) = sheets.take() else {
         unreachable!()
     };
     prepare(layout, message, first, second)

@@ -6,11 +6,12 @@ ghost use Rattle.aim_mailbox.specs.Calls.{ClientModel, IsNewClient};
 ghost use Rattle.aim_mailing.specs.Runs.{IsRun};
 ghost use Rattle.aim_mailing.specs.Calling.{AreStaff, IsNewCaller};
 
-use crate::callers::Caller;
+use crate::callers::{Caller, SHEETS};
 use crate::runs::beside;
 use aim_events::EventScript;
 use aim_mailbox::{Client, Ended, Mailbox, OpenFault, OpenedMail, Server, settle};
 use aim_msg::Entry;
+use aim_pool::Pool;
 use std::alloc::{AllocError, Global};
 use std::sync::Wait;
 use std::sync::ledger::{Blank, Ledger};
@@ -58,7 +59,13 @@ fn seated(alloc: Global, clients: Vec<Client>, spans: u32) -> Result<Vec<Caller>
     let mut callers = Vec::with_capacity(alloc, clients.len())?;
     let mut vehicle = 0;
     for client in clients {
-        callers.push_reserved(Caller::new(alloc, vehicle, client, spans)?);
+        let sheets = Pool::new(alloc, SHEETS, spans)?;
+        callers.push_reserved(Caller {
+            vehicle,
+            client,
+            sheets,
+            place: 0,
+        });
         vehicle += 1;
     }
     Ok(callers)
