@@ -1,10 +1,7 @@
 -- What an answer says of the numbers that a book is opened with.
-use Rattle.std.proofs.Common.{◌≡◌, ℕ, ◌<◌, ◌≤◌, ◌⊎◌, inl, inr, Bool, true, false, [], Result, Ok, Err, sym, ap, arith, subst}
+use Rattle.std.proofs.Common.{◌≡◌, ℕ, ◌<◌, ◌≤◌, ◌⊎◌, inl, inr, Bool, true, false, Result, Ok, Err, ap, arith}
 use Rattle.std.specs.Prelude.{◌↔◌}
 use Rattle.aim_msg.specs.declared.entries.TheConstants.{MOST_ENTRIES, MOST_VEHICLES}
-use Rattle.aim_paths.specs.Intersection.{Intersection}
-use Rattle.aim_rules.specs.Legal.{IsLegal}
-use Rattle.aim_book.specs.State.{State}
 use Rattle.aim_book.specs.declared.book.OpenFault.{OpenFault}
 use Rattle.aim_book.specs.declared.book.OpenFault.TheVariants as fault
 
@@ -71,13 +68,16 @@ module _ {B : Type 0} (r : Result B OpenFault) (v room : ℕ) where
     (λ h. absurd (within room MOST_ENTRIES some few h.2)),
   )
 
--- a book that is opened is legal
-pub legal_new : (b : State) (i : Intersection) (n room : ℕ) → b ≡ record { layout = i; vehicles = n; room = room; journal = [] } → IsLegal b.layout b.vehicles b.journal
-legal_new b i n room is = subst (λ (s : State). IsLegal s.layout s.vehicles s.journal) (sym is) (record { well_formed = λ k e l. absurd (omega arith); answered = λ k e l. absurd (omega arith) })
-
 -- no fault where there is a value, whatever it is
 pub no_fault : {B C P : Type 0} (b : B) (x : C) (f : OpenFault) → (◌≡◌ {A = Result B OpenFault} (Ok b) (Err f)) ↔ P → (◌≡◌ {A = Result C OpenFault} (Ok x) (Err f)) ↔ P
 no_fault b x f both = (
   (λ e. absurd (cc)),
   (λ p. (let e = both.1 p in absurd (cc))),
+)
+
+-- a fault that is handed on is the same
+pub fault_on : {B C P : Type 0} (f g : OpenFault) → (◌≡◌ {A = Result B OpenFault} (Err f) (Err g)) ↔ P → (◌≡◌ {A = Result C OpenFault} (Err f) (Err g)) ↔ P
+fault_on {B} {C} f g both = (
+  (λ e. (let q : f ≡ g = cc in both.0 (ap {B = Result B OpenFault} (λ x. Err x) q))),
+  (λ p. (let e = both.1 p in let q : f ≡ g = cc in ap {B = Result C OpenFault} (λ x. Err x) q)),
 )

@@ -80,15 +80,22 @@ impl<L: Ledger> Book<L> {
         ensures vehicles { (result ≡ Err OpenFault.Vehicles) ↔ ((vehicles ≡ 0) ⊎ (MOST_VEHICLES < vehicles)) }
         ensures room { (result ≡ Err OpenFault.Room) ↔ ((0 < vehicles) × (vehicles ≤ MOST_VEHICLES) × ((room ≡ 0) ⊎ (MOST_ENTRIES < room))) }
     {
-        if vehicles == 0 || vehicles > MOST_VEHICLES {
-            return Err(OpenFault::Vehicles);
-        }
-        if room == 0 || room > MOST_ENTRIES {
-            return Err(OpenFault::Room);
-        }
-        match opened(alloc, layout, vehicles, room) {
-            Ok(book) => Ok(book),
-            Err(AllocError) => Err(OpenFault::NoMemory),
+        match new_parts(alloc, &layout, vehicles, room) {
+            Ok(
+                Parts {
+                    journal,
+                    desk,
+                    approaches,
+                },
+            ) => Ok(Book {
+                layout,
+                vehicles,
+                room,
+                journal,
+                desk,
+                approaches,
+            }),
+            Err(fault) => Err(fault),
         }
     }
 
@@ -296,10 +303,11 @@ impl<L: Ledger> Book<L> {
     }
 }
 
-ghost use Rattle.std.specs.Prelude.{◌≡◌, ℕ, ◌<◌, ◌≤◌, [], List, Option, None, IsTrue, IfOk, replicate};
+ghost use Rattle.std.specs.Prelude.{◌≡◌, ℕ, ◌<◌, ◌≤◌, ◌⊎◌, ◌↔◌, [], List, Option, None, IsTrue, IfOk, Err, replicate, vec_capacity};
 ghost use Rattle.std.specs.List.{list_any};
 ghost use Rattle.aim_msg.specs.declared.entries.TheConstants.{MOST_ENTRIES, MOST_VEHICLES};
 ghost use Rattle.aim_reservations.specs.Blocking.{is_lit};
+ghost use Rattle.aim_book.specs.Books.{IsBook};
 ghost use Rattle.aim_book.specs.Managed.{IsManaged};
 
 // Whether some policy of the layout has lights.
@@ -338,26 +346,54 @@ fn new_desk<L: Ledger>(
     })
 }
 
-// A book of so many vehicles and so many entries.
-fn opened<L: Ledger>(
+// What a book has beside its layout and its numbers.
+#[derive(Drop)]
+struct Parts<L: Ledger> {
+    journal: Vec<Entry>,
+    desk: Desk<L>,
+    approaches: Approaches,
+}
+
+// The parts of a new book of so many vehicles and so many entries.
+fn allocated<L: Ledger>(
     alloc: Global,
-    layout: Layout,
+    layout: &Layout,
     vehicles: u32,
     room: u32,
-) -> Result<Book<L>, AllocError>
+) -> Result<Parts<L>, AllocError>
     requires vehicles { vehicles ≤ MOST_VEHICLES }
     requires room { room ≤ MOST_ENTRIES }
-    ensures { IfOk result (λ b. b ≡ record { layout = layout; vehicles = vehicles; room = room; journal = [] }) }
+    ensures { IfOk result (λ p. (p.journal.items ≡ []) × IsBook layout.now vehicles room p.journal.items (vec_capacity p.journal) p.desk p.approaches) }
 {
     let journal = Vec::with_capacity(alloc, room as usize)?;
     let approaches = Approaches::new(alloc, vehicles)?;
-    let desk = new_desk(alloc, &layout, vehicles, room)?;
-    Ok(Book {
-        layout,
-        vehicles,
-        room,
+    let desk = new_desk(alloc, layout, vehicles, room)?;
+    Ok(Parts {
         journal,
         desk,
         approaches,
     })
+}
+
+// The parts of a new book, or why it isn't opened.
+fn new_parts<L: Ledger>(
+    alloc: Global,
+    layout: &Layout,
+    vehicles: u32,
+    room: u32,
+) -> Result<Parts<L>, OpenFault>
+    ensures new { IfOk result (λ p. (p.journal.items ≡ []) × IsBook layout.now vehicles room p.journal.items (vec_capacity p.journal) p.desk p.approaches) }
+    ensures vehicles { (result ≡ Err OpenFault.Vehicles) ↔ ((vehicles ≡ 0) ⊎ (MOST_VEHICLES < vehicles)) }
+    ensures room { (result ≡ Err OpenFault.Room) ↔ ((0 < vehicles) × (vehicles ≤ MOST_VEHICLES) × ((room ≡ 0) ⊎ (MOST_ENTRIES < room))) }
+{
+    if vehicles == 0 || vehicles > MOST_VEHICLES {
+        return Err(OpenFault::Vehicles);
+    }
+    if room == 0 || room > MOST_ENTRIES {
+        return Err(OpenFault::Room);
+    }
+    match allocated(alloc, layout, vehicles, room) {
+        Ok(parts) => Ok(parts),
+        Err(AllocError) => Err(OpenFault::NoMemory),
+    }
 }

@@ -170,15 +170,7 @@ impl IdleBook {
         ensures journal { result.items ≡ self.journal }
         ensures legal { IsLegal self.layout self.vehicles self.journal }
     {
-        let IdleBook {
-            layout: _,
-            vehicles: _,
-            room: _,
-            journal,
-            desk: _,
-            approaches: _,
-        } = self;
-        journal
+        self.join::<Brand>().into_journal()
     }
 
     /// The number of vehicles.
