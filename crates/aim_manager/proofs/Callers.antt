@@ -47,3 +47,7 @@ last_is (a ∷ xs) (b ∷ ys) x y e =
     let t : xs ++ x ∷ [] ≡ ys ++ y ∷ [] = cc e in
     let r = last_is xs ys x y t in
     ((λ i. h i ∷ r.0 i), r.1)
+
+-- some pass stands for a list of all callers
+pub callers_some : {A : Type 0} (numbers : List ℕ) (n : ℕ) (xs : List A) → numbers ≡ callers n → length xs ≡ length numbers → 0 < length xs
+callers_some numbers n xs is same = omega (arith, callers_count n, ap length is, same)

@@ -272,8 +272,7 @@ impl Manager {
             layout: _,
         } = self;
         let Keeper { book } = turnstile.close_with(passes, operator);
-        Closed {
-            journal: book.into_journal(),
-        }
+        let journal = book.into_journal();
+        Closed { journal }
     }
 }

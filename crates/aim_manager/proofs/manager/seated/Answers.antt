@@ -1,12 +1,12 @@
-use Rattle.std.proofs.Common.{◌≡◌, ℕ, List, [], ◌∷◌, ◌++◌, map, sym, ap, ◌∙◌}
+use Rattle.std.proofs.Common.{◌≡◌, ℕ, List, [], ◌∷◌, ◌++◌, map, length, sym, ap, ◌∙◌}
 use Rattle.std.specs.List.{range_with_len}
-use Rattle.std.proofs.lemmas.List.{map-append}
+use Rattle.std.proofs.lemmas.List.{length-map, map-append}
 use Rattle.aim_msg.specs.declared.entries.Entry.{Entry}
 use Rattle.aim_msg.specs.declared.entries.TheConstants.{OPERATOR}
 use Rattle.aim_turn.specs.Models.{PassModel, TurnstileModel, new_pass}
 use Rattle.aim_manager.specs.declared.keeper.Setting.{Setting}
 use Rattle.aim_manager.specs.Seen.{callers}
-use Rattle.aim_manager.proofs.Callers.{last_is}
+use Rattle.aim_manager.proofs.Callers.{callers_some, last_is}
 use Rattle.aim_manager.proofs.manager.seated.Goals as goal
 
 -- the passes of the vehicles, and the operator's
@@ -21,3 +21,6 @@ returns-clause-passes c = (taken _ _ _ _ _ c.requires.passes c.requires.numbers 
 
 pub returns-clause-operator : goal.returns-clause-operator
 returns-clause-operator c = (taken _ _ _ _ _ c.requires.passes c.requires.numbers c.last_pass-operator.ensures).1
+
+pub last_pass-operator-requires : goal.last_pass-operator-requires
+last_pass-operator-requires c = callers_some _ _ _ c.requires.numbers (ap length c.requires.passes ∙ length-map _ _)
