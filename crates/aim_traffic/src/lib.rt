@@ -20,8 +20,8 @@ pub fn traffic(alloc: Global, number: u32, count: u32) -> Result<DriveScript, No
     ensures script { IfOk result (λ s. IsScriptOf (traffic_lines number count) s) }
     ensures fits { IfOk result IsFit }
 {
-    let layout = layout::of_four_arms(alloc)?;
     let plans = plans::drawn(alloc, number, count)?;
+    let layout = layout::of_four_arms(alloc)?;
     Ok(DriveScript {
         layout,
         vehicles: count,

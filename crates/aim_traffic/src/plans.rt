@@ -68,9 +68,9 @@ pub(crate) fn drawn(alloc: Global, number: u32, count: u32) -> Result<Vec<Planne
     ensures { IfOk result (λ v. map drive_told v.items ≡ filter_map (drive_in []) (plan_lines 0 count (generator number))) }
 {
     let mut random = Pcg32::seed_from_u64(u64::from(number));
-    let mut plans = Vec::new(alloc);
+    let mut plans = Vec::with_capacity(alloc, count as usize)?;
     for vehicle in 0..count {
-        plans.push(draw(alloc, &mut random, vehicle))?;
+        plans.push_reserved(draw(alloc, &mut random, vehicle));
     }
     Ok(plans)
 }
