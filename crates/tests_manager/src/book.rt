@@ -10,7 +10,6 @@ use crate::policies::{GIVING_WAY, LIGHTS_AND_SIREN, SIREN};
 use aim_book::{Book, Full};
 use aim_geometry::Times;
 use aim_msg::{Act, Entry, LATEST_MOMENT, Message, Order, Reply};
-use aim_paths::Layout;
 use aim_pool::Pool;
 use aim_read_entries::read_entry;
 use aim_tiles::Steps;
@@ -40,18 +39,18 @@ enum Way {
 }
 
 // A book, the sheets for its calls, and the count of the words of its table.
-#[derive(Drop)]
 struct Desk<L: Ledger> {
     book: Book<L>,
     pool: Pool,
     steps: Steps<L>,
 }
 
-// A book over the layout, for that many vehicles and that many entries.
+// A book over the site's layout, for that many vehicles and that many entries.
 fn opened<L: Ledger>(
     rt: &impl Abort,
     alloc: Global,
-    layout: Layout,
+    site: &Site,
+    times: Times,
     vehicles: u32,
     room: u32,
     blank: Blank,
@@ -60,6 +59,7 @@ fn opened<L: Ledger>(
     requires parts { blank.parts ≡ L.parts }
     requires some { 0 < blank.parts }
 {
+    let layout = built(alloc, site, times).expect(rt, "no layout");
     let spans = layout.ground().grid().spans;
     let pool = Pool::new(alloc, SHEETS, spans).expect(rt, "no memory for sheets");
     let book = Book::open(alloc, layout, vehicles, room).expect(rt, "no book");
@@ -158,18 +158,24 @@ fn serve<L: Ledger>(
     requires parts { blank.parts ≡ L.parts }
     requires some { 0 < blank.parts }
 {
-    let layout = built(alloc, site, times).expect(rt, "no layout");
-    let mut desk = opened::<L>(rt, alloc, layout, VEHICLES, 16, blank);
+    let mut desk = opened::<L>(rt, alloc, site, times, VEHICLES, 16, blank);
     serve_lines(rt, &mut desk, way, lines);
     assert!(rt; journal_of(desk).len() == lines.len());
 }
 
-// The calls of each of these journals have to get the replies that stand in it, in both ways.
+static WAYS: [Way; 2] = [Way::Prepared, Way::FromPool];
+
+// The calls of the journal have to get the replies that stand in it, in both ways.
+fn serve_both(rt: &impl Abort, alloc: Global, site: &Site, times: Times, lines: Lines) {
+    for way in &WAYS {
+        serve::<Brand>(rt, alloc, Blank::new(1), *way, site, times, lines);
+    }
+}
+
+// So it is with each of the journals.
 fn serve_all(rt: &impl Abort, alloc: Global, site: &Site, times: Times, journals: &[Lines]) {
     for lines in journals {
-        for way in [Way::Prepared, Way::FromPool] {
-            serve::<Brand>(rt, alloc, Blank::new(1), way, site, times, *lines);
-        }
+        serve_both(rt, alloc, site, times, *lines);
     }
 }
 
@@ -203,6 +209,13 @@ fn journal_of<L: Ledger>(desk: Desk<L>) -> Vec<Entry> {
     book.leave(steps).into_journal()
 }
 
+// The calls of the entries get their replies.
+fn serve_entries<L: Ledger>(rt: &impl Abort, desk: &mut Desk<L>, journal: &[Entry]) {
+    for entry in journal {
+        assert!(rt; give(rt, desk, Way::Prepared, entry) == Ok(entry.reply));
+    }
+}
+
 /// Serves the entries of the journal once more, on one thread, with a book and a ledger of their own. Each reply has to be
 /// the journal's.
 pub fn serve_again<L: Ledger>(
@@ -216,11 +229,8 @@ pub fn serve_again<L: Ledger>(
     requires parts { blank.parts ≡ L.parts }
     requires some { 0 < blank.parts }
 {
-    let layout = built(alloc, &PLAIN, TIMES).expect(rt, "no layout");
-    let mut desk = opened::<L>(rt, alloc, layout, vehicles, 1000, blank);
-    for entry in journal {
-        assert!(rt; give(rt, &mut desk, Way::Prepared, entry) == Ok(entry.reply));
-    }
+    let mut desk = opened::<L>(rt, alloc, &PLAIN, TIMES, vehicles, 1000, blank);
+    serve_entries(rt, &mut desk, journal);
     assert!(rt; journal_of(desk).len() == journal.len());
 }
 
@@ -269,8 +279,7 @@ fn draw<L: Ledger>(rt: &impl Abort, alloc: Global, blank: Blank)
     requires parts { blank.parts ≡ L.parts }
     requires some { 0 < blank.parts }
 {
-    let layout = built(alloc, &PLAIN, TIMES).expect(rt, "no layout");
-    let mut desk = opened::<L>(rt, alloc, layout, VEHICLES, 2, blank);
+    let mut desk = opened::<L>(rt, alloc, &PLAIN, TIMES, VEHICLES, 2, blank);
     fill(rt, &mut desk);
     assert!(rt; journal_of(desk).len() == 2);
 }

@@ -24,7 +24,6 @@ const TURNS: u32 = 1_000_000;
 const ROOM: u32 = 94;
 
 // A server with two clients.
-#[derive(Drop)]
 struct Staff<L: Ledger> {
     server: Server<L>,
     first: Client,

@@ -1,6 +1,6 @@
 //! Callers of the manager on threads of their own.
 
-ghost use Rattle.std.specs.Prelude.{◌≡◌, ◌<◌, ◌≤◌, All, length};
+ghost use Rattle.std.specs.Prelude.{◌≡◌, ◌<◌, ◌≤◌, All};
 ghost use Rattle.aim_turn.specs.Models.{IsPassOf, IsSamePass};
 
 use crate::book::serve_again;
@@ -31,29 +31,21 @@ fn calls<R: Wait + Abort>(
     rt: &R,
     alloc: Global,
     manager: &Manager,
-    mut pass: ManagerPass,
+    pass: &mut ManagerPass,
     messages: u32,
-) -> ManagerPass
-    requires own { IsPassOf manager.now pass }
-    requires vehicle { pass.number < manager.now.setting.vehicles }
-    ensures same { IsSamePass pass result }
+)
+    requires own { IsPassOf manager.now pass.old }
+    requires vehicle { pass.old.number < manager.now.setting.vehicles }
+    ensures same { IsSamePass pass.old pass.new }
 {
     let mut pool = Pool::new(alloc, 3, 4096).expect(rt, "no memory for a pool");
     let caller = pass.number();
     let mut held = None;
     for place in 0..messages {
         let message = message(caller, place, held);
-        let answer = served(
-            rt,
-            manager,
-            &mut pass,
-            &mut pool,
-            place % 100 * 10,
-            &message,
-        );
+        let answer = served(rt, manager, pass, &mut pool, place % 100 * 10, &message);
         held = held_after(&answer);
     }
-    pass
 }
 
 // Makes the calls of all callers, each on a thread of its own.
@@ -61,22 +53,22 @@ fn all_calls<R: Threads + Wait + Abort + Sync>(
     rt: &R,
     alloc: Global,
     manager: &Manager,
-    passes: Vec<ManagerPass>,
+    passes: &mut [ManagerPass],
     messages: u32,
-) -> Vec<ManagerPass>
-    requires own { All (λ p. IsPassOf manager.now p × (p.number < manager.now.setting.vehicles)) passes.items }
-    ensures table { All (λ p. p.table ≡ manager.now.table) result.items }
-    ensures count { length result.items ≡ length passes.items }
+)
+    requires own { All (λ p. IsPassOf manager.now p × (p.number < manager.now.setting.vehicles)) passes.old }
+    ensures same { All (λ p. p.table ≡ manager.now.table) passes.new }
 {
-    thread::map_vec(
+    let threads = passes.len().max(1);
+    thread::for_each_mut(
         rt,
         passes,
-        &|pass: ManagerPass| -> ManagerPass
-            requires { IsPassOf manager.now pass × (pass.number < manager.now.setting.vehicles) }
-            ensures { IsSamePass pass result }
+        threads,
+        &|_place: usize, pass: &mut ManagerPass|
+            requires { IsPassOf manager.now pass.now × (pass.now.number < manager.now.setting.vehicles) }
+            ensures { IsSamePass pass.entry.now pass.exit.now }
         { calls(rt, alloc, manager, pass, messages) },
-    )
-    .expect(rt, "no memory for threads")
+    );
 }
 
 // The journal of so many callers on threads, of so many messages each.
@@ -90,10 +82,10 @@ fn on_threads<R: Threads + Wait + Abort + Sync>(
     let opened = opened(rt, alloc, vehicles, room);
     let Opened {
         manager,
-        passes,
+        mut passes,
         operator,
     } = opened;
-    let passes = all_calls(rt, alloc, &manager, passes, messages);
+    all_calls(rt, alloc, &manager, &mut passes, messages);
     manager.close(passes, operator).journal
 }
 

@@ -4,8 +4,9 @@ use Rattle.aim_paths.proofs.layouts.Layout.TheSendSync as layout
 use Rattle.aim_mailbox.proofs.Crosses.{crossing}
 use Rattle.tests_manager.proofs.mailbox.fifty_each.Goals as goal
 
+-- what is shown already is tried first
 pub join-requires-send-F : goal.join-requires-send-F
-join-requires-send-F g c κs within = search (sendable, crosses, crossing, layout.the_sync) depth 40 fits 20000
+join-requires-send-F g c κs within = search (crossing, layout.the_sync, sendable, crosses) depth 40 fits 20000
 
 pub join-requires-send-A : goal.join-requires-send-A
-join-requires-send-A g c κs within = search (sendable, crosses, crossing, layout.the_sync) depth 40 fits 20000
+join-requires-send-A g c κs within = search (crossing, layout.the_sync, sendable, crosses) depth 40 fits 20000

@@ -1,4 +1,4 @@
-use Rattle.tests_manager.proofs.book.serve_all.Given as goal
+use Rattle.tests_manager.proofs.book.serve_both.Given as goal
 
 abbrev pub ghosts-serve : goal.ghosts-serve
 ghosts-serve g a = record { name = a.blank.name; parts = a.blank.parts }
