@@ -62,11 +62,16 @@ pub fn prepared(layout: &Layout, pool: &mut Pool, message: &Message) -> Option<P
     ensures room { IfSome result (λ _. pool.new.room ≡ layout.now.grid.spans) }
     ensures count { IfSome result (λ _. pool.new.count ≤ 1000) }
 {
-    if pool.room() != layout.ground().grid().spans || pool.count() > 1000 {
+    let count = pool.count();
+    if pool.room() != layout.ground().grid().spans || count < 2 || count > 1000 {
         return None;
     }
-    let first = pool.take().ok()?;
-    let second = pool.take().ok()?;
+    let Ok(first) = pool.take() else {
+        unreachable!()
+    };
+    let Ok(second) = pool.take() else {
+        unreachable!()
+    };
     Some(prepare(layout, message, first, second))
 }
 
