@@ -1,5 +1,5 @@
 -- A driver that is through, over links that deliver all in time, does nothing more.
-use Rattle.std.proofs.Common.{◌≡◌, ℕ, zero, suc, ◌+◌, ◌-◌, ◌<◌, ◌≤◌, ◌⊎◌, inl, inr, Bool, true, false, ◌&&◌, ◌||◌, not, List, [], ◌∷◌, ◌++◌, length, reverse, Option, Some, None, is_some, is_none, if◌then◌else◌, refl, sym, ap, ◌∙◌, subst, arith, add-zero}
+use Rattle.std.proofs.Common.{◌≡◌, true≢false, ℕ, zero, suc, ◌+◌, ◌-◌, ◌<◌, ◌≤◌, ◌⊎◌, inl, inr, Bool, true, false, ◌&&◌, ◌||◌, not, List, [], ◌∷◌, ◌++◌, length, reverse, Option, Some, None, is_some, is_none, if◌then◌else◌, refl, sym, ap, ◌∙◌, subst, arith, add-zero}
 use Rattle.std.specs.List.{All}
 use Rattle.std.specs.Prelude.{slice_get, option_and_then, option_map}
 use Rattle.std.proofs.lemmas.List.Elements.{All-nil, All-push, All-set, All-weaker, All-get_or}
@@ -385,7 +385,7 @@ module _ (plan : DrivePlan) (step : ℕ) (calls : List Call) (left : List Reply)
       -- who is through by such a log sends nothing
       sends : (t : ℕ) (b : Bool) → is_above m.seq (latest (reverse s.log)) ≡ b
           → acked_with (if b then Some m else latest (reverse s.log)) (if b then None else answer (reverse s.log)) (if b then None else answered_at (reverse s.log)) ≡ Some t → ⊥
-      sends t true above e = cc e
+      sends t true above e = none_some t e
       sends t false above e =
           let over = is_over plan (reverse s.log) (through (reverse s.log) t e) in
           none_some m (sym (no_send plan (known plan (reverse s.log)) step over) ∙ is)
@@ -404,25 +404,30 @@ went_through plan step s calls left timely on =
     (λ t. ap (λ (l : LinkModel Message). delivered l t) (hears_up step (under_way s.down) s) ∙ timely.calm t)
     (heard_out step s) (acts plan in'.log step) refl on
 
+-- what goes on, where it is either what came of a course that went on, or one that may not have
+
+was_going : (a c : Course) (b : Bool) → c.goes_on ≡ b → (if b then a else c).goes_on ≡ true → b ≡ true
+was_going a c true e h = refl
+was_going a c false e h = sym e ∙ h
+
+of_going : (P : Course → Type 0) (a c : Course) (b : Bool) → c.goes_on ≡ b → (c.goes_on ≡ true → a.goes_on ≡ true → P a) → (if b then a else c).goes_on ≡ true → P (if b then a else c)
+of_going P a c true e f h = f e h
+of_going P a c false e f h = absurd (true≢false (sym h ∙ e))
+
 turned : (plan : DrivePlan) (step : ℕ) (c : Course) → IsTimely step c.state → (turn plan step c).goes_on ≡ true → After plan step (turn plan step c)
-turned plan step c timely on = go c.goes_on refl on
+turned plan step c timely on = of_going (After plan step) (calling step after) c c.goes_on refl went on
   where
     after : Course
     after = record c { state = begun plan step c.state }
 
-    go : (b : Bool) → c.goes_on ≡ b → (if b then calling step after else c).goes_on ≡ true → After plan step (if b then calling step after else c)
-    go true e h =
+    went : c.goes_on ≡ true → (calling step after).goes_on ≡ true → After plan step (calling step after)
+    went e h =
         let is : after ≡ running (begun plan step c.state) c.calls c.left = (λ i. record { state = begun plan step c.state; calls = c.calls; left = c.left; goes_on = e i }) in
         subst (λ (x : Course). After plan step (calling step x)) (sym is)
         (went_through plan step c.state c.calls c.left timely (subst (λ (x : Course). (calling step x).goes_on ≡ true) is h))
-    go false e h = absurd (cc (e, h))
 
 turn_goes_on : (plan : DrivePlan) (step : ℕ) (c : Course) → (turn plan step c).goes_on ≡ true → c.goes_on ≡ true
-turn_goes_on plan step c on = go c.goes_on refl on
-  where
-    go : (b : Bool) → c.goes_on ≡ b → (if b then calling step (record c { state = begun plan step c.state }) else c).goes_on ≡ true → b ≡ true
-    go true e h = refl
-    go false e h = absurd (cc (e, h))
+turn_goes_on plan step c on = was_going (calling step (record c { state = begun plan step c.state })) c c.goes_on refl on
 
 turns_timely : (plan : DrivePlan) (first n : ℕ) (c : Course) → IsTimely first c.state → (turns plan first n c).goes_on ≡ true → IsTimely (first + n) (turns plan first n c).state
 turns_timely plan first zero c timely on = subst (λ t. IsTimely t c.state) (sym (add-zero first)) timely
@@ -464,19 +469,21 @@ rest_turns plan first (suc n) c r = ap (turn plan (first + n)) (rest_turns plan 
 first_timely : (step : ℕ) → IsTimely step (fresh [] [])
 first_timely step = record { up = plain_new 0 step; down = plain_new 1 step; calm = λ t. refl }
 
+at_rest : (plan : DrivePlan) (step s : ℕ) (c : Course) → After plan step c → c.goes_on ≡ true → acked c.state.log ≡ Some s → IsAtRest plan c
+at_rest plan step s c after on is = record {
+  goes_on = on;
+  above = after.timely.calm;
+  below = after.empty s is;
+  over = is_over plan (reverse c.state.log) (through (reverse c.state.log) s is);
+}
+
 came_to_rest : (plan : DrivePlan) (first n s : ℕ) (replies : List Reply) → (turns plan first n (running (fresh [] []) [] replies)).goes_on ≡ true
     → acked (turns plan first n (running (fresh [] []) [] replies)).state.log ≡ Some s → IsAtRest plan (turns plan first n (running (fresh [] []) [] replies))
-came_to_rest plan first zero s replies on is = absurd (cc is)
+came_to_rest plan first zero s replies on is = none_some s is
 came_to_rest plan first (suc n) s replies on is =
     let start : Course = running (fresh [] []) [] replies in
     let before = turns_timely plan first n start (first_timely first) (turn_goes_on plan (first + n) (turns plan first n start) on) in
-    let after = turned plan (first + n) (turns plan first n start) before on in
-    record {
-      goes_on = on;
-      above = after.timely.calm;
-      below = after.empty s is;
-      over = is_over plan (reverse (turns plan first (suc n) start).state.log) (through (reverse (turns plan first (suc n) start).state.log) s is);
-    }
+    at_rest plan (first + n) s (turns plan first (suc n) start) (turned plan (first + n) (turns plan first n start) before on) on is
 
 -- a driver that is through does nothing more
 pub rests : (plan : DrivePlan) (first mid until : ℕ) (replies : List Reply) (s : ℕ) → first ≤ mid → mid ≤ until → (course plan [] [] first mid replies).goes_on ≡ true

@@ -1,11 +1,17 @@
 -- What is kept of a log is what the log says.
-use Rattle.std.proofs.Common.{◌≡◌, Bool, true, false, List, [], ◌∷◌, ◌++◌, reverse, fold, Some, None, if◌then◌else◌, refl, sym, ap, ◌∙◌}
+use Rattle.std.proofs.Common.{◌≡◌, ℕ, Bool, true, false, List, [], ◌∷◌, ◌++◌, reverse, fold, Some, None, if◌then◌else◌, refl, sym, ap, ◌∙◌}
 use Rattle.std.proofs.lemmas.List.{append-nil, append_assoc, reverse-append}
+use Rattle.aim_msg.specs.declared.replies.Reply.{Reply}
 use Rattle.aim_driver.specs.declared.logs.LogItem.{LogItem}
 use Rattle.aim_driver.specs.declared.logs.LogItem.TheVariants as item
-use Rattle.aim_driver.specs.Logs.{is_above, latest, answer, counts}
+use Rattle.aim_driver.specs.Logs.{is_above, latest, answer, counts, counts_with}
+use Rattle.aim_legs.specs.declared.acks.Told.{Told}
 use Rattle.aim_legs.specs.Acked.{answered_at}
-use Rattle.aim_legs.specs.Told.{told, told_by, told_all}
+use Rattle.aim_legs.specs.Told.{told, told_by, told_got, told_all}
+
+-- the first answer to the latest message
+pub first_answer : (t : Told) (step seq : ℕ) (r : Reply) → true ≡ counts_with t.latest t.answer seq → record { latest = t.latest; answer = Some r; at = Some step } ≡ told_got t step seq r
+first_answer t step seq r counts = ap (λ (b : Bool). if b then (record { latest = t.latest; answer = Some r; at = Some step }) else t) counts
 
 told_more : (past : List LogItem) (x : LogItem) → told_by (told past) x ≡ told (x ∷ past)
 told_more past (item.Sent step m) = go (is_above m.seq (latest past))
