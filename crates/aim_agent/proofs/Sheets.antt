@@ -1,13 +1,31 @@
 -- Journals without room, and agents that stay a manager's.
-use Rattle.std.proofs.Common.{◌≡◌, ℕ, length, Some, sym, ◌∙◌, subst, arith}
+use Rattle.std.proofs.Common.{◌≡◌, ℕ, ◌<◌, length, Option, Some, None, sym, ◌∙◌, subst, arith}
 use Rattle.std.specs.Prelude.{IsSomeAnd}
+use Rattle.aim_msg.specs.declared.messages.Message.{Message}
+use Rattle.aim_msg.specs.declared.replies.Reply.{Reply}
+use Rattle.aim_pool.specs.Pools.{Stock}
+use Rattle.aim_driver.specs.Models.{DriverModel}
+use Rattle.aim_links.specs.Links.{LinkModel}
 use Rattle.aim_turn.specs.Models.{IsSamePass, TurnstileModel}
 use Rattle.aim_manager.specs.declared.keeper.Setting.{Setting}
-use Rattle.aim_agent.specs.Agents.{AgentPass, AgentModel, IsFull, IsAgentOf}
+use Rattle.aim_agent.specs.Agents.{AgentPass, AgentModel, IsWhole, IsFull, HasSheets, Stands, IsAgentOf}
+use Rattle.aim_agent.specs.declared.agents.Trouble.{Trouble}
+use Rattle.aim_agent.specs.declared.agents.Trouble.TheVariants as trouble
 use Rattle.aim_agent.specs.Went.{Went}
+use Rattle.aim_driver.proofs.SmallFacts.{none_some}
 
 pub full_is : (s : Setting) (p : AgentPass) → p.setting ≡ Some s → length p.seen ≡ s.room → IsFull p
 full_is s p set is = subst (λ o. IsSomeAnd o (λ x. length p.seen ≡ x.room)) (sym set) is
+
+-- what holds of an agent without trouble of which it isn't known that it rests
+pub stands_awake : (d : DriverModel) (up : LinkModel Message) (down : LinkModel (ℕ × Reply)) (p : AgentPass) (stock : Stock) (why : Option Trouble)
+    → IsWhole p → HasSheets p stock → why ≡ None → Stands d up down p stock why 0 0
+stands_awake d up down p stock why whole sheets calm = record {
+  whole = whole;
+  sheets = sheets;
+  full = λ is. none_some trouble.Full (sym calm ∙ is);
+  still = λ step lo hi. absurd (omega arith);
+}
 
 -- an agent of a manager stays one
 pub agent_of : (t : TurnstileModel Setting) (a b : AgentModel) → IsSamePass a.pass b.pass → b.pool.room ≡ a.pool.room → IsAgentOf t a → IsAgentOf t b

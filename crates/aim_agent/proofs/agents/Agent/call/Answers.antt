@@ -1,5 +1,6 @@
-use Rattle.std.proofs.Common.{refl}
+use Rattle.std.proofs.Common.{refl, ap, ◌∙◌}
 use Rattle.aim_agent.specs.declared.agents.Trouble.TheVariants as trouble
+use Rattle.aim_agent.proofs.Sheets.{stands_awake}
 use Rattle.aim_agent.proofs.Turns.{called_as, failed_with}
 use Rattle.aim_agent.proofs.agents.Agent.call.Goals as goal
 
@@ -46,3 +47,12 @@ returns-in_err-reply g c =
       whole = asked.served.whole;
       did = failed_with _ _ result trouble.Full c.from_residual.ensures.1 (asked.served, refl);
     }
+
+pub invariant_of-self : goal.invariant_of-self
+invariant_of-self g c = stands_awake _ _ _ _ _ _ c.in_err-reply.ensures.served.whole c.in_err-reply.ensures.kept (ap (λ x. x.trouble) c.self.view_is ∙ c.requires.calm)
+
+pub invariant_of-self-in_err-send : goal.invariant_of-self-in_err-send
+invariant_of-self-in_err-send g c = stands_awake _ _ _ _ _ _ c.in_ok-reply.ensures.served.whole c.in_ok-reply.ensures.kept (ap (λ x. x.trouble) c.self.view_is ∙ c.requires.calm)
+
+pub invariant_of-self-2 : goal.invariant_of-self-2
+invariant_of-self-2 g c = stands_awake _ _ _ _ _ _ c.in_ok-reply.ensures.served.whole c.in_ok-reply.ensures.kept (ap (λ x. x.trouble) c.self.view_is ∙ c.requires.calm)
