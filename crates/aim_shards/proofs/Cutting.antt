@@ -206,12 +206,17 @@ within_cut half n horizon sheets sheets' sets same cut grid = record { tiles = �
     there : (k : ℕ) (cell : Cell) → in_spans (spans_at sheets k) cell ≡ true → AreTiles n (spans_at sheets k) × AreAhead 0 horizon (spans_at sheets k)
     there k cell h = dite (dec_le (length sheets) k) (λ le. absurd (differ (sym h ∙ ap (λ (s : Spans). in_spans s.spans cell) (past sheets k none le)))) (λ lt. grid k none (omega (arith, lt)))
 
+-- the part of a set in the quadrant of a corner, by what the corner is
+pub part_at : (half : ℕ) (down right : Bool) (spans a : List Span) {k : Corner} → k ≡ record { half = half; down = down; right = right } → ((cell : Cell) → in_spans a cell ≡ (in_spans spans cell && lies_at k.half (2 * one k.down + one k.right) cell))
+    → (cell : Cell) → in_spans a cell ≡ (in_spans spans cell && lies_at half (2 * one down + one right) cell)
+part_at half down right spans a is p cell = p cell ∙ ap (λ (x : Corner). in_spans spans cell && lies_at x.half (2 * one x.down + one x.right) cell) is
+
 -- the parts of one set in the four quadrants
-pub four_parts : (half : ℕ) (spans a b c d : List Span) {k l m n : Corner} → k ≡ record { half = half; down = false; right = false } → l ≡ record { half = half; down = false; right = true } → m ≡ record { half = half; down = true; right = false } → n ≡ record { half = half; down = true; right = true }
-    → ((cell : Cell) → in_spans a cell ≡ (in_spans spans cell && lies_at k.half (2 * one k.down + one k.right) cell)) → ((cell : Cell) → in_spans b cell ≡ (in_spans spans cell && lies_at l.half (2 * one l.down + one l.right) cell)) → ((cell : Cell) → in_spans c cell ≡ (in_spans spans cell && lies_at m.half (2 * one m.down + one m.right) cell)) → ((cell : Cell) → in_spans d cell ≡ (in_spans spans cell && lies_at n.half (2 * one n.down + one n.right) cell))
+pub four_parts : (half : ℕ) (spans a b c d : List Span) → ((cell : Cell) → in_spans a cell ≡ (in_spans spans cell && lies_at half (2 * one false + one false) cell)) → ((cell : Cell) → in_spans b cell ≡ (in_spans spans cell && lies_at half (2 * one false + one true) cell))
+    → ((cell : Cell) → in_spans c cell ≡ (in_spans spans cell && lies_at half (2 * one true + one false) cell)) → ((cell : Cell) → in_spans d cell ≡ (in_spans spans cell && lies_at half (2 * one true + one true) cell))
     → (q : ℕ) (cell : Cell) → q < 4 → in_spans (part (a ∷ b ∷ c ∷ d ∷ []) q) cell ≡ (in_spans spans cell && lies_at half q cell)
-four_parts half spans a b c d k l m n pa pb pc pd zero cell lt = pa cell ∙ ap (λ (x : Corner). in_spans spans cell && lies_at x.half (2 * one x.down + one x.right) cell) k
-four_parts half spans a b c d k l m n pa pb pc pd (suc zero) cell lt = pb cell ∙ ap (λ (x : Corner). in_spans spans cell && lies_at x.half (2 * one x.down + one x.right) cell) l
-four_parts half spans a b c d k l m n pa pb pc pd (suc (suc zero)) cell lt = pc cell ∙ ap (λ (x : Corner). in_spans spans cell && lies_at x.half (2 * one x.down + one x.right) cell) m
-four_parts half spans a b c d k l m n pa pb pc pd (suc (suc (suc zero))) cell lt = pd cell ∙ ap (λ (x : Corner). in_spans spans cell && lies_at x.half (2 * one x.down + one x.right) cell) n
-four_parts half spans a b c d k l m n pa pb pc pd (suc (suc (suc (suc q)))) cell lt = absurd (omega (arith, lt))
+four_parts half spans a b c d pa pb pc pd zero cell lt = pa cell
+four_parts half spans a b c d pa pb pc pd (suc zero) cell lt = pb cell
+four_parts half spans a b c d pa pb pc pd (suc (suc zero)) cell lt = pc cell
+four_parts half spans a b c d pa pb pc pd (suc (suc (suc zero))) cell lt = pd cell
+four_parts half spans a b c d pa pb pc pd (suc (suc (suc (suc q)))) cell lt = absurd (omega (arith, lt))

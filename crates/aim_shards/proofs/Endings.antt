@@ -16,7 +16,7 @@ use Rattle.aim_shards.specs.Cuts.{AreCut}
 use Rattle.aim_shards.specs.History.{IsHistory}
 use Rattle.aim_shards.specs.Models.{PassModel, ShardsModel}
 use Rattle.aim_shards.proofs.Wholes.{history_from}
-use Rattle.aim_shards.specs.Closing.{Gathers, AreMade, Ends, Closes}
+use Rattle.aim_shards.specs.Closing.{Gathers, AreMade, LiesAt, Ends, Closes}
 use Rattle.aim_shards.specs.declared.view.Terms.{Terms}
 use Rattle.aim_shards.specs.Sets.{Quarters}
 use Rattle.aim_shards.specs.Sums.{Every, total, at}
@@ -117,12 +117,6 @@ all_front P all xs ys h e = λ k d less.
 pub popped : {A : Type 0} (all left gone rest : List A) (x : A) → all ≡ left ++ gone → left ≡ rest ++ x ∷ [] → all ≡ rest ++ x ∷ gone
 popped all left gone rest x e f = e ∙ ap (λ l. l ++ gone) f ∙ append_assoc rest (x ∷ []) gone
 
--- the quadrant's value in its slot, with these entries
-pub record LiesAt (q : ℕ) (xs : List (Option Quarter)) (l : List ClaimEntry) : Type 0 where
-  pub value : Quarter
-  pub there : get_elem? xs q ≡ some (Some value)
-  pub entries : value.entries.items ≡ l
-
 -- what is found in the slots
 pub closes : (sets : List Quarters) (numbers : List ℕ) (calls : ℕ) (ws : List ℕ) (xs : List (Option Quarter)) (id : ℕ) (ps : List PassModel) (m : Me (Option Quarter) View) → Gathers ps m → length ps ≡ length numbers → Final (Seen (Ruled sets numbers calls) id m.0) ws xs
     → (log : List ClaimEntry) × (IsLegal sets log × AreMade numbers ps log) × ((q : ℕ) → q < 4 → LiesAt q xs (of_quadrant sets q log))
@@ -138,16 +132,20 @@ gathers_one gone p n terms mine m m' w had is' joined number own' =
     let e : m' ≡ (keeping terms ((n, mine) ∷ map (λ (q : PassModel). (q.number, q.mine)) gone), []) = joined ∙ (λ i. (gathered (had.is i).0 (is' i).0, (had.is i).1)) in
     record { is = e ∙ (λ i. (keeping (sym (ap (λ (y : Me (Option Quarter) View). y.0.terms) e) i) ((sym number i, sym own' i) ∷ map (λ (q : PassModel). (q.number, q.mine)) gone), [])) }
 
+-- it lies there still where another one was taken
+pub still_at : {q : ℕ} {l : List ClaimEntry} {xs ys : List (Option Quarter)} → ys ≡ xs → LiesAt q xs l → LiesAt q ys l
+still_at {q = q} same a = record { value = a.value; there = ap (λ (zs : List (Option Quarter)). get_elem? zs q) same ∙ a.there; entries = a.entries }
+
 -- the quadrant's slot is not empty
-pub not_empty : {q : ℕ} {l : List ClaimEntry} {xs : List (Option Quarter)} {r : Option Quarter} (ys : List (Option Quarter)) → ys ≡ xs → LiesAt q xs l → get_elem? ys q ≡ some r → r ≡ None → ⊥
-not_empty {q = q} ys same a found empty = differ (some-injective _ _ (sym a.there ∙ (ap (λ (zs : List (Option Quarter)). get_elem? zs q) (sym same) ∙ found)) ∙ empty)
+pub not_empty : {q : ℕ} {l : List ClaimEntry} {xs : List (Option Quarter)} {r : Option Quarter} → LiesAt q xs l → get_elem? xs q ≡ some r → r ≡ None → ⊥
+not_empty a found empty = differ (some-injective _ _ (sym a.there ∙ found) ∙ empty)
   where
     differ : {k : Quarter} → Some k ≡ None → ⊥
     differ e = cc
 
 -- and has the quadrant's entries
-pub entries_at : {q : ℕ} {l items : List ClaimEntry} {xs : List (Option Quarter)} {k' : Quarter} (ys : List (Option Quarter)) → ys ≡ xs → LiesAt q xs l → get_elem? ys q ≡ some (Some k') → items ≡ k'.entries.items → items ≡ l
-entries_at {q = q} ys same a found is' = is' ∙ (ap (λ (k : Quarter). k.entries.items) (sym (inside (some-injective _ _ (sym a.there ∙ (ap (λ (zs : List (Option Quarter)). get_elem? zs q) (sym same) ∙ found))))) ∙ a.entries)
+pub entries_at : {q : ℕ} {l items : List ClaimEntry} {xs : List (Option Quarter)} {k' : Quarter} → LiesAt q xs l → get_elem? xs q ≡ some (Some k') → items ≡ k'.entries.items → items ≡ l
+entries_at a found is' = is' ∙ (ap (λ (k : Quarter). k.entries.items) (sym (inside (some-injective _ _ (sym a.there ∙ found)))) ∙ a.entries)
   where
     inside : {a b : Quarter} → Some a ≡ Some b → a ≡ b
     inside e = cc

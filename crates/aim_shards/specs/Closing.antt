@@ -1,5 +1,7 @@
 -- What closing gives.
-use Rattle.std.specs.Prelude.{◌≡◌, ℕ, List, [], map, length, All, Option}
+use Rattle.std.specs.Prelude.{◌≡◌, ℕ, List, [], map, length, All, Option, Some}
+use mathlib.Core.Option.{some}
+use lib.ListN.{get_elem?}
 use Rattle.atomic_table.specs.Table.{Me}
 use Rattle.aim_shards.specs.declared.claims.ClaimEntry.{ClaimEntry}
 use Rattle.aim_shards.specs.declared.quarter.Quarter.{Quarter}
@@ -31,6 +33,12 @@ pub record AreOf (quarters : List Quarters) (log first second third fourth : Lis
   pub second_is : second ≡ of_quadrant quarters 1 log
   pub third_is : third ≡ of_quadrant quarters 2 log
   pub fourth_is : fourth ≡ of_quadrant quarters 3 log
+
+-- the quadrant's value in its slot, with these entries
+pub record LiesAt (q : ℕ) (xs : List (Option Quarter)) (l : List ClaimEntry) : Type 0 where
+  pub value : Quarter
+  pub there : get_elem? xs q ≡ some (Some value)
+  pub entries : value.entries.items ≡ l
 
 -- the turns have ended
 pub record Ends (quarters : List Quarters) (numbers : List ℕ) (ps : List PassModel) (log first second third fourth : List ClaimEntry) : Type 0 where

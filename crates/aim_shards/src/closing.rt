@@ -1,8 +1,9 @@
 //! Closing.
 
-ghost use Rattle.std.specs.Prelude.{◌≡◌, List, [], length, All};
+ghost use Rattle.std.specs.Prelude.{◌≡◌, ◌<◌, List, [], length, All, IsTrue, false, slice_index_or, slice_set};
+ghost use Rattle.std.specs.Mem.Slots.{slots_filled, slots_items, slots_len};
 ghost use Rattle.aim_shards.specs.declared.claims.ClaimEntry.{ClaimEntry};
-ghost use Rattle.aim_shards.specs.Closing.{Closes, Ends, Gathers};
+ghost use Rattle.aim_shards.specs.Closing.{Closes, Ends, Gathers, LiesAt};
 ghost use Rattle.aim_shards.specs.Models.{PassModel};
 
 use crate::calls::Shards;
@@ -10,6 +11,8 @@ use crate::claims::ClaimEntry;
 use crate::pass::ShardPass;
 use crate::quarter::Quarter;
 use crate::rule::{Arrive, Chair, Desk, Gather};
+use atomic_table::Closed;
+use std::alloc::Global;
 
 // The word that has the first quadrant's ticket that is served.
 const SERVING: usize = 4;
@@ -55,6 +58,20 @@ fn entries_of(quarter: Quarter) -> Vec<ClaimEntry>
     entries
 }
 
+// Takes the quadrant's entries out of its slot.
+fn take_entries(closed: &mut Closed<Option<Quarter>, Global>, quadrant: usize) -> Vec<ClaimEntry>
+    requires there { (quadrant < slots_len closed.old.slots) × IsTrue (slice_index_or (slots_filled closed.old.slots) quadrant false) }
+    requires lies { (l : List ClaimEntry) × LiesAt quadrant (slots_items closed.old.slots) l }
+    ensures entries { (l : List ClaimEntry) → LiesAt quadrant (slots_items closed.old.slots) l → result.items ≡ l }
+    ensures items { slots_items closed.new.slots ≡ slots_items closed.old.slots }
+    ensures filled { (slots_filled closed.new.slots ≡ slice_set (slots_filled closed.old.slots) quadrant false) × (slots_len closed.new.slots ≡ slots_len closed.old.slots) }
+{
+    let Some(quarter) = closed.take(quadrant) else {
+        unreachable!()
+    };
+    entries_of(quarter)
+}
+
 // Ends the turns, where one seat has taken in the passes of all numbers.
 fn finish(desk: Desk, root: Chair) -> ClosedShards
     requires desk { (root.table_id ≡ desk.shared.table_id) × (desk.shared.table_id.slots ≡ 4) }
@@ -63,24 +80,16 @@ fn finish(desk: Desk, root: Chair) -> ClosedShards
         → (log : List ClaimEntry) × Ends desk.shared.key.sets.value.items desk.shared.key.numbers.value.items ps log result.first.items result.second.items result.third.items result.fourth.items }
 {
     let mut closed = desk.close_with(root);
-    let Some(first) = closed.take(0) else {
-        unreachable!()
-    };
-    let Some(second) = closed.take(1) else {
-        unreachable!()
-    };
-    let Some(third) = closed.take(2) else {
-        unreachable!()
-    };
-    let Some(fourth) = closed.take(3) else {
-        unreachable!()
-    };
+    let first = take_entries(&mut closed, 0);
+    let second = take_entries(&mut closed, 1);
+    let third = take_entries(&mut closed, 2);
+    let fourth = take_entries(&mut closed, 3);
     closed.free();
     ClosedShards {
-        first: entries_of(first),
-        second: entries_of(second),
-        third: entries_of(third),
-        fourth: entries_of(fourth),
+        first,
+        second,
+        third,
+        fourth,
     }
 }
 

@@ -1,6 +1,6 @@
 //! Cutting sets along the borders of the quadrants.
 
-ghost use Rattle.std.specs.Prelude.{◌≡◌, ◌<◌, ◌≤◌, ◌+◌, ◌*◌, ◌==◌, ◌&&◌, ◌||◌, true, not, nat_le, if◌then◌else◌, ℕ, filter, length, IfOk};
+ghost use Rattle.std.specs.Prelude.{◌≡◌, ◌<◌, ◌≤◌, ◌+◌, ◌*◌, ◌==◌, ◌&&◌, ◌||◌, true, false, not, nat_le, if◌then◌else◌, ℕ, filter, length, IfOk};
 ghost use Rattle.aim_geometry.specs.Cells.{Cell};
 ghost use Rattle.aim_geometry.specs.Rects.{has_bit};
 ghost use Rattle.aim_pool.specs.Spans.{in_span, in_spans};
@@ -95,16 +95,34 @@ impl Corner {
     }
 }
 
+// The set's parts in the left and the right quadrant of a half of the rows, the second half where `down` says so.
+fn two_parts(
+    alloc: Global,
+    half: u32,
+    down: bool,
+    sheet: &Sheet,
+) -> Result<(Sheet, Sheet), AllocError>
+    requires { half ≤ 32 }
+    ensures left { IfOk result (λ p. (cell : Cell) → in_spans p.0.spans cell ≡ (in_spans sheet.now.spans cell && lies_at half (2 * one down + one false) cell)) }
+    ensures right { IfOk result (λ p. (cell : Cell) → in_spans p.1.spans cell ≡ (in_spans sheet.now.spans cell && lies_at half (2 * one down + one true) cell)) }
+{
+    let left = Corner::new(half, down, false).part(alloc, sheet)?;
+    let right = Corner::new(half, down, true).part(alloc, sheet)?;
+    Ok((left, right))
+}
+
 // The set's parts in the four quadrants.
 fn quarter(alloc: Global, half: u32, sheet: &Sheet) -> Result<Quartered, AllocError>
     requires { half ≤ 32 }
     ensures { IfOk result (λ s. (q : ℕ) (cell : Cell) → q < 4 → in_spans (part s q) cell ≡ (in_spans sheet.now.spans cell && lies_at half q cell)) }
 {
+    let upper = two_parts(alloc, half, false, sheet)?;
+    let lower = two_parts(alloc, half, true, sheet)?;
     Ok(Quartered {
-        first: Corner::new(half, false, false).part(alloc, sheet)?,
-        second: Corner::new(half, false, true).part(alloc, sheet)?,
-        third: Corner::new(half, true, false).part(alloc, sheet)?,
-        fourth: Corner::new(half, true, true).part(alloc, sheet)?,
+        first: upper.0,
+        second: upper.1,
+        third: lower.0,
+        fourth: lower.1,
     })
 }
 

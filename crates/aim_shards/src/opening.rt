@@ -134,7 +134,7 @@ fn laid(
         calls,
     };
     match Table::new(alloc, &[0, 0, 0, 0, 0, 0, 0, 0, 0], slots, &about) {
-        Ok((desk, seat)) => Ok((desk, seat)),
+        Ok(laid) => Ok(laid),
         Err(_) => Err(AllocError),
     }
 }
