@@ -65,7 +65,50 @@ fn meet_if(manager: &Manager, first: &mut ManagerPass, second: &mut ManagerPass,
 }
 
 // Two vehicles, of which the second may meet the first between their calls. Its answer doesn't depend on that, as its turn
-// comes second. Then the operator stops all, and what comes after that is answered by it. Then there is no room.
+// comes second.
+fn before_the_stop<R: Wait + Abort>(
+    rt: &R,
+    manager: &Manager,
+    first: &mut ManagerPass,
+    second: &mut ManagerPass,
+    pool: &mut Pool,
+    meets: bool,
+)
+    requires own { IsPassOf manager.now first.old × IsPassOf manager.now second.old }
+    requires first { first.old.number < manager.now.setting.vehicles }
+    requires second { second.old.number < manager.now.setting.vehicles }
+    ensures same { IsSamePass first.old first.new × IsSamePass second.old second.new }
+{
+    let reply = served(rt, manager, first, pool, 0, &request(1, 0, 10));
+    assert!(rt; reply == Ok(confirmed(0, 10)));
+    meet_if(manager, first, second, meets);
+    let reply = served(rt, manager, second, pool, 0, &request(1, 1, 10));
+    assert!(rt; reply == Ok(TAKEN_BY_0));
+}
+
+// What comes after the stop is answered by it. Then there is no room.
+fn after_the_stop<R: Wait + Abort>(
+    rt: &R,
+    manager: &Manager,
+    first: &mut ManagerPass,
+    second: &mut ManagerPass,
+    pool: &mut Pool,
+)
+    requires own { IsPassOf manager.now first.old × IsPassOf manager.now second.old }
+    requires first { first.old.number < manager.now.setting.vehicles }
+    requires second { second.old.number < manager.now.setting.vehicles }
+    ensures same { IsSamePass first.old first.new × IsSamePass second.old second.new }
+{
+    let reply = served(rt, manager, first, pool, 3, &request(2, 0, 40));
+    assert!(rt; reply == Ok(Reply::EmergencyStop));
+    let reply = served(rt, manager, second, pool, 3, &request(2, 1, 40));
+    assert!(rt;
+        reply == Err(Full) && pool.count() == 5,
+        "one sheet is kept"
+    );
+}
+
+// The calls of two vehicles, among which the operator stops all, and once more where there is no room.
 fn six_calls<R: Wait + Abort>(
     rt: &R,
     manager: &Manager,
@@ -81,19 +124,9 @@ fn six_calls<R: Wait + Abort>(
     requires operator { operator.old.number ≡ OPERATOR }
     ensures same { IsSamePass first.old first.new × IsSamePass second.old second.new × IsSamePass operator.old operator.new }
 {
-    let reply = served(rt, manager, first, pool, 0, &request(1, 0, 10));
-    assert!(rt; reply == Ok(confirmed(0, 10)));
-    meet_if(manager, first, second, meets);
-    let reply = served(rt, manager, second, pool, 0, &request(1, 1, 10));
-    assert!(rt; reply == Ok(TAKEN_BY_0));
+    before_the_stop(rt, manager, first, second, pool, meets);
     assert!(rt; manager.operate(rt, operator, 3, Order::Stop) == Ok(Reply::Stopped));
-    let reply = served(rt, manager, first, pool, 3, &request(2, 0, 40));
-    assert!(rt; reply == Ok(Reply::EmergencyStop));
-    let reply = served(rt, manager, second, pool, 3, &request(2, 1, 40));
-    assert!(rt;
-        reply == Err(Full) && pool.count() == 5,
-        "one sheet is kept"
-    );
+    after_the_stop(rt, manager, first, second, pool);
     assert!(rt; manager.operate(rt, operator, 4, Order::Stop) == Err(Full));
 }
 
