@@ -76,15 +76,21 @@ fn call<L: Ledger>(
     tally: &mut Tally,
 ) -> Option<Reply> {
     let spans = book.layout().ground().grid().spans;
+    let count = pool.count();
     if vehicle >= book.vehicles()
         || now > LATEST_MOMENT
         || pool.room() != spans
-        || pool.count() > 1_000_000
+        || count < 2
+        || count > 1_000_000
     {
         return None;
     }
-    let first = pool.take().ok()?;
-    let second = pool.take().ok()?;
+    let Ok(first) = pool.take() else {
+        unreachable!()
+    };
+    let Ok(second) = pool.take() else {
+        unreachable!()
+    };
     let start = Instant::now(rt).ok();
     let prepared = prepare(book.layout(), message, first, second);
     let middle = Instant::now(rt).ok();
