@@ -3,7 +3,7 @@ use Rattle.std.proofs.Common.{◌≡◌, ℕ, ◌+◌, ◌-◌, ◌<◌, inl, in
 use Rattle.std.specs.Prelude.{All, Contains, IsPermutation, remove}
 use Rattle.std.specs.List.{range_with_len}
 use Rattle.std.proofs.lemmas.Bool.{cases_lt}
-use Rattle.std.proofs.lemmas.List.{get_or_append_left, get_or-append_right, get_or-map, get_or_push, get_or-take, length-map, map-append, take_more}
+use Rattle.std.proofs.lemmas.List.{get_or_append_left, get_or-append_right, get_or-map, get_or_push, get_or_read, get_or-take, length-map, map-append, take_more}
 use Rattle.std.proofs.lemmas.List.FromFn.{length-range_with_len, get_or-map-range_with_len}
 use Rattle.std.proofs.lemmas.List.Sorted.{Contains-permutation, All-permutation, IsPermutation-more}
 use Rattle.aim_msg.specs.declared.entries.Entry.{Entry}
@@ -13,6 +13,17 @@ use Rattle.aim_plans.specs.declared.scripts.Planned.{Planned}
 use Rattle.aim_agent.specs.Agents.{AgentModel, AgentPass, IsAgentOf}
 use Rattle.aim_drive.specs.Making.{ArePlans, IsMadeOf, IsTaken, all_passes, AreAgentsFor, AreLeft}
 use Rattle.aim_drive.proofs.Lists.{element}
+
+-- the pass that was read at a place of the list was taken out
+pub taken_at : (ps now left : List AgentPass) (v place : ℕ) (a p : AgentPass) → now ≡ ps → place < length now → a ≡ get_or now place a → a.number ≡ v → p ≡ get_or now place p → left ≡ remove now place
+    → IsTaken ps v p left
+taken_at ps now left v place a p same lt read own was rest = record {
+  number = ap (λ (x : AgentPass). x.number) (was ∙ sym (get_or_read now place a lt read p)) ∙ own;
+  place = place;
+  within = subst (λ (xs : List AgentPass). place < length xs) same lt;
+  was = was ∙ ap (λ (xs : List AgentPass). get_or xs place p) same;
+  rest = rest ∙ ap (λ (xs : List AgentPass). remove xs place) same;
+}
 
 abbrev pub pass_of : AgentModel → AgentPass
 pass_of a = a.pass

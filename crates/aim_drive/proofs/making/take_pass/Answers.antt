@@ -2,6 +2,7 @@ use Rattle.std.proofs.Common.{◌≡◌, ◌<◌, length, map, sym, ap, ◌∙�
 use Rattle.std.proofs.lemmas.List.{get_or-map, length-map}
 use Rattle.aim_agent.specs.Agents.{AgentPass}
 use Rattle.aim_drive.proofs.Lists.{element}
+use Rattle.aim_drive.proofs.Seats.{taken_at}
 use Rattle.aim_drive.proofs.making.take_pass.Goals as goal
 
 pub loop-place-smaller : goal.loop-place-smaller
@@ -18,3 +19,9 @@ unreachable-requires c =
     let lt : c.requires.0 < length c.args.passes.now.items = omega arith in
     let p = element ps c.requires.0 lt in
     c.loop-place.invariant.none c.requires.0 p.0 (omega arith) (sym (get_or-map (λ (p : AgentPass). p.number) ps c.requires.0 p.0 c.args.vehicle lt) ∙ c.requires.2)
+
+pub returns-then-number-vehicle : goal.returns-then-number-vehicle
+returns-then-number-vehicle c =
+    let lt : c.loop-place.place < length c.loop-place.passes.items = omega arith in
+    taken_at c.args.passes.now.items c.loop-place.passes.items c.remove.new.self.items c.args.vehicle c.loop-place.place c.index.result.now c.remove.result
+    c.loop-place.invariant.same lt c.index.ensures (sym c.number.ensures.number ∙ c.if-number-vehicle.true) c.remove.ensures.value c.remove.ensures.items
