@@ -31,11 +31,16 @@ fn call<R: Wait>(
     ensures same { IsSameClient client.old client.new }
 {
     let spans = layout.ground().grid().spans;
-    if now > LATEST_MOMENT || pool.room() != spans || pool.count() > 1_000_000 {
+    let count = pool.count();
+    if now > LATEST_MOMENT || pool.room() != spans || count < 2 || count > 1_000_000 {
         return None;
     }
-    let first = pool.take().ok()?;
-    let second = pool.take().ok()?;
+    let Ok(first) = pool.take() else {
+        unreachable!()
+    };
+    let Ok(second) = pool.take() else {
+        unreachable!()
+    };
     let prepared = prepare(layout, message, first, second);
     client.call(rt, now, prepared, pool).ok()
 }

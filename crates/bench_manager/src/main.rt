@@ -94,26 +94,35 @@ fn asked(rt: &HostRuntime, alloc: Global) -> Result<Option<Plan>> {
     read(&words)
 }
 
-fn main(rt: HostRuntime) -> Result<()> {
-    if let Some(plan) = asked(&rt, rt.alloc())? {
-        let (calls, confirms, each) = measured(&rt, rt.alloc(), plan)?;
-        println!(rt; "{calls} calls, {confirms} Confirms, {each} ns a call")?;
-        return Ok(());
-    }
+// Has the turns taken, and prints the time of a call.
+fn tell<R: Threads + Wait + Sync + Clock + Print>(rt: &R, alloc: Global, plan: Plan) -> Result<()> {
+    let (calls, confirms, each) = measured(rt, alloc, plan)?;
+    println!(rt; "{calls} calls, {confirms} Confirms, {each} ns a call")?;
+    Ok(())
+}
+
+// Has a few turns taken, and prints how.
+fn try_few<R: Threads + Wait + Sync + Clock + Print>(
+    rt: &R,
+    alloc: Global,
+    by_mail: bool,
+    way: &str,
+) -> Result<()> {
     let (callers, turns) = (2, 40);
     let few = Plan {
-        by_mail: false,
+        by_mail,
         callers,
         turns,
     };
-    measured(&rt, rt.alloc(), few)?;
-    println!(rt; "{turns} turns taken by {callers} callers on a manager")?;
-    let few = Plan {
-        by_mail: true,
-        callers,
-        turns,
-    };
-    measured(&rt, rt.alloc(), few)?;
-    println!(rt; "{turns} turns taken by {callers} callers over a mailbox")?;
+    measured(rt, alloc, few)?;
+    println!(rt; "{turns} turns taken by {callers} callers {way}")?;
     Ok(())
+}
+
+fn main(rt: HostRuntime) -> Result<()> {
+    if let Some(plan) = asked(&rt, rt.alloc())? {
+        return tell(&rt, rt.alloc(), plan);
+    }
+    try_few(&rt, rt.alloc(), false, "on a manager")?;
+    try_few(&rt, rt.alloc(), true, "over a mailbox")
 }

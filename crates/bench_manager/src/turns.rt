@@ -32,11 +32,16 @@ fn call<R: Wait>(
     ensures same { IsSamePass pass.old pass.new }
 {
     let spans = manager.layout().ground().grid().spans;
-    if now > LATEST_MOMENT || pool.room() != spans || pool.count() > 1_000_000 {
+    let count = pool.count();
+    if now > LATEST_MOMENT || pool.room() != spans || count < 2 || count > 1_000_000 {
         return None;
     }
-    let first = pool.take().ok()?;
-    let second = pool.take().ok()?;
+    let Ok(first) = pool.take() else {
+        unreachable!()
+    };
+    let Ok(second) = pool.take() else {
+        unreachable!()
+    };
     let prepared = prepare(manager.layout(), message, first, second);
     manager.serve(rt, pass, now, prepared, pool).ok()
 }
