@@ -1,3 +1,5 @@
 pub mod RunLaws
 pub mod RoundLaws
 pub mod Crosses
+pub mod DriveLaws
+pub mod OrderLaws

@@ -1,2 +1,4 @@
 pub mod Rounds
 pub mod Runs
+pub mod Driven
+pub mod Orders

@@ -1,7 +1,10 @@
-//! Rounds: the turns of many agents, step by step, in runs that go side by side.
+//! Rounds: the turns of many agents, step by step, in runs that go side by side; and the operator's orders between them.
 #![tactic(auto)]
 
+mod driving;
+pub mod laws;
 mod runs;
 mod steps;
 
+pub use driving::drive;
 pub use steps::rounds;

@@ -23,7 +23,7 @@ use Rattle.aim_agent.specs.Went.{Carry, Went, replies}
 use Rattle.aim_agent.proofs.Followed.{followed, stopped}
 use Rattle.aim_agent.proofs.Passes.{length_begins}
 use Rattle.aim_agent.proofs.Places.{none_later}
-use Rattle.aim_fleet.specs.Driven.{Closes}
+use Rattle.aim_agents.specs.Driven.{Closes}
 use Rattle.aim_drive.specs.Closing.{IsClosed}
 use Rattle.aim_drive.proofs.Lists.{element}
 use Rattle.aim_drive.proofs.Seats.{pass_of}

@@ -12,8 +12,8 @@ use Rattle.aim_plans.specs.declared.scripts.Planned.{Planned}
 use Rattle.aim_agent.specs.Agents.{AgentModel, AgentPass}
 use Rattle.aim_agent.proofs.Passes.{length_begins}
 use Rattle.aim_agents.specs.Rounds.{run_size}
-use Rattle.aim_fleet.specs.Driven.{Driven}
-use Rattle.aim_fleet.specs.Orders.{FoundFull}
+use Rattle.aim_agents.specs.Driven.{Driven}
+use Rattle.aim_agents.specs.Orders.{FoundFull}
 use Rattle.aim_drive.specs.Closing.{HasMemory, IsClosed}
 use Rattle.aim_drive.specs.Making.{AreAgentsFor, AreLeft, all_passes}
 use Rattle.aim_drive.proofs.Lists.{element}

@@ -8,7 +8,7 @@ use Rattle.aim_paths.specs.Intersection.{Intersection}
 use Rattle.aim_rules.specs.Legal.{IsOfLayout}
 use Rattle.aim_plans.specs.declared.scripts.DriveScript.{DriveScript}
 use Rattle.aim_plans.specs.Fits.{IsFit, IsOrderOf}
-use Rattle.aim_fleet.specs.Orders.{AreOrders}
+use Rattle.aim_agents.specs.Orders.{AreOrders}
 use Rattle.aim_drive.specs.Making.{ArePlans}
 use Rattle.aim_drive.proofs.Lists.{reads_at}
 

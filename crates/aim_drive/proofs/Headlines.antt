@@ -23,9 +23,9 @@ use Rattle.aim_safety.proofs.MeetLemmas.{no_two_drivers, no_green}
 use Rattle.aim_agent.specs.Agents.{AgentModel, AgentPass}
 use Rattle.aim_agent.specs.Went.{Went}
 use Rattle.aim_agent.proofs.Followed.{followed}
-use Rattle.aim_fleet.specs.Driven.{Driven, InOrder}
-use Rattle.aim_fleet.specs.Orders.{CarryOrders, order_of}
-use Rattle.aim_fleet.proofs.DriveLaws.{journal_is_in_order}
+use Rattle.aim_agents.specs.Driven.{Driven, InOrder}
+use Rattle.aim_agents.specs.Orders.{CarryOrders, order_of}
+use Rattle.aim_agents.proofs.DriveLaws.{journal_is_in_order}
 use Rattle.aim_drive.specs.Closing.{IsClosed}
 use Rattle.aim_drive.specs.Headline.{VehicleLog, IsFollowed, Headline}
 use Rattle.aim_drive.specs.Making.{ArePlans, AreAgentsFor, told_by}

@@ -14,7 +14,7 @@ use Rattle.aim_plans.specs.Said.{Drive}
 use Rattle.aim_safety.specs.Occupied.{Passage, passage, is_on, is_occupied}
 use Rattle.aim_agent.specs.Places.{At}
 use Rattle.aim_agents.specs.Runs.{InRun}
-use Rattle.aim_fleet.specs.Orders.{CarryOrders}
+use Rattle.aim_agents.specs.Orders.{CarryOrders}
 
 -- a vehicle, and its driver's log
 abbrev pub VehicleLog : Type 0

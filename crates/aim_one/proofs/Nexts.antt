@@ -17,7 +17,7 @@ use Rattle.aim_driver.proofs.SmallFacts.{same, some_is, none_some}
 use Rattle.aim_plans.specs.declared.scripts.Ordered.{Ordered}
 use Rattle.aim_plans.specs.Said.{Drive}
 use Rattle.aim_agent.specs.Places.{At}
-use Rattle.aim_fleet.specs.Orders.{order_at, order_of}
+use Rattle.aim_agents.specs.Orders.{order_at, order_of}
 use Rattle.aim_drive.specs.Headline.{VehicleLog, Headline}
 use Rattle.aim_one.proofs.Lists.{get_behind, right_none, tails}
 use Rattle.aim_one.proofs.Courses.{next_call}

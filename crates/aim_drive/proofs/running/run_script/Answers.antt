@@ -7,7 +7,7 @@ use Rattle.aim_manager.specs.declared.keeper.Setting.{Setting}
 use Rattle.aim_plans.specs.declared.scripts.Ordered.{Ordered}
 use Rattle.aim_plans.specs.Scripts.{drive_told}
 use Rattle.aim_agents.specs.Rounds.{run_size}
-use Rattle.aim_fleet.specs.Orders.{AreOrders}
+use Rattle.aim_agents.specs.Orders.{AreOrders}
 use Rattle.aim_safety.specs.Tiles.{EntersBy}
 use Rattle.aim_drive.specs.declared.running.Drove.{Drove}
 use Rattle.aim_drive.specs.declared.running.Logged.{Logged}

@@ -14,7 +14,7 @@ use Rattle.aim_manager.specs.Seen.{IsServed}
 use Rattle.aim_manager.specs.declared.keeper.Setting.{Setting}
 use Rattle.aim_agent.specs.Agents.{AgentModel, AgentPass}
 use Rattle.aim_agents.specs.Rounds.{Rounds}
-use Rattle.aim_fleet.specs.Driven.{Driven}
+use Rattle.aim_agents.specs.Driven.{Driven}
 
 -- They are of the layout, at steps below the last one, and their moments don't fall.
 pub record AreOrders (i : Intersection) (vehicles until : ℕ) (orders : List Ordered) : Type 0 where

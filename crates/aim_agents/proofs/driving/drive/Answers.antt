@@ -1,9 +1,9 @@
 use Rattle.std.proofs.Common.{length, map, ap, ◌∙◌}
 use Rattle.aim_agents.specs.Rounds.{run_size}
-use Rattle.aim_fleet.specs.Orders.{order_of}
-use Rattle.aim_fleet.proofs.DriveLaws.{agents_of, driven_rounds, logs_of, pass_of, same_then}
-use Rattle.aim_fleet.proofs.OrderLaws.{on_err}
-use Rattle.aim_fleet.proofs.driving.drive.Goals as goal
+use Rattle.aim_agents.specs.Orders.{order_of}
+use Rattle.aim_agents.proofs.DriveLaws.{agents_of, driven_rounds, logs_of, pass_of, same_then}
+use Rattle.aim_agents.proofs.OrderLaws.{on_err}
+use Rattle.aim_agents.proofs.driving.drive.Goals as goal
 
 pub give_all-requires-clause-orders : goal.give_all-requires-clause-orders
 give_all-requires-clause-orders g c κs within = (c.args.until, c.requires.orders, c.requires.most)

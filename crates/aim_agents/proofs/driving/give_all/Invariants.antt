@@ -4,9 +4,9 @@ use Rattle.aim_driver.specs.Models.{step_of}
 use Rattle.aim_turn.specs.Models.{IsPassOf, IsSamePass}
 use Rattle.aim_agent.specs.Agents.{IsAgentOf}
 use Rattle.aim_agents.specs.Rounds.{run_size}
-use Rattle.aim_fleet.specs.Driven.{Driven}
-use Rattle.aim_fleet.specs.Orders.{AreOrders, CarryOrders, IsReached}
-use Rattle.aim_fleet.proofs.driving.give_all.Given as goal
+use Rattle.aim_agents.specs.Driven.{Driven}
+use Rattle.aim_agents.specs.Orders.{AreOrders, CarryOrders, IsReached}
+use Rattle.aim_agents.proofs.driving.give_all.Given as goal
 
 abbrev pub invariant-loop-ordered : goal.invariant-loop-ordered
 invariant-loop-ordered g l = record {

@@ -5,7 +5,7 @@ use Rattle.std.proofs.lemmas.List.{get_or_default, map-append, take_all, take_mo
 use Rattle.aim_msg.specs.declared.entries.Entry.{Entry}
 use Rattle.aim_paths.specs.Intersection.{Intersection}
 use Rattle.aim_plans.specs.declared.scripts.Ordered.{Ordered}
-use Rattle.aim_fleet.specs.Orders.{AreOrders, CarryOrders, IsReached, order_of}
+use Rattle.aim_agents.specs.Orders.{AreOrders, CarryOrders, IsReached, order_of}
 
 pub on_err : {T E : Type 0} (P : Type 0) (r : Result T E) → P → OnErr r P
 on_err P (Ok a) p = tt

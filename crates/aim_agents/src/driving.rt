@@ -8,11 +8,11 @@ ghost use Rattle.aim_driver.specs.Models.{step_of};
 ghost use Rattle.aim_turn.specs.Models.{IsPassOf, IsSamePass};
 ghost use Rattle.aim_agent.specs.Agents.{IsAgentOf};
 ghost use Rattle.aim_agents.specs.Rounds.{run_size};
-ghost use Rattle.aim_fleet.specs.Driven.{Driven};
-ghost use Rattle.aim_fleet.specs.Orders.{AreOrders, FoundFull, CarryOrders, Given, AllGiven};
+ghost use Rattle.aim_agents.specs.Driven.{Driven};
+ghost use Rattle.aim_agents.specs.Orders.{AreOrders, FoundFull, CarryOrders, Given, AllGiven};
 
 use aim_agent::{Agent, Gate};
-use aim_agents::rounds;
+use crate::steps::rounds;
 use aim_manager::{Full, Manager, ManagerPass};
 use aim_msg::Reply;
 use aim_plans::Ordered;

@@ -1,6 +1,6 @@
 use Rattle.std.proofs.Common.{◌∙◌}
-use Rattle.aim_fleet.proofs.DriveLaws.{pass_of}
-use Rattle.aim_fleet.proofs.driving.give.Goals as goal
+use Rattle.aim_agents.proofs.DriveLaws.{pass_of}
+use Rattle.aim_agents.proofs.driving.give.Goals as goal
 
 pub operate-requires-clause-own : goal.operate-requires-clause-own
 operate-requires-clause-own g c = pass_of c.args.manager.now c.args.operator.now c.rounds.new.operator c.rounds.ensures.same c.requires.operator

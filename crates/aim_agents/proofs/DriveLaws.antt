@@ -17,7 +17,7 @@ use Rattle.aim_agent.proofs.Courses.{went_then, stays_went, no_calls}
 use Rattle.aim_agents.specs.Runs.{InRun}
 use Rattle.aim_agents.specs.Rounds.{ToldLast, Rounds}
 use Rattle.aim_agents.proofs.RunLaws.{split_since}
-use Rattle.aim_fleet.specs.Driven.{DrivenOf, Driven, IsKnown, JournalInOrder}
+use Rattle.aim_agents.specs.Driven.{DrivenOf, Driven, IsKnown, JournalInOrder}
 
 -- a pass of the same turnstile as one of this turnstile
 pub pass_of : (t : TurnstileModel Setting) (old new : AgentPass) → IsSamePass old new → IsPassOf t old → IsPassOf t new

@@ -5,12 +5,12 @@ use Rattle.aim_msg.specs.declared.entries.Entry.{Entry}
 use Rattle.aim_agent.proofs.Passes.{extends_by, mine_is}
 use Rattle.aim_turn.specs.Models.{IsSamePass}
 use Rattle.aim_agents.specs.Rounds.{run_size}
-use Rattle.aim_fleet.specs.Driven.{Driven}
+use Rattle.aim_agents.specs.Driven.{Driven}
 use Rattle.aim_plans.specs.declared.scripts.Ordered.{Ordered}
-use Rattle.aim_fleet.specs.Orders.{order_of}
-use Rattle.aim_fleet.proofs.DriveLaws.{agents_of, driven_begin, driven_order, driven_rounds, logs_first, logs_of, pass_of, same_then}
-use Rattle.aim_fleet.proofs.OrderLaws.{given_all, given_count, given_more, on_err, reached_first, reached_next}
-use Rattle.aim_fleet.proofs.driving.give_all.Goals as goal
+use Rattle.aim_agents.specs.Orders.{order_of}
+use Rattle.aim_agents.proofs.DriveLaws.{agents_of, driven_begin, driven_order, driven_rounds, logs_first, logs_of, pass_of, same_then}
+use Rattle.aim_agents.proofs.OrderLaws.{given_all, given_count, given_more, on_err, reached_first, reached_next}
+use Rattle.aim_agents.proofs.driving.give_all.Goals as goal
 
 abbrev none : Ordered
 none = record { moment = 0; order = order.Switch 0 }
