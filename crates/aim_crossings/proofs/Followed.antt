@@ -8,7 +8,7 @@ use Rattle.aim_driver.specs.declared.logs.LogItem.{LogItem}
 use Rattle.aim_driver.specs.Fits.{entries_of, call_of, reply_of}
 use Rattle.aim_driver.specs.Follows.{follows}
 use Rattle.aim_safety.specs.Tiles.{EntersBy}
-use Rattle.aim_legs.specs.Acked.{acked, begun_at}
+use Rattle.aim_travel.specs.Acked.{acked, begun_at}
 use Rattle.aim_travel.specs.Models.{LegModel}
 use Rattle.aim_travel.specs.Rode.{Managers}
 use Rattle.aim_travel.specs.Legs.{AreFollowed, IsLegLeft, LegTold}

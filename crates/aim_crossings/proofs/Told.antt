@@ -16,7 +16,7 @@ use Rattle.aim_turn.specs.History.{entries_of}
 use Rattle.aim_turn.specs.Models.{TurnstileModel}
 use Rattle.aim_manager.specs.declared.keeper.Setting.{Setting}
 use Rattle.aim_manager.specs.Seen.{caller_of}
-use Rattle.aim_legs.specs.Route.{IsRoute}
+use Rattle.aim_travel.specs.Route.{IsRoute}
 use Rattle.aim_travel.specs.Models.{TravellerModel}
 use Rattle.aim_travel.specs.Rode.{Managers}
 use Rattle.aim_drive.specs.Headline.{VehicleLog}

@@ -10,8 +10,8 @@ use Rattle.aim_driver.specs.declared.logs.LogItem.{LogItem}
 use Rattle.aim_driver.specs.declared.logs.LogItem.TheVariants as item
 use Rattle.aim_driver.specs.Follows.{Call}
 use Rattle.aim_driver.proofs.Rows.{car, sent, granted, plain}
-use Rattle.aim_legs.specs.Route.{IsRoute}
-use Rattle.aim_legs.proofs.Rows.{first_log, second_log}
+use Rattle.aim_travel.specs.Route.{IsRoute}
+use Rattle.aim_travel.proofs.Rows.{first_log, second_log}
 use Rattle.aim_grid.specs.Travelled.{Ride, AreLegs, journal_in, log_of}
 
 abbrev ride : ℕ → ℕ → List LogItem → Ride

@@ -17,7 +17,7 @@ use Rattle.aim_driver.proofs.FollowLemmas.{follows_fits}
 use Rattle.aim_driver.proofs.TurnLemmas.{follows_keeps}
 use Rattle.aim_safety.specs.Occupied.{Passage, passage, is_on, is_occupied}
 use Rattle.aim_safety.proofs.MeetLemmas.{no_two_drivers, no_green}
-use Rattle.aim_legs.specs.Acked.{begun_at}
+use Rattle.aim_travel.specs.Acked.{begun_at}
 use Rattle.aim_grid.specs.Travelled.{Ride, IsLeg}
 
 -- what a log is beside the journal

@@ -12,8 +12,8 @@ use Rattle.aim_driver.specs.Fits.{entries_of}
 use Rattle.aim_plans.specs.Said.{Drive}
 use Rattle.aim_safety.specs.Occupied.{Passage, passage, is_on, is_occupied}
 use Rattle.aim_drive.specs.Headline.{VehicleLog, IsFollowed}
-use Rattle.aim_legs.specs.Acked.{acked, begun_at}
-use Rattle.aim_legs.specs.Route.{IsRoute}
+use Rattle.aim_travel.specs.Acked.{acked, begun_at}
+use Rattle.aim_travel.specs.Route.{IsRoute}
 
 -- a leg of a vehicle's route: the crossing, what its driver is to do there, and the driver's log
 pub record Ride : Type 0 where

@@ -8,7 +8,7 @@ ghost use Rattle.aim_paths.specs.Valid.{IsValid};
 ghost use Rattle.aim_rules.specs.Claims.{green};
 ghost use Rattle.aim_rules.specs.Legal.{IsLegal};
 ghost use Rattle.aim_safety.specs.Occupied.{Passage, passage, is_on, is_occupied};
-ghost use Rattle.aim_legs.specs.Route.{IsRoute};
+ghost use Rattle.aim_travel.specs.Route.{IsRoute};
 ghost use Rattle.aim_grid.specs.Travelled.{Ride, AreLate, AreLegs, IsLeg, log_of};
 
 /// The logs of a vehicle's legs are in order, where no plan begins with the very step that it is told from.

@@ -12,8 +12,8 @@ use Rattle.aim_agent.specs.Went.{Went, replies}
 use Rattle.aim_agent.proofs.Courses.{went_then, stays_went}
 use Rattle.aim_agent.proofs.Rests.{idles_went}
 use Rattle.aim_agent.proofs.Sheets.{agent_went}
-use Rattle.aim_legs.specs.Acked.{acked}
-use Rattle.aim_legs.proofs.Logs.{acked_turn}
+use Rattle.aim_travel.specs.Acked.{acked}
+use Rattle.aim_travel.proofs.Logs.{acked_turn}
 use Rattle.aim_travel.specs.Models.{LegModel, OverModel, TravellerModel}
 use Rattle.aim_travel.specs.Rode.{Managers, IsBegun, IsRidden, IsAlong}
 use Rattle.aim_travel.specs.Travels.{Begins, GoesOn, IsLegAt, IsReady, TakesTurn, Moves}

@@ -11,8 +11,8 @@ use Rattle.aim_agent.specs.Agents.{AgentModel, AgentPass, state_of}
 use Rattle.aim_agent.specs.Went.{Carry, replies, Went}
 use Rattle.aim_agent.proofs.Courses.{stays_went}
 use Rattle.aim_agent.proofs.Followed.{fresh_is, mine_made}
-use Rattle.aim_legs.specs.Acked.{acked, begun_at}
-use Rattle.aim_legs.proofs.Rests.{rests}
+use Rattle.aim_travel.specs.Acked.{acked, begun_at}
+use Rattle.aim_travel.proofs.Rests.{rests}
 use Rattle.aim_travel.specs.Models.{LegModel, OverModel, TravellerModel}
 use Rattle.aim_travel.specs.Rode.{Managers, IsBegun, IsRidden, IsOver, IsAlong, Rode}
 use Rattle.aim_travel.specs.Travels.{SetsOut, IsTravellerOf}

@@ -4,7 +4,7 @@ use Rattle.aim_driver.specs.declared.logs.LogItem.{LogItem}
 use Rattle.aim_driver.specs.Follows.{Call, follows}
 use Rattle.aim_agent.specs.Agents.{AgentPass}
 use Rattle.aim_agent.specs.Went.{Carry, replies}
-use Rattle.aim_legs.specs.Acked.{acked, begun_at}
+use Rattle.aim_travel.specs.Acked.{acked, begun_at}
 use Rattle.aim_travel.specs.Models.{LegModel, OverModel, TravellerModel}
 
 -- what a leg comes to: the crossing, the driver's log, and the pass

@@ -6,7 +6,7 @@ use Rattle.aim_manager.specs.declared.keeper.Setting.{Setting}
 use Rattle.aim_agent.specs.Agents.{AgentModel, AgentPass}
 use Rattle.aim_agent.specs.Followed.{IsNew}
 use Rattle.aim_agent.specs.Went.{Went}
-use Rattle.aim_legs.specs.Acked.{acked, begun_at}
+use Rattle.aim_travel.specs.Acked.{acked, begun_at}
 use Rattle.aim_travel.specs.Models.{LegModel, OverModel, TravellerModel}
 
 abbrev pub Managers : Type 0

@@ -5,7 +5,7 @@ use Rattle.aim_turn.specs.Models.{TurnstileModel, IsPassOf}
 use Rattle.aim_manager.specs.declared.keeper.Setting.{Setting}
 use Rattle.aim_agent.specs.Agents.{IsAgentOf, Idles}
 use Rattle.aim_agent.specs.Went.{Went}
-use Rattle.aim_legs.specs.Acked.{acked}
+use Rattle.aim_travel.specs.Acked.{acked}
 use Rattle.aim_travel.specs.Models.{LegModel, TravellerModel}
 use Rattle.aim_travel.specs.Rode.{Managers, IsBegun, Rode}
 

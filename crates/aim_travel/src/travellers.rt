@@ -3,7 +3,7 @@
 ghost use Rattle.std.specs.Prelude.{◌≡◌, ℕ, ◌+◌, ◌++◌, ◌<◌, ◌≤◌, [], length, map, Some, true, All, IfOk, OnOk};
 ghost use Rattle.aim_msg.specs.declared.entries.TheConstants.{LATEST_MOMENT};
 ghost use Rattle.aim_agent.specs.Agents.{Idles, IsFull};
-ghost use Rattle.aim_legs.specs.Acked.{begun_at};
+ghost use Rattle.aim_travel.specs.Acked.{begun_at};
 ghost use Rattle.aim_travel.specs.Legs.{legs_told, told, told_unbegun};
 ghost use Rattle.aim_travel.specs.Models.{AreLegsOf};
 ghost use Rattle.aim_travel.specs.Rode.{IsMade};
@@ -11,7 +11,7 @@ ghost use Rattle.aim_travel.specs.Travels.{Begins, GoesOn, IsReady, Moves, SetsO
 
 use aim_agent::{Agent, Gate, Trouble};
 use aim_driver::{DrivePlan, Driver, NoMemory};
-use aim_legs::acked_at;
+use crate::acks::acked_at;
 use aim_links::Link;
 use aim_manager::{Manager, ManagerPass};
 use aim_pool::Pool;

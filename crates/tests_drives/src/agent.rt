@@ -8,7 +8,7 @@ ghost use Rattle.aim_agent.specs.Agents.{IsAgentOf};
 use crate::watch::Watch;
 use aim_agent::{Agent, Trouble};
 use aim_driver::{Changes, DrivePlan, Driver, LogItem};
-use aim_legs::acked_at;
+use aim_travel::acked_at;
 use aim_links::{Fate, Link};
 use aim_manager::{Manager, ManagerPass, Opened};
 use aim_msg::{Body, Entry, Message, Params, Reason, Reply};

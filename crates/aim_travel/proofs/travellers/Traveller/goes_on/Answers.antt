@@ -1,6 +1,6 @@
 use Rattle.std.proofs.Common.{◌≡◌, length, sym, ap, ◌∙◌, subst, arith}
 use Rattle.std.proofs.lemmas.Bool.{eqb-true}
-use Rattle.aim_legs.specs.Acked.{acked}
+use Rattle.aim_travel.specs.Acked.{acked}
 use Rattle.aim_travel.specs.Models.{TravellerModel}
 use Rattle.aim_travel.specs.Travels.{GoesOn}
 use Rattle.aim_travel.proofs.Along.{no_legs, in_trouble, goes_by}

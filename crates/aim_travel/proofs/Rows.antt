@@ -8,8 +8,8 @@ use Rattle.aim_driver.specs.declared.logs.LogItem.{LogItem}
 use Rattle.aim_driver.specs.declared.logs.LogItem.TheVariants as item
 use Rattle.aim_driver.specs.Follows.{Call, follows}
 use Rattle.aim_driver.proofs.Rows.{car, sent, granted, plain}
-use Rattle.aim_legs.specs.Acked.{acked, begun_at}
-use Rattle.aim_legs.specs.Route.{IsRoute}
+use Rattle.aim_travel.specs.Acked.{acked, begun_at}
+use Rattle.aim_travel.specs.Route.{IsRoute}
 
 abbrev call : ℕ → ℕ → Body → Call
 call moment seq b = record { moment = moment; message = record { seq = seq; body = b } }

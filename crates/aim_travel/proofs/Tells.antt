@@ -5,9 +5,9 @@ use Rattle.aim_msg.specs.declared.replies.Reply.{Reply}
 use Rattle.aim_driver.specs.declared.logs.LogItem.{LogItem}
 use Rattle.aim_driver.specs.declared.logs.LogItem.TheVariants as item
 use Rattle.aim_driver.specs.Logs.{is_above, latest, answer, counts, counts_with}
-use Rattle.aim_legs.specs.declared.acks.Told.{Told}
-use Rattle.aim_legs.specs.Acked.{answered_at}
-use Rattle.aim_legs.specs.Told.{told, told_by, told_got, told_all}
+use Rattle.aim_travel.specs.declared.acks.Told.{Told}
+use Rattle.aim_travel.specs.Acked.{answered_at}
+use Rattle.aim_travel.specs.Told.{told, told_by, told_got, told_all}
 
 -- the first answer to the latest message
 pub first_answer : (t : Told) (step seq : ℕ) (r : Reply) → true ≡ counts_with t.latest t.answer seq → record { latest = t.latest; answer = Some r; at = Some step } ≡ told_got t step seq r

@@ -5,8 +5,8 @@ use Rattle.aim_msg.specs.declared.replies.Reply.{Reply}
 use Rattle.aim_driver.specs.declared.logs.LogItem.{LogItem}
 use Rattle.aim_driver.specs.declared.logs.LogItem.TheVariants as item
 use Rattle.aim_driver.specs.Logs.{is_above, latest, answer, counts_with}
-use Rattle.aim_legs.specs.declared.acks.Told.{Told}
-use Rattle.aim_legs.specs.Acked.{answered_at}
+use Rattle.aim_travel.specs.declared.acks.Told.{Told}
+use Rattle.aim_travel.specs.Acked.{answered_at}
 
 abbrev pub told : List LogItem → Told
 told past = record { latest = latest past; answer = answer past; at = answered_at past }

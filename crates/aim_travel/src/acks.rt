@@ -2,8 +2,8 @@
 
 ghost use Rattle.std.specs.Prelude.{◌≡◌};
 ghost use Rattle.aim_driver.specs.Logs.{is_above, counts_with};
-ghost use Rattle.aim_legs.specs.Acked.{is_ack, is_leaving, acked_with, acked};
-ghost use Rattle.aim_legs.specs.Told.{nothing, told_sent, told_got, told_by};
+ghost use Rattle.aim_travel.specs.Acked.{is_ack, is_leaving, acked_with, acked};
+ghost use Rattle.aim_travel.specs.Told.{nothing, told_sent, told_got, told_by};
 
 use aim_driver::LogItem;
 use aim_msg::{Body, Message, Reply};

@@ -14,8 +14,8 @@ use Rattle.aim_links.specs.Links.{under_way, delivered}
 use Rattle.aim_driver.specs.Turns.{State, heard, hears, hears_all, entering, sending, begun}
 use Rattle.aim_driver.specs.Follows.{Course, running, fresh, called, calls_with, one_call, some_calls, calling, turn, turns, follows}
 use Rattle.aim_driver.proofs.TurnLemmas.{course_later}
-use Rattle.aim_legs.specs.Acked.{acks, is_leaving, answered_at, acked_with, acked_in, acked}
-use Rattle.aim_legs.specs.Route.{EachStep}
+use Rattle.aim_travel.specs.Acked.{acks, is_leaving, answered_at, acked_with, acked_in, acked}
+use Rattle.aim_travel.specs.Route.{EachStep}
 
 -- the newest item comes first
 pub newest : (log : List LogItem) (x : LogItem) → reverse (log ++ x ∷ []) ≡ x ∷ reverse log

@@ -26,8 +26,8 @@ use Rattle.aim_driver.specs.Follows.{Call, Course, running, fresh, called, calls
 use Rattle.aim_driver.proofs.SmallFacts.{and_left, and_right, either_left, either_right, some_is, none_some, is_none_of}
 use Rattle.aim_links.proofs.LinkLemmas.{next_is, none_comes, nothing_found, fewer}
 use Rattle.aim_driver.proofs.TurnLemmas.{course_then, fewer_up, halted_call, no_call, still}
-use Rattle.aim_legs.specs.Acked.{acks, is_ack, is_leaving, answered_at, acked_with, acked_in, acked}
-use Rattle.aim_legs.proofs.Logs.{newest, some_log}
+use Rattle.aim_travel.specs.Acked.{acks, is_ack, is_leaving, answered_at, acked_with, acked_in, acked}
+use Rattle.aim_travel.proofs.Logs.{newest, some_log}
 
 -- What the rules say of a driver that is through.
 

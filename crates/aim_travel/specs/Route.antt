@@ -2,7 +2,7 @@
 use Rattle.std.specs.Prelude.{◌≡◌, ℕ, ◌<◌, List, [], ◌∷◌, Some}
 use Rattle.aim_driver.specs.declared.logs.LogItem.{LogItem}
 use Rattle.aim_driver.specs.Logs.{item_step}
-use Rattle.aim_legs.specs.Acked.{acked}
+use Rattle.aim_travel.specs.Acked.{acked}
 
 -- a fact of the step of each item of a log
 abbrev pub EachStep : (ℕ → Type 0) → List LogItem → Type 0

@@ -1,4 +1,0 @@
-pub mod Tells
-pub mod Logs
-pub mod Rests
-pub mod Rows

@@ -1,3 +1,0 @@
-pub mod Acked
-pub mod Told
-pub mod Route
