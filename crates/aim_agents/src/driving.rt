@@ -11,8 +11,8 @@ ghost use Rattle.aim_agents.specs.Rounds.{run_size};
 ghost use Rattle.aim_agents.specs.Driven.{Driven};
 ghost use Rattle.aim_agents.specs.Orders.{AreOrders, FoundFull, CarryOrders, Given, AllGiven};
 
-use aim_agent::{Agent, Gate};
 use crate::steps::rounds;
+use aim_agent::{Agent, Gate};
 use aim_manager::{Full, Manager, ManagerPass};
 use aim_msg::Reply;
 use aim_plans::Ordered;

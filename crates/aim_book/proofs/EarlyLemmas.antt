@@ -23,7 +23,7 @@ use Rattle.aim_rules.proofs.CellLemmas.{cells_has, cells_needed}
 use Rattle.aim_rules.proofs.Lists.{IsIn-test}
 use Rattle.aim_buffers.specs.Requests.{Request, prepared_params, steady_sheet}
 use Rattle.aim_pool.specs.Sheets.{Spans}
-use Rattle.aim_emerg.specs.Calls.{is_call_in}
+use Rattle.aim_session.specs.Calls.{is_call_in}
 use Rattle.aim_rules.specs.Bad.{bad}
 use Rattle.aim_rules.specs.Kept.{policy_in}
 use Rattle.aim_book.specs.Asking.{AreCalling, IsAsking}

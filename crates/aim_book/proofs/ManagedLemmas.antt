@@ -15,8 +15,8 @@ use Rattle.aim_paths.specs.Intersection.{Intersection}
 use Rattle.aim_paths.specs.Valid.{IsValid}
 use Rattle.aim_pool.specs.Spans.{in_spans}
 use Rattle.aim_tiles.specs.Cells.{has_cell as has_taken}
-use Rattle.aim_emerg.specs.Calls.{call_of}
-use Rattle.aim_emerg.proofs.CallLaws.{lanes_approached}
+use Rattle.aim_session.specs.Calls.{call_of}
+use Rattle.aim_session.proofs.CallLaws.{lanes_approached}
 use Rattle.aim_rules.specs.Answer.{answer, is_stopped}
 use Rattle.aim_rules.specs.Asking.{standing_next}
 use Rattle.aim_rules.specs.Distance.{reservation_distance}

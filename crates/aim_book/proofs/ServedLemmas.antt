@@ -15,8 +15,8 @@ use Rattle.aim_pool.specs.Spans.{in_spans}
 use Rattle.aim_tiles.specs.Cells.{has_cell as has_taken}
 use Rattle.aim_tiles.specs.Sheets.{AreAhead, AreTiles}
 use Rattle.aim_buffers.specs.Requests.{IsPreparedFor, Request}
-use Rattle.aim_emerg.specs.Calls.{call_of}
-use Rattle.aim_emerg.proofs.CallLaws.{calls_more}
+use Rattle.aim_session.specs.Calls.{call_of}
+use Rattle.aim_session.proofs.CallLaws.{calls_more}
 use Rattle.aim_fcfs.specs.Distances.{distances_with}
 use Rattle.aim_fcfs.proofs.DistanceLaws.{distances_entry}
 use Rattle.aim_rules.specs.Answer.{answer, is_stopped}

@@ -5,7 +5,7 @@ use Rattle.std.specs.List.{list_any}
 use Rattle.aim_msg.specs.declared.messages.Params.{Params}
 use Rattle.aim_paths.specs.Intersection.{Intersection}
 use Rattle.aim_buffers.specs.Requests.{IsPreparedFor, Request}
-use Rattle.aim_emerg.specs.Calls.{is_call_in}
+use Rattle.aim_session.specs.Calls.{is_call_in}
 use Rattle.aim_rules.specs.History.{params_of}
 use Rattle.aim_rules.specs.Known.{Known, comes}
 use Rattle.std.specs.Prelude.{Option}

@@ -5,7 +5,7 @@ use Rattle.aim_msg.specs.declared.entries.Entry.{Entry}
 use Rattle.aim_msg.specs.declared.entries.TheConstants.{MOST_VEHICLES}
 use Rattle.aim_paths.specs.Intersection.{Intersection}
 use Rattle.aim_paths.specs.Valid.{IsValid}
-use Rattle.aim_emerg.specs.Calls.{AreCalls}
+use Rattle.aim_session.specs.Calls.{AreCalls}
 use Rattle.aim_rules.specs.History.{fresh}
 use Rattle.aim_rules.specs.Legal.{IsLegal}
 use Rattle.aim_book.specs.Desk.{IsDesk}

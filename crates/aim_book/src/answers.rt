@@ -14,9 +14,9 @@ ghost use Rattle.aim_book.specs.Desk.{Tells};
 
 use crate::desks::Desk;
 use aim_buffers::Prepared;
-use aim_emerg::Approaches;
 use aim_msg::{Body, Params, Reply};
 use aim_paths::Layout;
+use aim_session::Approaches;
 use aim_tiles::Steps;
 use std::sync::ledger::Ledger;
 

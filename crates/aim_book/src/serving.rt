@@ -7,7 +7,7 @@ ghost use Rattle.aim_msg.specs.declared.entries.TheConstants.{LATEST_MOMENT, OPE
 ghost use Rattle.aim_msg.specs.declared.messages.Message.{Message};
 ghost use Rattle.aim_paths.specs.Intersection.{Intersection};
 ghost use Rattle.aim_buffers.specs.Requests.{IsPreparedFor};
-ghost use Rattle.aim_emerg.specs.Calls.{call_of};
+ghost use Rattle.aim_session.specs.Calls.{call_of};
 ghost use Rattle.aim_rules.specs.Answer.{answer};
 ghost use Rattle.aim_rules.specs.History.{now_of, params_of};
 ghost use Rattle.aim_rules.specs.Legal.{IsOfLayout};
@@ -24,11 +24,10 @@ use crate::at_once::NeedsCells;
 use crate::desks::Desk;
 use crate::keeping::params_in;
 use aim_buffers::{Prepared, prepare};
-use aim_emerg::Approaches;
 use aim_msg::{Message, Order, Reason, Reply};
 use aim_paths::Layout;
 use aim_pool::Pool;
-use aim_session::Look;
+use aim_session::{Approaches, Look};
 use aim_tiles::Steps;
 use std::sync::ledger::Ledger;
 

@@ -7,7 +7,7 @@ use Rattle.aim_driver.specs.declared.logs.Window.{Window}
 use Rattle.aim_driver.specs.declared.logs.Entrance.{Entrance}
 use Rattle.aim_driver.specs.declared.logs.LogItem.{LogItem}
 use Rattle.aim_driver.specs.declared.logs.LogItem.TheVariants as item
-use Rattle.aim_replies.specs.Bodies.{is_done}
+use Rattle.aim_links.specs.Bodies.{is_done}
 use Rattle.aim_driver.specs.Logs.{Crossing, crossing}
 
 -- the crossing that began in the log

@@ -14,7 +14,7 @@ use Rattle.aim_tiles.proofs.idle.IdleTable.TheSendSync as idle
 use Rattle.aim_session.proofs.sessions.Sessions.TheSendSync as sessions
 use Rattle.aim_switch.proofs.timelines.Timeline.TheSendSync as timeline
 use Rattle.aim_fcfs.proofs.distances.Distances.TheSendSync as distances
-use Rattle.aim_emerg.proofs.approaches.Approaches.TheSendSync as approaches
+use Rattle.aim_session.proofs.approaches.Approaches.TheSendSync as approaches
 use Rattle.aim_book.specs.contracts.idle.IdleBook as IdleBook
 use Rattle.aim_book.specs.contracts.idle.IdleDesk as IdleDesk
 use Rattle.aim_reservations.specs.contracts.idle.IdleReservations as IdleReservations

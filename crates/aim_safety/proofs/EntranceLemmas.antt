@@ -4,7 +4,7 @@ use Rattle.std.proofs.lemmas.List.{reverse-append}
 use Rattle.aim_driver.specs.declared.logs.Entrance.{Entrance}
 use Rattle.aim_driver.specs.declared.logs.LogItem.{LogItem}
 use Rattle.aim_driver.specs.declared.logs.LogItem.TheVariants as item
-use Rattle.aim_replies.specs.Replies.{is}
+use Rattle.aim_links.specs.Replies.{is}
 use Rattle.aim_driver.specs.Logs.{last_step, active, granted, has_stopped, Crossing, crossing}
 use Rattle.aim_driver.specs.Keeps.{may_follow, may_enter, is_in_window, keeps_rules, keeps}
 use Rattle.aim_driver.specs.Crossings.{crossing_of}

@@ -1,3 +1,5 @@
 pub mod SessionLaws
 pub mod LookLaws
 mod Looking
+pub mod Lists
+pub mod CallLaws

@@ -15,8 +15,8 @@ use Rattle.aim_driver.specs.declared.logs.LogItem.TheVariants as item
 use Rattle.aim_links.specs.declared.links.Fate.TheVariants as fate
 use Rattle.aim_links.specs.declared.links.Sending.{Sending}
 use Rattle.aim_driver.specs.declared.known.Known.{Known}
-use Rattle.aim_replies.specs.Bodies.{changed, active_sent, is_done}
-use Rattle.aim_replies.specs.Replies.{active_told}
+use Rattle.aim_links.specs.Bodies.{changed, active_sent, is_done}
+use Rattle.aim_links.specs.Replies.{active_told}
 use Rattle.aim_driver.specs.Logs.{has_number, is_above, latest, answer, counts, is_waiting_with, active}
 use Rattle.aim_driver.specs.Rules.{known, is_done_sent, is_crossing, reserved, is_due, is_due_change, is_cancelling, next_change, is_changing, act_by, is_open, entered_on}
 use Rattle.aim_driver.specs.Models.{enters, acts, with_entered}

@@ -6,7 +6,7 @@ use Rattle.aim_msg.specs.declared.replies.Reply.TheVariants as reply
 use Rattle.aim_driver.specs.declared.plans.DrivePlan.{DrivePlan}
 use Rattle.aim_driver.specs.declared.logs.LogItem.{LogItem}
 use Rattle.aim_driver.specs.declared.logs.LogItem.TheVariants as item
-use Rattle.aim_replies.specs.Bodies.{is_done}
+use Rattle.aim_links.specs.Bodies.{is_done}
 use Rattle.aim_driver.specs.Logs.{is_above, latest, answer, counts}
 
 abbrev pub is_leaving : Option Message → Bool

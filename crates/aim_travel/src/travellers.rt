@@ -9,9 +9,9 @@ ghost use Rattle.aim_travel.specs.Models.{AreLegsOf};
 ghost use Rattle.aim_travel.specs.Rode.{IsMade};
 ghost use Rattle.aim_travel.specs.Travels.{Begins, GoesOn, IsReady, Moves, SetsOut, TakesTurn};
 
+use crate::acks::acked_at;
 use aim_agent::{Agent, Gate, Trouble};
 use aim_driver::{DrivePlan, Driver, NoMemory};
-use crate::acks::acked_at;
 use aim_links::Link;
 use aim_manager::{Manager, ManagerPass};
 use aim_pool::Pool;

@@ -2,10 +2,9 @@
 
 ghost use Rattle.std.specs.Prelude.{◌≡◌, ◌<◌, length};
 
-use aim_emerg::Approaches;
 use aim_fcfs::{Distances, next_allowed};
 use aim_msg::{Body, Message, Reason, Reply};
-use aim_session::{Look, Sessions};
+use aim_session::{Approaches, Look, Sessions};
 use std::process::Abort;
 use tests_samples::{confirmed, request};
 

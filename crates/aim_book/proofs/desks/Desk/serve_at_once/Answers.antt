@@ -1,6 +1,6 @@
 use Rattle.std.proofs.Common.{◌≡◌, length, sym, ◌∙◌, ap, refl}
 use Rattle.std.specs.Prelude.{slice_set}
-use Rattle.aim_emerg.specs.Calls.{call_of}
+use Rattle.aim_session.specs.Calls.{call_of}
 use Rattle.aim_rules.specs.History.{fresh, now_of, params_of}
 use Rattle.aim_book.proofs.ManagedLemmas.{answer_new, known_of, tells}
 use Rattle.aim_book.proofs.ServedLemmas.{managed_without, row_room, row_tiles}

@@ -4,7 +4,7 @@ use Rattle.std.specs.Prelude.{slice_set, slice_index_or}
 use Rattle.aim_msg.specs.declared.messages.Message.{Message}
 use Rattle.aim_fcfs.specs.Distances.{distances_with}
 use Rattle.aim_session.specs.Kept.{no_session, session_after}
-use Rattle.aim_emerg.specs.Calls.{call_of}
+use Rattle.aim_session.specs.Calls.{call_of}
 use Rattle.aim_rules.specs.History.{fresh, is_confirm, now_of, params_of}
 use Rattle.aim_rules.specs.Known.{answer_fresh_by}
 use Rattle.aim_book.specs.Desk.{Tells}
