@@ -5,3 +5,4 @@ pub mod TextLemmas
 pub mod LineLemmas
 pub mod SessionLemmas
 pub mod EndLemmas
+pub mod StepLemmas

@@ -1,0 +1,35 @@
+use Rattle.std.proofs.Common.{ap, Err}
+use Rattle.aim_replay.proofs.SessionLemmas.{gives_line, on_false}
+use Rattle.aim_replay.proofs.StepLemmas.{between_more, played_end, played_fault, played_halt, room_before}
+use Rattle.aim_replay.proofs.session.next_line.Goals as goal
+
+pub answer_line-requires : goal.answer_line-requires
+answer_line-requires g c = let e = c.in-Ok-true.ensures in record { may = c.requires.may (room_before c.args.reader.now c.advance.new.self _ c.in-Ok-true.field-0-test e.after e.sound) }
+
+pub at_end-requires : goal.at_end-requires
+at_end-requires g c = record { lines = c.requires.few }
+
+pub returns-in-Ok : goal.returns-in-Ok
+returns-in-Ok g c first held sink b =
+    let e = c.in-Ok-true.ensures in
+    let gives = gives_line _ _ _ _ _ c.in-Ok-true.field-0-test e.line e.taken e.after e.going (e.step b.knows b.no_fault) e.sound in
+    between_more g.P.Spelling.spelled g.S.Source.left g.S.Source.last_read g.S.Source.faults first _ held _ sink _ _ _ _ b _ _ e.sound e.later e.ended e.needed _ _ _ gives c.line.ensures c.answer_line.ensures.later c.in-Ok.next e.knows c.in-Ok.ensures.responds
+
+pub returns-in-Err-answer_line : goal.returns-in-Err-answer_line
+returns-in-Err-answer_line g c first held sink b =
+    let e = c.in-Ok-true.ensures in
+    let gives = gives_line _ _ _ _ _ c.in-Ok-true.field-0-test e.line e.taken e.after e.going (e.step b.knows b.no_fault) e.sound in
+    let h = c.in-Err-answer_line.ensures in
+    played_halt g.P.Spelling.spelled g.S.Source.left g.S.Source.last_read g.S.Source.faults first _ held _ sink _ _ _ _ b _ _ e.sound e.later e.ended e.needed _ _ _ gives c.line.ensures h.later c.in-Err-answer_line.halt _ c.after_halt.ensures h.responds (λ is. h.write (ap Err is))
+
+pub returns-in-Ok-false : goal.returns-in-Ok-false
+returns-in-Ok-false g c first held sink b =
+    let e = c.in-Ok-false.ensures in
+    let t = c.in-Ok-false.field-0-test in
+    let ends = c.at_end.ensures in
+    played_end g.P.Spelling.spelled g.S.Source.left g.S.Source.last_read g.S.Source.faults first _ held _ sink _ _ _ _ b _ _ e.sound e.later e.ended e.needed c.at_end.result (rw t at (e.step b.knows b.no_fault)) (rw t at e.taken) (rw t at e.after) (on_false _ t e.end) e.knows ends.decision ends.lines
+
+pub returns-in-Err : goal.returns-in-Err
+returns-in-Err g c first held sink b =
+    let e = c.in-Err.ensures in
+    played_fault g.P.Spelling.spelled g.S.Source.left g.S.Source.last_read g.S.Source.faults first _ held _ sink _ _ _ _ b _ _ e.sound e.later e.ended e.needed c.in-Err.fault _ c.after_fault.ensures (e.step b.knows b.no_fault) (e.fault b.no_fault) (λ is. e.read (ap Err is) b.no_fault) e.keeps
