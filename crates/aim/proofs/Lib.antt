@@ -1,1 +1,1 @@
-mod CommandLemmas
+mod ObeyLemmas

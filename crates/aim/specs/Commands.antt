@@ -81,14 +81,6 @@ reads_whole (Grid workers) = true
 reads_whole (Mail workers) = true
 reads_whole _ = false
 
--- whether the command runs a script that it has read, and reports the run
-abbrev pub reports : Command → Bool
-reports (Drive workers) = true
-reports (Grid workers) = true
-reports (Shards workers) = true
-reports (Mail workers) = true
-reports _ = false
-
 -- the step of whose chart the command asks, if it does
 abbrev pub asked_in : Command → Option ℕ
 asked_in Replay = None

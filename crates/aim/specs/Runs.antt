@@ -1,11 +1,25 @@
--- What the program does with words outside its table, with generated traffic, and with a script that is read whole.
-use Rattle.std.specs.Prelude.{◌≡◌, ◌⊎◌, ℕ, List, [], Option, IfSome, codes}
-use Rattle.std.specs.Io.KnownBytes.{Appends}
+-- What the program does with words outside its table, with generated traffic, and with a script that is read whole, and what
+-- it does by its words.
+use Rattle.std.specs.Prelude.{◌≡◌, ◌⊎◌, ◌≤◌, ℕ, true, false, List, [], Option, None, Some, IfSome, codes}
+use Rattle.std.specs.Io.KnownBytes.{Appends, IsAtEnd}
 use Rattle.aim_io.specs.Causes.{Rose}
 use Rattle.aim_io.specs.Known.{AppendsFront}
 use Rattle.aim_script.specs.Spellings.{Spelled}
-use Rattle.aim_replay.specs.Texts.{status_by}
+use Rattle.aim_replay.specs.Replays.{LastNeededBy, ReplaysBy, StopsShortBy, TakesAtMost, WritesFront}
+use Rattle.aim_replay.specs.Texts.{status_by, text_by}
+use Rattle.aim_plans.specs.Scripts.{TakesAtMost as TakesAtMostOfDrive}
+use Rattle.aim_plans.specs.Short.{StopsShort as StopsShortDrive}
+use Rattle.aim_driving.specs.Commands.{Completes as CompletesDrive, Shows as ShowsDrive, ShowsFront as ShowsFrontOfDrive}
 use Rattle.aim_driving.specs.Generated.{Counts, CountsFront}
+use Rattle.aim_grid_script.specs.Short.{StopsShort as StopsShortGrid}
+use Rattle.aim_routing.specs.Commands.{Completes as CompletesGrid, Shows as ShowsGrid, ShowsFront as ShowsFrontOfGrid}
+use Rattle.aim_claims.specs.Short.{StopsShort as StopsShortClaims}
+use Rattle.aim_callers.specs.Commands.{Completes as CompletesShards, Shows, ShowsFront}
+use Rattle.aim_events.specs.Short.{StopsShort as StopsShortMail}
+use Rattle.aim_mailing.specs.Commands.{Completes as CompletesMail, Shows as ShowsMail, ShowsFront as ShowsFrontOfMail}
+use Rattle.aim.specs.declared.words.Command.{Command}
+use Rattle.aim.specs.declared.words.Command.TheVariants.{Drive, Grid, Generate, Shards, Mail}
+use Rattle.aim.specs.Commands.{asked_in, is_replay, reads_input, reads_whole, spelled_in}
 
 -- the status is 2 and the usage was written, or it is 5 and a front of it was
 abbrev pub TellsUsage : Option (List ℕ) → Option (List ℕ) → ℕ → Type 0
@@ -33,3 +47,57 @@ pub record Reports (shows : List ℕ → Option (List ℕ) → Option (List ℕ)
   pub nothing : (result ≡ 4) ⊎ (result ≡ 7) → Appends held held' []
   pub short : result ≡ 4 → stops_short left left'
   pub complete : IfSome left (λ bytes. completes bytes source source' sink sink' result)
+
+-- What a replay does with a script in this spelling, with the chart of that step: `unread` says that nothing was read, and
+-- `last` is what the last read gave.
+pub record Replayed (w : Spelled) (asked : Option ℕ) (unread : Type 0) (last : Option ℕ) (left left' : Option (List ℕ)) (held held' : Option (List ℕ)) (result : ℕ) : Type 0 where
+  pub whole : (result ≡ 0) ⊎ ((result ≡ 3) ⊎ (result ≡ 6)) → IfSome left (λ bytes. ReplaysBy w asked bytes held held' result)
+  pub ended : result ≡ 0 → IsAtEnd left'
+  pub most : TakesAtMost 67108865 left left'
+  pub needed : unread ⊎ LastNeededBy w left left' last
+  pub front : (result ≡ 4) ⊎ ((result ≡ 5) ⊎ (result ≡ 7)) → WritesFront left held held' (text_by w asked)
+  pub short : result ≡ 4 → StopsShortBy w left left' held held'
+  pub memory : w.takes_memory ≡ false → result ≡ 7 → Appends held held' []
+
+-- the statuses of a command, each with its cause, and counts of faults that don't fall
+pub record Ends (source source' sink sink' result : ℕ) : Type 0 where
+  pub read : result ≡ 4 → Rose source source'
+  pub write : result ≡ 5 → Rose sink sink'
+  pub source_later : source ≤ source'
+  pub sink_later : sink ≤ sink'
+  pub statuses : (result ≡ 0) ⊎ ((result ≡ 3) ⊎ ((result ≡ 4) ⊎ ((result ≡ 5) ⊎ ((result ≡ 6) ⊎ (result ≡ 7)))))
+
+-- what a command that is no replay writes
+abbrev pub Tells : Command → Option (List ℕ) → Option (List ℕ) → ℕ → ℕ → Option (List ℕ) → Option (List ℕ) → ℕ → ℕ → ℕ → Type 0
+Tells (Drive workers) left left' source source' held held' sink sink' result =
+    Reports (ShowsDrive workers) (ShowsFrontOfDrive workers) StopsShortDrive CompletesDrive left left' source source' held held' sink sink' result
+Tells (Grid workers) left left' source source' held held' sink sink' result =
+    Reports ShowsGrid ShowsFrontOfGrid StopsShortGrid CompletesGrid left left' source source' held held' sink sink' result
+Tells (Generate number count) left left' source source' held held' sink sink' result = Generates number count held held' result
+Tells (Shards workers) left left' source source' held held' sink sink' result =
+    Reports Shows ShowsFront StopsShortClaims CompletesShards left left' source source' held held' sink sink' result
+Tells (Mail workers) left left' source source' held held' sink sink' result =
+    Reports ShowsMail ShowsFrontOfMail StopsShortMail CompletesMail left left' source source' held held' sink sink' result
+Tells _ left left' source source' held held' sink sink' result = Unit {0}
+
+-- what a command does
+pub record Obeys (command : Command) (unread : Type 0) (last : Option ℕ) (left left' : Option (List ℕ)) (source source' : ℕ) (held held' : Option (List ℕ)) (sink sink' result : ℕ) : Type 0 where
+  pub replays : is_replay command ≡ true → Replayed (spelled_in command) (asked_in command) unread last left left' held held' result
+  pub tells : Tells command left left' source source' held held' sink sink' result
+  pub ended : reads_input command ≡ true → result ≡ 0 → IsAtEnd left'
+  pub memory : (spelled_in command).takes_memory ≡ false → result ≡ 7 → Appends held held' []
+  pub stays : reads_input command ≡ false → unread
+  pub scripts : reads_whole command ≡ true → TakesAtMostOfDrive 67108865 left left'
+  pub complete : is_replay command ≡ true → IfSome left (λ bytes. Completes (spelled_in command) bytes source source' sink sink' result)
+  pub ends : Ends source source' sink sink' result
+
+-- what the program does by the command that its words name, if they are in the table
+pub record Answers (told : Option Command) (unread : Type 0) (last : Option ℕ) (left left' : Option (List ℕ)) (source source' : ℕ) (held held' : Option (List ℕ)) (sink sink' result : ℕ) : Type 0 where
+  pub outside : told ≡ None → unread × TellsUsage held held' result
+  pub inside : result ≡ 2 → told ≡ None
+  pub obeys : (command : Command) → told ≡ Some command → Obeys command unread last left left' source source' held held' sink sink' result
+  pub read : result ≡ 4 → Rose source source'
+  pub write : result ≡ 5 → Rose sink sink'
+  pub source_later : source ≤ source'
+  pub sink_later : sink ≤ sink'
+  pub statuses : (result ≡ 0) ⊎ ((result ≡ 2) ⊎ ((result ≡ 3) ⊎ ((result ≡ 4) ⊎ ((result ≡ 5) ⊎ ((result ≡ 6) ⊎ (result ≡ 7))))))

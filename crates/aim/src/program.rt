@@ -7,9 +7,8 @@ ghost use Rattle.aim_io.specs.Causes.{Rose};
 ghost use Rattle.aim_io.specs.Known.{AppendsFront};
 ghost use Rattle.aim_replay.specs.Replays.{LastNeededBy, ReplaysBy, StopsShortBy, TakesAtMost, WritesFront};
 ghost use Rattle.aim_replay.specs.Texts.{text_by};
-ghost use Rattle.aim_script.specs.Spellings.{by_words};
 ghost use Rattle.aim.specs.declared.words.Command.{Command};
-ghost use Rattle.aim.specs.Commands.{IsWithin, asked_in, command_of as command_in, is_replay, reads_input, reads_whole, reports, spelled_in};
+ghost use Rattle.aim.specs.Commands.{IsWithin, asked_in, command_of as command_in, is_replay, reads_input, reads_whole, spelled_in};
 ghost use Rattle.aim_plans.specs.Scripts.{TakesAtMost as TakesAtMostOfDrive};
 ghost use Rattle.aim_plans.specs.Short.{StopsShort as StopsShortDrive};
 ghost use Rattle.aim_driving.specs.Commands.{Completes as CompletesDrive, Shows as ShowsDrive, ShowsFront as ShowsFrontOfDrive};
@@ -19,7 +18,7 @@ ghost use Rattle.aim_claims.specs.Short.{StopsShort as StopsShortClaims};
 ghost use Rattle.aim_callers.specs.Commands.{Completes as CompletesShards, Shows, ShowsFront};
 ghost use Rattle.aim_events.specs.Short.{StopsShort as StopsShortMail};
 ghost use Rattle.aim_mailing.specs.Commands.{Completes as CompletesMail, Shows as ShowsMail, ShowsFront as ShowsFrontOfMail};
-ghost use Rattle.aim.specs.Runs.{Completes, Generates, Reports, TellsUsage};
+ghost use Rattle.aim.specs.Runs.{Answers, Completes, Generates, Obeys, Reports, TellsUsage};
 
 use crate::words::{Command, command_of};
 use aim_agent::Gate;
@@ -54,101 +53,6 @@ fn tell_usage<K: Sink>(sink: &mut K) -> u8
     }
 }
 
-// Whether the lines of the command's script are JSON text.
-fn is_by_json(command: &Command) -> bool
-    ensures json { result ≡ true → command.now ≡ Command.ReplayJson }
-    ensures words { result ≡ false → spelled_in command.now ≡ by_words }
-{
-    matches!(command, Command::ReplayJson)
-}
-
-// The step of whose chart the command asks, if it does.
-fn asked(command: &Command) -> Option<u32>
-    ensures { result ≡ asked_in command.now }
-{
-    match command {
-        Command::Chart(step) => Some(*step),
-        _ => None,
-    }
-}
-
-// Replays the script of the source, spelled as that of the command, with the chart that it asks for.
-fn replay_as<S: Source, K: Sink>(
-    alloc: Global,
-    command: Command,
-    source: &mut S,
-    sink: &mut K,
-) -> u8
-    ensures whole { (result ≡ 0) ⊎ ((result ≡ 3) ⊎ (result ≡ 6)) → IfSome (S.left source.old)
-        (λ bytes. ReplaysBy (spelled_in command) (asked_in command) bytes (K.held sink.old) (K.held sink.new) result) }
-    ensures ended { result ≡ 0 → IsAtEnd (S.left source.new) }
-    ensures most { TakesAtMost 67108865 (S.left source.old) (S.left source.new) }
-    ensures needed { (source.new ≡ source.old) ⊎ LastNeededBy (spelled_in command) (S.left source.old) (S.left source.new) (S.last_read source.new) }
-    ensures front { (result ≡ 4) ⊎ ((result ≡ 5) ⊎ (result ≡ 7))
-        → WritesFront (S.left source.old) (K.held sink.old) (K.held sink.new) (text_by (spelled_in command) (asked_in command)) }
-    ensures short { result ≡ 4 → StopsShortBy (spelled_in command) (S.left source.old) (S.left source.new) (K.held sink.old) (K.held sink.new) }
-    ensures memory { (spelled_in command).takes_memory ≡ false
-        → result ≡ 7 → Appends (K.held sink.old) (K.held sink.new) [] }
-    ensures read { result ≡ 4 → Rose (S.faults source.old) (S.faults source.new) }
-    ensures write { result ≡ 5 → Rose (K.faults sink.old) (K.faults sink.new) }
-    ensures source { S.faults source.old ≤ S.faults source.new }
-    ensures sink { K.faults sink.old ≤ K.faults sink.new }
-    ensures statuses { (result ≡ 0) ⊎ ((result ≡ 3) ⊎ ((result ≡ 4) ⊎ ((result ≡ 5) ⊎ ((result ≡ 6) ⊎ (result ≡ 7))))) }
-    ensures complete { IfSome (S.left source.old)
-        (λ bytes. Completes (spelled_in command) bytes (S.faults source.old) (S.faults source.new) (K.faults sink.old) (K.faults sink.new) result) }
-{
-    if is_by_json(&command) {
-        replay_json(alloc, source, sink)
-    } else {
-        replay(alloc, source, sink, asked(&command))
-    }
-}
-
-// Runs the script of the source that the command reads whole, and reports it.
-fn report_by<R: Threads + Wait + Sync, S: Source, K: Sink, G: Gate>(
-    rt: &R,
-    alloc: Global,
-    command: Command,
-    source: &mut S,
-    sink: &mut K,
-    gate: &G,
-) -> u8
-    requires within { IsWithin command }
-    requires reports { reports command ≡ true }
-    ensures ended { result ≡ 0 → IsAtEnd (S.left source.new) }
-    ensures memory { result ≡ 7 → Appends (K.held sink.old) (K.held sink.new) [] }
-    ensures drive { (workers : ℕ) → command ≡ Command.Drive workers
-        → Reports (ShowsDrive workers) (ShowsFrontOfDrive workers) StopsShortDrive CompletesDrive
-        (S.left source.old) (S.left source.new) (S.faults source.old) (S.faults source.new)
-        (K.held sink.old) (K.held sink.new) (K.faults sink.old) (K.faults sink.new) result }
-    ensures grid { (workers : ℕ) → command ≡ Command.Grid workers
-        → Reports ShowsGrid ShowsFrontOfGrid StopsShortGrid CompletesGrid
-        (S.left source.old) (S.left source.new) (S.faults source.old) (S.faults source.new)
-        (K.held sink.old) (K.held sink.new) (K.faults sink.old) (K.faults sink.new) result }
-    ensures shards { (workers : ℕ) → command ≡ Command.Shards workers
-        → Reports Shows ShowsFront StopsShortClaims CompletesShards
-        (S.left source.old) (S.left source.new) (S.faults source.old) (S.faults source.new)
-        (K.held sink.old) (K.held sink.new) (K.faults sink.old) (K.faults sink.new) result }
-    ensures mail { (workers : ℕ) → command ≡ Command.Mail workers
-        → Reports ShowsMail ShowsFrontOfMail StopsShortMail CompletesMail
-        (S.left source.old) (S.left source.new) (S.faults source.old) (S.faults source.new)
-        (K.held sink.old) (K.held sink.new) (K.faults sink.old) (K.faults sink.new) result }
-    ensures scripts { reads_whole command ≡ true → TakesAtMostOfDrive 67108865 (S.left source.old) (S.left source.new) }
-    ensures read { result ≡ 4 → Rose (S.faults source.old) (S.faults source.new) }
-    ensures write { result ≡ 5 → Rose (K.faults sink.old) (K.faults sink.new) }
-    ensures source { S.faults source.old ≤ S.faults source.new }
-    ensures sink { K.faults sink.old ≤ K.faults sink.new }
-    ensures statuses { (result ≡ 0) ⊎ ((result ≡ 3) ⊎ ((result ≡ 4) ⊎ ((result ≡ 5) ⊎ ((result ≡ 6) ⊎ (result ≡ 7))))) }
-{
-    match command {
-        Command::Drive(workers) => drive(rt, alloc, workers, source, sink, gate),
-        Command::Grid(workers) => grid(rt, alloc, workers, source, sink, gate),
-        Command::Shards(workers) => shards(rt, alloc, workers, source, sink, &NoHold),
-        Command::Mail(workers) => mail(rt, alloc, workers, source, sink),
-        _ => unreachable!(),
-    }
-}
-
 // Does what the command asks for.
 fn obey<R: Threads + Wait + Sync, S: Source, K: Sink, G: Gate>(
     rt: &R,
@@ -159,56 +63,37 @@ fn obey<R: Threads + Wait + Sync, S: Source, K: Sink, G: Gate>(
     gate: &G,
 ) -> u8
     requires within { IsWithin command }
-    ensures whole { is_replay command ≡ true
-        → (result ≡ 0) ⊎ ((result ≡ 3) ⊎ (result ≡ 6)) → IfSome (S.left source.old)
-        (λ bytes. ReplaysBy (spelled_in command) (asked_in command) bytes (K.held sink.old) (K.held sink.new) result) }
-    ensures ended { reads_input command ≡ true → result ≡ 0 → IsAtEnd (S.left source.new) }
-    ensures most { is_replay command ≡ true
-        → TakesAtMost 67108865 (S.left source.old) (S.left source.new) }
-    ensures needed { is_replay command ≡ true
-        → (source.new ≡ source.old) ⊎ LastNeededBy (spelled_in command) (S.left source.old) (S.left source.new) (S.last_read source.new) }
-    ensures front { is_replay command ≡ true
-        → (result ≡ 4) ⊎ ((result ≡ 5) ⊎ (result ≡ 7))
-        → WritesFront (S.left source.old) (K.held sink.old) (K.held sink.new) (text_by (spelled_in command) (asked_in command)) }
-    ensures short { is_replay command ≡ true
-        → result ≡ 4 → StopsShortBy (spelled_in command) (S.left source.old) (S.left source.new) (K.held sink.old) (K.held sink.new) }
-    ensures memory { (spelled_in command).takes_memory ≡ false
-        → result ≡ 7 → Appends (K.held sink.old) (K.held sink.new) [] }
-    ensures drive { (workers : ℕ) → command ≡ Command.Drive workers
-        → Reports (ShowsDrive workers) (ShowsFrontOfDrive workers) StopsShortDrive CompletesDrive
-        (S.left source.old) (S.left source.new) (S.faults source.old) (S.faults source.new)
-        (K.held sink.old) (K.held sink.new) (K.faults sink.old) (K.faults sink.new) result }
-    ensures grid { (workers : ℕ) → command ≡ Command.Grid workers
-        → Reports ShowsGrid ShowsFrontOfGrid StopsShortGrid CompletesGrid
-        (S.left source.old) (S.left source.new) (S.faults source.old) (S.faults source.new)
-        (K.held sink.old) (K.held sink.new) (K.faults sink.old) (K.faults sink.new) result }
-    ensures generate { (number count : ℕ) → command ≡ Command.Generate number count → Generates number count (K.held sink.old) (K.held sink.new) result }
-    ensures unread { reads_input command ≡ false → source.new ≡ source.old }
-    ensures shards { (workers : ℕ) → command ≡ Command.Shards workers
-        → Reports Shows ShowsFront StopsShortClaims CompletesShards
-        (S.left source.old) (S.left source.new) (S.faults source.old) (S.faults source.new)
-        (K.held sink.old) (K.held sink.new) (K.faults sink.old) (K.faults sink.new) result }
-    ensures mail { (workers : ℕ) → command ≡ Command.Mail workers
-        → Reports ShowsMail ShowsFrontOfMail StopsShortMail CompletesMail
-        (S.left source.old) (S.left source.new) (S.faults source.old) (S.faults source.new)
-        (K.held sink.old) (K.held sink.new) (K.faults sink.old) (K.faults sink.new) result }
-    ensures scripts { reads_whole command ≡ true → TakesAtMostOfDrive 67108865 (S.left source.old) (S.left source.new) }
-    ensures read { result ≡ 4 → Rose (S.faults source.old) (S.faults source.new) }
-    ensures write { result ≡ 5 → Rose (K.faults sink.old) (K.faults sink.new) }
-    ensures source { S.faults source.old ≤ S.faults source.new }
-    ensures sink { K.faults sink.old ≤ K.faults sink.new }
-    ensures statuses { (result ≡ 0) ⊎ ((result ≡ 3) ⊎ ((result ≡ 4) ⊎ ((result ≡ 5) ⊎ ((result ≡ 6) ⊎ (result ≡ 7))))) }
-    ensures complete { is_replay command ≡ true → IfSome (S.left source.old)
-        (λ bytes. Completes (spelled_in command) bytes (S.faults source.old) (S.faults source.new) (K.faults sink.old) (K.faults sink.new) result) }
+    ensures { Obeys command (source.new ≡ source.old) (S.last_read source.new) (S.left source.old) (S.left source.new)
+        (S.faults source.old) (S.faults source.new) (K.held sink.old) (K.held sink.new) (K.faults sink.old) (K.faults sink.new) result }
 {
     match command {
-        Command::Replay | Command::ReplayJson | Command::Chart(_) => {
-            replay_as(alloc, command, source, sink)
-        }
+        Command::Replay => replay(alloc, source, sink, None),
+        Command::Chart(step) => replay(alloc, source, sink, Some(step)),
+        Command::ReplayJson => replay_json(alloc, source, sink),
+        Command::Drive(workers) => drive(rt, alloc, workers, source, sink, gate),
+        Command::Grid(workers) => grid(rt, alloc, workers, source, sink, gate),
         Command::Generate(number, count) => generate(rt, alloc, number, count, sink),
-        Command::Drive(_) | Command::Grid(_) | Command::Shards(_) | Command::Mail(_) => {
-            report_by(rt, alloc, command, source, sink, gate)
-        }
+        Command::Shards(workers) => shards(rt, alloc, workers, source, sink, &NoHold),
+        Command::Mail(workers) => mail(rt, alloc, workers, source, sink),
+    }
+}
+
+// Does what the command asks for, if the words name one.
+fn answer<R: Threads + Wait + Sync, S: Source, K: Sink, G: Gate>(
+    rt: &R,
+    alloc: Global,
+    told: Option<Command>,
+    source: &mut S,
+    sink: &mut K,
+    gate: &G,
+) -> u8
+    requires within { IfSome told IsWithin }
+    ensures { Answers told (source.new ≡ source.old) (S.last_read source.new) (S.left source.old) (S.left source.new)
+        (S.faults source.old) (S.faults source.new) (K.held sink.old) (K.held sink.new) (K.faults sink.old) (K.faults sink.new) result }
+{
+    match told {
+        None => tell_usage(sink),
+        Some(command) => obey(rt, alloc, command, source, sink, gate),
     }
 }
 
@@ -306,8 +191,5 @@ pub fn run<R: Threads + Wait + Sync, S: Source, K: Sink, G: Gate>(
     ensures complete { (command : Command) → command_in (map string_bytes words.now) ≡ Some command → is_replay command ≡ true → IfSome (S.left source.old)
         (λ bytes. Completes (spelled_in command) bytes (S.faults source.old) (S.faults source.new) (K.faults sink.old) (K.faults sink.new) result) }
 {
-    match command_of(words) {
-        None => tell_usage(sink),
-        Some(command) => obey(rt, alloc, command, source, sink, gate),
-    }
+    answer(rt, alloc, command_of(words), source, sink, gate)
 }

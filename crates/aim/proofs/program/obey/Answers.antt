@@ -1,35 +1,50 @@
-use Rattle.std.proofs.Common.{refl}
+use Rattle.std.proofs.Common.{sym, refl, true≢false}
 use Rattle.aim.specs.declared.words.Command.TheVariants as command
-use Rattle.aim.specs.Commands.{is_replay}
-use Rattle.aim.proofs.CommandLemmas.{apart, is_drive, is_grid, is_mail, is_shards, other}
+use Rattle.aim.proofs.ObeyLemmas.{generates, replays, runs}
 use Rattle.aim.proofs.program.obey.Goals as goal
 
-pub returns-in-Generate-clause-drive : goal.returns-in-Generate-clause-drive
-returns-in-Generate-clause-drive g c = λ workers same. apart is_drive (command.Generate c.in-Generate.number c.in-Generate.count) (command.Drive workers) c.args.command refl refl c.in-Generate.is same
+-- what a replay promises stands in what its call does
+pub returns-in-Replay : goal.returns-in-Replay
+returns-in-Replay g c = replays c.args.command command.Replay c.in-Replay.is tt refl refl (assumption) (assumption)
 
-pub returns-in-Generate-clause-grid : goal.returns-in-Generate-clause-grid
-returns-in-Generate-clause-grid g c = λ workers same. apart is_grid (command.Generate c.in-Generate.number c.in-Generate.count) (command.Grid workers) c.args.command refl refl c.in-Generate.is same
+pub returns-in-Chart : goal.returns-in-Chart
+returns-in-Chart g c = replays c.args.command (command.Chart c.in-Chart.step) c.in-Chart.is tt refl refl (assumption) (assumption)
 
-pub returns-in-Generate-clause-shards : goal.returns-in-Generate-clause-shards
-returns-in-Generate-clause-shards g c = λ workers same. apart is_shards (command.Generate c.in-Generate.number c.in-Generate.count) (command.Shards workers) c.args.command refl refl c.in-Generate.is same
+pub returns-in-ReplayJson : goal.returns-in-ReplayJson
+returns-in-ReplayJson g c =
+    replays c.args.command command.ReplayJson c.in-ReplayJson.is tt refl refl
+    (record {
+      whole = c.replay_json.ensures.whole;
+      ended = c.replay_json.ensures.ended;
+      most = c.replay_json.ensures.most;
+      needed = c.replay_json.ensures.needed;
+      front = c.replay_json.ensures.front;
+      short = c.replay_json.ensures.short;
+      memory = λ no. absurd (true≢false no);
+    })
+    (record { read = c.replay_json.ensures.read; write = c.replay_json.ensures.write; source_later = c.replay_json.ensures.source; sink_later = c.replay_json.ensures.sink; statuses = c.replay_json.ensures.statuses })
 
-pub returns-in-Generate-clause-mail : goal.returns-in-Generate-clause-mail
-returns-in-Generate-clause-mail g c = λ workers same. apart is_mail (command.Generate c.in-Generate.number c.in-Generate.count) (command.Mail workers) c.args.command refl refl c.in-Generate.is same
+pub returns-in-Drive : goal.returns-in-Drive
+returns-in-Drive g c =
+    runs c.args.command (command.Drive c.in-Drive.workers) c.in-Drive.is refl refl (record { whole = c.drive.ensures.whole; front = c.drive.ensures.front; nothing = c.drive.ensures.nothing; short = c.drive.ensures.short; complete = c.drive.ensures.complete }) c.drive.ensures.ended (λ _. c.drive.ensures.most) c.drive.ensures.nothing
+    (record { read = c.drive.ensures.read; write = c.drive.ensures.write; source_later = c.drive.ensures.source; sink_later = c.drive.ensures.sink; statuses = c.drive.ensures.statuses })
 
-pub returns-in-Generate-clause-whole : goal.returns-in-Generate-clause-whole
-returns-in-Generate-clause-whole g c = other is_replay (command.Generate c.in-Generate.number c.in-Generate.count) c.args.command refl c.in-Generate.is
+pub returns-in-Grid : goal.returns-in-Grid
+returns-in-Grid g c =
+    runs c.args.command (command.Grid c.in-Grid.workers) c.in-Grid.is refl refl (record { whole = c.grid.ensures.whole; front = c.grid.ensures.front; nothing = c.grid.ensures.nothing; short = c.grid.ensures.short; complete = c.grid.ensures.complete }) c.grid.ensures.ended (λ _. c.grid.ensures.most) c.grid.ensures.nothing
+    (record { read = c.grid.ensures.read; write = c.grid.ensures.write; source_later = c.grid.ensures.source; sink_later = c.grid.ensures.sink; statuses = c.grid.ensures.statuses })
 
-pub returns-in-Generate-clause-most : goal.returns-in-Generate-clause-most
-returns-in-Generate-clause-most g c = other is_replay (command.Generate c.in-Generate.number c.in-Generate.count) c.args.command refl c.in-Generate.is
+pub returns-in-Shards : goal.returns-in-Shards
+returns-in-Shards g c =
+    runs c.args.command (command.Shards c.in-Shards.workers) c.in-Shards.is refl refl (record { whole = c.shards.ensures.whole; front = c.shards.ensures.front; nothing = c.shards.ensures.nothing; short = c.shards.ensures.short; complete = c.shards.ensures.complete }) c.shards.ensures.ended (λ yes. absurd (true≢false (sym yes))) c.shards.ensures.nothing
+    (record { read = c.shards.ensures.read; write = c.shards.ensures.write; source_later = c.shards.ensures.source; sink_later = c.shards.ensures.sink; statuses = c.shards.ensures.statuses })
 
-pub returns-in-Generate-clause-needed : goal.returns-in-Generate-clause-needed
-returns-in-Generate-clause-needed g c = other is_replay (command.Generate c.in-Generate.number c.in-Generate.count) c.args.command refl c.in-Generate.is
+pub returns-in-Mail : goal.returns-in-Mail
+returns-in-Mail g c =
+    runs c.args.command (command.Mail c.in-Mail.workers) c.in-Mail.is refl refl (record { whole = c.mail.ensures.whole; front = c.mail.ensures.front; nothing = c.mail.ensures.nothing; short = c.mail.ensures.short; complete = c.mail.ensures.complete }) c.mail.ensures.ended (λ _. c.mail.ensures.most) c.mail.ensures.nothing
+    (record { read = c.mail.ensures.read; write = c.mail.ensures.write; source_later = c.mail.ensures.source; sink_later = c.mail.ensures.sink; statuses = c.mail.ensures.statuses })
 
-pub returns-in-Generate-clause-front : goal.returns-in-Generate-clause-front
-returns-in-Generate-clause-front g c = other is_replay (command.Generate c.in-Generate.number c.in-Generate.count) c.args.command refl c.in-Generate.is
-
-pub returns-in-Generate-clause-short : goal.returns-in-Generate-clause-short
-returns-in-Generate-clause-short g c = other is_replay (command.Generate c.in-Generate.number c.in-Generate.count) c.args.command refl c.in-Generate.is
-
-pub returns-in-Generate-clause-complete : goal.returns-in-Generate-clause-complete
-returns-in-Generate-clause-complete g c = other is_replay (command.Generate c.in-Generate.number c.in-Generate.count) c.args.command refl c.in-Generate.is
+pub returns-in-Generate : goal.returns-in-Generate
+returns-in-Generate g c =
+    generates c.args.command c.in-Generate.number c.in-Generate.count c.in-Generate.is refl
+    (record { counts = c.generate.ensures.whole; front = c.generate.ensures.front; nothing = c.generate.ensures.nothing; statuses = c.generate.ensures.statuses }) c.generate.ensures.write c.generate.ensures.sink

@@ -1,28 +1,69 @@
-use Rattle.std.proofs.Common.{◌≡◌, Some, sym, ◌∙◌}
-use Rattle.aim.specs.declared.words.Command.{Command}
+use Rattle.std.proofs.Common.{◌∙◌, sym}
 use Rattle.aim.specs.declared.words.Command.TheVariants as command
 use Rattle.aim.proofs.program.run.Goals as goal
 
--- the command that was told is the one of the words
-same : (a b : Command) → Some a ≡ Some b → a ≡ b
-same a b e = cc e
+pub returns-clause-outside : goal.returns-clause-outside
+returns-clause-outside g c is = c.answer.ensures.outside (c.command_of.ensures.value ∙ is)
 
-pub returns-in-Some-clause-drive : goal.returns-in-Some-clause-drive
-returns-in-Some-clause-drive g c = λ workers is.
-    c.obey.ensures.drive workers (same c.in-Some.command (command.Drive workers) (sym c.in-Some.is ∙ c.command_of.ensures.value ∙ is))
+pub returns-clause-inside : goal.returns-clause-inside
+returns-clause-inside g c two = sym c.command_of.ensures.value ∙ c.answer.ensures.inside two
 
-pub returns-in-Some-clause-generate : goal.returns-in-Some-clause-generate
-returns-in-Some-clause-generate g c = λ number count is.
-    c.obey.ensures.generate number count (same c.in-Some.command (command.Generate number count) (sym c.in-Some.is ∙ c.command_of.ensures.value ∙ is))
+pub returns-clause-whole : goal.returns-clause-whole
+returns-clause-whole g c command is asks = ((c.answer.ensures.obeys command (c.command_of.ensures.value ∙ is)).replays asks).whole
 
-pub returns-in-Some-clause-shards : goal.returns-in-Some-clause-shards
-returns-in-Some-clause-shards g c = λ workers is.
-    c.obey.ensures.shards workers (same c.in-Some.command (command.Shards workers) (sym c.in-Some.is ∙ c.command_of.ensures.value ∙ is))
+pub returns-clause-most : goal.returns-clause-most
+returns-clause-most g c command is asks = ((c.answer.ensures.obeys command (c.command_of.ensures.value ∙ is)).replays asks).most
 
-pub returns-in-Some-clause-mail : goal.returns-in-Some-clause-mail
-returns-in-Some-clause-mail g c = λ workers is.
-    c.obey.ensures.mail workers (same c.in-Some.command (command.Mail workers) (sym c.in-Some.is ∙ c.command_of.ensures.value ∙ is))
+pub returns-clause-needed : goal.returns-clause-needed
+returns-clause-needed g c command is asks = ((c.answer.ensures.obeys command (c.command_of.ensures.value ∙ is)).replays asks).needed
 
-pub returns-in-Some-clause-grid : goal.returns-in-Some-clause-grid
-returns-in-Some-clause-grid g c = λ workers is.
-    c.obey.ensures.grid workers (same c.in-Some.command (command.Grid workers) (sym c.in-Some.is ∙ c.command_of.ensures.value ∙ is))
+pub returns-clause-front : goal.returns-clause-front
+returns-clause-front g c command is asks = ((c.answer.ensures.obeys command (c.command_of.ensures.value ∙ is)).replays asks).front
+
+pub returns-clause-short : goal.returns-clause-short
+returns-clause-short g c command is asks = ((c.answer.ensures.obeys command (c.command_of.ensures.value ∙ is)).replays asks).short
+
+pub returns-clause-ended : goal.returns-clause-ended
+returns-clause-ended g c command is = (c.answer.ensures.obeys command (c.command_of.ensures.value ∙ is)).ended
+
+pub returns-clause-memory : goal.returns-clause-memory
+returns-clause-memory g c command is = (c.answer.ensures.obeys command (c.command_of.ensures.value ∙ is)).memory
+
+pub returns-clause-drive : goal.returns-clause-drive
+returns-clause-drive g c workers is = (c.answer.ensures.obeys (command.Drive workers) (c.command_of.ensures.value ∙ is)).tells
+
+pub returns-clause-grid : goal.returns-clause-grid
+returns-clause-grid g c workers is = (c.answer.ensures.obeys (command.Grid workers) (c.command_of.ensures.value ∙ is)).tells
+
+pub returns-clause-shards : goal.returns-clause-shards
+returns-clause-shards g c workers is = (c.answer.ensures.obeys (command.Shards workers) (c.command_of.ensures.value ∙ is)).tells
+
+pub returns-clause-mail : goal.returns-clause-mail
+returns-clause-mail g c workers is = (c.answer.ensures.obeys (command.Mail workers) (c.command_of.ensures.value ∙ is)).tells
+
+pub returns-clause-generate : goal.returns-clause-generate
+returns-clause-generate g c number count is = (c.answer.ensures.obeys (command.Generate number count) (c.command_of.ensures.value ∙ is)).tells
+
+pub returns-clause-unread : goal.returns-clause-unread
+returns-clause-unread g c command is = (c.answer.ensures.obeys command (c.command_of.ensures.value ∙ is)).stays
+
+pub returns-clause-scripts : goal.returns-clause-scripts
+returns-clause-scripts g c command is = (c.answer.ensures.obeys command (c.command_of.ensures.value ∙ is)).scripts
+
+pub returns-clause-read : goal.returns-clause-read
+returns-clause-read g c = c.answer.ensures.read
+
+pub returns-clause-write : goal.returns-clause-write
+returns-clause-write g c = c.answer.ensures.write
+
+pub returns-clause-source : goal.returns-clause-source
+returns-clause-source g c = c.answer.ensures.source_later
+
+pub returns-clause-sink : goal.returns-clause-sink
+returns-clause-sink g c = c.answer.ensures.sink_later
+
+pub returns-clause-statuses : goal.returns-clause-statuses
+returns-clause-statuses g c = c.answer.ensures.statuses
+
+pub returns-clause-complete : goal.returns-clause-complete
+returns-clause-complete g c command is = (c.answer.ensures.obeys command (c.command_of.ensures.value ∙ is)).complete
