@@ -178,8 +178,8 @@ fn pass_of(agent: Agent) -> ManagerPass
 }
 
 fn has_moments(journal: &[Entry], moments: &[u32]) -> bool {
-    for (entry, moment) in journal.iter().zip(moments) {
-        if entry.moment != *moment {
+    for (place, entry) in journal.iter().enumerate() {
+        if moments.get(place) != Some(&entry.moment) {
             return false;
         }
     }
@@ -255,7 +255,7 @@ const TAKEN: Reply = Reply::Reject {
 
 // Vehicle 0 is confirmed, enters, leaves and says so, though its first message is lost. One sheet is kept meanwhile.
 // Vehicle 1 is refused what vehicle 0 was granted.
-const WHOLE_CROSSING: Course = Course {
+static WHOLE_CROSSING: Course = Course {
     room: 10,
     task: Task {
         lane: 0,
@@ -346,7 +346,7 @@ fn asks_again_enters_and_leaves(rt: HostRuntime) {
 
 // The journal has room for one entry: the call of vehicle 1, and the second one of vehicle 0, is its trouble, and then it
 // does nothing.
-const LITTLE_ROOM: Course = Course {
+static LITTLE_ROOM: Course = Course {
     room: 1,
     task: Task {
         lane: 0,

@@ -10,7 +10,7 @@ use std::thread::Threads;
 use tests_samples::{NoHold, sink_of, source_of};
 
 // Lines that spell none, and why.
-const FAULTS: [(&[u8], LineKind); 16] = [
+static FAULTS: [(&[u8], LineKind); 16] = [
     (b"", LineKind::Unknown),
     (b" end", LineKind::Unknown),
     (b"7 0", LineKind::Unknown),
@@ -49,7 +49,7 @@ const HISTORY: &[u8] =
     b"0 0 claim 0 yes\n1 0 free 0 yes\n2 1 claim 2 yes\n3 1 claim 2 no\n4 1 claim 1 no\nend 5\n";
 
 // Scripts, the status, and what is written.
-const SCRIPTS: [(&[u8], u8, &[u8]); 24] = [
+static SCRIPTS: [(&[u8], u8, &[u8]); 24] = [
     (WORKED, 0, HISTORY),
     // no set, no call
     (b"shards 1 1 1\nend\n", 0, b"end 0\n"),
@@ -144,7 +144,7 @@ fn scripts_and_their_texts(rt: HostRuntime) {
 }
 
 // The numbers of the reads and of the writes that fail, the status, and what is written, for the worked script.
-const FAILURES: [(&[u64], &[u64], u8, &[u8]); 4] = [
+static FAILURES: [(&[u64], &[u64], u8, &[u8]); 4] = [
     (&[0], &[], 4, b""),
     (&[1], &[], 4, b""),
     (&[], &[0], 5, b""),
@@ -160,7 +160,7 @@ fn failing_reads_and_writes(rt: HostRuntime) {
 
 // A script with one set, one call or one byte of a line too many: how it begins, with what it goes on, how many times, and
 // why it is refused.
-const TOO_MANY: [(&[u8], &[u8], u32, &[u8]); 3] = [
+static TOO_MANY: [(&[u8], &[u8], u32, &[u8]); 3] = [
     (
         b"shards 4 100 2\n",
         b"set 0 0 0 0 0 0\n",

@@ -58,5 +58,6 @@ fn messages_are_lost_repeated_and_delayed(rt: HostRuntime) {
     let drove = run_script(&rt, rt.alloc(), script, &gate, 1).expect(&rt, "memory for a drive");
     let mut text = Vec::new(rt.alloc());
     put_left(&rt, &mut text, &drove);
+    drop(drove);
     assert!(rt; &text[..] == TEXT);
 }

@@ -141,8 +141,8 @@ fn link_of(rt: &impl Abort, alloc: Global) -> Link<u32> {
 #[test]
 fn repeated_lost_and_delayed(rt: HostRuntime) {
     let mut link = link_of(&rt, rt.alloc());
-    for (step, item, idle_until) in COMES {
-        assert!(rt; link.deliver(step) == item);
-        assert!(rt; link.idle_until() == idle_until);
+    for (step, item, idle_until) in &COMES {
+        assert!(rt; link.deliver(*step) == *item);
+        assert!(rt; link.idle_until() == *idle_until);
     }
 }

@@ -35,12 +35,18 @@ const EVENTS: [Event; 3] = [
     },
 ];
 
+fn is_the_event(wanted: Option<&Event>, event: &Event) -> bool {
+    let Some(wanted) = wanted else {
+        return false;
+    };
+    event.vehicle == wanted.vehicle
+        && event.moment == wanted.moment
+        && event.message == wanted.message
+}
+
 fn has_events(events: &[Event]) -> bool {
-    for (event, wanted) in events.iter().zip(&EVENTS) {
-        if event.vehicle != wanted.vehicle
-            || event.moment != wanted.moment
-            || event.message != wanted.message
-        {
+    for (place, event) in events.iter().enumerate() {
+        if !is_the_event(EVENTS.get(place), event) {
             return false;
         }
     }
@@ -61,4 +67,5 @@ fn events_in_the_order_of_the_script(rt: HostRuntime) {
         panic!(rt; "no whole script")
     };
     assert!(rt; is_the_script(&script));
+    drop(script);
 }

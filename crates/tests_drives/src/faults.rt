@@ -14,7 +14,7 @@ const TEXT: &[u8] =
 
 // The numbers of the reads and of the writes that fail, the status, and how many bytes of the text are written: the reads
 // of the script and of what may follow it, and each write in turn.
-const FAULTS: [(&[u64], &[u64], u8, usize); 9] = [
+static FAULTS: [(&[u64], &[u64], u8, usize); 9] = [
     (&[], &[], 0, 109),
     (&[0], &[], 4, 0),
     (&[1], &[], 4, 83),

@@ -63,8 +63,8 @@ const LEGS: [[u32; 7]; 3] = [
 ];
 
 fn has_legs(legs: &[PlannedLeg]) -> bool {
-    for (leg, numbers) in legs.iter().zip(&LEGS) {
-        if numbers_of(leg.vehicle, leg.crossing, &leg.plan) != *numbers {
+    for (place, leg) in legs.iter().enumerate() {
+        if LEGS.get(place) != Some(&numbers_of(leg.vehicle, leg.crossing, &leg.plan)) {
             return false;
         }
     }
@@ -108,12 +108,13 @@ fn travels(rt: &(impl Threads + Wait + Sync + Abort), alloc: Global, workers: u3
         gate.missed.load(Ordering::SeqCst) == 0,
         "the runs didn't go side by side"
     );
+    drop(crossings);
 }
 
 // With two workers both vehicles, which ask at step 1, wait for each other at their first calls.
 #[test]
 fn legs_follow_one_another(rt: HostRuntime) {
-    for (workers, needed) in [(1, 0), (2, 2)] {
-        travels(&rt, rt.alloc(), workers, needed);
+    for (workers, needed) in &[(1, 0), (2, 2)] {
+        travels(&rt, rt.alloc(), *workers, *needed);
     }
 }

@@ -30,9 +30,10 @@ fn generated_traffic(rt: HostRuntime) {
     let script = traffic(rt.alloc(), 2026, 3).expect(&rt, "memory for traffic");
     assert!(rt; has_plans(&script));
     assert!(rt; has_the_path(&script.layout));
+    drop(script);
 }
 
-const LAST_LINES: [(Decision, &[u8]); 4] = [
+static LAST_LINES: [(Decision, &[u8]); 4] = [
     (Decision::Whole(12), b"end 12\n"),
     (Decision::Bad(3, Kind::Order), b"bad line 3 order\n"),
     (
@@ -50,7 +51,7 @@ fn is_last(decision: Decision, text: &[u8]) -> bool {
 
 #[test]
 fn last_lines(rt: HostRuntime) {
-    for (decision, text) in LAST_LINES {
-        assert!(rt; is_last(decision, text));
+    for (decision, text) in &LAST_LINES {
+        assert!(rt; is_last(*decision, text));
     }
 }

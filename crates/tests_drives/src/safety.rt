@@ -62,4 +62,5 @@ fn the_text_of_a_drive(rt: HostRuntime) {
     assert!(rt; &text[..] == TEXT);
     let cells = occupied(rt.alloc(), &layout, &JOURNAL, &log).expect(&rt, "memory for cells");
     assert!(rt; cells.len() == 23);
+    drop(layout);
 }

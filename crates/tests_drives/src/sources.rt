@@ -8,15 +8,15 @@ use std::alloc::Global;
 use tests_samples::source_of;
 
 fn drive_fails(alloc: Global, source: &mut MemSource) -> bool {
-    matches!(read_drive(alloc, source), Err(Ending::Read))
+    matches!(read_drive(alloc, source).err(), Some(Ending::Read))
 }
 
 fn events_fail(alloc: Global, source: &mut MemSource) -> bool {
-    matches!(read_events(alloc, source), Err(EventEnding::Read))
+    matches!(read_events(alloc, source).err(), Some(EventEnding::Read))
 }
 
 fn grid_fails(alloc: Global, source: &mut MemSource) -> bool {
-    matches!(read_grid(alloc, source), Err(GridEnding::Read))
+    matches!(read_grid(alloc, source).err(), Some(GridEnding::Read))
 }
 
 #[test]

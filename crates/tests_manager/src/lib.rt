@@ -1,4 +1,4 @@
-//! Tests of the calls of the book, of the turn, of the manager that threads share, of sharded claims and of the mailbox.
+//! Tests of the calls of the book, of the manager that threads share, and of the mailbox.
 #![tactic(auto)]
 
 #[cfg(test)]
@@ -12,10 +12,4 @@ mod manager;
 #[cfg(test)]
 mod policies;
 #[cfg(test)]
-mod reservations;
-#[cfg(test)]
-mod shards;
-#[cfg(test)]
 mod threads;
-#[cfg(test)]
-mod turn;

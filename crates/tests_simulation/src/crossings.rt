@@ -52,7 +52,7 @@ fn check_cells(
 /// of the steady one.
 type Case = ([u32; 3], [u32; 3], Rows, Rows);
 
-const CASES: [Case; 5] = [
+static CASES: [Case; 5] = [
     (
         [0, 0, 0],
         [10, 500, 0],

@@ -31,7 +31,7 @@ fn count_lines<S: Source>(source: &mut S) -> (u32, Option<LineFault>)
 
 const NO_MEMORY: &str = "no memory";
 
-const INPUTS: [(&[u8], &[&[u8]]); 7] = [
+static INPUTS: [(&[u8], &[&[u8]]); 7] = [
     (b"", &[]),
     (b"\n", &[b""]),
     (b"a", &[b"a"]),
@@ -128,7 +128,7 @@ fn a_source_in_memory(rt: HostRuntime) {
 }
 
 // The room, the calls that fail, and what is held after `abcdef` was to be put.
-const PUTS: [(u32, &[u64], bool, &[u8]); 4] = [
+static PUTS: [(u32, &[u64], bool, &[u8]); 4] = [
     (9, &[], true, b"abcdef"),
     (9, &[0], false, b""),
     (6, &[1], true, b"abcdef"),

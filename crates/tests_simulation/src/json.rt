@@ -4,7 +4,7 @@ use crate::lines::check_read;
 use aim_json_read::{JsonFault, read_json_line};
 
 // Members in another order, white space, an escape, and two members of one name.
-const LOOSE: [(&[u8], &[u8]); 5] = [
+static LOOSE: [(&[u8], &[u8]); 5] = [
     (b" {\"n\" : 3,\t\"form\":\"aim\" } ", b"aim 3"),
     (
         b"{\"lanes\":[0,3,15],\"green\":80,\"form\":\"phase\",\"red\":20}",
@@ -26,7 +26,7 @@ fn layout_is_free(rt: HostRuntime) {
 }
 
 // The last two are 127 and 128 brackets deep.
-const FAULTS: [(&[u8], JsonFault); 33] = [
+static FAULTS: [(&[u8], JsonFault); 33] = [
     (b"", JsonFault::Json),
     (b"aim 1", JsonFault::Json),
     (b"{\"form\":\"begin\"} {\"form\":\"end\"}", JsonFault::Json),

@@ -1,4 +1,4 @@
-//! Tests of the calls of texts, layouts, crossings, tables, policies and sessions, on their ordinary answers.
+//! Tests of the calls of texts, layouts, crossings, tables, policies, sessions and reservations, on ordinary answers.
 #![tactic(auto)]
 
 #[cfg(test)]
@@ -17,6 +17,8 @@ mod lines;
 mod plain;
 #[cfg(test)]
 mod policies;
+#[cfg(test)]
+mod reservations;
 #[cfg(test)]
 mod tables;
 #[cfg(test)]

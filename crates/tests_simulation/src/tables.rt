@@ -84,7 +84,7 @@ fn a_million_sheets_are_dropped(rt: HostRuntime) {
 }
 
 // Rows of words, and the first place in which they meet.
-const WORDS: [(&[u64], &[u64], Option<usize>); 4] = [
+static WORDS: [(&[u64], &[u64], Option<usize>); 4] = [
     (&[], &[], None),
     (&[1, 2, 4], &[2, 2, 4], Some(1)),
     (&[1; 9], &[2, 2, 2, 2, 2, 2, 2, 2, 1], Some(8)),

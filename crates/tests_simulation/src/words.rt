@@ -8,7 +8,7 @@ use aim_words::tables::look_up;
 use aim_words::words::Words;
 
 // Words, whether they begin with a digit, and the number from 1 to 255 that they spell.
-const NUMBERS: [(&[u8], bool, Result<u64, LineKind>); 7] = [
+static NUMBERS: [(&[u8], bool, Result<u64, LineKind>); 7] = [
     (b"", false, Err(LineKind::Number)),
     (b"+7", false, Err(LineKind::Number)),
     (b"07", true, Err(LineKind::Number)),
@@ -26,7 +26,7 @@ fn numbers_from_1_to_255(rt: HostRuntime) {
     }
 }
 
-const RANKS: [(&[u8], u32); 3] = [(b"low", 0), (b"high", 2), (b"high", 3)];
+static RANKS: [(&[u8], u32); 3] = [(b"low", 0), (b"high", 2), (b"high", 3)];
 
 #[test]
 fn words_are_looked_up(rt: HostRuntime) {
@@ -58,7 +58,7 @@ fn words_come_in_turn(rt: HostRuntime) {
     assert!(rt; words.end() == Ok(()));
 }
 
-const MESSAGES: [&[u8]; 4] = [
+static MESSAGES: [&[u8]; 4] = [
     b"request 1 255 straight 10 500 501 9 1000 700 car",
     b"change 2 0 1 left 12 500 1000 250 1000 700 emergency",
     b"cancel 4294967295 9",

@@ -50,13 +50,13 @@ fn four_calls<R: Wait + Abort>(
 }
 
 // The marks of these calls.
-const MARKS: [(u32, u32); 3] = [(7, 50), (3, 60), (3, 70)];
+const MARKS: [[u32; 2]; 3] = [[7, 50], [3, 60], [3, 70]];
 
 // The register has to have these marks.
 fn check_marks(rt: &impl Abort, marks: &[Mark]) {
     assert!(rt; marks.len() == MARKS.len());
-    for (mark, (caller, value)) in marks.iter().zip(&MARKS) {
-        assert!(rt; mark.caller == *caller && mark.value == *value);
+    for (place, mark) in marks.iter().enumerate() {
+        assert!(rt; MARKS.get(place) == Some(&[mark.caller, mark.value]));
     }
 }
 

@@ -52,7 +52,10 @@ fn look<L: Ledger>(rt: &impl Abort, alloc: Global, blank: Blank)
     let reservations = reserved(rt, alloc, &mut steps);
     let sheet = sheet_of(alloc, 4, &TWO_TILES).expect(rt, "no sheet");
     assert!(rt; finds(rt, &reservations, &sheet, &mut steps));
-    assert!(rt; reservations.leave(steps).rows.len() == 2);
+    drop(sheet);
+    let idle = reservations.leave(steps);
+    assert!(rt; idle.rows.len() == 2);
+    drop(idle);
 }
 
 #[test]
