@@ -143,14 +143,8 @@ fn clients<R: Threads + Wait + Abort + Sync>(
     fifty_each(rt, first, second, layout, alloc)
 }
 
-// Lets so many turns go by, in which no call may be answered, and then serves.
-fn run_late<L: Ledger, R: Wait + Abort>(
-    rt: &R,
-    server: Server<L>,
-    answered: &AtomicBool,
-) -> Served<L>
-    ensures { result ≡ server }
-{
+// Lets so many turns go by, in which no call may be answered.
+fn let_turns_go_by(rt: &impl Abort, answered: &AtomicBool) {
     for _ in 0..TURNS {
         assert!(rt;
             !answered.load(Ordering::SeqCst),
@@ -158,7 +152,6 @@ fn run_late<L: Ledger, R: Wait + Abort>(
         );
         yield_now();
     }
-    server.run(rt)
 }
 
 // The server on one thread, on which it begins late, and its two clients on another.
@@ -183,7 +176,10 @@ fn beside<L: Ledger + Send + Sync, R: Threads + Wait + Abort + Sync>(
         move || -> Served<L>
             requires { IsSync R.row }
             ensures { result ≡ server }
-        { run_late(rt, server, answered) },
+        {
+            let_turns_go_by(rt, answered);
+            server.run(rt)
+        },
         move || -> (Ended, Ended)
             requires { IsSync R.row × IfSome first.setting (λ s. s.layout ≡ layout.now) × IfSome second.setting (λ s. s.layout ≡ layout.now) }
             ensures { IsSameClient first result.0 × IsSameClient second result.1 }
@@ -228,6 +224,7 @@ fn mailed<L: Ledger + Send + Sync, R: Threads + Wait + Abort + Sync>(
     let staff = opened::<L, R>(rt, alloc, &layout, blank);
     let answered = AtomicBool::new(false);
     let (served, (first, second)) = beside(rt, staff, &layout, alloc, &answered);
+    drop(layout);
     settled(rt, alloc, served, first, second)
 }
 
