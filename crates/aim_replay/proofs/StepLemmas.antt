@@ -1,5 +1,5 @@
 -- How one more line changes what is known of a replay.
-use Rattle.std.proofs.Common.{◌≡◌, ◌⊎◌, ℕ, ◌+◌, ◌-◌, ◌<◌, ◌≤◌, Fits, w32, Bool, true, false, List, [], length, Option, Some, Result, Ok, Err, inl, refl, sym, ap, ◌∙◌, subst, arith}
+use Rattle.std.proofs.Common.{◌≡◌, ◌⊎◌, ℕ, ◌+◌, ◌-◌, ◌<◌, ◌≤◌, Fits, w32, Bool, true, false, List, [], length, Option, Some, None, Result, Ok, Err, inl, refl, sym, ap, ◌∙◌, subst, arith}
 use Rattle.std.specs.Io.KnownBytes.{Consumes, Keeps}
 use Rattle.aim_io.specs.Causes.{Rose}
 use Rattle.aim_io.specs.declared.lines.LineFault.{LineFault}
@@ -19,9 +19,25 @@ use Rattle.aim_replay.specs.declared.faults.Unwritten.TheVariants as unwritten
 use Rattle.aim_replay.specs.declared.session.Halt.{Halt}
 use Rattle.aim_replay.specs.declared.session.Halt.TheVariants as halt
 use Rattle.aim_replay.specs.declared.session.Stop.{Stop}
-use Rattle.aim_replay.specs.Sessions.{Between, IsNeeded, Played, Responds, at_fault, halted}
+use Rattle.aim_replay.specs.Replays.{LastNeededBy}
+use Rattle.aim_replay.specs.Sessions.{Played, Reached, Responds, at_fault, halted}
 use Rattle.aim_replay.proofs.SessionLemmas.{Gives, knows_start, may_reached, needed_call, reached_more, reached_start, sound_start}
 use Rattle.aim_replay.proofs.EndLemmas.{caused_end, caused_fault, caused_halt, ran_end, ran_fault, ran_halt}
+
+-- the last read of a source was needed, if there was one
+abbrev pub IsNeeded : {S : Type 0} → Spelled → (S → Option (List ℕ)) → (S → Option ℕ) → S → S → Type 0
+IsNeeded w left last first now = (now ≡ first) ⊎ LastNeededBy w (left first) (left now) (last now)
+
+-- what is known between two lines, since a replay began: the stage stands for those that were read, which are so many
+pub record Between {S L : Type 0} (w : Spelled) (left : S → Option (List ℕ)) (last : S → Option ℕ) (faults : S → ℕ) (first now : S) (held_old held : Option (List ℕ)) (sink_old sink_new : ℕ) (reader : Reader) (s : Stage L) (number : ℕ) : Type 0 where
+  pub reached : Reached w (left first) (input reader (left now)) held_old held reader s
+  pub count : number ≡ reader.given
+  pub no_fault : reader.fault ≡ None
+  pub sound : IsSound reader
+  pub knows : KnowsEnd reader (left now)
+  pub needed : IsNeeded w left last first now
+  pub source : faults first ≤ faults now
+  pub sink : sink_old ≤ sink_new
 
 -- no line was read
 pub between_start : {S L : Type 0} (w : Spelled) (left : S → Option (List ℕ)) (last : S → Option ℕ) (faults : S → ℕ) (first : S) (held : Option (List ℕ)) (sink : ℕ) (reader : Reader) (h : Header) → reader ≡ fresh → StandsAsHeader [] h
@@ -44,6 +60,9 @@ module _ {S L : Type 0} (w : Spelled) (left : S → Option (List ℕ)) (last : S
 
   pub between_fits : Fits w32 (number + 1)
   between_fits = let few = between_few in omega (arith, few)
+
+  pub between_less : old.given < 262144 → 262144 - (number + 1) < 262144 - number
+  between_less room = omega (arith, b.count, room)
 
   pub between_may : old.given < 262144 → MayTake s
   between_may few = may_reached w (left first) (input old (left before)) held_old held_mid old s b.reached few
@@ -102,11 +121,6 @@ module _ {S L : Type 0} (w : Spelled) (left : S → Option (List ℕ)) (last : S
             source = source_later;
             sink = omega (arith, b.sink, sink_later);
           }
-
--- fewer lines are to come
-pub between_less : {S L : Type 0} (w : Spelled) (left : S → Option (List ℕ)) (last : S → Option ℕ) (faults : S → ℕ) (first now : S) (held_old held : Option (List ℕ)) (sink_old sink : ℕ) (reader : Reader) (s : Stage L) (number : ℕ)
-    → Between w left last faults first now held_old held sink_old sink reader s (number + 1) → 262144 - (number + 1) < 262144 - number
-between_less w left last faults first now held_old held sink_old sink reader s number b = omega (arith, b.count, b.sound.few)
 
 -- a line was given, so the reader had room for it
 pub room_before : (old new : Reader) (more : Bool) → more ≡ true → new ≡ after_call old new more → IsSound new → old.given < 262144

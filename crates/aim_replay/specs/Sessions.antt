@@ -1,13 +1,13 @@
 -- What is known between two lines of a replay.
 -- No public clause cites it: only contracts of private functions.
-use Rattle.std.specs.Prelude.{◌≡◌, ◌⊎◌, ℕ, ◌+◌, ◌≤◌, Bool, true, false, List, [], ◌∷◌, ◌++◌, length, Option, Some, None, IfSome, Result, Ok, Err, IfOk, OnOk, OnErr}
+use Rattle.std.specs.Prelude.{◌≡◌, ℕ, ◌≤◌, Bool, true, false, List, [], ◌∷◌, ◌++◌, length, Option, Some, None, IfSome, Result, Ok, Err, IfOk, OnOk, OnErr}
 use Rattle.std.specs.Io.KnownBytes.{Appends, Consumes, IsAtEnd}
 use Rattle.aim_io.specs.declared.lines.LineFault.{LineFault}
 use Rattle.aim_io.specs.declared.lines.LineFault.TheVariants as fault
 use Rattle.aim_io.specs.Causes.{Rose}
 use Rattle.aim_io.specs.Lines.{Line as LineOf, joined_lines}
 use Rattle.aim_io.specs.Known.{AppendsFront}
-use Rattle.aim_io.specs.Reader.{Reader, input, coming, IsSound, KnowsEnd}
+use Rattle.aim_io.specs.Reader.{Reader, coming}
 use Rattle.aim_msg.specs.declared.script.Line.{Line}
 use Rattle.aim_rules.specs.Charts.{chart}
 use Rattle.aim_script.specs.declared.decisions.Decision.{Decision}
@@ -28,12 +28,10 @@ use Rattle.aim_replay.specs.declared.faults.Unwritten.{Unwritten}
 use Rattle.aim_replay.specs.declared.faults.Unwritten.TheVariants as unwritten
 use Rattle.aim_replay.specs.declared.session.Halt.{Halt}
 use Rattle.aim_replay.specs.declared.session.Halt.TheVariants as halt
-use Rattle.aim_replay.specs.declared.session.Next.{Next}
-use Rattle.aim_replay.specs.declared.session.Next.TheVariants as further
 use Rattle.aim_replay.specs.declared.session.Stop.{Stop}
 use Rattle.aim_replay.specs.declared.session.Stop.TheVariants as stop
 use Rattle.aim_replay.specs.Texts.{entry_lines, text_by}
-use Rattle.aim_replay.specs.Replays.{AreWhole, LastNeededBy, StopsShortBy, TakesAtMost, Writes, WritesFront, entries_text}
+use Rattle.aim_replay.specs.Replays.{AreWhole, StopsShortBy, TakesAtMost, Writes, WritesFront, entries_text}
 
 -- the line of an entry that was made, if one was
 abbrev pub made_line : Spelled → Option Made → List ℕ
@@ -149,31 +147,6 @@ pub record Played {L : Type 0} (w : Spelled) (result : Result (Finish L) Stop) (
   pub ran : Ran w result before after old now
   pub last : needed
   pub caused : Caused result source_old source_new sink_old sink_new
-
--- whether the last read of a source was needed, if there was one
-abbrev pub IsNeeded : {S : Type 0} → Spelled → (S → Option (List ℕ)) → (S → Option ℕ) → S → S → Type 0
-IsNeeded w left last first now = (now ≡ first) ⊎ LastNeededBy w (left first) (left now) (last now)
-
--- what is known between two lines, since a replay began: the stage stands for those that were read, which are so many
-pub record Between {S L : Type 0} (w : Spelled) (left : S → Option (List ℕ)) (last : S → Option ℕ) (faults : S → ℕ) (first now : S) (held_old held : Option (List ℕ)) (sink_old sink_new : ℕ) (reader : Reader) (s : Stage L) (number : ℕ) : Type 0 where
-  pub reached : Reached w (left first) (input reader (left now)) held_old held reader s
-  pub count : number ≡ reader.given
-  pub no_fault : reader.fault ≡ None
-  pub sound : IsSound reader
-  pub knows : KnowsEnd reader (left now)
-  pub needed : IsNeeded w left last first now
-  pub source : faults first ≤ faults now
-  pub sink : sink_old ≤ sink_new
-
--- what is known behind one line more, or at the end
-abbrev pub Goes : {S L : Type 0} → Spelled → (S → Option (List ℕ)) → (S → Option ℕ) → (S → ℕ) → S → S → Option (List ℕ) → Option (List ℕ) → ℕ → ℕ → Reader → ℕ → Next L → Type 0
-Goes w left last faults first now held_old held sink_old sink_new reader number (further.More s) = Between w left last faults first now held_old held sink_old sink_new reader s (number + 1)
-Goes w left last faults first now held_old held sink_old sink_new reader number (further.Done came) = Played w came (IsNeeded w left last first now) (left first) (left now) held_old held (faults first) (faults now) sink_old sink_new
-
--- since whenever the replay began: from what is known before a line follows what is known behind it
-abbrev pub Carries : {S L : Type 0} → Spelled → (S → Option (List ℕ)) → (S → Option ℕ) → (S → ℕ) → S → S → Option (List ℕ) → Option (List ℕ) → ℕ → ℕ → Reader → Reader → Stage L → ℕ → Next L → Type 0
-Carries {S = S} w left last faults before after held_mid held sink_mid sink_new old new s number result =
-    (first : S) (held_old : Option (List ℕ)) (sink_old : ℕ) → Between w left last faults first before held_old held_mid sink_old sink_mid old s number → Goes w left last faults first after held_old held sink_old sink_new new number result
 
 abbrev pub status_for : Result Decision Stop → ℕ
 status_for (Ok d) = status_of d

@@ -1,6 +1,6 @@
 //! Replays a script: from bytes to bytes.
 
-ghost use Rattle.std.specs.Prelude.{◌≡◌, ◌⊎◌, ◌<◌, ◌≤◌, true, false, List, [], None, Err, IfOk, IfSome};
+ghost use Rattle.std.specs.Prelude.{◌≡◌, ◌⊎◌, ◌<◌, ◌≤◌, true, false, List, [], Err, IfOk, IfSome};
 ghost use Rattle.std.specs.Io.KnownBytes.{Appends, IsAtEnd};
 ghost use Rattle.aim_io.specs.Causes.{Rose};
 ghost use Rattle.aim_io.specs.Reader.{fresh};
@@ -8,7 +8,7 @@ ghost use Rattle.aim_msg.specs.declared.script.Line.{Line};
 ghost use Rattle.aim_stages.specs.Stages.{Makes, MayTake, Stands, journal_at, stage_of};
 ghost use Rattle.aim_replay.specs.Texts.{replay_text, text_by};
 ghost use Rattle.aim_replay.specs.Replays.{LastNeeded, LastNeededBy, Replays, ReplaysBy, StopsShort, StopsShortBy, TakesAtMost, WritesFront};
-ghost use Rattle.aim_replay.specs.Sessions.{Came, Carries, Caused, Judged, Played, Responds, at_fault, cut_by, halted, status_for};
+ghost use Rattle.aim_replay.specs.Sessions.{Came, Caused, Judged, Played, Responds, at_fault, cut_by, halted, status_for};
 
 use crate::faults::{Unread, Unwritten};
 use crate::outputs::{put_ending, put_made};
@@ -40,14 +40,6 @@ enum Stop {
     Write,
     /// Memory has run out.
     NoMemory,
-}
-
-/// What asking for the next line comes to.
-enum Next<L: Ledger> {
-    /// It was answered, and further lines may come.
-    More(Stage<L>),
-    /// No further line is read: the replay has come to this.
-    Done(Result<Finish<L>, Stop>),
 }
 
 // Takes the next line of a script, without its byte 10, and answers its event or order, if it is one.
@@ -100,10 +92,11 @@ fn answer_line<P: Spelling, K: Sink, L: Ledger>(
     }
 }
 
-// What a fault of the input comes to.
-fn after_fault<L: Ledger>(fault: LineFault) -> Result<Finish<L>, Stop>
+// What a fault of the input comes to, at whatever stage.
+fn after_fault<L: Ledger>(stage: Stage<L>, fault: LineFault) -> Result<Finish<L>, Stop>
     ensures { result ≡ at_fault fault }
 {
+    drop(stage);
     match fault {
         LineFault::Read => Err(Stop::Read),
         LineFault::Long(number) => Ok(Finish::Bad(number, Kind::Long)),
@@ -134,35 +127,6 @@ fn after_halt<L: Ledger>(number: u32, halt: Halt) -> Result<Finish<L>, Stop>
     }
 }
 
-// Reads the line behind so many, if one is there, and answers it.
-fn next_line<P: Spelling, S: Source, K: Sink, L: Ledger>(
-    alloc: Global,
-    source: &mut S,
-    reader: &mut LineReader,
-    sink: &mut K,
-    steps: &mut Steps<L>,
-    stage: Stage<L>,
-    number: u32,
-) -> Next<L>
-    requires no_fault { reader.old.fault ≡ None }
-    requires few { number ≤ 262144 }
-    requires may { reader.old.given < 262144 → MayTake stage }
-    ensures { Carries P.spelled S.left S.last_read S.faults source.old source.new (K.held sink.old) (K.held sink.new)
-        (K.faults sink.old) (K.faults sink.new) reader.old reader.new stage number result }
-{
-    match reader.advance(source) {
-        Ok(true) => match answer_line::<P, K, L>(alloc, stage, sink, reader.line(), steps) {
-            Ok(next) => Next::More(next),
-            Err(halt) => Next::Done(after_halt(number + 1, halt)),
-        },
-        Ok(false) => Next::Done(Ok(stage.at_end(number))),
-        Err(fault) => {
-            drop(stage);
-            Next::Done(after_fault(fault))
-        }
-    }
-}
-
 // Reads the lines of a script by a new reader, answers its events, and says what it comes to.
 fn replay_lines<P: Spelling, S: Source, K: Sink, L: Ledger>(
     alloc: Global,
@@ -178,12 +142,15 @@ fn replay_lines<P: Spelling, S: Source, K: Sink, L: Ledger>(
     let mut stage = Stage::Header(Header::new());
     let mut number = 0u32;
     'lines: loop {
-        match next_line::<P, S, K, L>(alloc, source, reader, sink, steps, stage, number) {
-            Next::More(next) => {
-                stage = next;
-                number += 1;
-            }
-            Next::Done(came) => return came,
+        match reader.advance(source) {
+            Err(fault) => return after_fault(stage, fault),
+            Ok(false) => return Ok(stage.at_end(number)),
+            Ok(true) => {}
+        }
+        number += 1;
+        match answer_line::<P, K, L>(alloc, stage, sink, reader.line(), steps) {
+            Ok(next) => stage = next,
+            Err(halt) => return after_halt(number, halt),
         }
     }
 }

@@ -1,5 +1,5 @@
 use Rattle.std.proofs.Common.{◌-◌}
-use Rattle.aim_replay.specs.Sessions.{Between}
+use Rattle.aim_replay.proofs.StepLemmas.{Between}
 use Rattle.aim_replay.proofs.session.replay_lines.Given as goal
 
 abbrev pub invariant-lines : goal.invariant-lines
