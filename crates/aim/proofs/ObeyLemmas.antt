@@ -27,8 +27,8 @@ completed (Some bytes) replayed ends = λ whole source sink. status_at ends (λ 
 module _ {unread : Type 0} {last : Option ℕ} {left left' : Option (List ℕ)} {source source' : ℕ} {held held' : Option (List ℕ)} {sink sink' result : ℕ} where
   -- a replay
   pub replays : (command it : Command) → command ≡ it → Tells it left left' source source' held held' sink sink' result → reads_input it ≡ true → reads_whole it ≡ false
-      → Replayed (spelled_in it) (asked_in it) unread last left left' held held' result → Ends source source' sink sink' result → Obeys command unread last left left' source source' held held' sink sink' result
-  replays command it is tells reads part replayed ends = subst (λ (x : Command). Obeys x unread last left left' source source' held held' sink sink' result) (sym is) (record {
+      → Ends source source' sink sink' result → Replayed (spelled_in it) (asked_in it) unread last left left' held held' result → Obeys command unread last left left' source source' held held' sink sink' result
+  replays command it is tells reads part ends replayed = subst (λ (x : Command). Obeys x unread last left left' source source' held held' sink sink' result) (sym is) (record {
     replays = λ _. replayed;
     tells = tells;
     ended = λ _. replayed.ended;

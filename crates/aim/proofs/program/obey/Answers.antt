@@ -3,7 +3,7 @@ use Rattle.aim.specs.declared.words.Command.TheVariants as command
 use Rattle.aim.proofs.ObeyLemmas.{generates, replays, runs}
 use Rattle.aim.proofs.program.obey.Goals as goal
 
--- what a replay promises stands in what its call does
+-- A replay's call promises all of this, clause by clause. The statuses come first: where no call is made, their causes are what is missing.
 pub returns-in-Replay : goal.returns-in-Replay
 returns-in-Replay g c = replays c.args.command command.Replay c.in-Replay.is tt refl refl (assumption) (assumption)
 
@@ -13,6 +13,7 @@ returns-in-Chart g c = replays c.args.command (command.Chart c.in-Chart.step) c.
 pub returns-in-ReplayJson : goal.returns-in-ReplayJson
 returns-in-ReplayJson g c =
     replays c.args.command command.ReplayJson c.in-ReplayJson.is tt refl refl
+    (record { read = c.replay_json.ensures.read; write = c.replay_json.ensures.write; source_later = c.replay_json.ensures.source; sink_later = c.replay_json.ensures.sink; statuses = c.replay_json.ensures.statuses })
     (record {
       whole = c.replay_json.ensures.whole;
       ended = c.replay_json.ensures.ended;
@@ -22,7 +23,6 @@ returns-in-ReplayJson g c =
       short = c.replay_json.ensures.short;
       memory = λ no. absurd (true≢false no);
     })
-    (record { read = c.replay_json.ensures.read; write = c.replay_json.ensures.write; source_later = c.replay_json.ensures.source; sink_later = c.replay_json.ensures.sink; statuses = c.replay_json.ensures.statuses })
 
 pub returns-in-Drive : goal.returns-in-Drive
 returns-in-Drive g c =
