@@ -1,4 +1,4 @@
-//! Tests of the calls of the turn, of shards, of drivers and agents, of whole drives and routes, and of their scripts.
+//! Tests of the calls of drivers and agents, of whole drives and routes, and of the scripts that say them.
 #![tactic(auto)]
 
 #[cfg(test)]
@@ -24,10 +24,6 @@ mod replies;
 #[cfg(test)]
 mod safety;
 #[cfg(test)]
-mod shards;
-#[cfg(test)]
 mod sources;
-#[cfg(test)]
-mod turn;
 #[cfg(test)]
 mod watch;
