@@ -1,4 +1,4 @@
-//! Tests of the calls of drivers and agents, of whole drives and routes, and of the scripts that say them.
+//! Tests of the calls of the turn, of drivers and agents, of whole drives and routes, and of the scripts that say them.
 #![tactic(auto)]
 
 #[cfg(test)]
@@ -25,5 +25,7 @@ mod replies;
 mod safety;
 #[cfg(test)]
 mod sources;
+#[cfg(test)]
+mod turn;
 #[cfg(test)]
 mod watch;

@@ -1,4 +1,4 @@
-//! Tests of the calls of the book, of the manager that threads share, and of the mailbox.
+//! Tests of the calls of shards, of the book, of the manager that threads share, and of the mailbox.
 #![tactic(auto)]
 
 #[cfg(test)]
@@ -11,5 +11,7 @@ mod mailbox;
 mod manager;
 #[cfg(test)]
 mod policies;
+#[cfg(test)]
+mod shards;
 #[cfg(test)]
 mod threads;

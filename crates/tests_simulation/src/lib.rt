@@ -1,4 +1,4 @@
-//! Tests of the calls of texts, layouts, crossings, tables, policies, sessions, reservations, the turn and shards.
+//! Tests of the calls of texts, layouts, crossings, tables, policies, sessions and reservations.
 #![tactic(auto)]
 
 #[cfg(test)]
@@ -20,13 +20,9 @@ mod policies;
 #[cfg(test)]
 mod reservations;
 #[cfg(test)]
-mod shards;
-#[cfg(test)]
 mod tables;
 #[cfg(test)]
 mod texts;
-#[cfg(test)]
-mod turn;
 #[cfg(test)]
 mod vehicles;
 #[cfg(test)]

@@ -1,5 +1,5 @@
 use Rattle.aim_shards.specs.Models.{IsSamePass}
-use Rattle.tests_simulation.proofs.shards.in_turn.Given as goal
+use Rattle.tests_manager.proofs.shards.in_turn.Given as goal
 
 -- the passes stay the same passes
 abbrev pub invariant-loop-call : goal.invariant-loop-call
