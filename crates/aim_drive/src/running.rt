@@ -16,8 +16,8 @@ ghost use Rattle.aim_drive.specs.Making.{AreAgentsFor, AreLeft, ArePlans, all_pa
 use crate::NoMemory;
 use crate::making::agents_of;
 use aim_agent::{Agent, Gate, Trouble};
-use aim_driver::Driver;
 use aim_agents::drive;
+use aim_driver::Driver;
 use aim_manager::{Manager, ManagerPass, OpenFault, Opened};
 use aim_msg::Entry;
 use aim_paths::Layout;

@@ -11,11 +11,11 @@ ghost use Rattle.aim_driver.specs.Steps.{known_got, known_sent, known_entered};
 
 use crate::logs::{Entrance, Window};
 use crate::plans::DrivePlan;
-use aim_msg::{Body, Message, Params, Reply};
 use aim_links::{
     active_after_answer, active_after_sending, changed_by, held_in, is_a_cancel, is_a_change,
     is_a_done, is_stop, lead_after_answer, next_after_answer,
 };
+use aim_msg::{Body, Message, Params, Reply};
 
 /// What the rules ask of a log.
 #[derive(Clone, Copy)]
