@@ -1,5 +1,5 @@
 -- How script lines are spelled, and which lines have a spelling.
-use Rattle.std.specs.Prelude.{◌≡◌, ◌≢◌, ℕ, true, ◌++◌, ◌/◌, ◌%◌, ◌^◌, ◌<◌, ◌≤◌, ◌==◌, Bool, List, [], ◌∷◌, map, filter, take, drop, replicate, ◌-◌, codes, decimal, nat_le, if◌then◌else◌, ◌&&◌, ◌||◌, IsTrue}
+use Rattle.std.specs.Prelude.{◌≡◌, ◌≢◌, ℕ, true, false, ◌++◌, ◌/◌, ◌%◌, ◌^◌, ◌<◌, ◌≤◌, ◌==◌, Bool, List, [], ◌∷◌, map, filter, take, drop, replicate, ◌-◌, codes, decimal, nat_le, if◌then◌else◌, ◌&&◌, ◌||◌, IsTrue}
 use Rattle.std.specs.List.{range_with_len, list_all}
 use Rattle.aim_msg.specs.declared.script.Line.{Line}
 use Rattle.aim_msg.specs.declared.script.Line.TheVariants as line
@@ -71,6 +71,15 @@ line_words version (line.CancelAt vehicle step) = codes "cancel" ∷ decimal veh
 line_words version (line.Up vehicle fates) = codes "up" ∷ decimal vehicle ∷ fate_words fates
 line_words version (line.Down vehicle fates) = codes "down" ∷ decimal vehicle ∷ fate_words fates
 line_words version line.End = codes "end" ∷ []
+
+-- whether a line is of one driver: its plan, a change of it, or the fates of its links; no public clause cites this
+abbrev pub is_driving : Line → Bool
+is_driving (line.PlanFor vehicle first lead resend params ahead) = true
+is_driving (line.ChangeAt vehicle step lead) = true
+is_driving (line.CancelAt vehicle step) = true
+is_driving (line.Up vehicle fates) = true
+is_driving (line.Down vehicle fates) = true
+is_driving _ = false
 
 abbrev pub line_text : ℕ → Line → List ℕ
 line_text version l = spaced (line_words version l)

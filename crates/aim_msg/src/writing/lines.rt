@@ -1,7 +1,7 @@
 //! The words of script lines.
 
 ghost use Rattle.std.specs.Prelude.{◌≡◌, ◌∷◌, ◌++◌, ◌+◌, ◌*◌, ◌≤◌, ◌<◌, [], length, map, decimal, codes, if◌then◌else◌};
-ghost use Rattle.aim_msg.specs.Lines.{has_lane, name_word, kind_word, fate_word, fate_words, lane_words, shape_words, window_words, line_words, KeepsRanges};
+ghost use Rattle.aim_msg.specs.Lines.{has_lane, name_word, kind_word, fate_word, fate_words, is_driving, lane_words, shape_words, window_words, line_words, KeepsRanges};
 ghost use Rattle.aim_msg.specs.Texts.{turn_word, vehicle_words, message_words};
 ghost use Rattle.aim_msg.specs.Writing.{added};
 
@@ -272,6 +272,33 @@ fn put_cancel(out: &mut Text, vehicle: u32, step: u32)
     put_form(out, b"cancel", &[vehicle, step]);
 }
 
+// Adds the words of a line that is of one driver: its plan, changes of it, or the fates of its links. Of another line none.
+fn put_driving(out: &mut Text, version: u8, line: &Line)
+    requires empty { length out.old ≡ 0 }
+    requires ranges { KeepsRanges version line.now }
+    ensures { out.new ≡ (if is_driving line.now then added out.old (line_words version line.now) else out.old) }
+{
+    match *line {
+        Line::PlanFor {
+            vehicle,
+            first,
+            lead,
+            resend,
+            ref params,
+            ahead,
+        } => put_plan(out, version, vehicle, [first, lead, resend], params, ahead),
+        Line::ChangeAt {
+            vehicle,
+            step,
+            lead,
+        } => put_change(out, vehicle, step, lead),
+        Line::CancelAt { vehicle, step } => put_cancel(out, vehicle, step),
+        Line::Up { vehicle, ref fates } => put_fates(out, b"up", vehicle, fates),
+        Line::Down { vehicle, ref fates } => put_fates(out, b"down", vehicle, fates),
+        _ => {}
+    }
+}
+
 /// Adds the words of a line of a script of that version.
 pub(crate) fn put_line(out: &mut Text, version: u8, line: &Line)
     requires empty { length out.old ≡ 0 }
@@ -302,22 +329,7 @@ pub(crate) fn put_line(out: &mut Text, version: u8, line: &Line)
         Line::SwitchTo { moment, ref name } => put_switch(out, moment, name),
         Line::StopAt { moment } => put_order(out, moment, b"stop"),
         Line::Until(step) => put_field(out, b"until", step),
-        Line::PlanFor {
-            vehicle,
-            first,
-            lead,
-            resend,
-            ref params,
-            ahead,
-        } => put_plan(out, version, vehicle, [first, lead, resend], params, ahead),
-        Line::ChangeAt {
-            vehicle,
-            step,
-            lead,
-        } => put_change(out, vehicle, step, lead),
-        Line::CancelAt { vehicle, step } => put_cancel(out, vehicle, step),
-        Line::Up { vehicle, ref fates } => put_fates(out, b"up", vehicle, fates),
-        Line::Down { vehicle, ref fates } => put_fates(out, b"down", vehicle, fates),
         Line::End => out.word(b"end"),
+        _ => put_driving(out, version, line),
     }
 }

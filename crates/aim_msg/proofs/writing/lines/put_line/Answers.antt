@@ -44,20 +44,5 @@ returns-in-StopAt c = said (line_words c.args.version) _ _ _ _ c.in-StopAt.is c.
 pub returns-in-Until : goal.returns-in-Until
 returns-in-Until c = said (line_words c.args.version) _ _ _ _ c.in-Until.is c.put_field-in-Until.ensures.added
 
-pub returns-in-PlanFor : goal.returns-in-PlanFor
-returns-in-PlanFor c = said (line_words c.args.version) _ _ _ _ c.in-PlanFor.is c.put_plan.ensures
-
-pub returns-in-ChangeAt : goal.returns-in-ChangeAt
-returns-in-ChangeAt c = said (line_words c.args.version) _ _ _ _ c.in-ChangeAt.is c.put_change.ensures
-
-pub returns-in-CancelAt : goal.returns-in-CancelAt
-returns-in-CancelAt c = said (line_words c.args.version) _ _ _ _ c.in-CancelAt.is c.put_cancel.ensures
-
-pub returns-in-Up : goal.returns-in-Up
-returns-in-Up c = said (line_words c.args.version) _ _ _ _ c.in-Up.is c.put_fates.ensures
-
-pub returns-in-Down : goal.returns-in-Down
-returns-in-Down c = said (line_words c.args.version) _ _ _ _ c.in-Down.is c.put_fates-in-Down.ensures
-
 pub returns-in-End : goal.returns-in-End
 returns-in-End c = said (line_words c.args.version) _ _ _ _ c.in-End.is c.word-in-End.ensures.added
