@@ -1,6 +1,7 @@
 //! The stations that a vehicle covers in each step of its crossing.
 
-ghost use Rattle.std.specs.Prelude.{◌≡◌, ℕ, ◌<◌, ◌≤◌, ◌-◌, length, take};
+ghost use Rattle.std.specs.Prelude.{◌≡◌, ℕ, ◌<◌, ◌≤◌, ◌+◌, ◌*◌, ◌-◌, ◌/◌, length, min, take};
+ghost use Rattle.aim_geometry.specs.Bounded.{ceil_div};
 ghost use Rattle.aim_paths.specs.Intersection.{stations};
 ghost use Rattle.aim_rules.specs.Footprint.{crossing_steps};
 ghost use Rattle.aim_simulate.specs.Fields.{IsMoving};
@@ -14,6 +15,23 @@ use aim_paths::Layout;
 pub struct Reach {
     pub low: u16,
     pub high: u16,
+}
+
+// The stations under a vehicle of that length whose front goes from `at` to `ahead` in a step. Its path has m parts.
+fn reach_between(at: u32, ahead: u32, length: u32, spacing: u32, m: u32) -> Reach
+    requires some { 0 < spacing }
+    requires few { m ≤ 4096 }
+    requires way { at ≤ m * spacing + length }
+    requires room { ahead + spacing ≤ 4294967295 }
+    ensures low { result.low ≡ (at - length) / spacing }
+    ensures high { result.high ≡ min (ceil_div ahead spacing) m }
+{
+    let low = at.saturating_sub(length) / spacing;
+    let high = ((ahead + (spacing - 1)) / spacing).min(m);
+    Reach {
+        low: low as u16,
+        high: high as u16,
+    }
 }
 
 /// Writes the stations that the vehicle covers in each step of its crossing, and gives the number of steps. Its path has
@@ -40,13 +58,9 @@ pub fn fill_reaches(
     let mut at: u32 = 0;
     let mut k = 0;
     'steps: while at <= end && k < 2048 {
-        let low = at.saturating_sub(params.length) / spacing;
-        at += speed;
-        let high = ((at + (spacing - 1)) / spacing).min(m);
-        reaches[k] = Reach {
-            low: low as u16,
-            high: high as u16,
-        };
+        let ahead = at + speed;
+        reaches[k] = reach_between(at, ahead, params.length, spacing, m);
+        at = ahead;
         speed = (speed + gain).min(params.max_speed);
         k += 1;
     }

@@ -1,5 +1,4 @@
-use Rattle.std.proofs.Common.{◌≡◌, ◌≤◌, ℕ, ◌+◌, ◌-◌, ◌*◌, ◌/◌, arith, below_more, le-ltb, refl, sym, length, length-set, rules}
-use Rattle.std.proofs.Math.Nat.{div-le_of_le-mul}
+use Rattle.std.proofs.Common.{◌≡◌, ◌≤◌, ℕ, ◌+◌, ◌-◌, ◌*◌, arith, below_more, le-ltb, refl, sym, length, length-set, rules}
 use Rattle.aim_paths.specs.Intersection.{Intersection, stations}
 use Rattle.aim_msg.specs.declared.messages.Params.{Params}
 use Rattle.aim_rules.specs.Motion.{front}
@@ -30,9 +29,9 @@ steps-preserved c =
       below = omega arith;
       few = omega arith;
       none = below_more _ _ i.none (le-ltb _ _ short);
-      exact = λ j l. reach_set c.steps.reaches k j (c.saturating_sub.result / c.grid-spacing.result.spacing) c.min-high.result (reach_of c.args.layout.now p c.args.fast j) (omega arith) l (λ b. i.exact j b)
-          (λ e. let h : c.saturating_sub.result ≡ front p c.args.fast k - p.length = omega arith in rw (e, h, spacing) refl)
-          (λ e. rw (e, ← way, ← spacing, ← c.requires.parts) c.min-high.ensures);
+      exact = λ j l. reach_set c.steps.reaches k j c.reach_between.result.low c.reach_between.result.high (reach_of c.args.layout.now p c.args.fast j) (omega arith) l (λ b. i.exact j b)
+          (λ e. let at : c.steps.at ≡ front p c.args.fast k = i.way in rw (e, ← at, ← spacing) c.reach_between.ensures.low)
+          (λ e. rw (e, ← way, ← spacing, ← c.requires.parts) c.reach_between.ensures.high);
       len = simp length-set i.len;
     }
 
@@ -87,10 +86,3 @@ steps-init c =
       len = search rules;
       exact = λ k l. absurd (omega arith);
     }
-
-pub overflow_cast-reaches : goal.overflow_cast-reaches
-overflow_cast-reaches c =
-    let spacing = c.grid-spacing.result.spacing in
-    let within : c.saturating_sub.result ≤ spacing * c.args.m = omega (arith, c.saturating_sub.ensures, c.steps-test.true) in
-    let low : c.saturating_sub.result / spacing ≤ c.args.m = div-le_of_le-mul spacing within in
-    omega (arith, low, c.requires.few)
