@@ -1,6 +1,6 @@
 //! A whole drive.
 
-ghost use Rattle.std.specs.Prelude.{◌≡◌, false, ◌+◌, ◌*◌, ◌<◌, ◌≤◌, ◌++◌, length, map, All, IfOk, OnOk};
+ghost use Rattle.std.specs.Prelude.{◌≡◌, [], false, ◌+◌, ◌*◌, ◌<◌, ◌≤◌, ◌++◌, length, map, vec_capacity, All, IfOk, OnOk};
 ghost use Rattle.aim_msg.specs.declared.entries.TheConstants.{OPERATOR};
 ghost use Rattle.aim_turn.specs.Models.{new_pass};
 ghost use Rattle.aim_agent.specs.Agents.{AgentModel};
@@ -80,6 +80,37 @@ fn parted(agent: Agent) -> (Logged, ManagerPass)
     (Logged { vehicle, driver }, pass)
 }
 
+// Room for the logs of so many agents, and for their passes behind the others.
+fn room_for(
+    alloc: Global,
+    agents: usize,
+    passes: &mut Vec<ManagerPass>,
+) -> Result<Vec<Logged>, NoMemory>
+    ensures none { IfOk result (λ v. v.items ≡ []) }
+    ensures logs { IfOk result (λ v. agents ≤ vec_capacity v) }
+    ensures passes { OnOk result (length passes.new.items + agents ≤ vec_capacity passes.new) }
+    ensures same { OnOk result (passes.new.items ≡ passes.old.items) }
+{
+    passes.reserve(agents)?;
+    Ok(Vec::with_capacity(alloc, agents)?)
+}
+
+// Takes the agents apart: their logs, in their order, and their passes behind the others. There is room for both.
+fn part_all(agents: Vec<Agent>, mut logs: Vec<Logged>, passes: &mut Vec<ManagerPass>) -> Vec<Logged>
+    requires none { logs.items ≡ [] }
+    requires logs { length agents.items ≤ vec_capacity logs }
+    requires passes { length passes.old.items + length agents.items ≤ vec_capacity passes.old }
+    ensures logs { map log_of result.items ≡ map told_by agents.items }
+    ensures passes { passes.new.items ≡ passes.old.items ++ map (λ (a : AgentModel). a.pass) agents.items }
+{
+    for agent in agents {
+        let (logged, pass) = parted(agent);
+        logs.push_reserved(logged);
+        passes.push_reserved(pass);
+    }
+    logs
+}
+
 // The logs of the drivers, in the order of the agents. Their passes come behind the others.
 fn logs_of(
     alloc: Global,
@@ -89,22 +120,35 @@ fn logs_of(
     ensures logs { IfOk result (λ v. map log_of v.items ≡ map told_by agents.items) }
     ensures passes { OnOk result (passes.new.items ≡ passes.old.items ++ map (λ (a : AgentModel). a.pass) agents.items) }
 {
-    let mut logs = Vec::with_capacity(alloc, agents.len())?;
-    passes.reserve(agents.len())?;
-    for agent in agents {
-        let (logged, pass) = parted(agent);
-        logs.push_reserved(logged);
-        passes.push_reserved(pass);
-    }
-    Ok(logs)
+    let logs = room_for(alloc, agents.len(), passes)?;
+    Ok(part_all(agents, logs, passes))
 }
 
-// Closes the manager, where each agent found memory: the journal, and the logs of the agents.
-fn left_by(
+// Closes the manager: the journal, and the logs of the agents, each of which found memory.
+fn closed(
     alloc: Global,
     manager: Manager,
     agents: Vec<Agent>,
     mut passes: Vec<ManagerPass>,
+    operator: ManagerPass,
+) -> Result<Drove, NoMemory>
+    requires own { All (λ p. p.table ≡ manager.table) (passes.items ++ map (λ (a : AgentModel). a.pass) agents.items) }
+    requires operator { operator.table ≡ manager.table }
+    requires all { length passes.items + length agents.items ≡ manager.setting.vehicles }
+    requires memory { All HasMemory agents.items }
+    ensures { IfOk result (λ d. Leaves manager.setting agents.items passes.items operator d) }
+{
+    let logs = logs_of(alloc, agents, &mut passes)?;
+    let journal = manager.close(passes, operator).journal;
+    Ok(Drove { journal, logs })
+}
+
+// Closes the manager, where each agent found memory.
+fn left_by(
+    alloc: Global,
+    manager: Manager,
+    agents: Vec<Agent>,
+    passes: Vec<ManagerPass>,
     operator: ManagerPass,
 ) -> Result<Drove, NoMemory>
     requires own { All (λ p. p.table ≡ manager.table) (passes.items ++ map (λ (a : AgentModel). a.pass) agents.items) }
@@ -115,9 +159,7 @@ fn left_by(
     if lack_memory(&agents) {
         return Err(NoMemory);
     }
-    let logs = logs_of(alloc, agents, &mut passes)?;
-    let journal = manager.close(passes, operator).journal;
-    Ok(Drove { journal, logs })
+    closed(alloc, manager, agents, passes, operator)
 }
 
 // What is ready for a drive.
@@ -129,6 +171,34 @@ struct Seated {
     // Those of the other vehicles.
     passes: Vec<ManagerPass>,
     operator: ManagerPass,
+}
+
+// An agent for each plan at a new manager.
+fn manned(
+    alloc: Global,
+    opened: Opened,
+    plans: Vec<Planned>,
+    spans: u32,
+) -> Result<Seated, NoMemory>
+    requires plans { ArePlans opened.manager.setting.vehicles plans.items }
+    requires passes { opened.passes.items ≡ all_passes opened.manager }
+    ensures manager { IfOk result (λ s. s.manager ≡ opened.manager) }
+    ensures agents { IfOk result (λ s. AreAgentsFor opened.manager spans plans.items s.agents.items) }
+    ensures left { IfOk result (λ s. AreLeft opened.manager s.agents.items s.passes.items) }
+    ensures operator { IfOk result (λ s. s.operator ≡ opened.operator) }
+{
+    let Opened {
+        manager,
+        mut passes,
+        operator,
+    } = opened;
+    let agents = agents_of(alloc, &manager, plans, &mut passes, spans)?;
+    Ok(Seated {
+        manager,
+        agents,
+        passes,
+        operator,
+    })
 }
 
 // A new manager with room for all calls and orders of a drive, and an agent for each plan.
@@ -149,18 +219,7 @@ fn seat(
     ensures operator { IfOk result (λ s. s.operator ≡ new_pass s.manager OPERATOR) }
 {
     let opened = open(alloc, layout, vehicles, orders)?;
-    let Opened {
-        manager,
-        mut passes,
-        operator,
-    } = opened;
-    let agents = agents_of(alloc, &manager, plans, &mut passes, spans)?;
-    Ok(Seated {
-        manager,
-        agents,
-        passes,
-        operator,
-    })
+    manned(alloc, opened, plans, spans)
 }
 
 // Lets the agents take their turns of all steps, with the orders between them, and closes the manager.
