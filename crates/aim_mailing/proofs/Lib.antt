@@ -7,3 +7,5 @@ pub mod Journals
 pub mod Staffing
 pub mod Crosses
 pub mod Reports
+mod ShownLemmas
+mod EndingLemmas

@@ -1,3 +1,4 @@
 pub mod Runs
 pub mod Calling
 pub mod Commands
+pub mod Endings

@@ -4,14 +4,14 @@ ghost use Rattle.std.specs.Prelude.{◌≡◌, ◌⊎◌, ◌<◌, ◌≤◌, �
 ghost use Rattle.std.specs.Io.KnownBytes.{Appends, IsAtEnd};
 ghost use Rattle.aim_io.specs.Causes.{Rose};
 ghost use Rattle.aim_io.specs.Known.{AppendsFront};
-ghost use Rattle.aim_msg.specs.Texts.{spaced};
 ghost use Rattle.aim_msg.specs.declared.script.Line.{Line};
-ghost use Rattle.aim_script.specs.Decided.{decision_words, printed, status_of};
+ghost use Rattle.aim_script.specs.Decided.{status_of};
 ghost use Rattle.aim_events.specs.Fits.{IsFit};
 ghost use Rattle.aim_plans.specs.Scripts.{TakesAtMost};
 ghost use Rattle.aim_events.specs.Scripts.{IsScriptOf};
 ghost use Rattle.aim_events.specs.Short.{StopsShort};
 ghost use Rattle.aim_mailing.specs.Commands.{Completes, IsReport, Shows, ShowsFront, report};
+ghost use Rattle.aim_mailing.specs.Endings.{EndsWith, Refuses};
 
 use crate::running::run_script;
 use aim_events::{EventEnding, EventScript, read_events};
@@ -49,9 +49,7 @@ fn status_of(decision: Decision) -> u8
 
 // Writes the one line of a script that isn't whole, and answers the status.
 fn put_refused<K: Sink>(sink: &mut K, decision: Decision) -> u8
-    ensures whole { (result ≡ 5) ⊎ ((result ≡ status_of decision) × Appends (K.held sink.old) (K.held sink.new) (printed (spaced (decision_words decision)))) }
-    ensures front { result ≡ 5 → AppendsFront (K.held sink.old) (K.held sink.new) (printed (spaced (decision_words decision))) }
-    ensures write { result ≡ 5 → Rose (K.faults sink.old) (K.faults sink.new) }
+    ensures refuses { Refuses decision (K.held sink.old) (K.held sink.new) (K.faults sink.old) (K.faults sink.new) result }
     ensures sink { K.faults sink.old ≤ K.faults sink.new }
 {
     let mut line = [0; 400];
@@ -59,6 +57,19 @@ fn put_refused<K: Sink>(sink: &mut K, decision: Decision) -> u8
     match put_all(sink, &line[..len]) {
         Ok(()) => status_of(decision),
         Err(_) => 5,
+    }
+}
+
+// Writes why there is no whole script, where that isn't for the source or for memory, and answers the status.
+fn put_ending<K: Sink>(sink: &mut K, ending: EventEnding) -> u8
+    ensures ends { EndsWith ending (K.held sink.old) (K.held sink.new) (K.faults sink.old) (K.faults sink.new) result }
+    ensures sink { K.faults sink.old ≤ K.faults sink.new }
+{
+    match ending {
+        EventEnding::Bad(number, why) => put_refused(sink, Decision::Bad(number, why)),
+        EventEnding::Limit(which) => put_refused(sink, Decision::Limit(which)),
+        EventEnding::Read => 4,
+        EventEnding::NoMemory => 7,
     }
 }
 
@@ -146,10 +157,7 @@ pub fn mail<R: Threads + Wait + Sync, S: Source, K: Sink>(
     ensures complete { IfSome (S.left source.old) (λ bytes. Completes bytes (S.faults source.old) (S.faults source.new) (K.faults sink.old) (K.faults sink.new) result) }
 {
     match read_events(alloc, source) {
-        Err(EventEnding::Read) => 4,
-        Err(EventEnding::NoMemory) => 7,
-        Err(EventEnding::Bad(number, why)) => put_refused(sink, Decision::Bad(number, why)),
-        Err(EventEnding::Limit(which)) => put_refused(sink, Decision::Limit(which)),
         Ok(script) => put_run(rt, alloc, &script, workers, sink),
+        Err(ending) => put_ending(sink, ending),
     }
 }
