@@ -1,17 +1,20 @@
--- What the command promises where reading comes to no routes.
+-- What the command promises, where reading comes to no routes and where it comes to some.
 use Rattle.std.proofs.Common.{◌≡◌, ℕ, ◌≤◌, ◌⊎◌, inl, inr, List, [], Option, Some, None, refl, sym, ap, ◌∙◌, subst, arith}
 use Rattle.std.specs.Prelude.{IfSome, Err}
 use Rattle.std.specs.Io.KnownBytes.{Appends}
 use Rattle.std.proofs.lemmas.Option.{IfSome_then}
 use Rattle.aim_io.specs.Causes.{Rose}
+use Rattle.aim_io.specs.Known.{AppendsFront}
 use Rattle.aim_grid_read.specs.declared.lines.GridLine.{GridLine}
 use Rattle.aim_routes.specs.declared.decisions.GridDecision.{GridDecision}
 use Rattle.aim_routes.specs.declared.decisions.GridDecision.TheVariants as decision
-use Rattle.aim_routes.specs.Verdicts.{grid_verdict}
+use Rattle.aim_routes.specs.declared.routes.Routes.{Routes}
+use Rattle.aim_routes.specs.Fits.{AreRoutesOf}
+use Rattle.aim_routes.specs.Verdicts.{Verdict, grid_verdict}
 use Rattle.aim_grid_script.specs.declared.endings.GridEnding.{GridEnding}
 use Rattle.aim_grid_script.specs.declared.endings.GridEnding.TheVariants as ending
-use Rattle.aim_grid_script.specs.Scripts.{Decides, Reads}
-use Rattle.aim_routing.specs.Commands.{Completes, IsTextOf, Shows, ShowsFront}
+use Rattle.aim_grid_script.specs.Scripts.{Decides, IsRead, Reads}
+use Rattle.aim_routing.specs.Commands.{Completes, IsReport, IsTextOf, Shows, ShowsFront, Writes, WritesFront}
 use Rattle.aim_routing.specs.Endings.{Ends, Refuses}
 use Rattle.aim_routing.specs.Refusals.{refusal_text, status_of}
 
@@ -133,3 +136,46 @@ promised ending.NoMemory left old new source_old source_new before now result de
       statuses = inr (inr (inr (inr (inr seven))));
       complete = for_all left (λ bytes whole source sink. inr seven);
     }
+
+-- Routes that were run have status 0, 5 or 7.
+module _ (r : ℕ) (statuses : (r ≡ 0) ⊎ ((r ≡ 5) ⊎ (r ≡ 7))) where
+  pub ran_four : {A : Type 0} → r ≡ 4 → A
+  ran_four e = absurd (omega (arith, e, statuses))
+
+  pub ran_seven : {A : Type 0} → (r ≡ 7 → A) → (r ≡ 4) ⊎ (r ≡ 7) → A
+  ran_seven memory (inl e) = ran_four e
+  ran_seven memory (inr e) = memory e
+
+  pub ran_status : (r ≡ 0) ⊎ ((r ≡ 3) ⊎ ((r ≡ 4) ⊎ ((r ≡ 5) ⊎ ((r ≡ 6) ⊎ (r ≡ 7)))))
+  ran_status = go statuses
+    where
+      go : (r ≡ 0) ⊎ ((r ≡ 5) ⊎ (r ≡ 7)) → (r ≡ 0) ⊎ ((r ≡ 3) ⊎ ((r ≡ 4) ⊎ ((r ≡ 5) ⊎ ((r ≡ 6) ⊎ (r ≡ 7)))))
+      go (inl e) = inl e
+      go (inr (inl e)) = inr (inr (inr (inl e)))
+      go (inr (inr e)) = inr (inr (inr (inr (inr e))))
+
+  pub ran_whole : (left : Option (List ℕ)) (routes : Routes) (read : IsRead left routes) (old new : Option (List ℕ)) → ((lines : List GridLine) → AreRoutesOf lines routes → r ≡ 0 → (text : List ℕ) × IsReport lines text × Appends old new text)
+      → (r ≡ 0) ⊎ ((r ≡ 3) ⊎ (r ≡ 6)) → IfSome left (λ bytes. Shows bytes old new r)
+  ran_whole left routes read old new put h =
+      let zero_is : r ≡ 0 = omega (arith, statuses, h) in
+      let p = put read.lines read.is zero_is in
+      IfSome_then left read.verdict (λ bytes is. record {
+        writes = subst (λ (v : Verdict). Writes v.before v.decision old new) (sym is) (record { text = p.0; is = p.1; written = p.2 });
+        status = subst (λ (v : Verdict). r ≡ status_of v.decision) (sym is) zero_is;
+      })
+
+  pub ran_front : (left : Option (List ℕ)) (routes : Routes) (read : IsRead left routes) (old new : Option (List ℕ)) → ((lines : List GridLine) → AreRoutesOf lines routes → r ≡ 5 → (text : List ℕ) × IsReport lines text × AppendsFront old new text)
+      → r ≡ 5 → IfSome left (λ bytes. ShowsFront bytes old new)
+  ran_front left routes read old new put five =
+      let p = put read.lines read.is five in
+      IfSome_then left read.verdict (λ bytes is. record {
+        writes = subst (λ (v : Verdict). WritesFront v.before v.decision old new) (sym is) (record { text = p.0; is = p.1; written = p.2 });
+      })
+
+  pub ran_complete : (left : Option (List ℕ)) (source_old source_new sink_old sink_new : ℕ) → (r ≡ 5 → Rose sink_old sink_new) → IfSome left (λ bytes. Completes bytes source_old source_new sink_old sink_new r)
+  ran_complete left source_old source_new sink_old sink_new write = for_all left (λ bytes whole source sink. go sink statuses)
+    where
+      go : (Rose sink_old sink_new → ⊥) → (r ≡ 0) ⊎ ((r ≡ 5) ⊎ (r ≡ 7)) → (r ≡ 0) ⊎ (r ≡ 7)
+      go sink (inl e) = inl e
+      go sink (inr (inl e)) = absurd (sink (write e))
+      go sink (inr (inr e)) = inr e
