@@ -5,7 +5,7 @@ use Rattle.std.proofs.lemmas.List.{set_past}
 use Rattle.aim_msg.specs.declared.messages.Params.{Params}
 use Rattle.aim_msg.specs.declared.replies.Reply.{Reply}
 use Rattle.aim_geometry.specs.Bounded.{min_with}
-use Rattle.aim_fcfs.specs.Distances.{distances_with}
+use Rattle.aim_session.specs.Distances.{distances_with}
 use Rattle.aim_rules.specs.Distance.{asked_from, is_blocked_reply}
 use Rattle.aim_rules.specs.History.{is_confirm}
 

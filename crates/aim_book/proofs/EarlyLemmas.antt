@@ -13,7 +13,7 @@ use Rattle.aim_paths.specs.Intersection.{Intersection}
 use Rattle.aim_paths.specs.Policies.{has_lane}
 use Rattle.aim_paths.specs.declared.policies.Kind.{Kind}
 use Rattle.aim_buffers.specs.Cells.{HaveCells}
-use Rattle.aim_fcfs.specs.Distances.{exceeded}
+use Rattle.aim_session.specs.Distances.{exceeded}
 use Rattle.aim_pool.specs.declared.spans.Span.{Span}
 use Rattle.aim_rules.specs.Answer.{exceeds, gives_way, where_so}
 use Rattle.aim_rules.specs.Cells.{cells}

@@ -12,7 +12,7 @@ use Rattle.aim_paths.specs.Valid.{IsValid}
 use Rattle.aim_paths.specs.declared.policies.Kind.{Kind}
 use Rattle.aim_tiles.specs.Cells.{cell_cmp, has_cell}
 use Rattle.aim_session.proofs.CallLaws.{calls_none}
-use Rattle.aim_fcfs.proofs.DistanceLaws.{distances_none}
+use Rattle.aim_session.proofs.DistanceLaws.{distances_none}
 use Rattle.aim_rules.specs.Kept.{owns}
 use Rattle.aim_session.specs.Kept.{no_session}
 use Rattle.aim_session.proofs.SessionLaws.{sessions_none}

@@ -9,7 +9,7 @@ use Rattle.aim_msg.specs.declared.entries.Entry.{Entry}
 use Rattle.aim_paths.specs.Intersection.{Intersection}
 use Rattle.aim_tiles.specs.Cells.{has_cell as has_taken}
 use Rattle.aim_session.proofs.CallLaws.{calls_same}
-use Rattle.aim_fcfs.proofs.DistanceLaws.{distances_same}
+use Rattle.aim_session.proofs.DistanceLaws.{distances_same}
 use Rattle.aim_rules.specs.Answer.{is_stopped}
 use Rattle.aim_rules.specs.History.{fresh, is_fresh, is_stop, now_of}
 use Rattle.aim_rules.specs.Kept.{changes, is_owned}

@@ -17,8 +17,8 @@ use Rattle.aim_tiles.specs.Sheets.{AreAhead, AreTiles}
 use Rattle.aim_buffers.specs.Requests.{IsPreparedFor, Request}
 use Rattle.aim_session.specs.Calls.{call_of}
 use Rattle.aim_session.proofs.CallLaws.{calls_more}
-use Rattle.aim_fcfs.specs.Distances.{distances_with}
-use Rattle.aim_fcfs.proofs.DistanceLaws.{distances_entry}
+use Rattle.aim_session.specs.Distances.{distances_with}
+use Rattle.aim_session.proofs.DistanceLaws.{distances_entry}
 use Rattle.aim_rules.specs.Answer.{answer, is_stopped}
 use Rattle.aim_geometry.specs.Bounded.{min_with}
 use Rattle.aim_rules.specs.Distance.{asked_from, is_blocked_reply}

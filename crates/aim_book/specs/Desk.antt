@@ -11,7 +11,7 @@ use Rattle.aim_rules.specs.Answer.{is_stopped}
 use Rattle.aim_rules.specs.History.{Fresh, fresh}
 use Rattle.aim_rules.specs.Kept.{changes, policy_in}
 use Rattle.aim_rules.specs.Known.{Known}
-use Rattle.aim_fcfs.specs.Distances.{AreDistances}
+use Rattle.aim_session.specs.Distances.{AreDistances}
 use Rattle.aim_session.specs.Kept.{AreSessions, no_session}
 use Rattle.aim_book.specs.declared.desks.Desk.{Desk}
 use Rattle.aim_reservations.specs.declared.reservations.Reservation.{Reservation}

@@ -2,12 +2,11 @@
 
 use crate::desks::Desk;
 use aim_buffers::Prepared;
-use aim_fcfs::Distances;
 use aim_msg::{Act, Entry, MOST_ENTRIES, MOST_VEHICLES, Message, OPERATOR, Order, Reply};
 use aim_paths::Layout;
 use aim_pool::Pool;
 use aim_reservations::Reservations;
-use aim_session::{Approaches, Sessions};
+use aim_session::{Approaches, Distances, Sessions};
 use aim_switch::Timeline;
 use aim_tiles::Steps;
 use std::alloc::{AllocError, Global};

@@ -1,8 +1,7 @@
 //! What a manager keeps of its history.
 
-use aim_fcfs::Distances;
 use aim_reservations::Reservations;
-use aim_session::Sessions;
+use aim_session::{Distances, Sessions};
 use aim_switch::Timeline;
 use std::sync::ledger::Ledger;
 

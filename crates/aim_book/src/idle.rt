@@ -2,11 +2,10 @@
 
 use crate::book::{Book, OpenFault};
 use crate::desks::Desk;
-use aim_fcfs::Distances;
 use aim_msg::Entry;
 use aim_paths::Layout;
 use aim_reservations::IdleReservations;
-use aim_session::{Approaches, Sessions};
+use aim_session::{Approaches, Distances, Sessions};
 use aim_switch::Timeline;
 use aim_tiles::Steps;
 use std::alloc::Global;

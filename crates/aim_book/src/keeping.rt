@@ -1,7 +1,7 @@
 //! What a fresh message and its answer change of the distance of a lane.
 
 ghost use Rattle.std.specs.Prelude.{◌≡◌, length};
-ghost use Rattle.aim_fcfs.specs.Distances.{distances_with};
+ghost use Rattle.aim_session.specs.Distances.{distances_with};
 ghost use Rattle.aim_rules.specs.History.{params_of};
 
 use crate::desks::Desk;

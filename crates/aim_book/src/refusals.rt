@@ -19,11 +19,10 @@ ghost use Rattle.aim_book.specs.Desk.{Tells};
 
 use crate::desks::Desk;
 use aim_buffers::Prepared;
-use aim_fcfs::next_allowed;
 use aim_msg::{Body, Params, Reason, Reply};
 use aim_paths::{Kind, Layout};
 use aim_reservations::{first_step, reaches};
-use aim_session::Approaches;
+use aim_session::{Approaches, next_allowed};
 use std::sync::ledger::Ledger;
 
 impl<L: Ledger> Desk<L> {

@@ -19,7 +19,7 @@ use Rattle.aim_tiles.proofs.counters.Steps.TheSendSync as steps
 use Rattle.aim_tiles.proofs.tables.Table.TheSendSync as tiles
 use Rattle.aim_session.proofs.sessions.Sessions.TheSendSync as sessions
 use Rattle.aim_switch.proofs.timelines.Timeline.TheSendSync as timeline
-use Rattle.aim_fcfs.proofs.distances.Distances.TheSendSync as distances
+use Rattle.aim_session.proofs.distances.Distances.TheSendSync as distances
 use Rattle.aim_session.proofs.approaches.Approaches.TheSendSync as approaches
 use Rattle.aim_buffers.specs.contracts.requests.Prepared as Prepared
 use Rattle.aim_book.proofs.book.Full.TheSendSync as full

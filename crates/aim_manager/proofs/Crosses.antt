@@ -13,7 +13,7 @@ use Rattle.aim_pool.specs.contracts.sheets.Sheet as Sheet
 use Rattle.aim_tiles.proofs.idle.IdleTable.TheSendSync as idle
 use Rattle.aim_session.proofs.sessions.Sessions.TheSendSync as sessions
 use Rattle.aim_switch.proofs.timelines.Timeline.TheSendSync as timeline
-use Rattle.aim_fcfs.proofs.distances.Distances.TheSendSync as distances
+use Rattle.aim_session.proofs.distances.Distances.TheSendSync as distances
 use Rattle.aim_session.proofs.approaches.Approaches.TheSendSync as approaches
 use Rattle.aim_book.specs.contracts.idle.IdleBook as IdleBook
 use Rattle.aim_book.specs.contracts.idle.IdleDesk as IdleDesk

@@ -3,3 +3,4 @@ pub mod LookLaws
 mod Looking
 pub mod Lists
 pub mod CallLaws
+pub mod DistanceLaws

@@ -2,3 +2,4 @@ pub mod Looks
 pub mod Kept
 pub mod Calls
 pub mod Listed
+pub mod Distances

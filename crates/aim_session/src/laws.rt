@@ -1,4 +1,4 @@
-//! Laws of sessions, calls and histories. Each is the contract of a function that does nothing.
+//! Laws of sessions, calls, distances and histories. Each is the contract of a function that does nothing.
 
 ghost use Rattle.std.specs.Prelude.{◌≡◌, ℕ, ◌<◌, true, false, List, [], ◌∷◌, ◌++◌, length, Option, None, Some, replicate, slice_index_or, slice_set};
 ghost use Rattle.std.specs.List.{list_any};
@@ -20,6 +20,7 @@ ghost use Rattle.aim_session.specs.declared.sessions.Session.{Session};
 ghost use Rattle.aim_session.specs.Kept.{AreSessions, no_session, session_after};
 ghost use Rattle.aim_session.specs.Looks.{is_fresh_look, look_of};
 ghost use Rattle.aim_session.specs.Calls.{AreCalls, call_of, is_call_in};
+ghost use Rattle.aim_session.specs.Distances.{AreDistances, distances_next};
 
 /// Sessions that go on with each fresh message are those of the history.
 pub fn sessions_are_those_of_the_history()
@@ -55,4 +56,13 @@ pub fn calls_are_those_of_the_history()
 pub fn lanes_are_those_approached()
     ensures { (i : Intersection) (calls : List (Option (ℕ × ℕ))) (xs : List Fresh) (v : ℕ) (p : Params) (now lane : ℕ) → AreCalls i calls xs → are_below (length calls) xs ≡ true → v < length calls →
         list_any (is_call_in now i.times.horizon lane) (slice_set calls v (call_of i (Some p))) ≡ is_approached i xs v p now lane }
+{}
+
+/// Distances that go on with each fresh message are the reservation distances of the history.
+pub fn distances_are_those_of_the_history()
+    ensures none { AreDistances (replicate 16 None) [] }
+    ensures more { (ds : List (Option ℕ)) (xs : List Fresh) (x : Fresh) → length ds ≡ 16 → AreDistances ds xs → AreDistances (distances_next ds x) (xs ++ x ∷ []) }
+    ensures entry { (ds : List (Option ℕ)) (h : List Entry) (e : Entry) → length ds ≡ 16 → is_fresh h e ≡ true → AreDistances ds (fresh h) →
+        AreDistances (distances_next ds (record { place = length h; now = now_of h e.moment; entry = e })) (fresh (h ++ e ∷ [])) }
+    ensures same { (ds : List (Option ℕ)) (h : List Entry) (e : Entry) → is_fresh h e ≡ false → AreDistances ds (fresh h) → AreDistances ds (fresh (h ++ e ∷ [])) }
 {}

@@ -2,9 +2,8 @@
 
 ghost use Rattle.std.specs.Prelude.{◌≡◌, ◌<◌, length};
 
-use aim_fcfs::{Distances, next_allowed};
 use aim_msg::{Body, Message, Reason, Reply};
-use aim_session::{Approaches, Look, Sessions};
+use aim_session::{Approaches, Distances, Look, Sessions, next_allowed};
 use std::process::Abort;
 use tests_samples::{confirmed, request};
 

@@ -1,5 +1,5 @@
 use Rattle.std.proofs.Common.{◌∙◌, ap}
-use Rattle.aim_fcfs.specs.Distances.{distances_with}
+use Rattle.aim_session.specs.Distances.{distances_with}
 use Rattle.aim_book.proofs.DistanceLemmas.{distances_past}
 use Rattle.aim_book.proofs.desks.Desk.keep_distance.Goals as goal
 

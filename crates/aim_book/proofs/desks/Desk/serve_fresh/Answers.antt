@@ -2,7 +2,7 @@ use Rattle.std.proofs.Common.{◌≡◌, ◌<◌, ◌≤◌, ◌+◌, length, sy
 use Rattle.std.proofs.lemmas.List.{get_or-set_same}
 use Rattle.std.specs.Prelude.{slice_set, slice_index_or}
 use Rattle.aim_msg.specs.declared.messages.Message.{Message}
-use Rattle.aim_fcfs.specs.Distances.{distances_with}
+use Rattle.aim_session.specs.Distances.{distances_with}
 use Rattle.aim_session.specs.Kept.{no_session, session_after}
 use Rattle.aim_session.specs.Calls.{call_of}
 use Rattle.aim_rules.specs.History.{fresh, is_confirm, now_of, params_of}

@@ -4,7 +4,7 @@ use Rattle.std.proofs.lemmas.Bool.{lt-leb}
 use Rattle.aim_rules.specs.Cells.{cells}
 use Rattle.aim_rules.specs.Distance.{asked_from}
 use Rattle.aim_rules.proofs.GoodLemmas.{good_params}
-use Rattle.aim_fcfs.specs.Distances.{exceeded}
+use Rattle.aim_session.specs.Distances.{exceeded}
 use Rattle.aim_book.proofs.EarlyLemmas.{timely_is}
 use Rattle.aim_rules.specs.Known.{in_the_way_by, too_distant_by, too_far_by}
 use Rattle.std.specs.Option.{option_or}

@@ -1,5 +1,5 @@
-use Rattle.aim_fcfs.proofs.DistanceLaws.{distances_none, distances_more, distances_entry, distances_same}
-use Rattle.aim_fcfs.proofs.laws.distances_are_those_of_the_history.Goals as goal
+use Rattle.aim_session.proofs.DistanceLaws.{distances_none, distances_more, distances_entry, distances_same}
+use Rattle.aim_session.proofs.laws.distances_are_those_of_the_history.Goals as goal
 
 pub returns-clause-none : goal.returns-clause-none
 returns-clause-none c = distances_none

@@ -13,7 +13,7 @@ use Rattle.aim_rules.specs.Kept.{distance_next}
 use Rattle.aim_rules.proofs.HistoryLaws.{fresh-one, fresh-none}
 use Rattle.aim_rules.proofs.HistoryLemmas.{served}
 use Rattle.aim_rules.proofs.LaneLaws.{reservation_distance-snoc}
-use Rattle.aim_fcfs.specs.Distances.{AreDistances, distances_next, distances_with}
+use Rattle.aim_session.specs.Distances.{AreDistances, distances_next, distances_with}
 
 pub distances_none : AreDistances (replicate 16 None) []
 distances_none lane l = get_or-replicate 16 lane None None l

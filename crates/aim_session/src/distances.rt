@@ -1,11 +1,11 @@
-//! The reservation distances of lanes.
+//! First come, first served: from how far away vehicles of a lane may ask, and when a refused one may ask again.
 
 ghost use Rattle.std.specs.Prelude.{◌≡◌, ◌<◌, ◌≤◌, None, Some, replicate, slice_index_or, slice_set};
 ghost use Rattle.std.specs.Result.{result_err};
 ghost use Rattle.aim_msg.specs.declared.entries.TheConstants.{LATEST_MOMENT};
 ghost use Rattle.aim_geometry.specs.Bounded.{min_with};
 ghost use Rattle.aim_rules.specs.Asking.{next_allowed as next_allowed_of};
-ghost use Rattle.aim_fcfs.specs.Distances.{exceeded};
+ghost use Rattle.aim_session.specs.Distances.{exceeded};
 
 use std::marker::Model;
 
