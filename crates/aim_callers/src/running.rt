@@ -48,16 +48,16 @@ fn side_by_side<R: Threads + Wait + Sync, H: Hold>(
     rt: &R,
     shards: &Shards,
     lines: &[ShardLine],
-    callers: &mut Vec<Caller>,
+    callers: &mut [Caller],
     workers: u32,
     hold: &H,
 )
     requires workers { 0 < workers }
     requires script { IsScript lines.now }
     requires sets { length shards.now.sets ≡ length (sets_of lines.now) }
-    requires ready { All (IsReady shards.now) callers.old.items }
-    ensures count { length callers.new.items ≡ length callers.old.items }
-    ensures called { All (HasCalled shards.now lines.now) callers.new.items }
+    requires ready { All (IsReady shards.now) callers.old }
+    ensures count { length callers.new ≡ length callers.old }
+    ensures called { All (HasCalled shards.now lines.now) callers.new }
 {
     thread::for_each_mut(
         rt,

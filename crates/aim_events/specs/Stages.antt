@@ -109,6 +109,11 @@ refused number (refusal.Bad why) = ending.Bad number why
 refused number (refusal.Limit which) = ending.Limit which
 refused number refusal.NoMemory = ending.NoMemory
 
+-- what the line of that number comes to at a stage: the next stage, or what its refusal comes to
+abbrev pub IsTold : Stage → List ℕ → ℕ → Result Stage EventEnding → Type 0
+IsTold s line number (Ok next) = (before : List Line) → Stands before s → Judged before line (Ok next)
+IsTold s line number (Err ending) = (why : Refusal) × (ending ≡ refused number why) × ((before : List Line) → Stands before s → Judged before line (Err why))
+
 -- what reading a script comes to, by what the source has left and the count of its faults, before and after
 pub record Comes (result : Result EventScript EventEnding) (left_old left_new : Option (List ℕ)) (faults_old faults_new : ℕ) : Type 0 where
   pub reads : Reads left_old result

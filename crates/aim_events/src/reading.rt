@@ -8,7 +8,7 @@ ghost use Rattle.aim_plans.specs.Scripts.{TakesAtMost};
 ghost use Rattle.aim_events.specs.Fits.{IsFit};
 ghost use Rattle.aim_events.specs.Scripts.{Reads};
 ghost use Rattle.aim_events.specs.Short.{StopsShort};
-ghost use Rattle.aim_events.specs.Stages.{Comes, at_fault, refused};
+ghost use Rattle.aim_events.specs.Stages.{Comes, IsTold, at_fault, refused};
 
 use crate::scripts::{EventEnding, EventScript};
 use crate::stages::{Refusal, Stage};
@@ -16,10 +16,11 @@ use aim_io::{LineFault, LineReader, Source};
 use aim_script::{Kind, Limit};
 use std::alloc::Global;
 
-// What a fault of the input comes to.
-fn after_fault(fault: LineFault) -> EventEnding
+// What a fault of the input comes to. The stage is let go.
+fn after_fault(stage: Stage, fault: LineFault) -> EventEnding
     ensures { result ≡ at_fault fault }
 {
+    drop(stage);
     match fault {
         LineFault::Read => EventEnding::Read,
         LineFault::Long(number) => EventEnding::Bad(number, Kind::Long),
@@ -39,6 +40,16 @@ fn after_refusal(number: u32, refusal: Refusal) -> EventEnding
     }
 }
 
+// Takes the line of that number.
+fn take_line(stage: Stage, alloc: Global, line: &[u8], number: u32) -> Result<Stage, EventEnding>
+    ensures { IsTold stage line.now number result }
+{
+    match stage.take(alloc, line) {
+        Ok(next) => Ok(next),
+        Err(why) => Err(after_refusal(number, why)),
+    }
+}
+
 // Reads the lines of a script by a new reader, to its end, or to the line that decides.
 fn read_lines<S: Source>(
     alloc: Global,
@@ -52,17 +63,14 @@ fn read_lines<S: Source>(
     let mut number = 0u32;
     'lines: loop {
         match reader.advance(source) {
-            Err(fault) => {
-                drop(stage);
-                return Err(after_fault(fault));
-            }
+            Err(fault) => return Err(after_fault(stage, fault)),
             Ok(false) => return stage.end(number),
             Ok(true) => {}
         }
         number += 1;
-        match stage.take(alloc, reader.line()) {
+        match take_line(stage, alloc, reader.line(), number) {
             Ok(next) => stage = next,
-            Err(refusal) => return Err(after_refusal(number, refusal)),
+            Err(ending) => return Err(ending),
         }
     }
 }

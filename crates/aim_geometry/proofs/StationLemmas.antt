@@ -44,6 +44,12 @@ line_le m j x y top h p q =
     parts : (d j x y top : ℕ) → x ≤ top → y ≤ top → d * x + j * y ≤ (d + j) * top
     parts d j x y top p q = grind arith
 
+-- the terms of a line fit a word of 64 bits, and so does their sum
+pub line_fits : (m j x y : ℕ) → m ≤ 4096 → j ≤ m → x ≤ 1000000 → y ≤ 1000000 → Fits w64 ((m - j) * x) × Fits w64 (j * y) × Fits w64 ((m - j) * x + j * y)
+line_fits m j x y most h p q =
+    let all = line_le m j x y 1000000 h p q in
+    (omega (arith, all, most), omega (arith, all, most), omega (arith, all, most))
+
 square : (a : ℕ) → a ^ 2 ≡ a * a
 square a = rw (pow-suc a 1, pow-suc a 0, pow-zero a) (omega arith)
 

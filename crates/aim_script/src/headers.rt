@@ -184,6 +184,22 @@ fn with_policy(
     }
 }
 
+// A layout with a phase more, and its names.
+fn with_phase(
+    mut builder: Builder,
+    names: Names,
+    red: u32,
+    green: u32,
+    lanes: u16,
+) -> Result<Place, Refusal>
+    ensures { (before : List Line) → StandsAt before (Place.Policies builder names) → Goes before (Line.Phase red green lanes) result }
+{
+    match builder.add_phase(red, green, lanes) {
+        Ok(()) => Ok(Place::Policies(builder, names)),
+        Err(_) => Err(Refusal::Bad(Kind::Phase)),
+    }
+}
+
 // The layout, where it is whole and there is a vehicle.
 fn finished(builder: Builder, vehicles: u32) -> Result<Layout, Refusal>
     ensures ok { IfOk result (λ layout. (finish_fault builder ≡ None) × (vehicles == 0 ≡ false) × (layout ≡ builder)) }
@@ -296,10 +312,7 @@ impl Place {
         ensures { (before : List Line) → StandsAt before self → Goes before (Line.Phase red green lanes) result }
     {
         match self {
-            Place::Policies(mut builder, names) => match builder.add_phase(red, green, lanes) {
-                Ok(()) => Ok(Place::Policies(builder, names)),
-                Err(_) => Err(Refusal::Bad(Kind::Phase)),
-            },
+            Place::Policies(builder, names) => with_phase(builder, names, red, green, lanes),
             _other => Err(Refusal::Bad(Kind::Order)),
         }
     }

@@ -50,20 +50,21 @@ lines-preserved g c =
     }
 
 -- the line isn't taken
-pub returns-in-Err-take : goal.returns-in-Err-take
-returns-in-Err-take g c =
+pub returns-in-Err-take_line : goal.returns-in-Err-take_line
+returns-in-Err-take_line g c =
     let i = c.lines.invariant in
     let e = c.in-Ok-true.ensures in
     let t = c.in-Ok-true.field-0-test in
     let new = c.advance.new.self in
-    let refusal = c.in-Err-take.refusal in
+    let told = c.in-Err-take_line.ensures in
+    let refusal = told.0 in
     let answers = rw t at (e.step i.knows i.no_fault) in
-    let judged = subst (λ (line : List ℕ). Judged i.reached.before line (Err c.in-Err-take.refusal)) c.line.ensures (c.in-Err-take.ensures i.reached.before i.reached.stands) in record {
-      reads = rw c.after_refusal.ensures (refused_line _ _ _ c.lines.reader new c.lines.stage i.reached (c.lines.number + 1) refusal (ap (λ n. n + 1) i.number) judged answers);
+    let judged = subst (λ (line : List ℕ). Judged i.reached.before line (Err told.0)) c.line.ensures (told.2 i.reached.before i.reached.stands) in record {
+      reads = rw told.1 (refused_line _ _ _ c.lines.reader new c.lines.stage i.reached (c.lines.number + 1) refusal (ap (λ n. n + 1) i.number) judged answers);
       fits = tt;
       ended = tt;
-      short = λ is. absurd (no_read (c.lines.number + 1) refusal c.after_refusal.result c.after_refusal.ensures is);
-      read = λ is. absurd (no_read (c.lines.number + 1) refusal c.after_refusal.result c.after_refusal.ensures is);
+      short = λ is. absurd (no_read (c.lines.number + 1) refusal c.in-Err-take_line.ending told.1 is);
+      read = λ is. absurd (no_read (c.lines.number + 1) refusal c.in-Err-take_line.ending told.1 is);
       source = omega (arith, i.later, c.advance.ensures.later);
       most = most _ _ new (placed_more _ _ _ c.lines.reader new true i.reached.placed (rw t at e.taken) (rw t at e.after)) e.sound;
     }

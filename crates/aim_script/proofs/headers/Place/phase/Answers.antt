@@ -1,8 +1,7 @@
-use Rattle.aim_script.proofs.HeaderLemmas.{phase_taken, phase_falls}
+use Rattle.std.proofs.Common.{subst}
+use Rattle.aim_script.specs.declared.headers.Place.{Place}
+use Rattle.aim_script.specs.Headers.{StandsAt}
 use Rattle.aim_script.proofs.headers.Place.phase.Goals as goal
 
-pub returns-in-Ok : goal.returns-in-Ok
-returns-in-Ok c before st = phase_taken before _ _ _ _ _ _ _ c.in-Policies.is c.in-Ok.ensures.fault c.in-Ok.ensures.ok st
-
-pub returns-in-Err : goal.returns-in-Err
-returns-in-Err c before st = phase_falls before _ _ _ _ _ _ _ c.in-Policies.is c.in-Err.ensures.fault st
+pub returns-in-Policies : goal.returns-in-Policies
+returns-in-Policies c before st = c.with_phase.ensures before (subst (λ (p : Place). StandsAt before p) c.in-Policies.is st)
