@@ -11,7 +11,7 @@ use Rattle.aim_plans.specs.Scripts.{TakesAtMost as TakesAtMostOfDrive}
 use Rattle.aim_plans.specs.Short.{StopsShort as StopsShortDrive}
 use Rattle.aim_driving.specs.Commands.{Completes as CompletesDrive, Shows as ShowsDrive, ShowsFront as ShowsFrontOfDrive}
 use Rattle.aim_driving.specs.Generated.{Counts, CountsFront}
-use Rattle.aim_grid_script.specs.Short.{StopsShort as StopsShortGrid}
+use Rattle.aim_routes.specs.Short.{StopsShort as StopsShortGrid}
 use Rattle.aim_routing.specs.Commands.{Completes as CompletesGrid, Shows as ShowsGrid, ShowsFront as ShowsFrontOfGrid}
 use Rattle.aim_claims.specs.Short.{StopsShort as StopsShortClaims}
 use Rattle.aim_callers.specs.Commands.{Completes as CompletesShards, Shows, ShowsFront}

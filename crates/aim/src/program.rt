@@ -12,7 +12,7 @@ ghost use Rattle.aim.specs.Commands.{IsWithin, asked_in, command_of as command_i
 ghost use Rattle.aim_plans.specs.Scripts.{TakesAtMost as TakesAtMostOfDrive};
 ghost use Rattle.aim_plans.specs.Short.{StopsShort as StopsShortDrive};
 ghost use Rattle.aim_driving.specs.Commands.{Completes as CompletesDrive, Shows as ShowsDrive, ShowsFront as ShowsFrontOfDrive};
-ghost use Rattle.aim_grid_script.specs.Short.{StopsShort as StopsShortGrid};
+ghost use Rattle.aim_routes.specs.Short.{StopsShort as StopsShortGrid};
 ghost use Rattle.aim_routing.specs.Commands.{Completes as CompletesGrid, Shows as ShowsGrid, ShowsFront as ShowsFrontOfGrid};
 ghost use Rattle.aim_claims.specs.Short.{StopsShort as StopsShortClaims};
 ghost use Rattle.aim_callers.specs.Commands.{Completes as CompletesShards, Shows, ShowsFront};

@@ -4,3 +4,7 @@ pub mod Kinds
 pub mod Verdicts
 pub mod Fits
 pub mod Stages
+pub mod Scripts
+pub mod Short
+pub mod Endings
+pub mod LinesRead

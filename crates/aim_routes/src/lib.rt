@@ -1,11 +1,16 @@
-//! Scripts of several crossings: what their lines say, which line decides, and how far a script has come, line by line.
+//! Scripts of several crossings: what their lines say, which line decides, how far a script has come, line by line, and
+//! reading a whole one.
 #![tactic(auto)]
 
 mod checks;
 mod decisions;
+mod endings;
+mod reading;
 mod routes;
 mod stages;
 
 pub use decisions::{GridDecision, GridKind};
+pub use endings::GridEnding;
+pub use reading::read_grid;
 pub use routes::{PlannedLeg, Routes};
 pub use stages::{Refusal, Stage};

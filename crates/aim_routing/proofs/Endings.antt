@@ -11,9 +11,9 @@ use Rattle.aim_routes.specs.declared.decisions.GridDecision.TheVariants as decis
 use Rattle.aim_routes.specs.declared.routes.Routes.{Routes}
 use Rattle.aim_routes.specs.Fits.{AreRoutesOf}
 use Rattle.aim_routes.specs.Verdicts.{Verdict, grid_verdict}
-use Rattle.aim_grid_script.specs.declared.endings.GridEnding.{GridEnding}
-use Rattle.aim_grid_script.specs.declared.endings.GridEnding.TheVariants as ending
-use Rattle.aim_grid_script.specs.Scripts.{Decides, IsRead, Reads}
+use Rattle.aim_routes.specs.declared.endings.GridEnding.{GridEnding}
+use Rattle.aim_routes.specs.declared.endings.GridEnding.TheVariants as ending
+use Rattle.aim_routes.specs.Scripts.{Decides, IsRead, Reads}
 use Rattle.aim_routing.specs.Commands.{Completes, IsReport, IsTextOf, Shows, ShowsFront, Writes, WritesFront}
 use Rattle.aim_routing.specs.Endings.{Ends, Refuses}
 use Rattle.aim_routing.specs.Refusals.{refusal_text, status_of}

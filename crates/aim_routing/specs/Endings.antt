@@ -5,8 +5,8 @@ use Rattle.aim_io.specs.Causes.{Rose}
 use Rattle.aim_io.specs.Known.{AppendsFront}
 use Rattle.aim_routes.specs.declared.decisions.GridDecision.{GridDecision}
 use Rattle.aim_routes.specs.declared.decisions.GridDecision.TheVariants as decision
-use Rattle.aim_grid_script.specs.declared.endings.GridEnding.{GridEnding}
-use Rattle.aim_grid_script.specs.declared.endings.GridEnding.TheVariants as ending
+use Rattle.aim_routes.specs.declared.endings.GridEnding.{GridEnding}
+use Rattle.aim_routes.specs.declared.endings.GridEnding.TheVariants as ending
 use Rattle.aim_routing.specs.Refusals.{refusal_text, status_of}
 
 -- the one line of the decision was written, and the status is its own, or the sink failed, and a front of the line was

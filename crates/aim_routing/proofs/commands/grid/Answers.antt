@@ -1,7 +1,7 @@
 use Rattle.std.proofs.Common.{◌≡◌, Result, Err}
 use Rattle.aim_routes.specs.declared.routes.Routes.{Routes}
-use Rattle.aim_grid_script.specs.declared.endings.GridEnding.{GridEnding}
-use Rattle.aim_grid_script.specs.declared.endings.GridEnding.TheVariants as ending
+use Rattle.aim_routes.specs.declared.endings.GridEnding.{GridEnding}
+use Rattle.aim_routes.specs.declared.endings.GridEnding.TheVariants as ending
 use Rattle.aim_routing.proofs.Endings.{promised, ran_complete, ran_four, ran_front, ran_seven, ran_status, ran_whole}
 use Rattle.aim_routing.proofs.commands.grid.Goals as goal
 

@@ -1,10 +1,11 @@
 //! Why there is no whole script.
 
 ghost use Rattle.std.specs.Prelude.{◌≡◌};
-ghost use Rattle.aim_grid_script.specs.Endings.{of_fault, of_refusal};
+ghost use Rattle.aim_routes.specs.Endings.{of_fault, of_refusal};
 
+use crate::decisions::GridKind;
+use crate::stages::Refusal;
 use aim_io::LineFault;
-use aim_routes::{GridKind, Refusal};
 use aim_script::{Kind, Limit};
 
 /// Why there are no routes.

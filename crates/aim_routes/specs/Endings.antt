@@ -12,8 +12,8 @@ use Rattle.aim_routes.specs.declared.stages.Refusal.{Refusal}
 use Rattle.aim_routes.specs.declared.stages.Refusal.TheVariants as refusal
 use Rattle.aim_routes.specs.Fits.{AreRoutesOf, AreWithin}
 use Rattle.aim_routes.specs.Verdicts.{at_end}
-use Rattle.aim_grid_script.specs.declared.endings.GridEnding.{GridEnding}
-use Rattle.aim_grid_script.specs.declared.endings.GridEnding.TheVariants as ending
+use Rattle.aim_routes.specs.declared.endings.GridEnding.{GridEnding}
+use Rattle.aim_routes.specs.declared.endings.GridEnding.TheVariants as ending
 
 -- what a fault of the input comes to
 abbrev pub of_fault : LineFault → GridEnding

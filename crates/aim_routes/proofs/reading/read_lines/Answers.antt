@@ -1,5 +1,5 @@
-use Rattle.aim_grid_script.proofs.Reaching.{reading_begins, reading_ends, reading_fits, reading_goes, reading_less, reading_stops, reading_took}
-use Rattle.aim_grid_script.proofs.reading.read_lines.Goals as goal
+use Rattle.aim_routes.proofs.Reaching.{reading_begins, reading_ends, reading_fits, reading_goes, reading_less, reading_stops, reading_took}
+use Rattle.aim_routes.proofs.reading.read_lines.Goals as goal
 
 pub lines-init : goal.lines-init
 lines-init g c = reading_begins _ _ _ _ c.new-reader.ensures c.new-stage.ensures

@@ -1,4 +1,4 @@
-use Rattle.aim_grid_script.proofs.reading.take_line.Goals as goal
+use Rattle.aim_routes.proofs.reading.take_line.Goals as goal
 
 pub returns-in-Ok : goal.returns-in-Ok
 returns-in-Ok c = c.in-Ok.ensures

@@ -7,14 +7,16 @@ ghost use Rattle.aim_plans.specs.Scripts.{TakesAtMost};
 ghost use Rattle.aim_grid_read.specs.declared.lines.GridLine.{GridLine};
 ghost use Rattle.aim_routes.specs.Fits.{AreWithin};
 ghost use Rattle.aim_routes.specs.Stages.{Stands};
-ghost use Rattle.aim_grid_script.specs.Endings.{Ended};
-ghost use Rattle.aim_grid_script.specs.LinesRead.{Comes, IsTaken, IsTold, Steps};
-ghost use Rattle.aim_grid_script.specs.Scripts.{Reads};
-ghost use Rattle.aim_grid_script.specs.Short.{StopsShort};
+ghost use Rattle.aim_routes.specs.Endings.{Ended};
+ghost use Rattle.aim_routes.specs.LinesRead.{Comes, IsTaken, IsTold, Steps};
+ghost use Rattle.aim_routes.specs.Scripts.{Reads};
+ghost use Rattle.aim_routes.specs.Short.{StopsShort};
 
+use crate::decisions::GridKind;
 use crate::endings::{GridEnding, of_fault, of_refusal};
+use crate::routes::Routes;
+use crate::stages::Stage;
 use aim_io::{LineReader, Source};
-use aim_routes::{GridKind, Routes, Stage};
 use aim_script::Kind;
 use std::alloc::Global;
 

@@ -11,11 +11,11 @@ use Rattle.aim_routes.specs.declared.stages.Stage.{Stage}
 use Rattle.aim_routes.specs.declared.stages.Refusal.{Refusal}
 use Rattle.aim_routes.specs.Stages.{Judged, Stands}
 use Rattle.aim_routes.specs.Verdicts.{Verdict, at_end, grid_verdict}
-use Rattle.aim_grid_script.specs.declared.endings.GridEnding.{GridEnding}
-use Rattle.aim_grid_script.specs.declared.endings.GridEnding.TheVariants as ending
-use Rattle.aim_grid_script.specs.Endings.{of_fault, of_refusal}
-use Rattle.aim_grid_script.specs.Scripts.{IsGrid, Reads}
-use Rattle.aim_grid_script.specs.Short.{StopsShort}
+use Rattle.aim_routes.specs.declared.endings.GridEnding.{GridEnding}
+use Rattle.aim_routes.specs.declared.endings.GridEnding.TheVariants as ending
+use Rattle.aim_routes.specs.Endings.{of_fault, of_refusal}
+use Rattle.aim_routes.specs.Scripts.{IsGrid, Reads}
+use Rattle.aim_routes.specs.Short.{StopsShort}
 
 -- the stage after the line of that number, or what decides
 abbrev pub IsTold : Stage → List ℕ → ℕ → Result Stage GridEnding → Type 0

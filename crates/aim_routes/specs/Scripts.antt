@@ -7,8 +7,8 @@ use Rattle.aim_routes.specs.declared.routes.Routes.{Routes}
 use Rattle.aim_routes.specs.Fits.{AreRoutesOf}
 use Rattle.aim_routes.specs.Kinds.{kind_of_fault, limit_of}
 use Rattle.aim_routes.specs.Verdicts.{at_end, grid_verdict}
-use Rattle.aim_grid_script.specs.declared.endings.GridEnding.{GridEnding}
-use Rattle.aim_grid_script.specs.declared.endings.GridEnding.TheVariants as ending
+use Rattle.aim_routes.specs.declared.endings.GridEnding.{GridEnding}
+use Rattle.aim_routes.specs.declared.endings.GridEnding.TheVariants as ending
 
 -- no line is at fault behind those before it, and none goes past a limit
 pub record IsGrid (lines : List GridLine) : Type 0 where

@@ -1,6 +1,6 @@
 use Rattle.std.proofs.Common.{refl}
-use Rattle.aim_grid_script.proofs.Reaching.{breaks, gave, refuses, takes}
-use Rattle.aim_grid_script.proofs.reading.read_line.Goals as goal
+use Rattle.aim_routes.proofs.Reaching.{breaks, gave, refuses, takes}
+use Rattle.aim_routes.proofs.reading.read_line.Goals as goal
 
 pub returns-in-Ok : goal.returns-in-Ok
 returns-in-Ok g c =

@@ -1,5 +1,5 @@
-use Rattle.aim_grid_script.proofs.Reaching.{ends, ends_at, ends_fit, ends_not_read, is_read}
-use Rattle.aim_grid_script.proofs.reading.read_grid.Goals as goal
+use Rattle.aim_routes.proofs.Reaching.{ends, ends_at, ends_fit, ends_not_read, is_read}
+use Rattle.aim_routes.proofs.reading.read_grid.Goals as goal
 
 pub returns-in-Ok-clause-reads : goal.returns-in-Ok-clause-reads
 returns-in-Ok-clause-reads g c = ends _ _ _ c.ended.result c.in-Ok.ensures.comes.0 c.ended.ensures

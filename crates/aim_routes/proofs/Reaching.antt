@@ -35,12 +35,12 @@ use Rattle.aim_routes.specs.Fits.{AreWithin}
 use Rattle.aim_routes.specs.Kinds.{kind_of_fault, limit_of}
 use Rattle.aim_routes.specs.Stages.{Judged, Stands}
 use Rattle.aim_routes.specs.Verdicts.{Judgement, Verdict, at_end, decides, goes_on, grid_verdict, judge, number_after, of_read, unless_bad, unless_limited, verdict_from}
-use Rattle.aim_grid_script.specs.declared.endings.GridEnding.{GridEnding}
-use Rattle.aim_grid_script.specs.declared.endings.GridEnding.TheVariants as ending
-use Rattle.aim_grid_script.specs.Endings.{Ended, of_fault as ending_of_fault, of_refusal}
-use Rattle.aim_grid_script.specs.LinesRead.{Comes, GoesTo, IsBroken, IsLast, IsStopped, IsTaken, IsTold, Steps}
-use Rattle.aim_grid_script.specs.Scripts.{Decides, IsGrid, Reads}
-use Rattle.aim_grid_script.specs.Short.{StopsShort, TookScript, script_after}
+use Rattle.aim_routes.specs.declared.endings.GridEnding.{GridEnding}
+use Rattle.aim_routes.specs.declared.endings.GridEnding.TheVariants as ending
+use Rattle.aim_routes.specs.Endings.{Ended, of_fault as ending_of_fault, of_refusal}
+use Rattle.aim_routes.specs.LinesRead.{Comes, GoesTo, IsBroken, IsLast, IsStopped, IsTaken, IsTold, Steps}
+use Rattle.aim_routes.specs.Scripts.{Decides, IsGrid, Reads}
+use Rattle.aim_routes.specs.Short.{StopsShort, TookScript, script_after}
 
 -- the verdict of bytes that begin with the lines so far is that of what is to come
 abbrev pub Leaves : Option (List ℕ) → Option (List ℕ) → Reader → List GridLine → Type 0

@@ -1,4 +1,0 @@
-pub mod Scripts
-pub mod Short
-pub mod Endings
-pub mod LinesRead
