@@ -6,7 +6,7 @@ use Rattle.std.proofs.lemmas.Bool.{eq-eqb}
 use Rattle.std.proofs.lemmas.List.{append-nil, append_assoc, map-append, take_all}
 use Rattle.std.proofs.lemmas.List.Elements.{All-more, All-push, All-weaker, Contains-append_left, Contains-push}
 use Rattle.std.proofs.lemmas.List.Quantifiers.{all_pairs_push}
-use Rattle.aim_grid_read.specs.Spelled.{IsBare}
+use Rattle.aim_routes.specs.Spelled.{IsBare}
 use Rattle.aim_travel.specs.Models.{AreLegsOf, LegModel, TravellerModel}
 use Rattle.aim_travel.specs.Rode.{Managers}
 use Rattle.aim_travel.specs.Travels.{SetsOut}

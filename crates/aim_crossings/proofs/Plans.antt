@@ -2,7 +2,7 @@
 use Rattle.std.proofs.Common.{◌≡◌, List, [], None, false, sym, ◌∙◌}
 use Rattle.aim_driver.specs.declared.plans.DrivePlan.{DrivePlan}
 use Rattle.aim_driver.specs.declared.plans.PlannedChange.{PlannedChange}
-use Rattle.aim_grid_read.specs.Spelled.{IsBare}
+use Rattle.aim_routes.specs.Spelled.{IsBare}
 
 pub bare_is : (p : DrivePlan) (none : List PlannedChange) → IsBare p → none ≡ []
     → record { first = p.first; lead = p.lead; resend = p.resend; params = p.params; changes = none; cancel = None; ahead = false } ≡ p

@@ -2,7 +2,7 @@
 
 ghost use Rattle.std.specs.Prelude.{◌≡◌, ◌≢◌, ◌<◌, ◌≤◌, [], ◌∷◌, length, map, true, false, All, AllPairs, Contains, IfOk, OnOk};
 ghost use Rattle.std.specs.List.{AllZip};
-ghost use Rattle.aim_grid_read.specs.Spelled.{IsBare};
+ghost use Rattle.aim_routes.specs.Spelled.{IsBare};
 ghost use Rattle.aim_routes.specs.Fits.{AreApart};
 ghost use Rattle.aim_crossings.specs.Making.{AllKeep, AreNew, AreOpen, AreReady, AreSetOut, HasNew, IsMadeLeg, legs_of_all, seat_of, setting_in, setting_of, vehicles_of};
 ghost use Rattle.aim_paths.specs.Valid.{IsValid};

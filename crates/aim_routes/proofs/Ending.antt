@@ -3,8 +3,8 @@ use Rattle.std.proofs.Common.{◌≡◌, ℕ, ◌+◌, false, nat_le, List, leng
 use Rattle.aim_msg.specs.declared.script.Line.TheVariants as plain
 use Rattle.aim_script.specs.declared.headers.Refusal.{Refusal as HeaderRefusal}
 use Rattle.aim_script.specs.declared.headers.Refusal.TheVariants as header_refusal
-use Rattle.aim_grid_read.specs.declared.lines.GridLine.{GridLine}
-use Rattle.aim_grid_read.specs.declared.lines.GridLine.TheVariants as line
+use Rattle.aim_routes.specs.declared.lines.GridLine.{GridLine}
+use Rattle.aim_routes.specs.declared.lines.GridLine.TheVariants as line
 use Rattle.aim_routes.specs.declared.stages.Blocks.{Blocks}
 use Rattle.aim_routes.specs.Said.{parted}
 use Rattle.aim_routes.specs.Stages.{AreBlocks, EndsBlock, Takes, refusal_of}

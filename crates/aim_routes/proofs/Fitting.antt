@@ -7,7 +7,7 @@ use Rattle.std.proofs.lemmas.List.Folds.{list_any_at}
 use Rattle.std.proofs.lemmas.List.Quantifiers.{all_pairs_push}
 use Rattle.aim_geometry.specs.Bounded.{is_outside}
 use Rattle.aim_script.specs.declared.decisions.Kind.TheVariants as why
-use Rattle.aim_grid_read.specs.Spelled.{IsBare}
+use Rattle.aim_routes.specs.Spelled.{IsBare}
 use Rattle.aim_routes.specs.declared.decisions.GridKind.TheVariants as kind
 use Rattle.aim_routes.specs.declared.routes.PlannedLeg.{PlannedLeg}
 use Rattle.aim_routes.specs.Fits.{AreApart, AreLegs, FitsLeg}

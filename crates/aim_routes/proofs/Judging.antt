@@ -15,8 +15,8 @@ use Rattle.aim_script.specs.Kinds.{kind_of_fault as header_kind, kinds as header
 use Rattle.aim_script.specs.Order.{Part as HeaderPart, belongs, to_version, to_ground, to_times, to_lanes, in_moves, in_policies, to_begin, in_body, nothing}
 use Rattle.aim_script.specs.Said.{layout_of, vehicles_in as vehicles_in_plain}
 use Rattle.aim_script.proofs.KindLemmas.{first_kind, first_kind_is, out_of_order}
-use Rattle.aim_grid_read.specs.declared.lines.GridLine.{GridLine}
-use Rattle.aim_grid_read.specs.declared.lines.GridLine.TheVariants as line
+use Rattle.aim_routes.specs.declared.lines.GridLine.{GridLine}
+use Rattle.aim_routes.specs.declared.lines.GridLine.TheVariants as line
 use Rattle.aim_routes.specs.declared.decisions.GridDecision.TheVariants as decision
 use Rattle.aim_routes.specs.declared.decisions.GridKind.{GridKind}
 use Rattle.aim_routes.specs.declared.decisions.GridKind.TheVariants as kind

@@ -7,8 +7,8 @@ use Rattle.aim_geometry.specs.Bounded.{find_map}
 use Rattle.aim_msg.specs.declared.script.Line.{Line}
 use Rattle.aim_msg.specs.declared.script.Line.TheVariants as plain
 use Rattle.aim_script.proofs.AppendLemmas.{filter_map-one, find_map-one}
-use Rattle.aim_grid_read.specs.declared.lines.GridLine.{GridLine}
-use Rattle.aim_grid_read.specs.declared.lines.GridLine.TheVariants as line
+use Rattle.aim_routes.specs.declared.lines.GridLine.{GridLine}
+use Rattle.aim_routes.specs.declared.lines.GridLine.TheVariants as line
 use Rattle.aim_routes.specs.Order.{part_after, in_blocks}
 use Rattle.aim_routes.specs.Said.{Parted, crossings_in, crossings_of, is_of_layout, last_of, leg_in, legs_of, parted, parted_by, parted_with, some_block, until_in, until_of, vehicles_in, vehicles_of}
 use Rattle.aim_routes.specs.Stages.{IsQuiet}

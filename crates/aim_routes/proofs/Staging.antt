@@ -29,11 +29,11 @@ use Rattle.aim_script.specs.Kinds.{kind_of_fault as header_kind}
 use Rattle.aim_script.specs.Said.{layout_of, version_after, vehicles_in as vehicles_in_plain}
 use Rattle.aim_script.specs.Versions.{version_number}
 use Rattle.aim_script.proofs.AppendLemmas.{IsSilent, filter_map-one, layout_same, version_same}
-use Rattle.aim_grid_read.specs.declared.lines.GridLine.{GridLine}
-use Rattle.aim_grid_read.specs.declared.lines.GridLine.TheVariants as line
-use Rattle.aim_grid_read.specs.Legs.{grid_line_at}
-use Rattle.aim_grid_read.specs.Spelled.{IsBare}
-use Rattle.aim_grid_read.proofs.Texts.{grid_was_spelled}
+use Rattle.aim_routes.specs.declared.lines.GridLine.{GridLine}
+use Rattle.aim_routes.specs.declared.lines.GridLine.TheVariants as line
+use Rattle.aim_routes.specs.Legs.{grid_line_at}
+use Rattle.aim_routes.specs.Spelled.{IsBare}
+use Rattle.aim_routes.proofs.Texts.{grid_was_spelled}
 use Rattle.aim_routes.specs.declared.decisions.GridKind.{GridKind}
 use Rattle.aim_routes.specs.declared.decisions.GridKind.TheVariants as kind
 use Rattle.aim_routes.specs.declared.routes.PlannedLeg.{PlannedLeg}

@@ -1,7 +1,7 @@
 -- What holds of the routes of a whole script.
 use Rattle.std.specs.Prelude.{◌≡◌, ◌≢◌, ℕ, ◌*◌, ◌<◌, ◌≤◌, List, length, All, AllPairs}
-use Rattle.aim_grid_read.specs.declared.lines.GridLine.{GridLine}
-use Rattle.aim_grid_read.specs.Spelled.{IsBare}
+use Rattle.aim_routes.specs.declared.lines.GridLine.{GridLine}
+use Rattle.aim_routes.specs.Spelled.{IsBare}
 use Rattle.aim_script.specs.Versions.{version_number}
 use Rattle.aim_routes.specs.declared.routes.PlannedLeg.{PlannedLeg}
 use Rattle.aim_routes.specs.declared.routes.Routes.{Routes}

@@ -12,8 +12,8 @@ use Rattle.aim_script.specs.Kinds.{kind_of_fault as header_kind}
 use Rattle.aim_script.specs.Order.{may_follow as may_follow_in_header}
 use Rattle.aim_script.specs.Said.{last_of as last_of_block, layout_of, version_after}
 use Rattle.aim_plans.specs.Kinds.{vehicles_limit}
-use Rattle.aim_grid_read.specs.declared.lines.GridLine.{GridLine}
-use Rattle.aim_grid_read.specs.declared.lines.GridLine.TheVariants as line
+use Rattle.aim_routes.specs.declared.lines.GridLine.{GridLine}
+use Rattle.aim_routes.specs.declared.lines.GridLine.TheVariants as line
 use Rattle.aim_routes.specs.declared.decisions.GridKind.{GridKind}
 use Rattle.aim_routes.specs.declared.decisions.GridKind.TheVariants as kind
 use Rattle.aim_routes.specs.declared.routes.PlannedLeg.{PlannedLeg}

@@ -1,3 +1,6 @@
+pub mod Legs
+pub mod Spelled
+pub mod Steps
 pub mod Said
 pub mod Order
 pub mod Kinds

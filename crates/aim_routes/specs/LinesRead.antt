@@ -6,7 +6,7 @@ use Rattle.aim_io.specs.declared.lines.LineFault.TheVariants as cause
 use Rattle.aim_io.specs.Causes.{Rose}
 use Rattle.aim_io.specs.Reader.{Faulted, Gave, IsSound, Reader}
 use Rattle.aim_plans.specs.Scripts.{TakesAtMost}
-use Rattle.aim_grid_read.specs.declared.lines.GridLine.{GridLine}
+use Rattle.aim_routes.specs.declared.lines.GridLine.{GridLine}
 use Rattle.aim_routes.specs.declared.stages.Stage.{Stage}
 use Rattle.aim_routes.specs.declared.stages.Refusal.{Refusal}
 use Rattle.aim_routes.specs.Stages.{Judged, Stands}

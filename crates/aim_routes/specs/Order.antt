@@ -1,8 +1,8 @@
 -- In which order the lines of a script of several crossings stand.
 use Rattle.std.specs.Prelude.{Option, Some, None}
 use Rattle.aim_msg.specs.declared.script.Line.TheVariants as plain
-use Rattle.aim_grid_read.specs.declared.lines.GridLine.{GridLine}
-use Rattle.aim_grid_read.specs.declared.lines.GridLine.TheVariants as line
+use Rattle.aim_routes.specs.declared.lines.GridLine.{GridLine}
+use Rattle.aim_routes.specs.declared.lines.GridLine.TheVariants as line
 
 -- the parts of a script, each of which the lines before it lead to
 pub data Part : Type 0 where

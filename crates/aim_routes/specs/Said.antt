@@ -6,8 +6,8 @@ use Rattle.aim_msg.specs.declared.script.Line.TheVariants as plain
 use Rattle.aim_geometry.specs.Bounded.{find_map, last}
 use Rattle.aim_paths.specs.Intersection.{Intersection}
 use Rattle.aim_script.specs.Said.{layout_of, version_after}
-use Rattle.aim_grid_read.specs.declared.lines.GridLine.{GridLine}
-use Rattle.aim_grid_read.specs.declared.lines.GridLine.TheVariants as line
+use Rattle.aim_routes.specs.declared.lines.GridLine.{GridLine}
+use Rattle.aim_routes.specs.declared.lines.GridLine.TheVariants as line
 use Rattle.aim_routes.specs.declared.routes.PlannedLeg.{PlannedLeg}
 
 -- the last line, if there is one

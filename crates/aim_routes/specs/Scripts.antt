@@ -1,6 +1,6 @@
 -- A whole script of several crossings, and what reading one comes to.
 use Rattle.std.specs.Prelude.{◌≡◌, ℕ, List, take, Option, Some, None, IfSome, Result, Ok, Err, slice_get}
-use Rattle.aim_grid_read.specs.declared.lines.GridLine.{GridLine}
+use Rattle.aim_routes.specs.declared.lines.GridLine.{GridLine}
 use Rattle.aim_routes.specs.declared.decisions.GridDecision.{GridDecision}
 use Rattle.aim_routes.specs.declared.decisions.GridDecision.TheVariants as decision
 use Rattle.aim_routes.specs.declared.routes.Routes.{Routes}

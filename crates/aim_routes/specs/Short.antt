@@ -2,7 +2,7 @@
 use Rattle.std.specs.Prelude.{◌≡◌, ℕ, List, [], ◌∷◌, ◌++◌, Option, None, Some}
 use Rattle.aim_io.specs.Lines.{Line as LineOf}
 use Rattle.aim_io.specs.Taken.{TookLines, TookWhole}
-use Rattle.aim_grid_read.specs.declared.lines.GridLine.{GridLine}
+use Rattle.aim_routes.specs.declared.lines.GridLine.{GridLine}
 use Rattle.aim_routes.specs.Verdicts.{Judgement, decides, goes_on, judge}
 
 abbrev pub unless_decided : List GridLine → Judgement → (List GridLine → Option (List GridLine)) → Option (List GridLine)

@@ -18,9 +18,9 @@ use Rattle.aim_script.specs.Kinds.{kind_of_fault as header_kind}
 use Rattle.aim_script.specs.Said.{layout_of}
 use Rattle.aim_script.specs.Versions.{version_number}
 use Rattle.aim_script.specs.declared.versions.ScriptVersion.{ScriptVersion}
-use Rattle.aim_grid_read.specs.declared.lines.GridLine.{GridLine}
-use Rattle.aim_grid_read.specs.declared.lines.GridLine.TheVariants as line
-use Rattle.aim_grid_read.specs.Spelled.{IsBare}
+use Rattle.aim_routes.specs.declared.lines.GridLine.{GridLine}
+use Rattle.aim_routes.specs.declared.lines.GridLine.TheVariants as line
+use Rattle.aim_routes.specs.Spelled.{IsBare}
 use Rattle.aim_routes.specs.declared.decisions.GridDecision.TheVariants as decision
 use Rattle.aim_routes.specs.declared.decisions.GridKind.TheVariants as kind
 use Rattle.aim_routes.specs.declared.routes.Routes.{Routes}

@@ -4,7 +4,7 @@ ghost use Rattle.std.specs.Prelude.{◌≡◌, ◌≤◌, Err, IfOk, List, None,
 ghost use Rattle.std.specs.Io.KnownBytes.{IsAtEnd};
 ghost use Rattle.aim_io.specs.Causes.{Rose};
 ghost use Rattle.aim_plans.specs.Scripts.{TakesAtMost};
-ghost use Rattle.aim_grid_read.specs.declared.lines.GridLine.{GridLine};
+ghost use Rattle.aim_routes.specs.declared.lines.GridLine.{GridLine};
 ghost use Rattle.aim_routes.specs.Fits.{AreWithin};
 ghost use Rattle.aim_routes.specs.Stages.{Stands};
 ghost use Rattle.aim_routes.specs.Endings.{Ended};

@@ -7,9 +7,9 @@ ghost use Rattle.aim_script.specs.declared.headers.Header.{Header as AnyHeader};
 ghost use Rattle.aim_script.specs.Headers.{HasName, Stands as StandsAsHeader};
 ghost use Rattle.aim_script.specs.Said.{vehicles_in};
 ghost use Rattle.aim_script.specs.Versions.{version_number};
-ghost use Rattle.aim_grid_read.specs.declared.lines.GridLine.{GridLine as AnyLine};
-ghost use Rattle.aim_grid_read.specs.declared.lines.GridLine.TheVariants as line_of;
-ghost use Rattle.aim_grid_read.specs.Spelled.{IsBare};
+ghost use Rattle.aim_routes.specs.declared.lines.GridLine.{GridLine as AnyLine};
+ghost use Rattle.aim_routes.specs.declared.lines.GridLine.TheVariants as line_of;
+ghost use Rattle.aim_routes.specs.Spelled.{IsBare};
 ghost use Rattle.aim_routes.specs.declared.stages.Stage.TheVariants as stage;
 ghost use Rattle.aim_routes.specs.Kinds.{leg_kind_of};
 ghost use Rattle.aim_routes.specs.Said.{begins_block, parted, version_of};
@@ -17,10 +17,10 @@ ghost use Rattle.aim_routes.specs.Stages.{AreBlocks, Begins, Ends, EndsBlock, Is
 
 use crate::checks::{LAST_STEP, has_leg, is_bad_plan, spans_in, vehicles_limit};
 use crate::decisions::GridKind;
+use crate::lines::{GridLine, read_grid_line};
 use crate::routes::{PlannedLeg, Routes};
 use aim_driver::DrivePlan;
 use aim_geometry::is_outside;
-use aim_grid_read::{GridLine, read_grid_line};
 use aim_msg::Line;
 use aim_paths::Layout;
 use aim_script::{Headed, Header, Kind, Limit, ScriptVersion, Setting};

@@ -5,7 +5,7 @@ ghost use Rattle.std.specs.Io.KnownBytes.{Appends, IsAtEnd};
 ghost use Rattle.aim_io.specs.Causes.{Rose};
 ghost use Rattle.aim_io.specs.Known.{AppendsFront};
 ghost use Rattle.aim_plans.specs.Scripts.{TakesAtMost};
-ghost use Rattle.aim_grid_read.specs.declared.lines.GridLine.{GridLine};
+ghost use Rattle.aim_routes.specs.declared.lines.GridLine.{GridLine};
 ghost use Rattle.aim_routes.specs.Fits.{AreRoutesOf, AreWithin};
 ghost use Rattle.aim_routes.specs.Short.{StopsShort};
 ghost use Rattle.aim_routing.specs.Endings.{Ends, Refuses};

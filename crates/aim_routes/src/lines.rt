@@ -3,8 +3,8 @@
 ghost use Rattle.std.specs.Prelude.{◌≡◌, ◌<◌, ◌≤◌, ◌==◌, [], None, false, count_by, length};
 ghost use Rattle.aim_words.specs.Faults.{words_of};
 ghost use Rattle.aim_words.specs.Steps.{Gives};
-ghost use Rattle.aim_grid_read.specs.Legs.{form_of, grid_line_at, plain_at};
-ghost use Rattle.aim_grid_read.specs.Steps.{crossings_in, leg_in, leg_of, params_in};
+ghost use Rattle.aim_routes.specs.Legs.{form_of, grid_line_at, plain_at};
+ghost use Rattle.aim_routes.specs.Steps.{crossings_in, leg_in, leg_of, params_in};
 
 use aim_driver::{Changes, DrivePlan};
 use aim_msg::{Line, LineKind, Params};

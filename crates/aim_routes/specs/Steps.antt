@@ -6,8 +6,8 @@ use Rattle.aim_msg.specs.declared.script.LineKind.{LineKind}
 use Rattle.aim_words.specs.Faults.{number8, turns, value_of}
 use Rattle.aim_words.specs.Reading.{turn_of}
 use Rattle.aim_words.specs.Steps.{◌>>=◌, Read, number_in, numbers_in, read_in, vehicle_in}
-use Rattle.aim_grid_read.specs.declared.lines.GridLine.{GridLine}
-use Rattle.aim_grid_read.specs.declared.lines.GridLine.TheVariants as line
+use Rattle.aim_routes.specs.declared.lines.GridLine.{GridLine}
+use Rattle.aim_routes.specs.declared.lines.GridLine.TheVariants as line
 
 unfoldable pub crossings_in : Words → Result GridLine LineKind
 crossings_in words = do

@@ -4,10 +4,10 @@ use Rattle.aim_msg.specs.Texts.{Words}
 use Rattle.aim_words.specs.Faults.{first_fault, rest}
 use Rattle.aim_words.specs.Reading.{at, unless}
 use Rattle.aim_words.proofs.StepLaws.{bind_read, bind_more, numbers_step, vehicle_step}
-use Rattle.aim_grid_read.specs.declared.lines.GridForm.TheVariants as form
-use Rattle.aim_grid_read.specs.declared.lines.GridLine.TheVariants as line
-use Rattle.aim_grid_read.specs.Legs.{crossings_places, leg_places, line_with, plan_at}
-use Rattle.aim_grid_read.specs.Steps.{crossings_in, leg_in, params_in}
+use Rattle.aim_routes.specs.declared.lines.GridForm.TheVariants as form
+use Rattle.aim_routes.specs.declared.lines.GridLine.TheVariants as line
+use Rattle.aim_routes.specs.Legs.{crossings_places, leg_places, line_with, plan_at}
+use Rattle.aim_routes.specs.Steps.{crossings_in, leg_in, params_in}
 
 crossings_are : (ws : Words) → crossings_in (rest ws) ≡ unless (line.Crossings (at ws 1)) (first_fault crossings_places ws)
 unfolding crossings_in

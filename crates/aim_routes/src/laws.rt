@@ -3,9 +3,9 @@
 
 ghost use Rattle.std.specs.Prelude.{◌≡◌, ℕ, List, Ok};
 ghost use Rattle.aim_msg.specs.Texts.{IsOneLine};
-ghost use Rattle.aim_grid_read.specs.declared.lines.GridLine.{GridLine};
-ghost use Rattle.aim_grid_read.specs.Legs.{grid_line_at};
-ghost use Rattle.aim_grid_read.specs.Spelled.{grid_line_text, IsGridLine, KeepsGridRanges};
+ghost use Rattle.aim_routes.specs.declared.lines.GridLine.{GridLine};
+ghost use Rattle.aim_routes.specs.Legs.{grid_line_at};
+ghost use Rattle.aim_routes.specs.Spelled.{grid_line_text, IsGridLine, KeepsGridRanges};
 
 /// Reading the text of a line that keeps its ranges gives the line back.
 pub fn grid_line_is_read_again()

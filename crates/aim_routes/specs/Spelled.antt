@@ -6,8 +6,8 @@ use Rattle.aim_msg.specs.declared.messages.Params.{Params}
 use Rattle.aim_msg.specs.Lines.{KeepsRanges, line_words}
 use Rattle.aim_words.specs.Ranges.{AreParams, Is32}
 use Rattle.aim_read.specs.Ranges.{IsLine}
-use Rattle.aim_grid_read.specs.declared.lines.GridLine.{GridLine}
-use Rattle.aim_grid_read.specs.declared.lines.GridLine.TheVariants as line
+use Rattle.aim_routes.specs.declared.lines.GridLine.{GridLine}
+use Rattle.aim_routes.specs.declared.lines.GridLine.TheVariants as line
 
 -- the words of a vehicle's plan at a crossing
 abbrev pub leg_words : ℕ → ℕ → ℕ → ℕ → ℕ → Params → Words

@@ -28,13 +28,13 @@ use Rattle.aim_read.proofs.OneLine.{line_is_one_line}
 use Rattle.aim_words.proofs.OneLine.{words_end_none}
 use Rattle.aim_words.proofs.Spelled.{class_back, respelled_is, same_word, turn_back}
 use Rattle.aim_words.proofs.WordLaws.{AreWords, IsWord, words_spaced}
-use Rattle.aim_grid_read.specs.declared.lines.GridForm.TheVariants as form
-use Rattle.aim_grid_read.specs.declared.lines.GridLine.{GridLine}
-use Rattle.aim_grid_read.specs.declared.lines.GridLine.TheVariants as line
-use Rattle.aim_grid_read.specs.Legs.{crossings_places, form_of, grid_line_at, leg_places, line_with, places_fault, plain_in, plan_at}
-use Rattle.aim_grid_read.specs.Spelled.{IsBare, IsGridLine, IsPlan, KeepsGridRanges, grid_line_text, grid_line_words, leg_words}
-use Rattle.aim_grid_read.specs.Steps.{crossings_in, leg_in, params_in}
-use Rattle.aim_grid_read.proofs.Stepping.{crossings_read, leg_read}
+use Rattle.aim_routes.specs.declared.lines.GridForm.TheVariants as form
+use Rattle.aim_routes.specs.declared.lines.GridLine.{GridLine}
+use Rattle.aim_routes.specs.declared.lines.GridLine.TheVariants as line
+use Rattle.aim_routes.specs.Legs.{crossings_places, form_of, grid_line_at, leg_places, line_with, places_fault, plain_in, plan_at}
+use Rattle.aim_routes.specs.Spelled.{IsBare, IsGridLine, IsPlan, KeepsGridRanges, grid_line_text, grid_line_words, leg_words}
+use Rattle.aim_routes.specs.Steps.{crossings_in, leg_in, params_in}
+use Rattle.aim_routes.proofs.Stepping.{crossings_read, leg_read}
 
 -- a word that begins a line of its own begins no line of any script
 not_crossings : (version : ℕ) (ws : Words) → first ws ≡ codes "crossings" → line_form version ws ≡ Err kind.Unknown

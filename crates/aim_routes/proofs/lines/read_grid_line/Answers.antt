@@ -1,9 +1,9 @@
 use Rattle.std.proofs.Common.{sym, ap, ◌∙◌, ◌==◌}
 use Rattle.aim_words.specs.Faults.{first, rest, words_of}
-use Rattle.aim_grid_read.specs.Legs.{form_of, line_with}
-use Rattle.aim_grid_read.specs.Steps.{crossings_in, leg_in}
-use Rattle.aim_grid_read.proofs.Stepping.{crossings_read, leg_read}
-use Rattle.aim_grid_read.proofs.lines.read_grid_line.Goals as goal
+use Rattle.aim_routes.specs.Legs.{form_of, line_with}
+use Rattle.aim_routes.specs.Steps.{crossings_in, leg_in}
+use Rattle.aim_routes.proofs.Stepping.{crossings_read, leg_read}
+use Rattle.aim_routes.proofs.lines.read_grid_line.Goals as goal
 
 pub returns-in-Crossings : goal.returns-in-Crossings
 returns-in-Crossings c =

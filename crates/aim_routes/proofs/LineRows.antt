@@ -4,8 +4,8 @@ use Rattle.aim_driver.specs.declared.plans.DrivePlan.{DrivePlan}
 use Rattle.aim_msg.specs.declared.messages.Turn.TheVariants.{Straight}
 use Rattle.aim_msg.specs.declared.script.Line.TheVariants as plain
 use Rattle.aim_msg.specs.declared.script.LineKind.TheVariants as kind
-use Rattle.aim_grid_read.specs.declared.lines.GridLine.TheVariants as line
-use Rattle.aim_grid_read.specs.Legs.{grid_line_at}
+use Rattle.aim_routes.specs.declared.lines.GridLine.TheVariants as line
+use Rattle.aim_routes.specs.Legs.{grid_line_at}
 
 abbrev plan : DrivePlan
 plan = record {

@@ -9,10 +9,10 @@ use Rattle.aim_words.specs.Faults.{Place, chosen, first, first_fault, number8, n
 use Rattle.aim_words.specs.Forms.{vehicle_places}
 use Rattle.aim_words.specs.Reading.{at, params_at, unless}
 use Rattle.aim_read.specs.Reading.{line_at}
-use Rattle.aim_grid_read.specs.declared.lines.GridForm.{GridForm}
-use Rattle.aim_grid_read.specs.declared.lines.GridForm.TheVariants as form
-use Rattle.aim_grid_read.specs.declared.lines.GridLine.{GridLine}
-use Rattle.aim_grid_read.specs.declared.lines.GridLine.TheVariants as line
+use Rattle.aim_routes.specs.declared.lines.GridForm.{GridForm}
+use Rattle.aim_routes.specs.declared.lines.GridForm.TheVariants as form
+use Rattle.aim_routes.specs.declared.lines.GridLine.{GridLine}
+use Rattle.aim_routes.specs.declared.lines.GridLine.TheVariants as line
 
 -- the form of a line, by its first word
 abbrev pub form_of : List ℕ → GridForm

@@ -1,3 +1,0 @@
-pub mod Legs
-pub mod Spelled
-pub mod Steps
