@@ -3,11 +3,13 @@
 
   tools/shares.py aim_turn aim_book    prints the dearest ten functions of each of these crates
   tools/shares.py                      prints each function above a twelfth, of all crates of the program
+  tools/shares.py --jobs 4 ..          checks so many crates side by side
 
-It checks each crate from nothing with one job, over libraries that are built, so it is right where nothing else runs. A share
-is of the whole time from the command's start to its end. A check writes the parts of each function's proof as they come: a part
-took the time since the one before it was written. Behind each function stand the parts that took most of it: Lts is the borrow
-checker's, Proof the search for the answers that nobody wrote, Answers those that somebody did.
+It checks each crate from nothing, as `rt ci` does, over the libraries that stand in crates/*/out: so run `rt ci` before it,
+which leaves there what its own checks read. A check has one job. A share is of the whole time from the command's start to its
+end. A check writes the parts of each function's proof as they come: a part took the time since the one before it was written.
+Behind each function stand the parts that took most of it: Lts is the borrow checker's, Proof the search for the answers that
+nobody wrote, Answers those that somebody did.
 
 What a library has is read once, in the first function that needs it, most often in Kinds, Tie, Given, Code or Reads, and no cut
 of that function makes it less. So where a function's parts come to more than a twelfth, the crate is checked once more, from
@@ -15,11 +17,13 @@ nothing but these parts. What the same sorts of parts of the other functions tak
 reading, which had fallen to this function by chance: it isn't counted, and told behind the share.
 """
 import collections
+import concurrent.futures
 import os
 import re
 import shutil
 import subprocess
 import sys
+import tempfile
 import time
 
 ROOT = os.path.dirname(os.path.dirname(os.path.realpath(__file__)))
@@ -40,30 +44,60 @@ def part_of(name, crate):
     return ".".join(whole), words[-1]
 
 
-def kept(crate):
-    """Gives the folder of what the crate's newest check keeps."""
-    folders = [entry.path for entry in os.scandir(f"{ROOT}/crates/{crate}/out/incremental") if entry.is_dir()]
-    return max(folders, key=os.path.getmtime)
+def uses():
+    """Gives of each crate what it stands on, as crates.txt says."""
+    found = {}
+    with open(f"{ROOT}/crates.txt", encoding="utf-8") as lines:
+        for line in lines:
+            head, colon, rest = line.partition("#")[0].partition(":")
+            if colon:
+                found[head.split()[0]] = rest.split()
+    return found
 
 
-def check(crate, function=None):
-    """Checks the crate with one job, from nothing or but the parts of this function, and gives how long it took, in seconds, and
-    the files that it wrote with the times at which it did, in this order; None where it took others from elsewhere."""
-    folder = f"{ROOT}/crates/{crate}"
-    subprocess.run(["rt", "check"], cwd=folder, check=True, capture_output=True)
-    if function is None:
-        shutil.rmtree(f"{folder}/out/incremental")
-    else:
-        for entry in list(os.scandir(kept(crate))):
+def words(crate):
+    """Gives the words of a check of the crate over the libraries that were built."""
+    kit = os.path.dirname(os.path.dirname(os.path.realpath(shutil.which("rt"))))
+    known, below = uses(), []
+
+    def visit(name):
+        for use in known[name]:
+            if use in known and use not in below:
+                visit(use)
+                below.append(use)
+
+    visit(crate)
+    root = "src/main.rt" if os.path.exists(f"{ROOT}/crates/{crate}/src/main.rt") else "src/lib.rt"
+    said = [f"{kit}/bin/rattle", "check", "--crate-name", crate, root]
+    for use in ["std", *[use for use in known[crate] if use not in known]]:
+        said += ["--extern", f"{use}={kit}/rlibs/{use}.rlib"]
+    said += ["-L", f"dependency={kit}/rlibs"]
+    for use in [use for use in known[crate] if use in known]:
+        said += ["--extern", f"{use}={ROOT}/crates/{use}/out/rlib/{use}.rlib"]
+    for use in below:
+        said += ["-L", f"dependency={ROOT}/crates/{use}/out/rlib"]
+    said += ["--antt-project", f"{kit}/rattle/logic/antt-project.json", "--logic-built", f"{kit}/logic_built"]
+    return [*said, "--links", f"{crate}=", "--jobs", "1"]
+
+
+def newest(room):
+    """Gives the folder of what the newest check keeps there."""
+    return max((entry.path for entry in os.scandir(room) if entry.is_dir()), key=os.path.getmtime)
+
+
+def check(crate, room, function=None):
+    """Checks the crate with one job, from nothing, or from nothing but the parts of this function that the check before kept in
+    the room, and gives how long it took, in seconds, and the files that it wrote with the times at which it did, in this order."""
+    if function is not None:
+        for entry in list(os.scandir(newest(room))):
             if entry.name.startswith("Rattle") and (part_of(entry.name, crate) or ("",))[0] != function:
                 os.remove(entry.path)
     start = time.time()
-    subprocess.run(["rt", "check", "--jobs", "1"], cwd=folder, check=True, capture_output=True)
+    ran = subprocess.run([*words(crate), "--incremental", room], cwd=f"{ROOT}/crates/{crate}", capture_output=True, text=True)
     end = time.time()
-    files = sorted((entry.stat().st_mtime, entry.name) for entry in os.scandir(kept(crate)) if entry.name.startswith("Rattle"))
-    own = [function] if function else []
-    if any(when < start and (part_of(name, crate) or ("",))[0] not in own for when, name in files):
-        return None
+    if ran.returncode:
+        sys.exit(f"{crate} isn't proved, or a library below it isn't built:\n{ran.stdout[-2000:]}{ran.stderr[-2000:]}")
+    files = sorted((entry.stat().st_mtime, entry.name) for entry in os.scandir(newest(room)) if entry.name.startswith("Rattle"))
     return end - start, [(when, name) for when, name in files if when >= start]
 
 
@@ -82,46 +116,47 @@ def reading(parts):
     return sum(took for part, took in parts.items() if part.split("-")[0] in READING)
 
 
-def fallen(crate, function, functions):
+def fallen(crate, room, function, functions):
     """Gives how many seconds of this function were the reading of what the others need too, or None where it can't be told."""
-    found = check(crate, function)
-    if found is None:
-        return None
-    without = times(crate, found[1])
+    # (what a check keeps is taken apart, so each is asked over a copy)
+    with tempfile.TemporaryDirectory() as copy:
+        shutil.copytree(room, copy, dirs_exist_ok=True)
+        without = times(crate, check(crate, copy, function)[1])
     if function in without:
         return None
     return sum(max(0, reading(without[other]) - reading(functions[other])) for other in functions if other != function)
 
 
-def show(crate, least, most):
-    found = check(crate)
-    if found is None:
-        print(f"{crate}: the toolchain took parts of it from another copy on this machine, so nothing is known", flush=True)
-        return
-    whole, files = found
-    functions = times(crate, files)
-    shares = []
-    for function, parts in functions.items():
-        took = sum(parts.values())
-        others = fallen(crate, function, functions) if took > TWELFTH * whole and reading(parts) > 0 else 0
-        if others is None:
-            print(f"{crate}: what {function} read for others can't be told", flush=True)
-        shares.append((took - (others or 0), others or 0, function))
+def shown(crate, least, most):
+    """Gives the lines of the crate's dearest functions, at most so many and none below the least share."""
+    lines = []
+    with tempfile.TemporaryDirectory() as room:
+        whole, files = check(crate, room)
+        functions = times(crate, files)
+        shares = []
+        for function, parts in functions.items():
+            took = sum(parts.values())
+            others = fallen(crate, room, function, functions) if took > TWELFTH * whole and reading(parts) > 0 else 0
+            if others is None:
+                lines.append(f"{crate}: what {function} read for others can't be told")
+            shares.append((took - (others or 0), others or 0, function))
     for seconds, others, function in sorted(shares, reverse=True)[:most]:
         if seconds > least * whole:
             of_it = ", ".join(f"{part} {took:.1f}" for part, took in functions[function].most_common(3))
-            print(f"{crate:16} {whole:6.1f} s {100 * seconds / whole:5.1f} % +{100 * others / whole:4.1f} %"
-                  f"  {function} ({of_it})", flush=True)
+            lines.append(f"{crate:16} {whole:6.1f} s {100 * seconds / whole:5.1f} % +{100 * others / whole:4.1f} %"
+                         f"  {function} ({of_it})")
+    return lines
 
 
 def main():
-    if len(sys.argv) > 1:
-        for crate in sys.argv[1:]:
-            show(crate, 0, 10)
-        return
-    for crate in sorted(os.listdir(f"{ROOT}/crates")):
-        if crate.startswith("aim") and os.path.isdir(f"{ROOT}/crates/{crate}/out"):
-            show(crate, TWELFTH, 100)
+    names, jobs = sys.argv[1:], 1
+    if names[:1] == ["--jobs"]:
+        names, jobs = names[2:], int(names[1])
+    least, most = (0, 10) if names else (TWELFTH, 100)
+    names = names or [name for name in uses() if name.startswith("aim")]
+    with concurrent.futures.ThreadPoolExecutor(jobs) as pool:
+        for lines in pool.map(lambda crate: shown(crate, least, most), names):
+            print(*lines, sep="\n" if lines else "", end="\n" if lines else "", flush=True)
 
 
 if __name__ == "__main__":

@@ -10,6 +10,8 @@ mod drive;
 #[cfg(test)]
 mod driver;
 #[cfg(test)]
+mod driving;
+#[cfg(test)]
 mod events;
 #[cfg(test)]
 mod faults;
