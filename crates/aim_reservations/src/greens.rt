@@ -13,10 +13,9 @@ ghost use Rattle.aim_tiles.specs.Searches.{IsFirst};
 ghost use Rattle.aim_tiles.specs.Sheets.{AreTiles};
 ghost use Rattle.aim_reservations.specs.Blocking.{AreGreens, is_green};
 
-use aim_light::claimed_rows;
 use aim_paths::{Layout, lane_rows};
 use aim_pool::Sheet;
-use aim_switch::Timeline;
+use aim_switch::{Timeline, claimed_rows};
 
 /// The lanes that were green shortly before a step, and the tiles of those other than one.
 #[derive(Drop)]

@@ -30,8 +30,8 @@ use Rattle.aim_rules.proofs.LegalLemmas.{IsLegal-before}
 use Rattle.aim_rules.proofs.Lists.{from_front, list_any-range_same, some_below-same}
 use Rattle.aim_rules.proofs.PolicyLaws.{policy_at-changes, changes-snoc}
 use Rattle.aim_rules.proofs.TakenLaws.{last_legal}
-use Rattle.aim_light.proofs.Rounds.{range_found}
-use Rattle.aim_light.proofs.Greens.{green_clear, green_one, green_apart}
+use Rattle.aim_switch.proofs.Rounds.{range_found}
+use Rattle.aim_switch.proofs.Greens.{green_clear, green_one, green_apart}
 use Rattle.aim_switch.specs.Changes.{green_in, is_claimed_for, latest, start}
 use Rattle.aim_switch.proofs.Instants.{policy_in-same, policy_in-since}
 

@@ -1,3 +1,8 @@
+pub mod Rounds
+pub mod Phases
+pub mod Places
+pub mod UnitedRows
+pub mod Greens
 pub mod Instants
 pub mod Windows
 pub mod Histories

@@ -13,10 +13,10 @@ use Rattle.aim_rules.proofs.Lists.{some_below-same}
 use Rattle.aim_rules.specs.Timeline.{InForce}
 use Rattle.aim_rules.specs.Lights.{green_lanes, lit, round}
 use Rattle.aim_rules.specs.Kept.{policy_in}
-use Rattle.aim_light.proofs.Rounds.{both_ways, has_lane-none, range_found, range_has}
-use Rattle.aim_light.proofs.Greens.{green_there}
-use Rattle.aim_light.specs.Claimed.{is_other, is_tile_of}
-use Rattle.aim_light.specs.Plans.{lights_of}
+use Rattle.aim_switch.proofs.Rounds.{both_ways, has_lane-none, range_found, range_has}
+use Rattle.aim_switch.proofs.Greens.{green_there}
+use Rattle.aim_switch.specs.Claimed.{is_other, is_tile_of}
+use Rattle.aim_switch.specs.Plans.{lights_of}
 use Rattle.aim_switch.specs.Changes.{green_in, is_claimed_for}
 use Rattle.aim_switch.proofs.Instants.{policy_in-same}
 

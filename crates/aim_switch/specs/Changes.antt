@@ -7,7 +7,7 @@ use Rattle.aim_rules.specs.Timeline.{InForce}
 use Rattle.aim_rules.specs.Lights.{green_lanes}
 use Rattle.aim_rules.specs.Kept.{policy_in}
 use Rattle.aim_rules.specs.Known.{is_claimed_by}
-use Rattle.aim_light.specs.Claimed.{is_other}
+use Rattle.aim_switch.specs.Claimed.{is_other}
 
 -- the changes of policy that were pushed, in their order, and how many may be
 pub record Changes : Type 0 where

@@ -1,2 +1,5 @@
+pub mod Plans
+pub mod Claimed
+pub mod Windows
 pub mod Changes
 pub mod Stored

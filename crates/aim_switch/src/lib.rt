@@ -1,8 +1,13 @@
-//! Policies in the course of time: which one is in force at a step, and which tiles its greens claim.
+//! Lights, and policies in the course of time: which lanes a policy has green, which policy is in force at a step, and
+//! which tiles the greens claim.
 #![tactic(auto)]
 
+pub mod claims;
 pub mod laws;
+pub mod plans;
 pub mod timelines;
 
+pub use claims::claimed_rows;
+pub use plans::{Plan, green_at, green_within};
 pub use std::alloc::AllocError as NoMemory;
 pub use timelines::Timeline;

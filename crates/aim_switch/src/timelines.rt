@@ -10,8 +10,7 @@ ghost use Rattle.aim_rules.specs.Lights.{green_lanes};
 ghost use Rattle.aim_switch.specs.Changes.{green_in, is_claimed_for, latest};
 ghost use Rattle.aim_switch.specs.Stored.{IsPoint};
 
-use crate::NoMemory;
-use aim_light::{Plan, claimed_rows, green_within};
+use crate::{NoMemory, Plan, claimed_rows, green_within};
 use aim_paths::Layout;
 use std::alloc::Global;
 use std::marker::Model;

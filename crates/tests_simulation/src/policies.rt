@@ -1,8 +1,7 @@
 //! Policies, greens and claims.
 
-use aim_light::{Plan, green_at, green_within};
 use aim_paths::Layout;
-use aim_switch::Timeline;
+use aim_switch::{Plan, Timeline, green_at, green_within};
 use std::process::Abort;
 use tests_samples::{SMALL, TIMES, built};
 

@@ -1,5 +1,0 @@
-pub mod Rounds
-pub mod Phases
-pub mod Places
-pub mod UnitedRows
-pub mod Greens

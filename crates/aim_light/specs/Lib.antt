@@ -1,3 +1,0 @@
-pub mod Plans
-pub mod Claimed
-pub mod Windows
