@@ -3,7 +3,7 @@
 ghost use Rattle.std.specs.Prelude.{◌≡◌, IfOk};
 ghost use Rattle.aim_json.specs.Entries.{entry_json_text};
 ghost use Rattle.aim_script.specs.Decided.{printed};
-ghost use Rattle.aim_server.specs.Whole.{IsWholeLine};
+ghost use Rattle.aim_stages.specs.Whole.{IsWholeLine};
 ghost use Rattle.aim_replay.specs.Written.{Puts};
 ghost use Rattle.aim_json_replay.specs.Spelling.{by_json, decision_json_text};
 
@@ -14,7 +14,7 @@ use aim_json_read::{JsonFault, read_json_line};
 use aim_msg::{Entry, Line, NoMemory};
 use aim_replay::{Spelling, Unread, Unwritten};
 use aim_script::{Decision, Kind, ScriptVersion};
-use aim_server::put_line;
+use aim_stages::put_line;
 use std::alloc::Global;
 
 /// The spelling by JSON lines.

@@ -7,8 +7,7 @@ ghost use Rattle.aim_replay.specs.Written.{Puts};
 use crate::faults::Unwritten;
 use crate::spellings::Spelling;
 use aim_io::Sink;
-use aim_server::put_chart;
-use aim_stages::{Finish, Made};
+use aim_stages::{Finish, Made, put_chart};
 use std::alloc::Global;
 use std::sync::ledger::Ledger;
 

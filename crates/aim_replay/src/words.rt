@@ -1,7 +1,7 @@
 //! Scripts and entries that are words, as a person writes and reads them.
 
 ghost use Rattle.std.specs.Prelude.{OnOk, OnErr};
-ghost use Rattle.aim_server.specs.Whole.{IsWholeLine};
+ghost use Rattle.aim_stages.specs.Whole.{IsWholeLine};
 ghost use Rattle.aim_script.specs.Spellings.{Spelled, by_words};
 ghost use Rattle.aim_replay.specs.Written.{Puts};
 
@@ -11,7 +11,7 @@ use aim_io::Sink;
 use aim_msg::{Entry, Line, entry_text};
 use aim_read::read_line;
 use aim_script::{Decision, Kind, ScriptVersion, last_line};
-use aim_server::put_line;
+use aim_stages::put_line;
 use std::alloc::Global;
 
 /// The spelling by words.

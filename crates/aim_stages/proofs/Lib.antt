@@ -1,1 +1,3 @@
+pub mod SheetLemmas
+pub mod ChartLemmas
 pub mod StageLemmas

@@ -1,1 +1,4 @@
+pub mod Servers
+pub mod Charted
+pub mod Whole
 pub mod Stages

@@ -11,9 +11,9 @@ ghost use Rattle.aim_script.specs.Verdicts.{at_end};
 ghost use Rattle.aim_script.specs.Headers.{HasName, IsSet, Stands as StandsAsHeader};
 ghost use Rattle.aim_stages.specs.Stages.{IsOfLines, IsOpen, IsOrdered, Makes, MayTake, Stands, Takes, decision_of, event_kind, journal_at, stage_of, version_at};
 
+use crate::servers::Server;
 use aim_msg::{Act, Entry, LATEST_MOMENT, Line, MOST_VEHICLES, Message, Name, OPERATOR, Order};
 use aim_script::{Decision, Headed, Header, Kind, Limit, Names, ScriptVersion, Setting};
-use aim_server::Server;
 use aim_tiles::Steps;
 use std::alloc::Global;
 use std::sync::ledger::Ledger;

@@ -16,7 +16,7 @@ use Rattle.aim_rules.specs.History.{fresh, now_of}
 use Rattle.aim_rules.specs.Holds.{reservations}
 use Rattle.aim_rules.specs.Charts.{mark, blank_row, chart_row, chart}
 use Rattle.aim_book.specs.State.{State}
-use Rattle.aim_server.specs.Charted.{MarksRow, mark_of, row_text}
+use Rattle.aim_stages.specs.Charted.{MarksRow, mark_of, row_text}
 use Rattle.aim_book.specs.Charted.{is_claimed_by_some, is_held}
 
 map_same : (f g : ℕ → ℕ) (a n : ℕ) → ((x : ℕ) → x < a + n → f x ≡ g x) → map f (range_with_len a n) ≡ map g (range_with_len a n)

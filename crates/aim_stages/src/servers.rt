@@ -19,7 +19,7 @@ pub struct Server<L: Ledger> {
 
 impl<L: Ledger> Model for Server<L> {
     ghost use Rattle.aim_book.specs.State.{State};
-    ghost use Rattle.aim_server.specs.Servers.{IsServed};
+    ghost use Rattle.aim_stages.specs.Servers.{IsServed};
 
     ghost Value = { State };
 
@@ -33,7 +33,7 @@ impl<L: Ledger> Server<L> {
     ghost use Rattle.aim_msg.specs.declared.entries.TheConstants.{LATEST_MOMENT, MOST_ENTRIES, MOST_VEHICLES, OPERATOR};
     ghost use Rattle.aim_rules.specs.Answer.{answer};
     ghost use Rattle.aim_rules.specs.Legal.{IsOfLayout};
-    ghost use Rattle.aim_server.specs.Charted.{MarksRow};
+    ghost use Rattle.aim_stages.specs.Charted.{MarksRow};
 
     // A book that was not asked yet, with room for an entry of every line.
     fn open_book(alloc: Global, layout: Layout, vehicles: u32) -> Result<Box<Book<L>>, NoMemory>

@@ -1,9 +1,9 @@
 use Rattle.std.proofs.Common.{◌≤◌, arith, ap, ◌∙◌}
 use Rattle.aim_geometry.specs.declared.ground.Grid.{Grid}
 use Rattle.aim_paths.specs.Intersection.{Intersection}
-use Rattle.aim_server.specs.Charted.{row_text}
-use Rattle.aim_server.proofs.ChartLemmas.{chart_is, rows_more, rows_front, rows_done}
-use Rattle.aim_server.proofs.charts.put_chart.Goals as goal
+use Rattle.aim_stages.specs.Charted.{row_text}
+use Rattle.aim_stages.proofs.ChartLemmas.{chart_is, rows_more, rows_front, rows_done}
+use Rattle.aim_stages.proofs.charts.put_chart.Goals as goal
 
 pub returns-in-Err-clause-err : goal.returns-in-Err-clause-err
 returns-in-Err-clause-err g c =

@@ -1,9 +1,9 @@
 use Rattle.std.proofs.Common.{◌≤◌, take}
 use Rattle.std.specs.Prelude.{flat_map}
 use Rattle.std.specs.Io.KnownBytes.{Appends}
-use Rattle.aim_server.specs.Charted.{row_text}
-use Rattle.aim_server.proofs.ChartLemmas.{rows_of}
-use Rattle.aim_server.proofs.charts.put_chart.Given as goal
+use Rattle.aim_stages.specs.Charted.{row_text}
+use Rattle.aim_stages.proofs.ChartLemmas.{rows_of}
+use Rattle.aim_stages.proofs.charts.put_chart.Given as goal
 
 abbrev pub invariant-loop-k : goal.invariant-loop-k
 invariant-loop-k g l = record {

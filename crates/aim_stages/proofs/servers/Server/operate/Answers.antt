@@ -1,6 +1,6 @@
 use Rattle.std.proofs.Common.{refl, ◌∙◌}
-use Rattle.aim_server.proofs.SheetLemmas.{served_order}
-use Rattle.aim_server.proofs.servers.Server.operate.Goals as goal
+use Rattle.aim_stages.proofs.SheetLemmas.{served_order}
+use Rattle.aim_stages.proofs.servers.Server.operate.Goals as goal
 
 pub invariant_of-self : goal.invariant_of-self
 invariant_of-self g c =

@@ -1,8 +1,8 @@
 use Rattle.std.proofs.Common.{ap, ◌∙◌}
 use Rattle.aim_geometry.specs.declared.ground.Grid.{Grid}
 use Rattle.aim_paths.specs.Intersection.{Intersection}
-use Rattle.aim_server.proofs.ChartLemmas.{marks_are}
-use Rattle.aim_server.proofs.charts.put_row.Goals as goal
+use Rattle.aim_stages.proofs.ChartLemmas.{marks_are}
+use Rattle.aim_stages.proofs.charts.put_row.Goals as goal
 
 pub returns-clause-ok : goal.returns-clause-ok
 returns-clause-ok g c =

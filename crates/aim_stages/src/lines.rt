@@ -4,7 +4,7 @@ ghost use Rattle.std.specs.Prelude.{OnOk, OnErr};
 ghost use Rattle.std.specs.Io.KnownBytes.{Appends};
 ghost use Rattle.aim_io.specs.Causes.{HasCause};
 ghost use Rattle.aim_io.specs.Known.{AppendsFront};
-ghost use Rattle.aim_server.specs.Whole.{IsWholeLine};
+ghost use Rattle.aim_stages.specs.Whole.{IsWholeLine};
 
 use aim_io::{Failed, Sink, put_all};
 

@@ -16,7 +16,7 @@ use Rattle.aim_geometry.specs.Bounded.{last, since_last}
 use Rattle.aim_rules.proofs.HistoryLaws.{fresh-one, fresh-none}
 use Rattle.aim_rules.proofs.HistoryLemmas.{served}
 use Rattle.aim_rules.proofs.VehicleLaws.{of_vehicle-other}
-use Rattle.aim_server.specs.Servers.{kept_below, IsServed}
+use Rattle.aim_stages.specs.Servers.{kept_below, IsServed}
 
 -- by the fresh messages of the vehicle alone: 1 where there is an id that none of them behind the last Confirm names
 abbrev sheets_by : List Fresh → Option ℕ → ℕ

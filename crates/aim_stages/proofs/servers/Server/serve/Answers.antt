@@ -1,6 +1,6 @@
 use Rattle.std.proofs.Common.{◌∙◌}
-use Rattle.aim_server.proofs.SheetLemmas.{two_left, served_more}
-use Rattle.aim_server.proofs.servers.Server.serve.Goals as goal
+use Rattle.aim_stages.proofs.SheetLemmas.{two_left, served_more}
+use Rattle.aim_stages.proofs.servers.Server.serve.Goals as goal
 
 pub serve_message-requires-clause-two : goal.serve_message-requires-clause-two
 serve_message-requires-clause-two g c = two_left _ _ c.self.invariant

@@ -7,7 +7,7 @@ ghost use Rattle.aim_io.specs.Causes.{HasCause};
 ghost use Rattle.aim_io.specs.Known.{AppendsFront};
 ghost use Rattle.aim_geometry.specs.Rects.{has_bit as bit_of};
 ghost use Rattle.aim_rules.specs.Charts.{chart};
-ghost use Rattle.aim_server.specs.Charted.{mark_of, row_text};
+ghost use Rattle.aim_stages.specs.Charted.{mark_of, row_text};
 
 use crate::lines::put_line;
 use crate::servers::Server;

@@ -1,8 +1,8 @@
 use Rattle.std.proofs.Common.{arith, sym, ◌∙◌}
 use Rattle.std.proofs.lemmas.List.{take_more_set, length-set}
 use Rattle.std.proofs.lemmas.List.FromFn.{map-range_with_len_more}
-use Rattle.aim_server.specs.Charted.{mark_of}
-use Rattle.aim_server.proofs.charts.put_marks.Goals as goal
+use Rattle.aim_stages.specs.Charted.{mark_of}
+use Rattle.aim_stages.proofs.charts.put_marks.Goals as goal
 
 pub loop-col-preserved : goal.loop-col-preserved
 loop-col-preserved c =

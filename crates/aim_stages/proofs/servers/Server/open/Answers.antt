@@ -1,7 +1,7 @@
 use Rattle.std.proofs.Common.{◌∙◌, ap}
 use Rattle.aim_geometry.specs.declared.ground.Grid.{Grid}
-use Rattle.aim_server.proofs.SheetLemmas.{served_first}
-use Rattle.aim_server.proofs.servers.Server.open.Goals as goal
+use Rattle.aim_stages.proofs.SheetLemmas.{served_first}
+use Rattle.aim_stages.proofs.servers.Server.open.Goals as goal
 
 pub invariant_of-result : goal.invariant_of-result
 invariant_of-result g c =

@@ -1,7 +1,7 @@
 use Rattle.std.proofs.Common.{◌≡◌, length, take, map}
 use Rattle.std.specs.List.{range_with_len}
-use Rattle.aim_server.specs.Charted.{mark_of}
-use Rattle.aim_server.proofs.charts.put_marks.Given as goal
+use Rattle.aim_stages.specs.Charted.{mark_of}
+use Rattle.aim_stages.proofs.charts.put_marks.Given as goal
 
 abbrev pub invariant-loop-col : goal.invariant-loop-col
 invariant-loop-col l = record {
