@@ -1,4 +1,18 @@
+pub mod Stations
+pub mod Ways
+pub mod Table
+pub mod Openings
+pub mod Bodies
+pub mod Scripts
+pub mod Drawing
+pub mod Spelling
 pub mod RunLemmas
 pub mod OrderLemmas
 mod ShownLemmas
 mod EndingLemmas
+pub mod Lists
+pub mod Courses
+pub mod Nexts
+pub mod Journals
+pub mod Texts
+pub mod Rows

@@ -4,8 +4,8 @@ use Rattle.std.specs.Io.KnownBytes.{Appends}
 use Rattle.aim_io.specs.Known.{AppendsFront}
 use Rattle.aim_msg.specs.declared.entries.Entry.{Entry}
 use Rattle.aim_plans.specs.Said.{until_of}
-use Rattle.aim_traffic.specs.Traffic.{traffic_lines}
 use Rattle.aim_drive.specs.Headline.{VehicleLog}
+use Rattle.aim_driving.specs.Traffic.{traffic_lines}
 use Rattle.aim_driving.specs.Runs.{IsRunOf}
 use Rattle.aim_driving.specs.Summaries.{summary}
 

@@ -1,3 +1,7 @@
+pub mod Arms
+pub mod Drawn
+pub mod Traffic
+pub mod Laid
 pub mod Ordered
 pub mod Runs
 pub mod Commands

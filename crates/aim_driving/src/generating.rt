@@ -5,12 +5,12 @@ ghost use Rattle.std.specs.Io.KnownBytes.{Appends};
 ghost use Rattle.aim_io.specs.Causes.{Rose};
 ghost use Rattle.aim_driving.specs.Generated.{Counts, CountsFront, IsSummary};
 
+use crate::making::traffic;
 use crate::summaries::summary_of;
 use aim_agent::Gate;
 use aim_drive::run_script;
 use aim_io::{Sink, put_all};
 use aim_report::NoMemory;
-use aim_traffic::traffic;
 use std::alloc::Global;
 use std::sync::Wait;
 use std::thread::Threads;

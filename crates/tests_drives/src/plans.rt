@@ -1,11 +1,11 @@
 //! Generated traffic, and the last lines of scripts.
 
 use crate::grid::numbers_of;
+use aim_driving::traffic;
 use aim_msg::{LineKind, Turn};
 use aim_paths::{Layout, Path};
 use aim_plans::DriveScript;
 use aim_script::{Decision, Kind, Limit, last_line};
-use aim_traffic::traffic;
 
 // Whether there are three plans, and the third is that of the seed.
 fn has_plans(script: &DriveScript) -> bool {

@@ -1,9 +1,0 @@
-pub mod Stations
-pub mod Ways
-pub mod Table
-pub mod Openings
-pub mod Bodies
-pub mod Scripts
-pub mod Drawing
-pub mod Spelling
-pub mod Rows

@@ -1,4 +1,0 @@
-pub mod Arms
-pub mod Drawn
-pub mod Traffic
-pub mod Laid
