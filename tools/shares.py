@@ -6,16 +6,18 @@
   tools/shares.py --jobs 4 ..          checks so many crates side by side
 
 It checks each crate from nothing, as `rt ci` does, over the libraries that stand in crates/*/out: so run `rt ci` before it,
-which leaves there what its own checks read. A check has one job. A share is of the whole time from the command's start to its
-end. A check writes the parts of each function's proof as they come: a part took the time since the one before it was written.
-Behind each function stand the parts that took most of it: Lts is the borrow checker's, Proof the search for the answers that
-nobody wrote, Answers those that somebody did.
+which leaves there what its own checks read. A check has one job. A share is of all the processor's time that the check took. A
+check writes the parts of each function's proof as they come: a part took what the check's clock of that time went on since the
+part before it was written, so other work on the machine counts for nothing. Behind each function stand the parts that took most
+of it: Lts is the borrow checker's, Proof the search for the answers that nobody wrote, Answers those that somebody did. Needs
+Linux's /proc.
 
 What a library has is read once, in the first function that needs it, most often in Kinds, Tie, Given, Code or Reads, and no cut
 of that function makes it less. So where a function's parts come to more than a twelfth, the crate is checked once more, from
 nothing but these parts. What the same sorts of parts of the other functions take then beyond what they had taken is their
 reading, which had fallen to this function by chance: it isn't counted, and told behind the share.
 """
+import bisect
 import collections
 import concurrent.futures
 import os
@@ -29,6 +31,7 @@ import time
 ROOT = os.path.dirname(os.path.dirname(os.path.realpath(__file__)))
 READING = ("Kinds", "Tie", "Given", "Code", "Reads")
 TWELFTH = 1 / 12
+TICKS = os.sysconf("SC_CLK_TCK")
 
 
 def part_of(name, crate):
@@ -85,20 +88,44 @@ def newest(room):
     return max((entry.path for entry in os.scandir(room) if entry.is_dir()), key=os.path.getmtime)
 
 
+def watched(command, folder):
+    """Runs the command and says whether it ended well, what it printed, and at which moments it was looked at, each with the
+    processor's seconds that it had taken by then."""
+    looks = []
+    with tempfile.TemporaryFile("w+") as said:
+        with subprocess.Popen(command, cwd=folder, stdout=said, stderr=subprocess.STDOUT) as child:
+            while child.poll() is None:
+                with open(f"/proc/{child.pid}/stat", encoding="utf-8", errors="replace") as it:
+                    fields = it.read().rpartition(")")[2].split()
+                looks.append((time.time(), (int(fields[11]) + int(fields[12])) / TICKS))
+                time.sleep(0.02)
+        said.seek(0)
+        return child.returncode == 0, said.read(), looks
+
+
+def taken(looks, when):
+    """Gives how many of the processor's seconds were taken by that moment."""
+    place = bisect.bisect_left(looks, (when,))
+    if place in (0, len(looks)):
+        return looks[min(place, len(looks) - 1)][1]
+    (before, less), (after, more) = looks[place - 1], looks[place]
+    return less + (more - less) * (when - before) / (after - before)
+
+
 def check(crate, room, function=None):
     """Checks the crate with one job, from nothing, or from nothing but the parts of this function that the check before kept in
-    the room, and gives how long it took, in seconds, and the files that it wrote with the times at which it did, in this order."""
+    the room, and gives how many of the processor's seconds it took, and the files that it wrote in this order, each with those
+    that it had taken by then."""
     if function is not None:
         for entry in list(os.scandir(newest(room))):
             if entry.name.startswith("Rattle") and (part_of(entry.name, crate) or ("",))[0] != function:
                 os.remove(entry.path)
     start = time.time()
-    ran = subprocess.run([*words(crate), "--incremental", room], cwd=f"{ROOT}/crates/{crate}", capture_output=True, text=True)
-    end = time.time()
-    if ran.returncode:
-        sys.exit(f"{crate} isn't proved, or a library below it isn't built:\n{ran.stdout[-2000:]}{ran.stderr[-2000:]}")
+    is_proved, said, looks = watched([*words(crate), "--incremental", room], f"{ROOT}/crates/{crate}")
+    if not is_proved:
+        sys.exit(f"{crate} isn't proved, or a library below it isn't built:\n{said[-2000:]}")
     files = sorted((entry.stat().st_mtime, entry.name) for entry in os.scandir(newest(room)) if entry.name.startswith("Rattle"))
-    return end - start, [(when, name) for when, name in files if when >= start]
+    return looks[-1][1], [(taken(looks, when), name) for when, name in files if when >= start]
 
 
 def times(crate, files):
