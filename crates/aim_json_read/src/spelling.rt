@@ -159,6 +159,13 @@ fn form_of(value: &Value) -> &str
     }
 }
 
+// Whether lines of that form are orders.
+fn is_order(form: &str) -> bool
+    ensures { result ≡ (bytes_eq form.now (codes "switch") || bytes_eq form.now (codes "stop")) }
+{
+    form == "switch" || form == "stop"
+}
+
 // Adds the words of a line.
 fn put_line(out: &mut Vec<u8>, value: &Value) -> Result<(), NoMemory>
     ensures { OnOk result (out.new.items ≡ added out.old.items (spelled_words (view value.now))) }
@@ -166,7 +173,7 @@ fn put_line(out: &mut Vec<u8>, value: &Value) -> Result<(), NoMemory>
     let form = form_of(value);
     if form == "event" {
         put_event(out, value)
-    } else if form == "switch" || form == "stop" {
+    } else if is_order(form) {
         put_order(out, value)
     } else {
         put_members(out, value, &LINE_NAMES)
