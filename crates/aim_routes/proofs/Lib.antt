@@ -1,6 +1,5 @@
 pub mod Stepping
 pub mod Texts
-pub mod LineRows
 pub mod Parting
 pub mod Judging
 pub mod Fitting

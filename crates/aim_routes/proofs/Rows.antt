@@ -14,6 +14,7 @@ use Rattle.aim_routes.specs.declared.decisions.GridDecision.TheVariants as decis
 use Rattle.aim_routes.specs.declared.decisions.GridKind.TheVariants as kind
 use Rattle.aim_routes.specs.Said.{crossings_of, layouts_of, legs_of, spans_in, until_of, vehicles_of}
 use Rattle.aim_routes.specs.Verdicts.{grid_verdict}
+pub mod Lines
 
 -- a block of two lanes that cross
 abbrev block : List ℕ
