@@ -6,14 +6,11 @@
 //! with the server on one thread more. With no words a few turns are taken each way, and no time is printed.
 #![tactic(auto)]
 
-mod day;
-mod mailbox;
 mod turns;
 
-use aim_msg::Reply;
 use anyhow::Result;
-use day::{Taken, Turns};
-use mailbox::over_mailbox;
+use bench_day::{Taken, Turns};
+use bench_mailbox::over_mailbox;
 use std::alloc::Global;
 use std::env;
 use std::marker::Brand;
@@ -39,27 +36,6 @@ fn taken<R: Threads + Wait + Sync + Clock>(rt: &R, alloc: Global, plan: Plan) ->
     } else {
         over_manager(rt, alloc, plan.callers, &day)
     }
-}
-
-// The calls, the Confirms and the time of a call.
-fn report(taken: &Taken) -> (usize, usize, u128) {
-    let calls = taken.journal.len();
-    let confirms = taken
-        .journal
-        .iter()
-        .filter(|entry| matches!(entry.reply, Reply::Confirm { .. }))
-        .count();
-    (calls, confirms, taken.nanoseconds / (calls.max(1) as u128))
-}
-
-// Has the turns taken, and reports them.
-fn measured<R: Threads + Wait + Sync + Clock>(
-    rt: &R,
-    alloc: Global,
-    plan: Plan,
-) -> Result<(usize, usize, u128)> {
-    let taken = taken(rt, alloc, plan)?;
-    Ok(report(&taken))
 }
 
 // What two words ask for, if they are there.
@@ -96,7 +72,11 @@ fn asked(rt: &HostRuntime, alloc: Global) -> Result<Option<Plan>> {
 
 // Has the turns taken, and prints the time of a call.
 fn tell<R: Threads + Wait + Sync + Clock + Print>(rt: &R, alloc: Global, plan: Plan) -> Result<()> {
-    let (calls, confirms, each) = measured(rt, alloc, plan)?;
+    let Taken {
+        calls,
+        confirms,
+        each,
+    } = taken(rt, alloc, plan)?;
     println!(rt; "{calls} calls, {confirms} Confirms, {each} ns a call")?;
     Ok(())
 }
@@ -114,15 +94,20 @@ fn try_few<R: Threads + Wait + Sync + Clock + Print>(
         callers,
         turns,
     };
-    measured(rt, alloc, few)?;
+    taken(rt, alloc, few)?;
     println!(rt; "{turns} turns taken by {callers} callers {way}")?;
     Ok(())
 }
 
+// Has a few turns taken each way.
+fn try_both<R: Threads + Wait + Sync + Clock + Print>(rt: &R, alloc: Global) -> Result<()> {
+    try_few(rt, alloc, false, "on a manager")?;
+    try_few(rt, alloc, true, "over a mailbox")
+}
+
 fn main(rt: HostRuntime) -> Result<()> {
-    if let Some(plan) = asked(&rt, rt.alloc())? {
-        return tell(&rt, rt.alloc(), plan);
+    match asked(&rt, rt.alloc())? {
+        Some(plan) => tell(&rt, rt.alloc(), plan),
+        None => try_both(&rt, rt.alloc()),
     }
-    try_few(&rt, rt.alloc(), false, "on a manager")?;
-    try_few(&rt, rt.alloc(), true, "over a mailbox")
 }

@@ -5,14 +5,13 @@ ghost use Rattle.std.specs.List.{range_with_len};
 ghost use Rattle.aim_msg.specs.declared.entries.TheConstants.{OPERATOR};
 ghost use Rattle.aim_turn.specs.Models.{IsPassOf, IsSamePass, new_pass};
 
-use crate::day::{ROOM, SHEETS, Taken, Turns};
 use aim_buffers::prepare;
 use aim_manager::{Manager, ManagerPass, Opened};
 use aim_msg::{LATEST_MOMENT, Message, Reply};
 use aim_paths::Kind;
 use aim_pool::Pool;
 use anyhow::{Result, anyhow};
-use bench_day::{CALLS, SPANS, held_after, message, moment, twelve_lanes};
+use bench_day::{Caller, ROOM, SHEETS, SPANS, Taken, Turns, twelve_lanes};
 use std::alloc::Global;
 use std::sync::Wait;
 use std::thread::{self, Threads};
@@ -46,28 +45,6 @@ fn call<R: Wait>(
     manager.serve(rt, pass, now, prepared, pool).ok()
 }
 
-// Makes the calls of one turn. Gives what the vehicle holds then.
-fn one_turn<R: Wait>(
-    rt: &R,
-    manager: &Manager,
-    pass: &mut ManagerPass,
-    pool: &mut Pool,
-    turn: u32,
-    mut held: Option<u32>,
-) -> Option<u32>
-    requires own { IsPassOf manager.now pass.old }
-    requires vehicle { pass.old.number < manager.now.setting.vehicles }
-    ensures same { IsSamePass pass.old pass.new }
-{
-    for part in 0..CALLS {
-        if let Some(message) = message(turn, part, held) {
-            let reply = call(rt, manager, pass, pool, moment(turn), &message);
-            held = reply.and_then(|reply| held_after(&reply));
-        }
-    }
-    held
-}
-
 // Takes turns until the day has no more, and makes the calls of each.
 fn make_turns<R: Wait>(
     rt: &R,
@@ -80,12 +57,13 @@ fn make_turns<R: Wait>(
     requires vehicle { pass.old.number < manager.now.setting.vehicles }
     ensures same { IsSamePass pass.old pass.new }
 {
-    let mut held = None;
-    for _ in 0..day.turns {
-        let Some(turn) = day.take() else {
+    let mut caller = Caller::new();
+    for _ in 0..day.calls() {
+        let Some((now, message)) = caller.next(day) else {
             return;
         };
-        held = one_turn(rt, manager, pass, pool, turn, held);
+        let reply = call(rt, manager, pass, pool, now, &message);
+        caller.hear(reply);
     }
 }
 
@@ -160,5 +138,5 @@ pub fn over_manager<R: Threads + Wait + Sync + Clock>(
     all_turns(rt, alloc, &manager, &mut passes, day);
     let end = Instant::now(rt).ok();
     let journal = manager.close(passes, operator).journal;
-    Taken::between(journal, start, end)
+    Taken::between(&journal, start, end)
 }

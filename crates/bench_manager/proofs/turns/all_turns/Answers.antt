@@ -5,7 +5,7 @@ use Rattle.aim_msg.specs.declared.entries.Entry.{Entry}
 use Rattle.aim_turn.specs.Models.{PassModel, IsPassOf}
 use Rattle.aim_manager.specs.declared.keeper.Setting.{Setting}
 use Rattle.aim_manager.proofs.Crosses.{manager_sync, pass_send}
-use Rattle.bench_manager.proofs.day.Turns.TheSendSync as turns
+use Rattle.bench_day.proofs.turns.Turns.TheSendSync as turns
 use Rattle.bench_manager.proofs.turns.all_turns.Goals as goal
 
 -- what is shown already is tried first

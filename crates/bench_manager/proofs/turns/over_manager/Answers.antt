@@ -13,8 +13,8 @@ all_turns-requires-clause-own g c κs within =
     subst (λ (l : List (PassModel Setting Entry)). All (IsOfVehicle o.manager) l) (sym c.deref_mut.ensures.value)
     (passes_of_vehicles o.manager c.args.callers o.passes.items c.in_ok-opened.ensures.passes c.in_ok-opened.ensures.vehicles)
 
-pub close-journal-requires-clause-own : goal.close-journal-requires-clause-own
-close-journal-requires-clause-own g c =
+pub close-requires-clause-own : goal.close-requires-clause-own
+close-requires-clause-own g c =
     let o = c.in_ok-opened.opened in
     let ys = c.all_turns.new.passes in
     let lent = c.deref_mut.ensures in
@@ -23,8 +23,8 @@ close-journal-requires-clause-own g c =
       ap (λ (p : PassModel Setting Entry). p.table) c.in_ok-opened.ensures.operator,
     )
 
-pub close-journal-requires-clause-all : goal.close-journal-requires-clause-all
-close-journal-requires-clause-all g c =
+pub close-requires-clause-all : goal.close-requires-clause-all
+close-requires-clause-all g c =
     let o = c.in_ok-opened.opened in
     let ys = c.all_turns.new.passes in
     let lent = c.deref_mut.ensures in

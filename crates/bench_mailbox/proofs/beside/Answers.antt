@@ -1,7 +1,10 @@
+use Rattle.std.proofs.Common.{sym, subst}
 use denote.Param.Send.{sendable}
+use Rattle.std.specs.Prelude.{All}
 use Rattle.std.proofs.Crossing.{crosses}
+use Rattle.aim_mailbox.specs.Calls.{IsOfMail, ServerModel}
 use Rattle.aim_mailbox.proofs.Crosses.{crossing}
-use Rattle.bench_manager.proofs.mailbox.beside.Goals as goal
+use Rattle.bench_mailbox.proofs.beside.Goals as goal
 
 -- what is shown already is tried first
 pub join-requires-send-F : goal.join-requires-send-F
@@ -11,5 +14,7 @@ pub join-requires-send-A : goal.join-requires-send-A
 join-requires-send-A g c κs within = search (crossing, sendable, crosses) depth 40 fits 20000
 
 -- what the clients' thread says of any mailbox, of this server's
-pub returns-clause-own : goal.returns-clause-own
-returns-clause-own g c = c.join.ensures.second c.args.server c.requires.own
+pub returns : goal.returns
+returns g c = record {
+  own = subst (λ (m : ServerModel). All (IsOfMail m) c.join.result.1.items) (sym c.join.ensures.first) (c.join.ensures.second c.args.server c.requires.own);
+}

@@ -1,5 +1,5 @@
 use Rattle.aim_mailbox.specs.Calls.{IsSameClient}
-use Rattle.bench_manager.proofs.mailbox.make_turns.Given as goal
+use Rattle.bench_mailbox.proofs.make_turns.Given as goal
 
 -- the client stays the same client
 abbrev pub invariant-loop : goal.invariant-loop
