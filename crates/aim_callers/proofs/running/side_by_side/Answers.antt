@@ -1,7 +1,13 @@
+use denote.Param.Send.{sendable}
 use Rattle.std.proofs.Common.{◌≡◌, length, subst, arith}
+use Rattle.aim_claims.proofs.lines.ShardLine.TheSendSync as line
 use Rattle.aim_callers.specs.declared.callers.Caller.{Caller}
 use Rattle.aim_callers.specs.Running.{HasCalled}
+use Rattle.aim_callers.proofs.Crosses.{shards_sync}
 use Rattle.aim_callers.proofs.running.side_by_side.Goals as goal
+
+pub for_each_mut-requires-sync-F : goal.for_each_mut-requires-sync-F
+for_each_mut-requires-sync-F g c κs within = search (sendable, shards_sync, line.the_sync, c.type_bounds) depth 20
 
 pub returns-clause-called : goal.returns-clause-called
 returns-clause-called g c =
