@@ -1,6 +1,6 @@
--- Threads may share the quadrants of a grid. The search alone doesn't find it, since a sheet's nodes refer to one another:
--- of such a type, and of each that holds one, nothing is kept ready. So it is shown part by part. What others cite is at the
--- end.
+-- Threads may share the quadrants of a grid. A sheet's nodes refer to one another, and of such a type, and of each that
+-- holds one, nothing is kept ready: so the search alone takes seconds, and it is shown part by part. What others cite is at
+-- the end.
 use denote.Param.Send.{IsSend, IsSync, sendable}
 use denote.Param.SendFields.{declared_sync}
 use Rattle.std.proofs.Crossing.{crosses}
