@@ -1,8 +1,18 @@
-use Rattle.std.proofs.Common.{◌≡◌, List, length, sym, ◌∙◌, subst}
-use Rattle.std.specs.Prelude.{All}
+use Rattle.std.proofs.Common.{◌≡◌, ◌≤◌, List, length, sym, ap, ◌∙◌, subst}
+use Rattle.std.specs.Prelude.{All, vec_capacity}
 use Rattle.std.proofs.lemmas.List.{with_items_is}
 use Rattle.aim_mailbox.specs.Calls.{ClientModel, IsOfMail}
 use Rattle.bench_mailbox.proofs.call_and_finish.Goals as goal
+
+-- there are as many clients as before
+pub finish_all-requires-clause-room : goal.finish_all-requires-clause-room
+finish_all-requires-clause-room g c =
+    let ys = c.all_turns.new.clients in
+    let lent = c.deref_mut.ensures in
+    let turns = c.all_turns.ensures in
+    let count : length c.all_turns.new.clients ≡ c.args.clients.len = turns.count ∙ lent.len in
+    let whole = ap (λ (l : List ClientModel). length l) (with_items_is c.args.clients ys count) ∙ turns.count ∙ ap (λ (l : List ClientModel). length l) lent.value in
+    subst (λ n. n ≤ vec_capacity c.args.ended) (sym whole) c.requires.room
 
 pub returns : goal.returns
 returns g c =
