@@ -6,12 +6,12 @@ use Rattle.aim_rules.specs.History.{fresh}
 use Rattle.aim_rules.specs.Holds.{is_given_up, last_confirm}
 use Rattle.aim_book.specs.Sheets.{id_in, sheets_kept, sheets_with}
 use Rattle.aim_buffers.specs.Requests.{Request}
-use Rattle.aim_mailbox.specs.declared.letter.Letter.{Letter}
+use Rattle.aim_post.specs.declared.letter.Letter.{Letter}
 use Rattle.aim_mailbox.specs.declared.response.Response.{Response}
 use Rattle.aim_msg.specs.declared.entries.TheConstants.{LATEST_MOMENT}
 use Rattle.aim_buffers.specs.Requests.{IsPreparedFor}
-use Rattle.aim_mailbox.specs.declared.letter.Setting.{Setting}
-use Rattle.aim_mailbox.specs.Post.{Begun, of, PortModel, IsServable, posted}
+use Rattle.aim_post.specs.declared.letter.Setting.{Setting}
+use Rattle.aim_post.specs.Post.{Begun, of, PortModel, IsServable, posted}
 use Rattle.aim_mailbox.specs.Slips.{Follows, IsNext, Lawful, kept_after, InletModel, heard_on}
 use Rattle.aim_mailbox.specs.Calls.{IsKept, entries_of}
 use Rattle.aim_mailbox.specs.Asks.{Ask, ask, asked, is_last, asks, has_last, call_of, pairs, calls_in}

@@ -5,7 +5,7 @@ use mathlib.Core.Option.{some}
 use lib.ListN.{get_elem?}
 use Rattle.aim_buffers.specs.Requests.{Request, IsPreparedFor}
 use Rattle.aim_paths.specs.Intersection.{Intersection}
-use Rattle.aim_mailbox.specs.declared.letter.Setting.{Setting}
+use Rattle.aim_post.specs.declared.letter.Setting.{Setting}
 use Rattle.aim_mailbox.specs.Calls.{Call, ClientModel, ServerModel, IsOfMail, IsSameClient}
 
 pub same_refl : (c : ClientModel) → IsSameClient c c

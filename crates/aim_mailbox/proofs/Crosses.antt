@@ -1,54 +1,31 @@
--- What is said over the channels, and what a server and its clients are made of, may cross threads. The search alone
--- doesn't find it, since a sheet's nodes refer to one another: so it is shown part by part. What others cite is at the end.
+-- What comes back over the channels, and what a server and its clients are made of, may cross threads: shown part by part, as
+-- of the channel of the requests. What others cite is at the end.
 use denote.RattleType.{RattleType}
-use denote.Param.Send.{AllSend, IsSend, recorded_send, sendable, struct_send}
-use denote.Struct.Declared.{Declared, fields, row, shape}
-use denote.Struct.Struct.{Struct}
+use denote.Param.Send.{IsSend, sendable}
 use Rattle.std.proofs.Crossing.{crosses}
 use Rattle.std.specs.contracts.option.Option as Option
 use Rattle.std.specs.declared.sync.ledger.Ledger.{Ghosts}
 use Rattle.aim_msg.proofs.entries.Entry.TheSendSync as entry
-use Rattle.aim_msg.proofs.replies.Field.TheSendSync as field
 use Rattle.aim_msg.proofs.replies.Reply.TheSendSync as reply
 use Rattle.aim_paths.proofs.layouts.Layout.TheSendSync as layout
-use Rattle.aim_pool.proofs.sheets.Slots.TheSendSync as slots
-use Rattle.aim_pool.proofs.sheets.Node.TheLaws.TheKnot as node
-use Rattle.aim_pool.specs.contracts.pools.Pool as Pool
-use Rattle.aim_pool.specs.contracts.sheets.Sheet as Sheet
 use Rattle.aim_tiles.proofs.counters.Steps.TheSendSync as steps
 use Rattle.aim_tiles.proofs.tables.Table.TheSendSync as tiles
 use Rattle.aim_session.proofs.sessions.Sessions.TheSendSync as sessions
 use Rattle.aim_switch.proofs.timelines.Timeline.TheSendSync as timeline
 use Rattle.aim_session.proofs.distances.Distances.TheSendSync as distances
 use Rattle.aim_session.proofs.approaches.Approaches.TheSendSync as approaches
-use Rattle.aim_buffers.specs.contracts.requests.Prepared as Prepared
 use Rattle.aim_book.proofs.book.Full.TheSendSync as full
 use Rattle.aim_book.specs.contracts.desks.Desk as BookDesk
 use Rattle.aim_reservations.specs.contracts.reservations.Reservation as Reservation
 use Rattle.aim_reservations.specs.contracts.reservations.Reservations as Reservations
 use Rattle.aim_book.specs.contracts.book.Book as Book
 use Rattle.atomic_table.proofs.badge.Badge.TheSendSync as badge
-use Rattle.atomic_table.proofs.owned.Table.TheSendSync as table
 use Rattle.atomic_table.proofs.shared.Seat.TheSendSync as seat
 use Rattle.atomic_table.specs.contracts.badge.Badge as Badge
 use Rattle.atomic_table.specs.contracts.shared.Seat as Seat
-use Rattle.crossbeam_channel.proofs.bells.Bell.TheSendSync as bell
-use Rattle.crossbeam_channel.proofs.flavors.array.Rows.TheSendSync as rows
-use Rattle.crossbeam_channel.proofs.flavors.array.ruled.Both.TheSendSync as both
-use Rattle.crossbeam_channel.proofs.flavors.array.ruled.Receiving.TheSendSync as receiving
-use Rattle.crossbeam_channel.proofs.flavors.array.ruled.Sending.TheSendSync as sending
 use Rattle.crossbeam_channel.specs.contracts.flavors.array.Doing as Doing
 use Rattle.crossbeam_channel.specs.contracts.flavors.array.Key as Key
-use Rattle.aim_mailbox.specs.contracts.letter.Letter as Letter
-use Rattle.aim_mailbox.specs.contracts.letter.Setting as Setting
-use Rattle.aim_mailbox.specs.contracts.letter.Word as Word
-use Rattle.aim_mailbox.specs.contracts.post.Hand as Hand
-use Rattle.aim_mailbox.specs.contracts.post.Intake as Intake
-use Rattle.aim_mailbox.specs.contracts.post.Intake.TheInside as IntakeInside
-use Rattle.aim_mailbox.specs.contracts.post.Note as Note
-use Rattle.aim_mailbox.specs.contracts.post.Note.TheInside as NoteInside
-use Rattle.aim_mailbox.specs.contracts.post.Port as Port
-use Rattle.aim_mailbox.specs.contracts.post.Port.TheInside as PortInside
+use Rattle.aim_post.proofs.Crosses.{declared_send, ends, intake_send, note_send, pool_send, port_send, sheet_send}
 use Rattle.aim_mailbox.specs.contracts.response.Response as Response
 use Rattle.aim_mailbox.specs.contracts.slip.Inlet as Inlet
 use Rattle.aim_mailbox.specs.contracts.slip.Inlet.TheInside as InletInside
@@ -61,47 +38,6 @@ use Rattle.aim_mailbox.specs.contracts.server.Desk as Desk
 use Rattle.aim_mailbox.specs.contracts.server.Server as Server
 use Rattle.aim_mailbox.specs.contracts.server.Served as Served
 
--- a struct crosses where its fields do
-declared_send : (T : Declared) → AllSend (fields T) → IsSend (row T)
-declared_send T s = recorded_send (Struct (shape T)) T.D T.to T.to_one (struct_send (shape T) s)
-
-sheet_send : IsSend Sheet.the_row
-sheet_send = search (sendable, crosses, node.send-Node, slots.the_send) depth 20
-
--- a pool may go to another thread
-pub pool_send : IsSend Pool.the_row
-pool_send = search (sendable, crosses, node.send-Node, slots.the_send) depth 20
-
-prepared_send : IsSend Prepared.the_row
-prepared_send = search (sendable, crosses, field.the_send, sheet_send) depth 30
-
-setting_send : IsSend Setting.the_field.row
-setting_send = search (sendable, crosses, layout.the_send) depth 20
-
-word_send : IsSend Word.the_field.row
-word_send = search (sendable, crosses, setting_send, prepared_send) depth 30
-
-letter_send : IsSend Letter.the_row
-letter_send = search (sendable, crosses, word_send) depth 20
-
--- the keys and the slots of the two channels
-letter_slot_send : IsSend (Option.the_row Letter.the_row)
-letter_slot_send = search (sendable, crosses, letter_send) depth 30
-
-letter_badge_send : IsSend (Badge.the_row (Key.the_row Letter.the_row))
-letter_badge_send = search (sendable, crosses, badge.the_send) depth 30
-
--- the kinds of what a slot holds are named here, and in `response_seat_send`: found by comparing, they take too much memory
-letter_seat_send : IsSend (Seat.the_field (Badge.the_row (Key.the_row Letter.the_row)) (Doing.the_row Letter.the_row Hand.the_row)).row
-letter_seat_send = seat.the_send (Badge.the_row (Key.the_row Letter.the_row)) (Doing.the_row Letter.the_row Hand.the_row) letter_badge_send
-
--- a note is a pass of the requests' channel, and a response brings one
-note_inside : IsSend NoteInside.the_row
-note_inside = declared_send NoteInside.the_type (letter_seat_send, tt)
-
-note_send : IsSend Note.the_row
-note_send = search (sendable, note_inside)
-
 response_send : IsSend Response.the_row
 response_send = search (sendable, crosses, reply.the_send, full.the_send, pool_send, note_send) depth 30
 
@@ -111,24 +47,9 @@ response_slot_send = search (sendable, crosses, response_send) depth 30
 response_badge_send : IsSend (Badge.the_row (Key.the_row Response.the_row))
 response_badge_send = search (sendable, crosses, badge.the_send) depth 30
 
+-- the kinds of what a slot holds are named, as for letters
 response_seat_send : IsSend (Seat.the_field (Badge.the_row (Key.the_row Response.the_row)) (Doing.the_row Response.the_row Slate.the_row)).row
 response_seat_send = seat.the_send (Badge.the_row (Key.the_row Response.the_row)) (Doing.the_row Response.the_row Slate.the_row) response_badge_send
-
-ruleset ends = (sending.the_send, receiving.the_send, both.the_send, both.the_sync, rows.the_send, rows.the_sync, table.the_send, table.the_sync, bell.the_send, bell.the_sync)
-
-port_inside : IsSend PortInside.the_row
-port_inside = declared_send PortInside.the_type (search (sendable, crosses), (search (sendable, crosses, ends, letter_badge_send, letter_slot_send) depth 40, (letter_seat_send, tt)))
-
-port_send : IsSend Port.the_row
-port_send = search (sendable, port_inside)
-
-intake_inside : IsSend IntakeInside.the_row
-intake_inside =
-    declared_send IntakeInside.the_type
-    (search (sendable, crosses, ends, letter_badge_send, letter_slot_send) depth 40, (search (sendable, crosses, ends, letter_badge_send, letter_slot_send) depth 40, (letter_seat_send, tt)))
-
-intake_send : IsSend Intake.the_row
-intake_send = search (sendable, intake_inside)
 
 inlet_inside : IsSend InletInside.the_row
 inlet_inside = declared_send InletInside.the_type (search (sendable, crosses, ends, response_badge_send, response_slot_send) depth 40, (response_seat_send, tt))

@@ -18,14 +18,14 @@ use Rattle.aim_buffers.specs.Requests.{Request}
 use Rattle.aim_rules.specs.Legal.{IsLegal}
 use Rattle.aim_book.specs.Sheets.{own, sheets_kept}
 use Rattle.aim_book.specs.State.{State}
-use Rattle.aim_mailbox.specs.declared.letter.Letter.{Letter}
+use Rattle.aim_post.specs.declared.letter.Letter.{Letter}
 use Rattle.aim_mailbox.specs.declared.response.Response.{Response}
 use Rattle.aim_mailbox.specs.Asks.{ask, asks, call_of, calls_in, has_last, pairs}
 use Rattle.aim_mailbox.specs.Calls.{Answer, Channel, IsReply, IsFull, entry_of, entries_of}
-use Rattle.aim_mailbox.specs.Post.{Every, of, IntakeModel}
+use Rattle.aim_post.specs.Post.{Every, of, IntakeModel}
 use Rattle.aim_mailbox.specs.Slips.{IsNext, Lawful, SlipModel, put_on}
 use Rattle.aim_mailbox.specs.Mail.{call_letter, last_letter, Deal, deal, deals_of, entries_in, Owes, Stands, IsSameBook, IsSameSlip, IsSameIntake, AreSameSlips, HasEnded, channel_of, mail_of, setting_of}
-use Rattle.aim_mailbox.proofs.Posts.{Every-append, of_else, of_own}
+use Rattle.aim_post.proofs.Posts.{Every-append, of_else, of_own}
 use Rattle.aim_mailbox.proofs.Responses.{kept_from-last, lawful_more}
 use Rattle.aim_mailbox.proofs.CallLemmas.{asks-append, has_last-append, pairs-snoc}
 use Rattle.aim_mailbox.proofs.OwnEntries.{deals_else, deals_own, entries_in-append, entries_of-append, own_are, own_entry}

@@ -4,8 +4,5 @@ pub mod Crosses
 pub mod Deals
 pub mod Opens
 pub mod OwnEntries
-pub mod Posts
 pub mod Responses
 pub mod Settles
-pub mod Tries
-pub mod Views

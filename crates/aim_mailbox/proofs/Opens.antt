@@ -9,15 +9,15 @@ use Rattle.aim_rules.specs.Legal.{IsLegal}
 use Rattle.aim_book.specs.declared.book.OpenFault.TheVariants as fault
 use Rattle.aim_book.specs.Sheets.{sheets_kept}
 use Rattle.aim_book.specs.State.{State}
-use Rattle.aim_mailbox.specs.declared.letter.Letter.{Letter}
-use Rattle.aim_mailbox.specs.declared.letter.Setting.{Setting}
+use Rattle.aim_post.specs.declared.letter.Letter.{Letter}
+use Rattle.aim_post.specs.declared.letter.Setting.{Setting}
 use Rattle.aim_mailbox.specs.declared.response.Response.{Response}
 use Rattle.aim_mailbox.specs.Asks.{asks, pairs}
 use Rattle.aim_mailbox.specs.Calls.{Channel, ClientModel, IsKept, IsNewClient, entries_of}
-use Rattle.aim_mailbox.specs.Post.{of, IntakeModel, PortModel, hired, new_port}
+use Rattle.aim_post.specs.Post.{of, IntakeModel, PortModel, hired, new_port}
 use Rattle.aim_mailbox.specs.Slips.{InletModel, SlipModel, Lawful, kept_after}
 use Rattle.aim_mailbox.specs.Mail.{Stands, Owes, HasSpans, IsNewSlip, IsOpen, IsStaffed, channel_of, client_of, mail_of, letters_of}
-use Rattle.aim_mailbox.proofs.Views.{each_more}
+use Rattle.aim_post.proofs.Views.{each_more}
 
 owes_nothing : (p : ℕ) (on : Channel Letter) (spans : ℕ) (s : SlipModel) → sheets_kept p [] ≡ 0 → IsNewSlip p on spans s → Owes p on spans [] [] [] s
 owes_nothing p on spans s none new = record {

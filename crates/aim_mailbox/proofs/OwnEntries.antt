@@ -9,11 +9,11 @@ use native.Mathlib.Decide.{ℕ_discrete}
 use Rattle.aim_msg.specs.declared.entries.Entry.{Entry}
 use Rattle.aim_msg.specs.declared.messages.Message.{Message}
 use Rattle.aim_book.specs.Sheets.{own}
-use Rattle.aim_mailbox.specs.declared.letter.Letter.{Letter}
+use Rattle.aim_post.specs.declared.letter.Letter.{Letter}
 use Rattle.aim_mailbox.specs.declared.response.Response.{Response}
 use Rattle.aim_mailbox.specs.Asks.{asks, call_of, calls_in, pairs}
 use Rattle.aim_mailbox.specs.Calls.{Answer, Call, IsFull, entry_of, entries_of}
-use Rattle.aim_mailbox.specs.Post.{Every, of}
+use Rattle.aim_post.specs.Post.{Every, of}
 use Rattle.aim_mailbox.specs.Mail.{Deal, deals_of, entries_in}
 
 abbrev pub head_or : {A : Type 0} → A → List A → A

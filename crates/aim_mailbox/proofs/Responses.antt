@@ -7,7 +7,7 @@ use Rattle.atomic_table.proofs.Lists.{at_set}
 use Rattle.aim_mailbox.specs.declared.response.Response.{Response}
 use Rattle.aim_mailbox.specs.declared.slip.Slate.{Slate}
 use Rattle.aim_mailbox.specs.Slips.{IsNext, LawfulAfter, Lawful, kept_from, blank_slate, telling_slate, slate, whole_slate, spent_slate, put_more, heard_more, FitsSlate, Going, Answered}
-use Rattle.aim_mailbox.proofs.Views.{each_set, each_more, each_one}
+use Rattle.aim_post.proofs.Views.{each_set, each_more, each_one}
 
 not_true : false ≡ true → ⊥
 not_true e = true≢false (sym e)

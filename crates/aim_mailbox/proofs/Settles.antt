@@ -11,14 +11,14 @@ use Rattle.aim_msg.specs.declared.entries.Entry.{Entry}
 use Rattle.aim_msg.specs.declared.entries.TheConstants.{MOST_VEHICLES, OPERATOR}
 use Rattle.aim_book.specs.Sheets.{own, sheets_kept}
 use Rattle.aim_book.specs.State.{State}
-use Rattle.aim_mailbox.specs.declared.letter.Letter.{Letter}
+use Rattle.aim_post.specs.declared.letter.Letter.{Letter}
 use Rattle.aim_mailbox.specs.declared.response.Response.{Response}
 use Rattle.aim_mailbox.specs.Calls.{Channel, ClientModel, ServerModel, IsReply, IsFull, entry_of, entries_of, IsOfMail, IsSettled}
-use Rattle.aim_mailbox.specs.Post.{Every, of}
+use Rattle.aim_post.specs.Post.{Every, of}
 use Rattle.aim_mailbox.specs.Slips.{SlipModel, kept_after}
 use Rattle.aim_mailbox.specs.Asks.{asks, calls_in, has_last, is_last}
 use Rattle.aim_mailbox.specs.Mail.{Deal, deals_of, entries_in, Stands, HasEnded, channel_of, Gone, Found}
-use Rattle.aim_mailbox.proofs.Posts.{Every-map, of-append}
+use Rattle.aim_post.proofs.Posts.{Every-map, of-append}
 use Rattle.aim_mailbox.proofs.CallLemmas.{no_more}
 use Rattle.aim_mailbox.proofs.OwnEntries.{Every_call, Every_test, call, deals-append, head_or, other_entry, own_are, served_calls}
 

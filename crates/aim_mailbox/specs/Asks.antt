@@ -2,9 +2,9 @@
 use Rattle.std.specs.Prelude.{ℕ, ◌||◌, Bool, true, false, List, [], ◌∷◌, ◌++◌}
 use Rattle.aim_msg.specs.declared.messages.Message.{Message}
 use Rattle.aim_buffers.specs.Requests.{Request}
-use Rattle.aim_mailbox.specs.declared.letter.Letter.{Letter}
-use Rattle.aim_mailbox.specs.declared.letter.Word.{Word}
-use Rattle.aim_mailbox.specs.declared.letter.Word.TheVariants as W
+use Rattle.aim_post.specs.declared.letter.Letter.{Letter}
+use Rattle.aim_post.specs.declared.letter.Word.{Word}
+use Rattle.aim_post.specs.declared.letter.Word.TheVariants as W
 use Rattle.aim_mailbox.specs.declared.response.Response.{Response}
 use Rattle.aim_mailbox.specs.Calls.{Answer, Call}
 

@@ -11,8 +11,8 @@ use Rattle.aim_msg.specs.declared.messages.Message.{Message}
 use Rattle.aim_msg.specs.declared.replies.Reply.{Reply}
 use Rattle.aim_book.specs.declared.book.Full.{Full}
 use Rattle.aim_book.specs.Sheets.{own, sheets_kept}
-use Rattle.aim_mailbox.specs.declared.letter.Letter.{Letter}
-use Rattle.aim_mailbox.specs.declared.letter.Setting.{Setting}
+use Rattle.aim_post.specs.declared.letter.Letter.{Letter}
+use Rattle.aim_post.specs.declared.letter.Setting.{Setting}
 use Rattle.aim_mailbox.specs.declared.response.Response.{Response}
 
 abbrev pub Answer : Type 0

@@ -1,5 +1,4 @@
 pub mod Asks
 pub mod Calls
 pub mod Mail
-pub mod Post
 pub mod Slips

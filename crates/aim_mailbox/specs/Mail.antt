@@ -8,13 +8,13 @@ use Rattle.aim_buffers.specs.Requests.{Request}
 use Rattle.aim_rules.specs.Legal.{IsLegal}
 use Rattle.aim_book.specs.Sheets.{sheets_kept}
 use Rattle.aim_book.specs.State.{State}
-use Rattle.aim_mailbox.specs.declared.letter.Letter.{Letter}
-use Rattle.aim_mailbox.specs.declared.letter.Setting.{Setting}
-use Rattle.aim_mailbox.specs.declared.letter.Word.TheVariants as W
+use Rattle.aim_post.specs.declared.letter.Letter.{Letter}
+use Rattle.aim_post.specs.declared.letter.Setting.{Setting}
+use Rattle.aim_post.specs.declared.letter.Word.TheVariants as W
 use Rattle.aim_mailbox.specs.declared.response.Response.{Response}
 use Rattle.aim_mailbox.specs.Asks.{Ask, asks, calls_in, has_last, is_last}
 use Rattle.aim_mailbox.specs.Calls.{Answer, Channel, ClientModel, ServerModel, entry_of, IsNewClient, IsReply, IsFull}
-use Rattle.aim_mailbox.specs.Post.{Every, of, PortModel, IntakeModel, NoteModel}
+use Rattle.aim_post.specs.Post.{Every, of, PortModel, IntakeModel, NoteModel}
 use Rattle.aim_mailbox.specs.Slips.{IsFirst, Lawful, kept_after, SlipModel, InletModel}
 
 -- the channel of a port, of the server's end, and of a note

@@ -7,12 +7,12 @@ use Rattle.atomic_table.specs.Seated.{TableId}
 use Rattle.atomic_table.specs.declared.badge.Badge.{Badge}
 use Rattle.crossbeam_channel.specs.declared.flavors.array.Key.{Key}
 use Rattle.aim_book.specs.Sheets.{sheets_kept}
-use Rattle.aim_mailbox.specs.declared.letter.Letter.{Letter}
+use Rattle.aim_post.specs.declared.letter.Letter.{Letter}
 use Rattle.aim_mailbox.specs.declared.response.Response.{Response}
 use Rattle.aim_mailbox.specs.declared.slip.Slate.{Slate}
 use Rattle.aim_mailbox.specs.Asks.{asks, calls_in}
 use Rattle.aim_mailbox.specs.Calls.{Channel, entries_of}
-use Rattle.aim_mailbox.specs.Post.{of}
+use Rattle.aim_post.specs.Post.{of}
 
 -- what the first response tells: the client's number, the channel of its requests, and the room of its sheets
 pub record IsFirst (number : ℕ) (requests : Channel Letter) (room : ℕ) (first : Option Response) : Type 0 where

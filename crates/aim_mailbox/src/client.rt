@@ -5,14 +5,13 @@ ghost use Rattle.aim_buffers.specs.Requests.{IsPreparedFor};
 ghost use Rattle.aim_mailbox.specs.Calls.{IsKept};
 ghost use Rattle.aim_mailbox.specs.Mail.{client_of, IsTold};
 
-use crate::letter::{Letter, Word};
-use crate::post::Port;
 use crate::response::Response;
 use crate::slip::Inlet;
 use aim_book::Full;
 use aim_buffers::Prepared;
 use aim_msg::Reply;
 use aim_pool::Pool;
+use aim_post::{Letter, Port, Word};
 use std::marker::Model;
 use std::sync::Wait;
 

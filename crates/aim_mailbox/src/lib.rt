@@ -2,19 +2,14 @@
 #![tactic(auto)]
 
 mod client;
-mod letter;
 mod mailbox;
-mod post;
 mod response;
 mod server;
 mod slip;
-mod waits;
 
 pub use aim_book::{Full, OpenFault};
 pub use client::{Client, Ended};
-pub use letter::{Letter, Setting, Word};
 pub use mailbox::{Mailbox, OpenedMail};
-pub use post::{Hand, Intake, Note, Port};
 pub use response::Response;
 pub use server::{Served, Server, settle};
 pub use slip::{Inlet, Slate, Slip};

@@ -3,18 +3,17 @@ ghost use Rattle.std.specs.Prelude.{◌≡◌, ◌↔◌, ◌⊎◌, ℕ, ◌<�
 ghost use Rattle.aim_msg.specs.declared.entries.TheConstants.{MOST_ENTRIES, MOST_VEHICLES};
 ghost use Rattle.aim_rules.specs.Legal.{IsLegal};
 ghost use Rattle.aim_mailbox.specs.Calls.{ClientModel, IsNewClient};
-ghost use Rattle.aim_mailbox.specs.Post.{hired};
+ghost use Rattle.aim_post.specs.Post.{hired};
 ghost use Rattle.aim_mailbox.specs.Mail.{HasSpans, IsNewSlip, IsStaffed, channel_of, letters_of, setting_of};
 
 use crate::client::Client;
-use crate::letter::Setting;
-use crate::post::Intake;
 use crate::response::Response;
 use crate::server::{Desk, Server, spans_of};
 use crate::slip::Slip;
 use aim_book::{Book, Full, OpenFault};
 use aim_paths::Layout;
 use aim_pool::Pool;
+use aim_post::{Intake, Setting};
 use aim_tiles::Steps;
 use std::alloc::{AllocError, Global};
 use std::sync::Wait;

@@ -1,8 +1,8 @@
 //! What comes back of a call.
-use crate::post::Note;
 use aim_book::Full;
 use aim_msg::Reply;
 use aim_pool::Pool;
+use aim_post::Note;
 
 /// What comes back of a call: the number of the vehicle, the answer, the sheets that the book gave back, how many it now
 /// keeps for the vehicle, and a note of what the server had received.

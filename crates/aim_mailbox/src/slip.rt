@@ -6,7 +6,7 @@ ghost use Rattle.aim_mailbox.specs.Slips.{telling_slate, slate, whole_slate, put
 ghost use Rattle.aim_mailbox.specs.declared.response.Response.{Response};
 
 use crate::response::Response;
-use crate::waits::{pass_over, receive_until, send_until};
+use aim_post::{pass_over, receive_until, send_until};
 use crossbeam_channel::protocol::{Join, Lesson, Outcome, Protocol, Split};
 use crossbeam_channel::{Pass, RuledReceiver, RuledSender, bounded_with};
 use std::alloc::{AllocError, Global};

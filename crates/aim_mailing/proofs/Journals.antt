@@ -16,7 +16,7 @@ use Rattle.aim_book.specs.Sheets.{own}
 use Rattle.aim_events.specs.declared.scripts.Event.{Event}
 use Rattle.aim_events.specs.declared.scripts.EventScript.{EventScript}
 use Rattle.aim_events.specs.Fits.{IsFit}
-use Rattle.aim_mailbox.specs.declared.letter.Setting.{Setting}
+use Rattle.aim_post.specs.declared.letter.Setting.{Setting}
 use Rattle.aim_mailbox.specs.Calls.{Answer, Call as ClientCall, ClientModel, ServerModel, IsNewClient, IsOfMail, IsReply, IsSettled, entries_of, entry_of}
 use Rattle.aim_mailbox.proofs.Clients.{of_same}
 use Rattle.aim_mailing.specs.declared.callers.Caller.{Caller}

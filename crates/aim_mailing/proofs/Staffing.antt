@@ -9,7 +9,7 @@ use Rattle.aim_rules.specs.Legal.{IsLegal}
 use Rattle.aim_book.specs.Sheets.{own}
 use Rattle.aim_events.specs.declared.scripts.EventScript.{EventScript}
 use Rattle.aim_events.specs.Fits.{IsFit}
-use Rattle.aim_mailbox.specs.declared.letter.Setting.{Setting}
+use Rattle.aim_post.specs.declared.letter.Setting.{Setting}
 use Rattle.aim_mailbox.specs.Calls.{ClientModel, ServerModel, IsNewClient, IsOfMail, IsSettled}
 use Rattle.aim_mailing.specs.declared.callers.Caller.{Caller}
 use Rattle.aim_mailing.specs.Runs.{IsRun}

@@ -6,7 +6,7 @@ use Rattle.aim_msg.specs.declared.entries.Act.TheVariants as act
 use Rattle.aim_paths.specs.Intersection.{Intersection}
 use Rattle.aim_pool.specs.Pools.{Stock}
 use Rattle.aim_events.specs.declared.scripts.Event.{Event}
-use Rattle.aim_mailbox.specs.declared.letter.Setting.{Setting}
+use Rattle.aim_post.specs.declared.letter.Setting.{Setting}
 use Rattle.aim_mailbox.specs.Calls.{Call as ClientCall, ClientModel, ServerModel, IsNewClient}
 use Rattle.aim_mailbox.proofs.Clients.{same_refl, same_trans}
 use Rattle.aim_mailing.specs.declared.callers.Caller.{Caller}

@@ -3,7 +3,6 @@
 
 ghost use Rattle.std.specs.Prelude.{◌≡◌, ◌<◌};
 
-use crate::clock::nanoseconds;
 use aim_book::Book;
 use aim_buffers::prepare;
 use aim_msg::{LATEST_MOMENT, Message, Reply};
@@ -11,7 +10,7 @@ use aim_paths::Kind;
 use aim_pool::Pool;
 use aim_tiles::Steps;
 use anyhow::{Context, Result, anyhow};
-use bench_day::{CALLS, SPANS, held_after, message, moment, twelve_lanes};
+use bench_day::{CALLS, SPANS, held_after, message, moment, nanoseconds, twelve_lanes};
 use std::alloc::Global;
 use std::io;
 use std::marker::Brand;

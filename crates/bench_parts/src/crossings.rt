@@ -2,13 +2,12 @@
 
 ghost use Rattle.std.specs.Prelude.{◌≡◌, ◌<◌, ◌≤◌};
 
-use crate::clock::nanoseconds;
 use aim_buffers::{Prepared, prepare};
 use aim_msg::{Body, Message, Params, Turn};
 use aim_paths::{Kind, Layout};
 use aim_pool::Pool;
 use anyhow::{Context, Result};
-use bench_day::twelve_lanes;
+use bench_day::{nanoseconds, twelve_lanes};
 use std::alloc::Global;
 use std::time::{Clock, Instant};
 

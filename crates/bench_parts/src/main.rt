@@ -6,23 +6,20 @@
 #![tactic(auto)]
 
 mod book;
-mod clock;
 mod crossings;
-mod entries;
-mod json;
-mod text;
 mod tiles;
 mod words;
 
 use anyhow::Result;
+use bench_texts::{measure_json, measure_text};
 use std::env;
 use words::{PARTS, Part, number, numbers, part_of};
 
 // Measures one part, with the numbers that the words ask for.
 fn measure(rt: &HostRuntime, part: Part, words: &[String]) -> Result<()> {
     match part {
-        Part::Text => text::run(rt, number(words)?),
-        Part::Json => json::run(rt, number(words)?),
+        Part::Text => measure_text(rt, number(words)?),
+        Part::Json => measure_json(rt, rt.alloc(), number(words)?),
         Part::Tiles => tiles::run(rt, number(words)?),
         Part::Crossings => crossings::run(rt, number(words)?),
         Part::Book => book::run(rt, numbers(words)?),

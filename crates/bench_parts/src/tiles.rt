@@ -5,10 +5,10 @@ ghost use Rattle.std.specs.Prelude.{◌≡◌, ◌^◌, ◌<◌, length};
 ghost use Rattle.std.specs.Bool.{OnTrue};
 ghost use Rattle.bench_parts.specs.Ready.{AreReady};
 
-use crate::clock::nanoseconds;
 use aim_pool::{Pool, Sheet, Span};
 use aim_tiles::{Steps, Table};
 use anyhow::{Context, Result};
+use bench_day::nanoseconds;
 use std::alloc::{AllocError, Global};
 use std::marker::Brand;
 use std::sync::ledger::{Blank, Ledger};

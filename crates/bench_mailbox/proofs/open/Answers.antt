@@ -1,7 +1,7 @@
 use Rattle.std.proofs.Common.{◌≡◌, length, Option, Some, sym, ap, ◌∙◌, subst, arith}
 use Rattle.std.specs.Prelude.{IfSome}
 use Rattle.aim_paths.specs.Intersection.{Intersection}
-use Rattle.aim_mailbox.specs.declared.letter.Setting.{Setting}
+use Rattle.aim_post.specs.declared.letter.Setting.{Setting}
 use Rattle.bench_mailbox.proofs.open.Goals as goal
 
 setting_if : (o : Option Setting) (s : Setting) (i : Intersection) → o ≡ Some s → s.layout ≡ i → IfSome o (λ t. t.layout ≡ i)

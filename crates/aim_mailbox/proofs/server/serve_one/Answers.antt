@@ -1,5 +1,5 @@
 use Rattle.std.proofs.Common.{ap, subst, sym, ◌∷◌, ◌++◌, []}
-use Rattle.aim_mailbox.specs.Post.{IsFor, IsServable}
+use Rattle.aim_post.specs.Post.{IsFor, IsServable}
 use Rattle.aim_mailbox.specs.Mail.{Stands, letters_of}
 use Rattle.aim_mailbox.proofs.server.serve_one.Goals as goal
 

@@ -1,7 +1,7 @@
 use Rattle.std.proofs.Common.{ap, sym, ◌∙◌, subst, arith, ◌≡◌, List, [], ◌∷◌, ◌++◌, map, ℕ, refl, append-nil}
 use lib.ListN.{get_elem?}
-use Rattle.aim_mailbox.specs.declared.letter.Letter.{Letter}
-use Rattle.aim_mailbox.specs.Post.{Every, of}
+use Rattle.aim_post.specs.declared.letter.Letter.{Letter}
+use Rattle.aim_post.specs.Post.{Every, of}
 use Rattle.aim_mailbox.specs.Mail.{Gone, Found, channel_of, client_of}
 use Rattle.aim_mailbox.proofs.Settles.{settled_all, own_of, here, put_back, popped, below, nothing_left, slip_of, no_operator, All-from_Every}
 use Rattle.aim_mailbox.proofs.server.settle.Goals as goal

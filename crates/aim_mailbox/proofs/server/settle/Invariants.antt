@@ -1,5 +1,5 @@
 use Rattle.std.proofs.Common.{◌≡◌, List, ◌++◌, map}
-use Rattle.aim_mailbox.specs.Post.{Every}
+use Rattle.aim_post.specs.Post.{Every}
 use Rattle.aim_mailbox.specs.Mail.{Gone, Found}
 use Rattle.aim_mailbox.proofs.server.settle.Given as goal
 

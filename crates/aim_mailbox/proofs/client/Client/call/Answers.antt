@@ -1,6 +1,6 @@
 use Rattle.std.proofs.Common.{ap, subst, arith, Some}
 use Rattle.aim_mailbox.specs.Calls.{IsKept}
-use Rattle.aim_mailbox.specs.Post.{Begun, PortModel}
+use Rattle.aim_post.specs.Post.{Begun, PortModel}
 use Rattle.aim_mailbox.specs.Slips.{Lawful, InletModel}
 use Rattle.aim_mailbox.proofs.CallLemmas.{called, comes_back, noted, open_more, servable_if, still_told}
 use Rattle.aim_mailbox.proofs.client.Client.call.Goals as goal

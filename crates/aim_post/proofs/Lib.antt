@@ -1,0 +1,4 @@
+pub mod Crosses
+pub mod Posts
+pub mod Tries
+pub mod Views
