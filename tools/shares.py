@@ -6,7 +6,8 @@
   tools/shares.py --jobs 4 ..          checks so many crates side by side
 
 It checks each crate from nothing, as `rt ci` does, over the libraries that stand in crates/*/out: so run `rt ci` before it,
-which leaves there what its own checks read. A check has one job. A share is of all the processor's time that the check took. A
+which leaves there what its own checks read, in a clone in which it had not run before: of a later run it may leave what an
+earlier one had left. A check has one job. A share is of all the processor's time that the check took. A
 check writes the parts of each function's proof as they come: a part took what the check's clock of that time went on since the
 part before it was written, so other work on the machine counts for nothing. Behind each function stand the parts that took most
 of it: Lts is the borrow checker's, Proof the search for the answers that nobody wrote, Answers those that somebody did. Needs
