@@ -9,6 +9,7 @@ use Rattle.aim_msg.specs.Texts.{spaced}
 use Rattle.aim_script.specs.declared.decisions.Decision.{Decision}
 use Rattle.aim_script.specs.declared.decisions.Decision.TheVariants as decision
 use Rattle.aim_script.specs.Decided.{decision_words, printed, status_of}
+use Rattle.aim_script.specs.Refusals.{Refuses}
 use Rattle.aim_plans.specs.declared.scripts.DriveScript.{DriveScript}
 use Rattle.aim_plans.specs.declared.scripts.Ending.{Ending}
 use Rattle.aim_plans.specs.declared.scripts.Ending.TheVariants as ending
@@ -16,7 +17,7 @@ use Rattle.aim_plans.specs.Scripts.{Decides, Reads}
 use Rattle.aim_plans.specs.Short.{StopsShort}
 use Rattle.aim_plans.specs.Verdicts.{drive_verdict}
 use Rattle.aim_driving.specs.Commands.{Completes, IsTextOf, Shows, ShowsFront, Writes, WritesFront}
-use Rattle.aim_driving.specs.Endings.{EndsWith, Refuses}
+use Rattle.aim_driving.specs.Endings.{EndsWith}
 
 -- the statuses that a drive may have
 abbrev pub IsStatus : ℕ → Type 0

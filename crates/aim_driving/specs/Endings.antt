@@ -1,22 +1,11 @@
--- What is written of a drive script that isn't whole, and the status.
-use Rattle.std.specs.Prelude.{◌≡◌, ◌⊎◌, ℕ, List, Option}
-use Rattle.std.specs.Io.KnownBytes.{Appends}
-use Rattle.aim_io.specs.Causes.{Rose}
-use Rattle.aim_io.specs.Known.{AppendsFront}
-use Rattle.aim_msg.specs.Texts.{spaced}
-use Rattle.aim_script.specs.declared.decisions.Decision.{Decision}
+-- What is written of a drive script that isn't whole, and the status, by how the reading ended. No public clause cites this file.
+use Rattle.std.specs.Prelude.{◌≡◌, ℕ, List, Option}
 use Rattle.aim_script.specs.declared.decisions.Decision.TheVariants as decision
-use Rattle.aim_script.specs.Decided.{decision_words, printed, status_of}
+use Rattle.aim_script.specs.Refusals.{Refuses}
 use Rattle.aim_plans.specs.declared.scripts.Ending.{Ending}
 use Rattle.aim_plans.specs.declared.scripts.Ending.TheVariants as ending
 
--- The line that says why was written, and the status is that of the reason; or the sink failed, the status is 5, and a front of the line was written.
-abbrev pub Refuses : Decision → Option (List ℕ) → Option (List ℕ) → ℕ → ℕ → ℕ → Type 0
-Refuses d held held' sink sink' result =
-    ((result ≡ status_of d) × Appends held held' (printed (spaced (decision_words d))))
-    ⊎ ((result ≡ 5) × AppendsFront held held' (printed (spaced (decision_words d))) × Rose sink sink')
-
--- the same by how the reading ended: nothing was written where the source failed, or memory ran out
+-- the line that says why, for a line at fault or a limit; and nothing where the source failed, or memory ran out
 abbrev pub EndsWith : Ending → Option (List ℕ) → Option (List ℕ) → ℕ → ℕ → ℕ → Type 0
 EndsWith (ending.Bad number why) held held' sink sink' result = Refuses (decision.Bad number why) held held' sink sink' result
 EndsWith (ending.Limit which) held held' sink sink' result = Refuses (decision.Limit which) held held' sink sink' result

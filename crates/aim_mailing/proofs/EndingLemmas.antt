@@ -10,6 +10,7 @@ use Rattle.aim_msg.specs.Texts.{spaced}
 use Rattle.aim_script.specs.declared.decisions.Decision.{Decision}
 use Rattle.aim_script.specs.declared.decisions.Decision.TheVariants as decision
 use Rattle.aim_script.specs.Decided.{decision_words, printed, status_of}
+use Rattle.aim_script.specs.Refusals.{Refuses}
 use Rattle.aim_events.specs.declared.scripts.EventScript.{EventScript}
 use Rattle.aim_events.specs.declared.scripts.EventEnding.{EventEnding}
 use Rattle.aim_events.specs.declared.scripts.EventEnding.TheVariants as ending
@@ -17,7 +18,7 @@ use Rattle.aim_events.specs.Scripts.{Decides, IsRead, IsScriptOf, Reads}
 use Rattle.aim_events.specs.Short.{StopsShort}
 use Rattle.aim_events.specs.Verdicts.{event_verdict}
 use Rattle.aim_mailing.specs.Commands.{Completes, IsReport, IsTextOf, Shows, ShowsFront, Writes, WritesFront}
-use Rattle.aim_mailing.specs.Endings.{EndsWith, Refuses}
+use Rattle.aim_mailing.specs.Endings.{EndsWith}
 use Rattle.aim_mailing.proofs.ShownLemmas.{completed, shown, shown_front}
 
 -- the statuses that the command may have

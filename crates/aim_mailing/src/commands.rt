@@ -5,20 +5,19 @@ ghost use Rattle.std.specs.Io.KnownBytes.{Appends, IsAtEnd};
 ghost use Rattle.aim_io.specs.Causes.{Rose};
 ghost use Rattle.aim_io.specs.Known.{AppendsFront};
 ghost use Rattle.aim_msg.specs.declared.script.Line.{Line};
-ghost use Rattle.aim_script.specs.Decided.{status_of};
 ghost use Rattle.aim_events.specs.Fits.{IsFit};
 ghost use Rattle.aim_plans.specs.Scripts.{TakesAtMost};
 ghost use Rattle.aim_events.specs.Scripts.{IsScriptOf};
 ghost use Rattle.aim_events.specs.Short.{StopsShort};
 ghost use Rattle.aim_mailing.specs.Commands.{Completes, IsReport, Shows, ShowsFront, report};
-ghost use Rattle.aim_mailing.specs.Endings.{EndsWith, Refuses};
+ghost use Rattle.aim_mailing.specs.Endings.{EndsWith};
 
 use crate::running::run_script;
 use aim_events::{EventEnding, EventScript, read_events};
 use aim_io::{Sink, Source, put_all};
 use aim_msg::Entry;
 use aim_report::{put_end, put_entries};
-use aim_script::{Decision, last_line};
+use aim_script::{Decision, put_refused};
 use std::alloc::{AllocError, Global};
 use std::marker::Brand;
 use std::sync::Wait;
@@ -34,30 +33,6 @@ fn report_of(alloc: Global, journal: &[Entry]) -> Result<Vec<u8>, AllocError>
     put_entries(&mut text, journal)?;
     put_end(&mut text, journal.len() as u32)?;
     Ok(text)
-}
-
-// The status of a script that isn't whole.
-fn status_of(decision: Decision) -> u8
-    ensures { result ≡ status_of decision }
-{
-    match decision {
-        Decision::Whole(_) => 0,
-        Decision::Bad(..) => 3,
-        Decision::Limit(_) => 6,
-    }
-}
-
-// Writes the one line of a script that isn't whole, and answers the status.
-fn put_refused<K: Sink>(sink: &mut K, decision: Decision) -> u8
-    ensures refuses { Refuses decision (K.held sink.old) (K.held sink.new) (K.faults sink.old) (K.faults sink.new) result }
-    ensures sink { K.faults sink.old ≤ K.faults sink.new }
-{
-    let mut line = [0; 400];
-    let len = last_line(decision, &mut line);
-    match put_all(sink, &line[..len]) {
-        Ok(()) => status_of(decision),
-        Err(_) => 5,
-    }
 }
 
 // Writes why there is no whole script, where that isn't for the source or for memory, and answers the status.

@@ -4,6 +4,7 @@ pub mod Kinds
 pub mod Verdicts
 pub mod First
 pub mod Decided
+pub mod Refusals
 pub mod Versions
 pub mod Names
 pub mod Headers

@@ -3,8 +3,10 @@
 ghost use Rattle.std.specs.Prelude.{◌≡◌, ◌<◌, ◌≤◌, ◌+◌, ◌++◌, ◌∷◌, [], length, take};
 ghost use Rattle.aim_msg.specs.Texts.{spaced};
 ghost use Rattle.aim_msg.specs.Writing.{added};
-ghost use Rattle.aim_script.specs.Decided.{decision_words, kind_text, limit_text, printed};
+ghost use Rattle.aim_script.specs.Decided.{decision_words, kind_text, limit_text, printed, status_of};
+ghost use Rattle.aim_script.specs.Refusals.{Refuses};
 
+use aim_io::{Sink, put_all};
 use aim_msg::{LineKind, Text};
 
 /// Why a line of a script is at fault.
@@ -163,4 +165,29 @@ pub fn last_line(decision: Decision, line: &mut [u8; 400]) -> usize
     let len = text.give(line);
     line[len] = b'\n';
     len + 1
+}
+
+// The status of what a script comes to.
+fn status_of(decision: Decision) -> u8
+    ensures { result ≡ status_of decision }
+{
+    match decision {
+        Decision::Whole(_) => 0,
+        Decision::Bad(..) => 3,
+        Decision::Limit(_) => 6,
+    }
+}
+
+/// Writes the last line of a script that isn't whole, and answers the status: 3 where a line is at fault, 6 where the
+/// input goes past a limit, and 5 where the sink fails.
+pub fn put_refused<K: Sink>(sink: &mut K, decision: Decision) -> u8
+    ensures refuses { Refuses decision (K.held sink.old) (K.held sink.new) (K.faults sink.old) (K.faults sink.new) result }
+    ensures sink { K.faults sink.old ≤ K.faults sink.new }
+{
+    let mut line = [0; 400];
+    let len = last_line(decision, &mut line);
+    match put_all(sink, &line[..len]) {
+        Ok(()) => status_of(decision),
+        Err(_) => 5,
+    }
 }

@@ -8,7 +8,7 @@ mod names;
 mod settings;
 mod versions;
 
-pub use decisions::{Decision, Kind, Limit, last_line};
+pub use decisions::{Decision, Kind, Limit, last_line, put_refused};
 pub use headers::{Headed, Header, Refusal};
 pub use names::Names;
 pub use settings::Setting;
