@@ -5,7 +5,8 @@ use aim_driving::traffic;
 use aim_msg::{LineKind, Turn};
 use aim_paths::{Layout, Path};
 use aim_plans::DriveScript;
-use aim_script::{Decision, Kind, Limit, last_line};
+use aim_script::{Decision, Kind, Limit, last_line, put_refused};
+use tests_samples::sink_of;
 
 // Whether there are three plans, and the third is that of the seed.
 fn has_plans(script: &DriveScript) -> bool {
@@ -54,4 +55,7 @@ fn last_lines(rt: HostRuntime) {
     for (decision, text) in &LAST_LINES {
         assert!(rt; is_last(*decision, text));
     }
+    let mut sink = sink_of(rt.alloc(), 64, &[]).expect(&rt, "memory for a sink");
+    assert!(rt; put_refused(&mut sink, Decision::Bad(3, Kind::Order)) == 3);
+    assert!(rt; sink.bytes() == b"bad line 3 order\n".as_slice());
 }

@@ -1,9 +1,18 @@
-use Rattle.std.proofs.Common.{List, ap, map, ◌∙◌}
+use Rattle.std.proofs.Common.{List, ap, arith, map, length, sym, ◌∙◌}
+use Rattle.std.proofs.lemmas.List.{length-map}
 use Rattle.aim_crossings.specs.Runs.{journal_left, logs_left}
 use Rattle.aim_drive.specs.declared.running.Drove.{Drove}
 use Rattle.aim_routing.specs.Texts.{grid_report}
 use Rattle.aim_routing.proofs.Reporting.{if_ok, is_report}
 use Rattle.aim_routing.proofs.commands.text_over.Goals as goal
+
+pub report_of-requires-clause-count : goal.report_of-requires-clause-count
+report_of-requires-clause-count g c = ap length c.deref.ensures.value ∙ sym (length-map c.in_ok-left.left.items logs_left) ∙ c.in_ok-left.ensures.run.count ∙ sym (ap length c.requires.layouts)
+
+pub report_of-requires-clause-crossings : goal.report_of-requires-clause-crossings
+report_of-requires-clause-crossings g c =
+    let count = ap length c.deref.ensures.value ∙ sym (length-map c.in_ok-left.left.items logs_left) ∙ c.in_ok-left.ensures.run.count in
+    let few = c.requires.routes.few_crossings in omega (arith, count, few)
 
 pub returns : goal.returns
 returns g c = λ lines are.
