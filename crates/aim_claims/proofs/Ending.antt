@@ -1,5 +1,6 @@
 -- How the reading of a script ends.
-use Rattle.std.proofs.Common.{◌≡◌, ℕ, ◌≤◌, List, Option, Some, Result, Ok, Err, refl, sym, subst, true}
+use Rattle.std.proofs.Common.{◌≡◌, ℕ, ◌<◌, ◌≤◌, List, length, Option, None, Some, Result, Ok, Err, refl, sym, subst, true}
+use Rattle.std.specs.Io.KnownBytes.{IsAtEnd}
 use Rattle.aim_io.specs.declared.lines.LineFault.{LineFault}
 use Rattle.aim_io.specs.declared.lines.LineFault.TheVariants.{Read, Long, Bytes, Lines}
 use Rattle.aim_io.specs.Causes.{Rose}
@@ -19,8 +20,12 @@ use Rattle.aim_claims.specs.Short.{StopsShort}
 use Rattle.aim_claims.specs.Verdicts.{number_after, verdict, verdict_from}
 use Rattle.aim_claims.proofs.Deciding.{bad_line, fault_line}
 
+-- a decision, at the end of the input or before it
+pub decision_ends : (lines : List ShardLine) (why : Option Refused) (all left : Option (List ℕ)) (faults_old faults_new : ℕ) → Comes lines why all → (why ≡ None → 0 < length lines) → (why ≡ None → IsAtEnd left) → faults_old ≤ faults_new → Ends lines (Ok why) all left faults_old faults_new
+decision_ends lines why all left faults_old faults_new comes some ended later = record { verdict = comes; some = some; ended = ended; short = λ e. absurd cc; read = λ e. absurd cc; source = later }
+
 ends_bad : (lines : List ShardLine) (why : Refused) (all left : Option (List ℕ)) (faults_old faults_new : ℕ) → Comes lines (Some why) all → faults_old ≤ faults_new → Ends lines (Ok (Some why)) all left faults_old faults_new
-ends_bad lines why all left faults_old faults_new comes later = record { verdict = comes; some = λ e. absurd cc; ended = λ e. absurd cc; short = λ e. absurd cc; read = λ e. absurd cc; source = later }
+ends_bad lines why all left faults_old faults_new comes later = decision_ends lines (Some why) all left faults_old faults_new comes (λ e. absurd cc) (λ e. absurd cc) later
 
 -- a fault of the input
 pub fault_ends : (lines : List ShardLine) (fault : LineFault) (result : Result (Option Refused) Stop) (old new : Reader) (all then now left : Option (List ℕ)) (faults_old faults_new : ℕ) → result ≡ after_fault fault

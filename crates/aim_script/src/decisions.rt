@@ -179,7 +179,7 @@ fn status_of(decision: Decision) -> u8
 }
 
 /// Writes the last line of a script that isn't whole, and answers the status: 3 where a line is at fault, 6 where the
-/// input goes past a limit, and 5 where the sink fails.
+/// input goes past a limit, and 5 where the sink fails. Of a whole one it writes the last line too, and answers 0.
 pub fn put_refused<K: Sink>(sink: &mut K, decision: Decision) -> u8
     ensures refuses { Refuses decision (K.held sink.old) (K.held sink.new) (K.faults sink.old) (K.faults sink.new) result }
     ensures sink { K.faults sink.old ≤ K.faults sink.new }

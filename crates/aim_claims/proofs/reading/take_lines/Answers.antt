@@ -4,7 +4,7 @@ use Rattle.aim_io.specs.Reader.{Reader, after_call}
 use Rattle.aim_claims.specs.Comes.{Judged}
 use Rattle.aim_claims.proofs.Behind.{script_push}
 use Rattle.aim_claims.proofs.Deciding.{end_line, goes_length, goes_on_line}
-use Rattle.aim_claims.proofs.Ending.{fault_ends, refusal_ends}
+use Rattle.aim_claims.proofs.Ending.{decision_ends, fault_ends, refusal_ends}
 use Rattle.aim_claims.proofs.reading.take_lines.Goals as goal
 
 -- the input is at fault
@@ -66,11 +66,7 @@ pub returns-in-Ok-false : goal.returns-in-Ok-false
 returns-in-Ok-false g c =
     let i = c.lines.invariant in
     let e = c.in-Ok-false.ensures in
-    let answers = rw c.in-Ok-false.field-0-test at (e.step i.knows i.no_fault) in record {
-      verdict = end_line c.lines.script c.at_end.result c.lines.reader c.advance.new.self _ _ _ c.at_end.ensures.why i.decides answers;
-      some = c.at_end.ensures.some;
-      ended = λ none. c.advance.ensures.knows i.knows (rw c.in-Ok-false.field-0-test at e.end);
-      short = λ is. absurd cc;
-      read = λ is. absurd cc;
-      source = omega (arith, i.later, c.advance.ensures.later);
-    }
+    let answers = rw c.in-Ok-false.field-0-test at (e.step i.knows i.no_fault) in
+    decision_ends c.lines.script c.at_end.result _ _ _ _ (end_line c.lines.script c.at_end.result c.lines.reader c.advance.new.self _ _ _ c.at_end.ensures.why i.decides answers) c.at_end.ensures.some
+    (λ none. c.advance.ensures.knows i.knows (rw c.in-Ok-false.field-0-test at e.end))
+    (omega (arith, i.later, c.advance.ensures.later))
