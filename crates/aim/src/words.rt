@@ -5,10 +5,10 @@ ghost use Rattle.std.specs.String.{string_bytes};
 ghost use Rattle.aim.specs.Commands.{IsWithin, command_alone as command_of_one, command_of as command_in, command_with as command_of_two, command_of_numbers as command_of_three, number_in as number_of};
 
 use aim_claims::number;
-use aim_msg::LATEST_MOMENT;
+use aim_msg::{LATEST_MOMENT, LineKind};
+use aim_words::tables::look_up;
 
 /// What the program can be asked to do.
-#[derive(Clone, Copy)]
 pub enum Command {
     /// `replay`: replay the script of the input.
     Replay,
@@ -27,6 +27,25 @@ pub enum Command {
     /// `mail WORKERS`: run the script of events of the input over a mailbox with so many workers, 1 to 64.
     Mail(u32),
 }
+
+// The commands of two words, the second of which is a number.
+#[derive(Clone, Copy)]
+enum Numbered {
+    Chart,
+    Drive,
+    Grid,
+    Shards,
+    Mail,
+}
+
+// Their first words.
+const NUMBERED: [(&[u8], Numbered); 5] = [
+    (b"chart", Numbered::Chart),
+    (b"drive", Numbered::Drive),
+    (b"grid", Numbered::Grid),
+    (b"shards", Numbered::Shards),
+    (b"mail", Numbered::Mail),
+];
 
 // The number that the word spells, if it is one from `low` to `most`.
 fn number_in(word: &[u8], low: u32, most: u32) -> Option<u32>
@@ -58,22 +77,13 @@ fn command_with(word: &[u8], number: &[u8]) -> Option<Command>
     ensures value { result ≡ command_of_two word.now number.now }
     ensures within { IfSome result IsWithin }
 {
-    if word == b"chart".as_slice() {
-        return number_in(number, 0, LATEST_MOMENT).map(Command::Chart);
+    match look_up(&NUMBERED, LineKind::Unknown, word).ok()? {
+        Numbered::Chart => number_in(number, 0, LATEST_MOMENT).map(Command::Chart),
+        Numbered::Drive => number_in(number, 1, 64).map(Command::Drive),
+        Numbered::Grid => number_in(number, 1, 64).map(Command::Grid),
+        Numbered::Shards => number_in(number, 1, 64).map(Command::Shards),
+        Numbered::Mail => number_in(number, 1, 64).map(Command::Mail),
     }
-    if word == b"drive".as_slice() {
-        return number_in(number, 1, 64).map(Command::Drive);
-    }
-    if word == b"grid".as_slice() {
-        return number_in(number, 1, 64).map(Command::Grid);
-    }
-    if word == b"shards".as_slice() {
-        return number_in(number, 1, 64).map(Command::Shards);
-    }
-    if word == b"mail".as_slice() {
-        return number_in(number, 1, 64).map(Command::Mail);
-    }
-    None
 }
 
 // The command of three words, if they are in the table.

@@ -345,7 +345,6 @@ fn new_desk<L: Ledger>(
 }
 
 // What a book has beside its layout and its numbers.
-#[derive(Drop)]
 struct Parts<L: Ledger> {
     journal: Vec<Entry>,
     desk: Desk<L>,

@@ -7,6 +7,7 @@ ghost use Rattle.aim_claims.specs.Lines.{form_of, line_of, numbers_fault, number
 use crate::numbers::number;
 use crate::words::Words;
 use aim_msg::LineKind;
+use aim_words::tables::look_up;
 use arrayvec::ArrayVec;
 
 /// A line of a script of claims, with its numbers in their order.
@@ -34,23 +35,20 @@ pub enum ShardForm {
     End,
 }
 
+// The first words of lines, and their forms.
+const FORMS: [(&[u8], ShardForm); 5] = [
+    (b"shards", ShardForm::Shards),
+    (b"set", ShardForm::Set),
+    (b"claim", ShardForm::Claim),
+    (b"free", ShardForm::Free),
+    (b"end", ShardForm::End),
+];
+
 // The form of a line that begins with that word.
 fn form_of(word: &[u8]) -> Result<ShardForm, LineKind>
     ensures { result ≡ form_of word.now }
 {
-    if word == b"shards".as_slice() {
-        Ok(ShardForm::Shards)
-    } else if word == b"set".as_slice() {
-        Ok(ShardForm::Set)
-    } else if word == b"claim".as_slice() {
-        Ok(ShardForm::Claim)
-    } else if word == b"free".as_slice() {
-        Ok(ShardForm::Free)
-    } else if word == b"end".as_slice() {
-        Ok(ShardForm::End)
-    } else {
-        Err(LineKind::Unknown)
-    }
+    look_up(&FORMS, LineKind::Unknown, word)
 }
 
 // How many numbers a line of the form has.

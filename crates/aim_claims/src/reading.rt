@@ -22,7 +22,6 @@ pub struct ScriptRead {
 }
 
 /// Why a script is not read to the line that decides.
-#[derive(Clone, Copy)]
 pub enum Stop {
     /// The source has failed.
     Read,

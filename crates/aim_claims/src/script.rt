@@ -43,7 +43,6 @@ pub struct Terms {
 }
 
 /// What a caller asks for.
-#[derive(Clone, Copy)]
 pub enum Ask {
     /// To claim the set of this number.
     Claim(u32),

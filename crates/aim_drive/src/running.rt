@@ -163,7 +163,6 @@ fn left_by(
 }
 
 // What is ready for a drive.
-#[derive(Drop)]
 struct Seated {
     manager: Manager,
     // In the order of the plans.

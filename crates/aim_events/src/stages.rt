@@ -35,7 +35,6 @@ pub(crate) enum Stage {
 }
 
 /// Why a line isn't taken.
-#[derive(Clone, Copy)]
 pub(crate) enum Refusal {
     /// It is at fault.
     Bad(Kind),

@@ -20,7 +20,6 @@ use std::sync::Wait;
 use std::sync::ledger::{Blank, Ledger};
 
 /// A server, and a client for each vehicle, in the order of their numbers.
-#[derive(Drop)]
 pub struct OpenedMail<L: Ledger> {
     pub server: Server<L>,
     pub clients: Vec<Client>,

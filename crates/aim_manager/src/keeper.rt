@@ -11,7 +11,6 @@ use std::marker::{Brand, Model};
 use std::sync::ledger::{Blank, Ledger};
 
 /// What a caller asks of the book.
-#[derive(Drop)]
 pub enum Ask {
     /// Serve a vehicle's message. The pool goes along, takes in the sheets that aren't kept, and comes back.
     Serve {

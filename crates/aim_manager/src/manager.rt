@@ -53,7 +53,6 @@ impl Model for Manager {
 }
 
 /// A new manager with the passes of its callers.
-#[derive(Drop)]
 pub struct Opened {
     pub manager: Manager,
     /// The passes of the vehicles, in the order of their numbers.

@@ -28,7 +28,6 @@ pub enum Part {
 }
 
 /// Why a line isn't taken.
-#[derive(Clone, Copy)]
 pub(crate) enum Refusal {
     /// It is at fault.
     Bad(Kind),

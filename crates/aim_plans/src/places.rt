@@ -9,7 +9,6 @@ ghost use Rattle.aim_plans.specs.Drafts.{is_open};
 use aim_msg::Line;
 
 /// The places of a script.
-#[derive(Clone, Copy)]
 pub enum Place {
     /// Up to the line of the vehicles.
     InHeader,

@@ -3,7 +3,6 @@
 use aim_script::Kind;
 
 /// Why a line isn't read.
-#[derive(Clone, Copy)]
 pub enum Unread {
     /// It is at fault.
     Bad(Kind),
@@ -12,7 +11,6 @@ pub enum Unread {
 }
 
 /// Why a line isn't written whole.
-#[derive(Clone, Copy)]
 pub enum Unwritten {
     /// The sink has failed.
     Write,

@@ -23,7 +23,6 @@ use std::marker::Brand;
 use std::sync::ledger::{Blank, Ledger};
 
 /// Why a line isn't answered.
-#[derive(Clone, Copy)]
 enum Halt {
     /// It isn't taken.
     Refused(Refusal),
@@ -32,7 +31,6 @@ enum Halt {
 }
 
 /// Why a replay stops before its text is whole.
-#[derive(Clone, Copy)]
 enum Stop {
     /// The source has failed.
     Read,

@@ -57,7 +57,6 @@ pub enum Stage {
 }
 
 /// Why a line isn't taken.
-#[derive(Clone, Copy)]
 pub enum Refusal {
     /// It is at fault.
     Bad(GridKind),

@@ -11,7 +11,6 @@ use aim_simulate::{RowRange, Visit};
 use std::alloc::Global;
 
 // The masks of each step so far: bit c of word r is tile (r, c). It is cut where memory was wanting.
-#[derive(Drop)]
 pub struct Trace {
     pub steps: Vec<[u64; 64]>,
     pub is_cut: bool,

@@ -45,7 +45,6 @@ pub struct Header {
 }
 
 /// What a line of a header that isn't refused comes to.
-#[derive(Drop)]
 pub enum Headed {
     /// The header goes on.
     More(Header),
@@ -54,7 +53,6 @@ pub enum Headed {
 }
 
 /// Why a line isn't taken.
-#[derive(Clone, Copy)]
 pub enum Refusal {
     /// It is at fault.
     Bad(Kind),

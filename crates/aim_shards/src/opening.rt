@@ -37,7 +37,6 @@ pub enum ShardFault {
 }
 
 /// Shards with a pass for each caller.
-#[derive(Drop)]
 pub struct OpenedShards {
     pub shards: Shards,
     pub passes: Vec<ShardPass>,

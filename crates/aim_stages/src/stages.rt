@@ -40,21 +40,18 @@ pub enum Stage<L: Ledger> {
 }
 
 /// An entry that a line made, and its position in the journal.
-#[derive(Clone, Copy)]
 pub struct Made {
     pub position: u32,
     pub entry: Entry,
 }
 
 /// What taking a line comes to: how far the script has come, and the entry that the line made.
-#[derive(Drop)]
 pub struct Taken<L: Ledger> {
     pub stage: Stage<L>,
     pub made: Option<Made>,
 }
 
 /// Why a line isn't taken.
-#[derive(Clone, Copy)]
 pub enum Refusal {
     /// It is at fault.
     Bad(Kind),

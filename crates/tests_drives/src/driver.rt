@@ -8,7 +8,6 @@ use std::process::Abort;
 use tests_samples::CAR;
 
 /// A call of a driver, and what it answers.
-#[derive(Clone, Copy)]
 enum Call {
     IdleUntil(u64),
     Acts(Option<Message>),
