@@ -18,7 +18,6 @@ use std::sync::ledger::{Blank, Ledger};
 use std::thread::Threads;
 
 // What a run begins with: its server, the callers in their order, and room for what they leave.
-#[derive(Drop)]
 struct Staff<L: Ledger> {
     server: Server<L>,
     callers: Vec<Caller>,
