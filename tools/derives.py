@@ -53,12 +53,20 @@ class Trial:
         for path in {self.away.pop(it) for it in keys}:
             self.write(path)
 
+    def field_at(self, crate, error):
+        """Gives the line of the field whose type can't have the derive, where the error tells of one: it names no type."""
+        at = re.match(r"(.*?):(\d+):\d+: error\[.*this field's type", error)
+        if not at:
+            return ""
+        with open(os.path.join(f"{self.root}/crates/{crate}", at[1]), encoding="utf-8") as it:
+            return it.read().splitlines()[int(at[2]) - 1]
+
     def named_by(self, crate, error):
         """Gives the types without their derive that the error names: with their crate, or as those of the crate where it is."""
         within = re.match(r"\S*/crates/(\w+)/", error)
         here = within[1] if within else crate
         quoted = " ".join(re.findall(r"`([^`]*)`", error.split(": error", 1)[1]))
-        paths = [it.split("::") for it in re.findall(r"\w+(?:::\w+)*", quoted)]
+        paths = [it.split("::") for it in re.findall(r"\w+(?:::\w+)*", f"{quoted} {self.field_at(crate, error)}")]
         found = {(it[0], it[-1]) for it in paths} & self.away.keys()
         for name in {it[-1] for it in paths} - {it[1] for it in found}:
             own = (here, name)
