@@ -3,7 +3,6 @@
 ghost use Rattle.std.specs.Prelude.{◌≡◌, ℕ, ◌+◌, ◌<◌, ◌≤◌, [], true, Some, IfNone, OnOk};
 ghost use Rattle.aim_msg.specs.declared.entries.TheConstants.{LATEST_MOMENT};
 ghost use Rattle.aim_msg.specs.declared.entries.Act.TheVariants as act;
-ghost use Rattle.aim_buffers.specs.Requests.{IsPreparedFor};
 ghost use Rattle.aim_driver.specs.Models.{step_of};
 ghost use Rattle.aim_driver.specs.Keeps.{keeps};
 ghost use Rattle.aim_links.specs.Links.{delivered, after_delivery};
@@ -18,13 +17,13 @@ ghost use Rattle.aim_agent.specs.Followed.{IsNew};
 ghost use Rattle.aim_agent.specs.Turns.{Called, Tried};
 
 use aim_book::laws::sheets_are_those_of_own_entries;
-use aim_buffers::{Prepared, prepare};
+use aim_buffers::prepare_from;
 use aim_driver::{Driver, LogItem, NoMemory, begin_turn};
 use aim_links::Link;
 use aim_manager::{Full, Manager, ManagerFront, ManagerPass};
 use aim_msg::{LATEST_MOMENT, Message, Reply};
 use aim_paths::Layout;
-use aim_pool::{Pool, Sheet};
+use aim_pool::Pool;
 use std::marker::Model;
 use std::sync::Wait;
 
@@ -74,33 +73,6 @@ struct Rest {
 // No step.
 const NO_REST: Rest = Rest { first: 0, last: 0 };
 
-// Takes a sheet out of the pool, which has one.
-fn take_sheet(pool: &mut Pool) -> Sheet
-    requires { 0 < pool.old.count }
-    ensures sheet { result ≡ record { spans = []; room = pool.old.room } }
-    ensures count { pool.new.count + 1 ≡ pool.old.count }
-    ensures room { pool.new.room ≡ pool.old.room }
-{
-    let Ok(sheet) = pool.take() else {
-        unreachable!()
-    };
-    sheet
-}
-
-// The message, prepared for a manager over the layout on two sheets of the pool.
-fn prepare_on(pool: &mut Pool, layout: &Layout, message: &Message) -> Prepared
-    requires some { 2 ≤ pool.old.count }
-    requires fit { pool.old.room ≡ layout.now.grid.spans }
-    ensures message { result.message ≡ message.now }
-    ensures prepared { IsPreparedFor layout.now result }
-    ensures count { pool.new.count + 2 ≡ pool.old.count }
-    ensures room { pool.new.room ≡ pool.old.room }
-{
-    let first = take_sheet(pool);
-    let second = take_sheet(pool);
-    prepare(layout, message, first, second)
-}
-
 // The gate is told, and the manager serves the message with an agent's pass and sheets.
 fn ask<R: Wait, G: Gate>(
     rt: &R,
@@ -122,7 +94,7 @@ fn ask<R: Wait, G: Gate>(
     ensures room { pool.new.room ≡ pool.old.room }
 {
     gate.before(pass.number(), step);
-    let prepared = prepare_on(pool, manager.layout(), message);
+    let prepared = prepare_from(manager.layout(), message, pool);
     manager.serve(rt, pass, step, prepared, pool)
 }
 

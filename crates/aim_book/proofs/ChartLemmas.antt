@@ -10,7 +10,7 @@ use Rattle.aim_rules.specs.History.{Fresh, fresh, now_of}
 use Rattle.aim_rules.specs.Holds.{is_granted, reservations}
 use Rattle.aim_rules.specs.Kept.{has_cell, is_owned, kept, owns}
 use Rattle.aim_rules.specs.Legal.{IsLegal}
-use Rattle.aim_rules.proofs.Lists.{IsIn-test}
+use Rattle.aim_rules.proofs.Lists.{IsIn-test, some_passes}
 use Rattle.aim_rules.proofs.TakenLaws.{are_below-legal, granted-lasts, kept-is, below-in, reservations-have, reservations-kept}
 use Rattle.aim_rules.specs.Kept.{policy_in}
 use Rattle.aim_rules.proofs.Lists.{some_below-same}
@@ -20,7 +20,6 @@ use Rattle.aim_book.specs.Charted.{is_claimed_by_some, is_held}
 use Rattle.aim_book.specs.Managed.{IsManaged}
 use Rattle.aim_reservations.specs.Rows.{is_reserved, row_of}
 use Rattle.aim_book.specs.declared.desks.Desk.{Desk}
-use Rattle.aim_book.proofs.HeldLemmas.{some_passes}
 use Rattle.aim_book.proofs.ManagedLemmas.{row_has}
 
 -- a cell that is not past is held exactly where some vehicle keeps it

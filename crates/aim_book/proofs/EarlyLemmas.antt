@@ -20,7 +20,7 @@ use Rattle.aim_rules.specs.Cells.{cells}
 use Rattle.aim_rules.specs.Distance.{asked_from}
 use Rattle.aim_rules.specs.Known.{Known, comes, first_reason_by, in_the_way_by, too_distant_by, too_far_by, too_late_by}
 use Rattle.aim_rules.proofs.CellLemmas.{cells_has, cells_needed}
-use Rattle.aim_rules.proofs.Lists.{IsIn-test}
+use Rattle.aim_rules.proofs.Lists.{IsIn-test, some_passes}
 use Rattle.aim_buffers.specs.Requests.{Request, prepared_params, steady_sheet}
 use Rattle.aim_pool.specs.Sheets.{Spans}
 use Rattle.aim_session.specs.Calls.{is_call_in}
@@ -30,7 +30,6 @@ use Rattle.aim_book.specs.Asking.{AreCalling, IsAsking}
 use Rattle.aim_book.specs.Desk.{Tells}
 use Rattle.aim_reservations.specs.SpanSteps.{Reaches}
 use Rattle.aim_book.specs.declared.desks.Desk.{Desk}
-use Rattle.aim_book.proofs.HeldLemmas.{some_passes}
 
 -- the spans reach the step exactly where one of the crossing's cells does
 pub far_is : (i : Intersection) (p : Params) (spans : List Span) (reach : ℕ) (b : Bool) → i.times.early ≤ i.times.edge → i.times.late ≤ i.times.edge → HaveCells i p false spans → IsTrue b ↔ Reaches spans reach →

@@ -1,7 +1,6 @@
 -- What a reservation says of the Confirm that it keeps.
-use Rattle.std.proofs.Common.{◌≡◌, ℕ, ◌≤◌, Bool, true, false, nat_le, List, [], ◌∷◌, map, min, Option, Some, None, refl, sym, ◌∙◌, ap, arith, inl, inr, unwrap_or, le-leb, ◌||◌}
+use Rattle.std.proofs.Common.{◌≡◌, ℕ, ◌≤◌, true, nat_le, List, [], ◌∷◌, map, min, Option, Some, None, refl, sym, ◌∙◌, ap, arith, inl, inr, unwrap_or, le-leb}
 use Rattle.std.specs.Prelude.{◌==◌}
-use Rattle.std.specs.List.{list_any}
 use Rattle.std.proofs.lemmas.Bool.{eq-eqb, false_from_ne_true, leb-true}
 use Rattle.aim_geometry.specs.Bounded.{least, min_with}
 use Rattle.aim_geometry.specs.Cells.{Cell}
@@ -17,7 +16,7 @@ use Rattle.aim_rules.specs.Holds.{granted, granted_with, is_fast, is_granted, is
 use Rattle.aim_rules.specs.Kept.{lasts}
 use Rattle.aim_rules.specs.Known.{Known, own_refusal_by}
 use Rattle.aim_rules.proofs.CellLemmas.{cells_has, cells_needed}
-use Rattle.aim_rules.proofs.Lists.{IsIn-test}
+use Rattle.aim_rules.proofs.Lists.{IsIn-test, some_passes}
 use Rattle.aim_book.specs.Desk.{IsHeld, Tells}
 use Rattle.aim_reservations.specs.Rows.{row_of}
 use Rattle.aim_book.specs.Reserved.{IsReservationOf}
@@ -79,14 +78,6 @@ first_is_least i x r s before after of first = go (granted i x) refl
 pub lasts_reaches : (i : Intersection) (now : ℕ) (x : Fresh) (r : Reservation) → i.times.early ≤ i.times.edge → i.times.late ≤ i.times.edge → IsReservationOf i x r → Reaches r.sheet.spans now → lasts i now x ≡ true
 lasts_reaches i now x r before after of reach =
     IsIn-test (λ c. nat_le now c.step) (granted i x) reach.0 (granted_has i x reach.0 before after (sym (of.cells reach.0) ∙ reach.1)) (le-leb now reach.0.step reach.2)
-
-pub some_passes : {X : Type 0} (q : X → Bool) (xs : List X) → list_any q xs ≡ true → (c : X) × IsIn c xs × (q c ≡ true)
-some_passes {X = X} q [] t = absurd (cc)
-some_passes {X = X} q (x ∷ xs) t = go (q x) refl t (some_passes q xs)
-  where
-    go : (b : Bool) → q x ≡ b → (b || list_any q xs) ≡ true → (list_any q xs ≡ true → (c : X) × IsIn c xs × (q c ≡ true)) → (c : X) × IsIn c (x ∷ xs) × (q c ≡ true)
-    go true e f later = (x, inl refl, e)
-    go false e f later = let s = later f in (s.0, inr s.1, s.2)
 
 pub reaches_lasts : (i : Intersection) (now : ℕ) (x : Fresh) (r : Reservation) → IsReservationOf i x r → lasts i now x ≡ true → Reaches r.sheet.spans now
 reaches_lasts i now x r of t =

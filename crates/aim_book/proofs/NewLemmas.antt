@@ -1,15 +1,13 @@
 -- What is kept of the empty history.
-use Rattle.std.proofs.Common.{◌≡◌, ℕ, ◌≤◌, Bool, true, false, ◌&&◌, ◌||◌, nat_le, List, [], ◌∷◌, take, Option, Some, None, refl, sym, ◌∙◌, ap, arith, zero, suc, slice_get}
-use Rattle.std.specs.Prelude.{replicate, option_map}
-use Rattle.std.specs.List.{list_any}
+use Rattle.std.proofs.Common.{◌≡◌, ℕ, ◌≤◌, Bool, true, false, ◌&&◌, nat_le, List, [], Option, Some, None, refl, sym, ◌∙◌, ap, arith, zero, suc}
+use Rattle.std.specs.Prelude.{replicate}
 use Rattle.std.specs.FinSet as set
 use Rattle.std.proofs.lemmas.List.{length-replicate}
 use Rattle.aim_geometry.proofs.BoundedLemmas.{some_below_none}
 use Rattle.aim_msg.specs.declared.entries.TheConstants.{MOST_VEHICLES}
-use Rattle.aim_paths.specs.Intersection.{Intersection, Policy}
+use Rattle.aim_paths.specs.Intersection.{Intersection}
 use Rattle.aim_paths.specs.Policies.{has_lights}
 use Rattle.aim_paths.specs.Valid.{IsValid}
-use Rattle.aim_paths.specs.declared.policies.Kind.{Kind}
 use Rattle.aim_tiles.specs.Cells.{cell_cmp, has_cell}
 use Rattle.aim_session.proofs.CallLaws.{calls_none}
 use Rattle.aim_session.proofs.DistanceLaws.{distances_none}
@@ -22,25 +20,6 @@ use Rattle.aim_reservations.specs.Rows.{row_of}
 use Rattle.aim_book.specs.Reserved.{IsRowOf}
 use Rattle.aim_book.specs.declared.desks.Desk.{Desk}
 use Rattle.aim_reservations.specs.declared.reservations.Reservation.{Reservation}
-
-pub lit_at : (ps : List Policy) (k : ℕ) (kind : Kind) → option_map (λ p. p.kind) (slice_get ps k) ≡ Some kind → has_lights kind ≡ true → list_any (λ p. has_lights p.kind) ps ≡ true
-lit_at [] k kind is lit = absurd (cc)
-lit_at (p ∷ ps) zero kind is lit = let e : p.kind ≡ kind = cc in rw (e, lit) refl
-lit_at (p ∷ ps) (suc k) kind is lit = go (has_lights p.kind) (lit_at ps k kind is lit)
-  where
-    go : (b : Bool) → list_any (λ p. has_lights p.kind) ps ≡ true → (b || list_any (λ p. has_lights p.kind) ps) ≡ true
-    go true e = refl
-    go false e = e
-
-pub dark_more : (ps : List Policy) (k : ℕ) (kind : Kind) → option_map (λ p. p.kind) (slice_get ps k) ≡ Some kind → has_lights kind ≡ false → list_any (λ p. has_lights p.kind) (take k ps) ≡ false → list_any (λ p. has_lights p.kind) (take (suc k) ps) ≡ false
-dark_more [] k kind is dark before = absurd (cc)
-dark_more (p ∷ ps) zero kind is dark before = let e : p.kind ≡ kind = cc in rw (e, dark) refl
-dark_more (p ∷ ps) (suc k) kind is dark before = go (has_lights p.kind) refl before (λ f. dark_more ps k kind is dark f)
-  where
-    go : (b : Bool) → has_lights p.kind ≡ b → (b || list_any (λ p. has_lights p.kind) (take k ps)) ≡ false → (list_any (λ p. has_lights p.kind) (take k ps) ≡ false → list_any (λ p. has_lights p.kind) (take (suc k) ps) ≡ false) →
-        (has_lights p.kind || list_any (λ p. has_lights p.kind) (take (suc k) ps)) ≡ false
-    go true e f later = absurd (cc)
-    go false e f later = rw e (later f)
 
 no_rows : (i : Intersection) (n v : ℕ) → IsRowOf i None (row_of (replicate n None) v)
 no_rows i n v = go (row_of (replicate n None) v) (blank n v)

@@ -1,23 +1,19 @@
 //! Messages that are answered before the cells of a crossing are prepared.
 
-ghost use Rattle.std.specs.Prelude.{◌≡◌, ℕ, ◌+◌, ◌<◌, ◌≤◌, ◌++◌, ◌∷◌, [], List, length, Option, Some, None, IfOk, IfSome, OnErr, true, false, nat_le, slice_index_or};
-ghost use Rattle.std.specs.List.{list_any};
+ghost use Rattle.std.specs.Prelude.{◌≡◌, ℕ, ◌+◌, ◌<◌, ◌≤◌, ◌++◌, ◌∷◌, [], List, length, Option, Some, None, IfOk, IfSome, OnErr, false, slice_index_or};
 ghost use Rattle.std.specs.Option.{option_or};
 ghost use Rattle.aim_msg.specs.declared.entries.Act.{Act};
 ghost use Rattle.aim_msg.specs.declared.entries.Entry.{Entry};
 ghost use Rattle.aim_msg.specs.declared.entries.TheConstants.{LATEST_MOMENT};
-ghost use Rattle.aim_paths.specs.Intersection.{path as path_of};
 ghost use Rattle.aim_session.specs.Calls.{call_of};
 ghost use Rattle.aim_rules.specs.Answer.{answer};
-ghost use Rattle.aim_rules.specs.Bad.{bad, needs_too_many_spans};
+ghost use Rattle.aim_rules.specs.Bad.{bad};
 ghost use Rattle.aim_rules.specs.Cells.{cells};
-ghost use Rattle.aim_rules.specs.Footprint.{crossing_steps};
 ghost use Rattle.aim_rules.specs.History.{is_confirm, now_of, params_of};
 ghost use Rattle.aim_rules.specs.Known.{Known, answer_fresh_by, first_reason_by, in_the_way_by, own_refusal_by, too_distant_by, too_far_by, too_late_by};
 ghost use Rattle.aim_session.specs.declared.sessions.Look.{Look};
 ghost use Rattle.aim_session.specs.Kept.{no_session};
 ghost use Rattle.aim_session.specs.Looks.{look_of};
-ghost use Rattle.aim_simulate.specs.Fields.{IsMoving, bad_crossing as bad_crossing_of};
 ghost use Rattle.aim_book.specs.Desk.{Tells};
 ghost use Rattle.aim_reservations.specs.Keeping.{row_count};
 ghost use Rattle.aim_book.specs.Managed.{IsManaged};
@@ -25,75 +21,14 @@ ghost use Rattle.aim_reservations.specs.Rows.{row_of};
 ghost use Rattle.aim_book.specs.Reserved.{rows_exchanged};
 
 use crate::desks::Desk;
-use crate::keeping::params_in;
-use crate::refusals::asked_from;
-use aim_msg::{Body, Field, Message, Params, Reason, Reply};
-use aim_paths::{Layout, Path};
+use aim_buffers::{NeedsCells, bad_field, may_reach, params_in};
+use aim_msg::{Body, Message, Params, Reason, Reply};
+use aim_paths::Layout;
 use aim_pool::Pool;
 use aim_reservations::given_up;
-use aim_session::Approaches;
-use aim_simulate::bad_crossing;
+use aim_session::{Approaches, asked_from};
 use aim_tiles::Steps;
 use std::sync::ledger::Ledger;
-
-/// The answer is not known before the cells of the crossing are.
-pub(crate) struct NeedsCells;
-
-// The number of crossing steps of the steady trial on its path.
-fn steps_on(layout: &Layout, found: &Path, params: &Params) -> u32
-    requires found { path_of layout.now params.now.lane params.now.turn ≡ Some found.now }
-    requires moving { IsMoving params.now }
-    ensures { result ≡ crossing_steps layout.now params.now false }
-{
-    let spacing = layout.ground().grid().spacing;
-    (found.parts() * spacing + params.length) / params.speed + 1
-}
-
-// The number of crossing steps of the steady trial.
-fn steady_steps(layout: &Layout, params: &Params) -> u32
-    requires good { bad_crossing_of layout.now params.now ≡ None }
-    ensures steps { result ≡ crossing_steps layout.now params.now false }
-    ensures most { result ≤ 2048 }
-{
-    let Some(path) = Path::of(layout, params.lane, params.turn) else {
-        unreachable!()
-    };
-    steps_on(layout, &path, params)
-}
-
-// Whether a sheet has room for the spans of each trial, also if these are in all rows of the grid.
-fn has_room(layout: &Layout, params: &Params) -> bool
-    requires good { bad_crossing_of layout.now params.now ≡ None }
-    ensures { result ≡ true → needs_too_many_spans layout.now params.now ≡ false }
-{
-    let grid = layout.ground().grid();
-    let steps = steady_steps(layout, params) + 2 * layout.ground().times().edge;
-    steps <= grid.spans / grid.n
-}
-
-// The field of the params that is wrong, if one is.
-fn bad_field(layout: &Layout, params: &Params) -> Result<Option<Field>, NeedsCells>
-    ensures { IfOk result (λ field. field ≡ bad layout.now params.now) }
-{
-    if let Some(field) = bad_crossing(layout, params) {
-        return Ok(Some(field));
-    }
-    if has_room(layout, params) {
-        Ok(None)
-    } else {
-        Err(NeedsCells)
-    }
-}
-
-// Whether the steady trial might have a cell at the step or at a later one. Where it says no, it has none.
-fn may_reach(layout: &Layout, params: &Params, step: u32) -> bool
-    requires good { bad_crossing_of layout.now params.now ≡ None }
-    requires arrive { params.now.arrive ≤ LATEST_MOMENT }
-    ensures { result ≡ false → list_any (λ c. nat_le step c.step) (cells layout.now params.now false) ≡ false }
-{
-    let edge = layout.ground().times().edge;
-    params.arrive + steady_steps(layout, params) + edge > step
-}
 
 // The lane and the arrival of an emergency that asks, where no field of its params is bad.
 fn call_at_once(layout: &Layout, body: &Body) -> Result<Option<(u8, u32)>, NeedsCells>

@@ -5,7 +5,7 @@ use aim_buffers::Prepared;
 use aim_msg::{Act, Entry, MOST_ENTRIES, MOST_VEHICLES, Message, OPERATOR, Order, Reply};
 use aim_paths::Layout;
 use aim_pool::Pool;
-use aim_reservations::Reservations;
+use aim_reservations::{Reservations, has_lights};
 use aim_session::{Approaches, Distances, Sessions};
 use aim_switch::Timeline;
 use aim_tiles::Steps;
@@ -301,24 +301,10 @@ impl<L: Ledger> Book<L> {
     }
 }
 
-ghost use Rattle.std.specs.Prelude.{◌≡◌, ℕ, ◌<◌, ◌≤◌, ◌⊎◌, ◌↔◌, [], List, Option, None, IsTrue, IfOk, Err, replicate, vec_capacity};
-ghost use Rattle.std.specs.List.{list_any};
+ghost use Rattle.std.specs.Prelude.{◌≡◌, ℕ, ◌<◌, ◌≤◌, ◌⊎◌, ◌↔◌, [], List, Option, None, IfOk, Err, replicate, vec_capacity};
 ghost use Rattle.aim_msg.specs.declared.entries.TheConstants.{MOST_ENTRIES, MOST_VEHICLES};
-ghost use Rattle.aim_reservations.specs.Blocking.{is_lit};
 ghost use Rattle.aim_book.specs.Books.{IsBook};
 ghost use Rattle.aim_book.specs.Managed.{IsManaged};
-
-// Whether some policy of the layout has lights.
-fn has_lights(layout: &Layout) -> bool
-    ensures { result ≡ is_lit layout.now }
-{
-    for policy in 0..layout.policies() {
-        if layout.kind(policy).has_lights() {
-            return true;
-        }
-    }
-    false
-}
 
 // What is kept of the empty history of so many vehicles, with room for so many changes of policies.
 fn new_desk<L: Ledger>(

@@ -5,19 +5,10 @@ ghost use Rattle.aim_session.specs.Distances.{distances_with};
 ghost use Rattle.aim_rules.specs.History.{params_of};
 
 use crate::desks::Desk;
-use crate::refusals::asked_from;
-use aim_msg::{Body, Params, Reason, Reply};
+use aim_buffers::params_in;
+use aim_msg::{Body, Reason, Reply};
+use aim_session::asked_from;
 use std::sync::ledger::Ledger;
-
-/// The params of a message that asks.
-pub(crate) fn params_in(body: &Body) -> Option<Params>
-    ensures { result ≡ params_of body.now }
-{
-    match body {
-        Body::Request(params) | Body::Change(_, params) => Some(*params),
-        Body::Cancel(_) | Body::Done(_) => None,
-    }
-}
 
 impl<L: Ledger> Desk<L> {
     /// Keeps what a fresh message and its answer make of the distance of the message's lane.

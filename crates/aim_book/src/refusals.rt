@@ -1,17 +1,13 @@
 //! Why a vehicle is refused before the cells of its crossing are looked at.
 
-ghost use Rattle.std.specs.Prelude.{◌≡◌, ℕ, ◌+◌, ◌<◌, ◌≤◌, Bool, true, false, nat_le, length, IfNone, Some, None, option_map};
+ghost use Rattle.std.specs.Prelude.{◌≡◌, ℕ, ◌+◌, ◌<◌, ◌≤◌, false, nat_le, length, IfNone, Some, None, option_map};
 ghost use Rattle.std.specs.List.{list_any};
 ghost use Rattle.std.specs.Option.{option_or};
-ghost use Rattle.aim_geometry.specs.Bounded.{least_below};
 ghost use Rattle.aim_msg.specs.declared.messages.Params.{Params};
-ghost use Rattle.aim_msg.specs.declared.entries.TheConstants.{LATEST_MOMENT};
 ghost use Rattle.aim_paths.specs.Intersection.{Intersection};
-ghost use Rattle.aim_paths.specs.Policies.{has_lane as has_lane_of};
 ghost use Rattle.aim_rules.specs.Bad.{bad};
 ghost use Rattle.aim_rules.specs.Answer.{gives_way as gives_way_of};
 ghost use Rattle.aim_rules.specs.Cells.{cells};
-ghost use Rattle.aim_rules.specs.Distance.{asked_from as asked_from_of};
 ghost use Rattle.aim_rules.specs.Kept.{policy_in};
 ghost use Rattle.aim_rules.specs.Known.{Known, first_reason_by, in_the_way_by, next_by, own_refusal_by, refusal_by, too_distant_by, too_far_by, too_late_by};
 ghost use Rattle.aim_book.specs.Asking.{AreCalling, IsAsking};
@@ -22,7 +18,8 @@ use aim_buffers::Prepared;
 use aim_msg::{Body, Params, Reason, Reply};
 use aim_paths::{Kind, Layout};
 use aim_reservations::{first_step, reaches};
-use aim_session::{Approaches, next_allowed};
+use aim_session::{Approaches, asked_from, next_allowed};
+use aim_switch::{has_lane, least_lane};
 use std::sync::ledger::Ledger;
 
 impl<L: Ledger> Desk<L> {
@@ -174,40 +171,11 @@ impl<L: Ledger> Desk<L> {
     }
 }
 
-// How far from the stop line a vehicle asks, at its speed, in millimetres.
-pub(crate) fn asked_from(now: u32, params: &Params) -> u64
-    ensures { result ≡ asked_from_of now params.now }
-{
-    u64::from(params.arrive.saturating_sub(now)) * u64::from(params.speed)
-}
-
 // Whether vehicles give way to emergencies under a policy of this kind.
 fn gives_way(kind: Kind) -> bool
     ensures { result ≡ gives_way_of (Some kind) }
 {
     matches!(kind, Kind::Emerg | Kind::LightEmerg)
-}
-
-// Whether the lane is one of these.
-fn has_lane(lanes: u16, lane: u8) -> bool
-    requires { lane < 16 }
-    ensures { result ≡ has_lane_of lanes lane }
-{
-    (lanes >> lane) & 1 == 1
-}
-
-// The least of the layout's lanes that is one of these.
-fn least_lane(layout: &Layout, lanes: u16) -> Option<u8>
-    ensures { result ≡ least_below (length layout.now.lanes) (has_lane_of lanes) }
-{
-    // This call only tells how many lanes there are at most.
-    let _ground = layout.ground();
-    for lane in 0..layout.lanes() as u8 {
-        if has_lane(lanes, lane) {
-            return Some(lane);
-        }
-    }
-    None
 }
 
 // Whether the crossing has a cell at the step or at a later one.

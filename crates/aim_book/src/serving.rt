@@ -1,6 +1,6 @@
 //! How a manager goes on with a message: what it answers, and what it keeps of it.
 
-ghost use Rattle.std.specs.Prelude.{◌≡◌, ℕ, ◌+◌, ◌*◌, ◌-◌, ◌<◌, ◌≤◌, ◌++◌, ◌∷◌, [], List, length, max, min, Option, Some, None, IfSome, false, slice_index_or, slice_set, if◌then◌else◌};
+ghost use Rattle.std.specs.Prelude.{◌≡◌, ℕ, ◌+◌, ◌*◌, ◌-◌, ◌<◌, ◌≤◌, ◌++◌, ◌∷◌, [], List, length, max, min, Option, Some, None, IfSome, false, slice_index_or};
 ghost use Rattle.aim_msg.specs.declared.entries.Act.{Act};
 ghost use Rattle.aim_msg.specs.declared.entries.Entry.{Entry};
 ghost use Rattle.aim_msg.specs.declared.entries.TheConstants.{LATEST_MOMENT, OPERATOR};
@@ -20,10 +20,8 @@ ghost use Rattle.aim_book.specs.Managed.{IsManaged};
 ghost use Rattle.aim_reservations.specs.Rows.{row_of};
 ghost use Rattle.aim_book.specs.Reserved.{rows_exchanged};
 
-use crate::at_once::NeedsCells;
 use crate::desks::Desk;
-use crate::keeping::params_in;
-use aim_buffers::{Prepared, prepare};
+use aim_buffers::{NeedsCells, Prepared, params_in, prepare_from};
 use aim_msg::{Message, Order, Reason, Reply};
 use aim_paths::Layout;
 use aim_pool::Pool;
@@ -45,23 +43,6 @@ fn call_in(layout: &Layout, prepared: &Prepared) -> Option<(u8, u32)>
         }
         _ => None,
     }
-}
-
-// Prepares a message with two sheets of the pool.
-fn prepare_from(layout: &Layout, message: &Message, pool: &mut Pool) -> Prepared
-    requires two { 2 ≤ pool.old.count }
-    requires room { pool.old.room ≡ layout.now.grid.spans }
-    ensures message { result.message ≡ message.now }
-    ensures prepared { IsPreparedFor layout.now result }
-    ensures pool { pool.new ≡ record pool.old { count = pool.old.count - 2 } }
-{
-    let Ok(first) = pool.take() else {
-        unreachable!()
-    };
-    let Ok(second) = pool.take() else {
-        unreachable!()
-    };
-    prepare(layout, message, first, second)
 }
 
 impl<L: Ledger> Desk<L> {

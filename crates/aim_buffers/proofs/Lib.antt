@@ -7,3 +7,4 @@ pub mod StepLemmas
 pub mod SpanLemmas
 pub mod RequestLemmas
 mod WrittenLemmas
+mod BoundLemmas

@@ -5,8 +5,10 @@
 //! within the edge buffer, and a narrow one inside, of those within the early and late buffers. Both only move on.
 #![tactic(auto)]
 
+mod bounds;
 mod requests;
 mod rows;
 mod trials;
 
-pub use requests::{Prepared, TrialSteps, prepare};
+pub use bounds::{NeedsCells, bad_field, may_reach};
+pub use requests::{Prepared, TrialSteps, params_in, prepare, prepare_from};

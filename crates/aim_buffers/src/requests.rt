@@ -1,6 +1,6 @@
 //! Prepared requests.
 
-ghost use Rattle.std.specs.Prelude.{◌≡◌, ◌<◌, ◌≤◌, ◌+◌, ◌&&◌, nat_lt, [], None, Some, true, false, length, OnErr, OnOk, IfOk, option_map, if◌then◌else◌};
+ghost use Rattle.std.specs.Prelude.{◌≡◌, ◌<◌, ◌≤◌, ◌+◌, ◌-◌, ◌&&◌, nat_lt, [], None, Some, true, false, length, OnErr, OnOk, IfOk, option_map, if◌then◌else◌};
 ghost use Rattle.std.specs.Result.{result_err};
 ghost use Rattle.aim_geometry.specs.Bounded.{ceil_div};
 ghost use Rattle.aim_paths.specs.Intersection.{Intersection, path as path_of, stations};
@@ -19,6 +19,16 @@ use aim_paths::{Layout, Path};
 use aim_pool::{Pool, Sheet, SheetFull};
 use aim_simulate::{are_steady, bad_crossing, fill_rects};
 use std::marker::Model;
+
+/// The params of a message that asks.
+pub fn params_in(body: &Body) -> Option<Params>
+    ensures { result ≡ params_of body.now }
+{
+    match body {
+        Body::Request(params) | Body::Change(_, params) => Some(*params),
+        Body::Cancel(_) | Body::Done(_) => None,
+    }
+}
 
 // Whether the fast trial is made.
 fn is_fast_made(params: &Params) -> bool
@@ -193,6 +203,23 @@ pub fn prepare(layout: &Layout, message: &Message, first: Sheet, second: Sheet) 
             second,
         },
     }
+}
+
+/// Prepares a message with two sheets of the pool.
+pub fn prepare_from(layout: &Layout, message: &Message, pool: &mut Pool) -> Prepared
+    requires two { 2 ≤ pool.old.count }
+    requires room { pool.old.room ≡ layout.now.grid.spans }
+    ensures message { result.message ≡ message.now }
+    ensures prepared { IsPreparedFor layout.now result }
+    ensures pool { pool.new ≡ record pool.old { count = pool.old.count - 2 } }
+{
+    let Ok(first) = pool.take() else {
+        unreachable!()
+    };
+    let Ok(second) = pool.take() else {
+        unreachable!()
+    };
+    prepare(layout, message, first, second)
 }
 
 // The steps of no trial.

@@ -2,12 +2,11 @@
 
 ghost use Rattle.std.specs.Prelude.{◌≡◌, ◌≤◌, ◌<◌, ◌+◌, length, take, slice_index_or, All};
 ghost use Rattle.aim_msg.specs.declared.entries.TheConstants.{LATEST_MOMENT};
-ghost use Rattle.aim_buffers.specs.Requests.{IsPreparedFor};
 ghost use Rattle.aim_events.specs.declared.scripts.Event.{Event};
 ghost use Rattle.aim_mailing.specs.Runs.{calls_by};
 ghost use Rattle.aim_mailing.specs.Calling.{AllByPlace, Called, Finished, HasSheets, Stepped, Works};
 
-use aim_buffers::{Prepared, prepare};
+use aim_buffers::prepare_from;
 use aim_events::Event;
 use aim_mailbox::Client;
 use aim_msg::Message;
@@ -44,24 +43,6 @@ fn next_place(events: &[Event], vehicle: u32, from: usize) -> usize
     events.len()
 }
 
-// Prepares a message with two sheets of the pool.
-fn prepared_with(layout: &Layout, sheets: &mut Pool, message: &Message) -> Prepared
-    requires count { 2 ≤ sheets.old.count }
-    requires room { sheets.old.room ≡ layout.now.grid.spans }
-    ensures room { sheets.new.room ≡ sheets.old.room }
-    ensures count { sheets.new.count + 2 ≡ sheets.old.count }
-    ensures message { result.message ≡ message.now }
-    ensures prepared { IsPreparedFor layout.now result }
-{
-    let Ok(first) = sheets.take() else {
-        unreachable!()
-    };
-    let Ok(second) = sheets.take() else {
-        unreachable!()
-    };
-    prepare(layout, message, first, second)
-}
-
 // Makes the call of an event.
 fn call<R: Wait>(rt: &R, layout: &Layout, client: &mut Client, sheets: &mut Pool, event: &Event)
     requires moment { event.now.moment ≤ LATEST_MOMENT }
@@ -69,7 +50,7 @@ fn call<R: Wait>(rt: &R, layout: &Layout, client: &mut Client, sheets: &mut Pool
     ensures sheets { HasSheets layout.now client.new sheets.new }
     ensures called { Called event.now client.old client.new }
 {
-    let prepared = prepared_with(layout, sheets, &event.message);
+    let prepared = prepare_from(layout, &event.message, sheets);
     let _answer = client.call(rt, event.moment, prepared, sheets);
 }
 

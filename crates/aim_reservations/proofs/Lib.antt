@@ -3,5 +3,6 @@ mod RowLemmas
 mod GreenLemmas
 mod BeforeLemmas
 mod BlockedLemmas
+mod LitLemmas
 pub mod KeepingLemmas
 mod NewRows

@@ -33,6 +33,18 @@ fn least(a: Option<(u32, u8, u8)>, b: Option<(u32, u8, u8)>) -> Option<(u32, u8,
     }
 }
 
+/// Whether some policy of the layout has lights.
+pub fn has_lights(layout: &Layout) -> bool
+    ensures { result ≡ is_lit layout.now }
+{
+    for policy in 0..layout.policies() {
+        if layout.kind(policy).has_lights() {
+            return true;
+        }
+    }
+    false
+}
+
 impl<L: Ledger> Reservations<L> {
     /// The least cell of the sheet, by step, row and column, that another lane than the one claims or another vehicle has
     /// reserved. It is to be told whether some policy of the layout has lights.

@@ -8,6 +8,7 @@ mod keeping;
 mod reservations;
 mod sheets;
 
+pub use blocking::has_lights;
 pub use greens::green_lane;
 pub use idle::IdleReservations;
 pub use keeping::given_up;

@@ -147,6 +147,14 @@ IsIn-test p [] x m t = absurd m
 IsIn-test p (y ∷ xs) x (inl e) t = let h : p y ≡ true = rw e at t in rw h refl
 IsIn-test p (y ∷ xs) x (inr m) t = rw (IsIn-test p xs x m t) (or_comm (p y) true)
 
+pub some_passes : {X : Type 0} (q : X → Bool) (xs : List X) → list_any q xs ≡ true → (c : X) × IsIn c xs × (q c ≡ true)
+some_passes {X = X} q [] t = absurd (cc)
+some_passes {X = X} q (x ∷ xs) t = go (q x) refl t (some_passes q xs)
+  where
+    go : (b : Bool) → q x ≡ b → (b || list_any q xs) ≡ true → (list_any q xs ≡ true → (c : X) × IsIn c xs × (q c ≡ true)) → (c : X) × IsIn c (x ∷ xs) × (q c ≡ true)
+    go true e f later = (x, inl refl, e)
+    go false e f later = let s = later f in (s.0, inr s.1, s.2)
+
 pub IsIn-passed : {X : Type 0} (p : X → Bool) (xs : List X) (x : X) → IsIn x xs → p x ≡ true → IsIn x (filter p xs)
 IsIn-passed p [] x m t = absurd m
 IsIn-passed p (y ∷ xs) x (inl e) t = let h : p y ≡ true = rw e at t in rw h (inl e)

@@ -5,9 +5,18 @@ ghost use Rattle.std.specs.Result.{result_err};
 ghost use Rattle.aim_msg.specs.declared.entries.TheConstants.{LATEST_MOMENT};
 ghost use Rattle.aim_geometry.specs.Bounded.{min_with};
 ghost use Rattle.aim_rules.specs.Asking.{next_allowed as next_allowed_of};
+ghost use Rattle.aim_rules.specs.Distance.{asked_from as asked_from_of};
 ghost use Rattle.aim_session.specs.Distances.{exceeded};
 
+use aim_msg::Params;
 use std::marker::Model;
+
+/// How far from the stop line a vehicle asks, at its speed, in millimetres; 0 where its arrival is past.
+pub fn asked_from(now: u32, params: &Params) -> u64
+    ensures { result ≡ asked_from_of now params.now }
+{
+    u64::from(params.arrive.saturating_sub(now)) * u64::from(params.speed)
+}
 
 /// For each of 16 lanes the least distance that was refused, in millimetres, or none.
 #[derive(Drop)]

@@ -9,6 +9,6 @@ pub mod laws;
 pub mod sessions;
 
 pub use approaches::Approaches;
-pub use distances::{Distances, next_allowed};
+pub use distances::{Distances, asked_from, next_allowed};
 pub use sessions::{Exchange, Look, Session, Sessions};
 pub use std::alloc::AllocError as NoMemory;

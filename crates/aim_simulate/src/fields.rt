@@ -1,6 +1,6 @@
 //! Which field of a crossing is wrong, before its cells are counted.
 
-ghost use Rattle.std.specs.Prelude.{◌≡◌, false, Some};
+ghost use Rattle.std.specs.Prelude.{◌≡◌, ◌≤◌, false, None, Some};
 ghost use Rattle.aim_paths.specs.Intersection.{path};
 ghost use Rattle.aim_rules.specs.Footprint.{crossing_steps};
 ghost use Rattle.aim_simulate.specs.Fields.{IsMoving, bad_crossing as bad_crossing_of};
@@ -51,4 +51,16 @@ pub fn bad_crossing(layout: &Layout, params: &Params) -> Option<Field>
         return Some(Field::Steps);
     }
     None
+}
+
+/// The number of crossing steps of the steady trial, of params of which no field of `Lane` to `Steps` is wrong.
+pub fn steady_steps(layout: &Layout, params: &Params) -> u32
+    requires good { bad_crossing_of layout.now params.now ≡ None }
+    ensures steps { result ≡ crossing_steps layout.now params.now false }
+    ensures most { result ≤ 2048 }
+{
+    let Some(path) = Path::of(layout, params.lane, params.turn) else {
+        unreachable!()
+    };
+    step_count(layout, &path, params)
 }

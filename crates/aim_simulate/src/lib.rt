@@ -13,7 +13,7 @@ mod slides;
 pub mod visits;
 pub mod windows;
 
-pub use fields::bad_crossing;
+pub use fields::{bad_crossing, steady_steps};
 pub use fills::{are_steady, fill_rects};
 pub use reaches::{Reach, fill_reaches};
 pub use visits::{RowRange, Visit, simulate};

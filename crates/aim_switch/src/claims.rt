@@ -6,6 +6,7 @@ ghost use Rattle.aim_paths.specs.LaneTiles.{in_lane_tiles};
 ghost use Rattle.aim_paths.specs.Policies.{has_lane as has_lane_of};
 ghost use Rattle.aim_switch.specs.Claimed.{is_other, is_tile_of};
 
+use crate::lanes::has_lane;
 use aim_paths::{Layout, lane_rows};
 
 /// The tiles of the set's lanes other than the one excepted: bit c of word r is set for tile (r, c).
@@ -42,14 +43,6 @@ fn is_counted(lanes: u16, except: Option<u8>, lane: u8) -> bool
         Some(except) => lane != except && has_lane(lanes, lane),
         None => has_lane(lanes, lane),
     }
-}
-
-// Whether the lane is one of the set.
-fn has_lane(lanes: u16, lane: u8) -> bool
-    requires { lane < 16 }
-    ensures { result ≡ has_lane_of lanes lane }
-{
-    (lanes >> lane) & 1 == 1
 }
 
 // Sets the bits of the further rows too.

@@ -3,11 +3,13 @@
 #![tactic(auto)]
 
 pub mod claims;
+pub mod lanes;
 pub mod laws;
 pub mod plans;
 pub mod timelines;
 
 pub use claims::claimed_rows;
+pub use lanes::{has_lane, least_lane};
 pub use plans::{Plan, green_at, green_within};
 pub use std::alloc::AllocError as NoMemory;
 pub use timelines::Timeline;

@@ -5,7 +5,7 @@ ghost use Rattle.std.specs.Prelude.{◌≡◌, ◌<◌, ◌≤◌, [], length, v
 ghost use Rattle.std.specs.Thread.{IsSync};
 ghost use Rattle.aim_mailbox.specs.Calls.{IsOfMail, IsSameClient, ServerModel};
 
-use aim_buffers::prepare;
+use aim_buffers::prepare_from;
 use aim_mailbox::{Client, Ended, Mailbox, OpenedMail, Served, Server, settle};
 use aim_msg::{LATEST_MOMENT, Message, Reply};
 use aim_paths::{Kind, Layout};
@@ -35,13 +35,7 @@ fn call<R: Wait>(
     if now > LATEST_MOMENT || pool.room() != spans || count < 2 || count > 1_000_000 {
         return None;
     }
-    let Ok(first) = pool.take() else {
-        unreachable!()
-    };
-    let Ok(second) = pool.take() else {
-        unreachable!()
-    };
-    let prepared = prepare(layout, message, first, second);
+    let prepared = prepare_from(layout, message, pool);
     client.call(rt, now, prepared, pool).ok()
 }
 

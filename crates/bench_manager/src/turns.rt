@@ -1,11 +1,11 @@
 //! The day's turns taken on one manager, by callers that share it.
 
-ghost use Rattle.std.specs.Prelude.{◌≡◌, ◌<◌, All, length, map, IfOk};
+ghost use Rattle.std.specs.Prelude.{◌≡◌, ◌<◌, All, map, IfOk};
 ghost use Rattle.std.specs.List.{range_with_len};
 ghost use Rattle.aim_msg.specs.declared.entries.TheConstants.{OPERATOR};
 ghost use Rattle.aim_turn.specs.Models.{IsPassOf, IsSamePass, new_pass};
 
-use aim_buffers::prepare;
+use aim_buffers::prepare_from;
 use aim_manager::{Manager, ManagerPass, Opened};
 use aim_msg::{LATEST_MOMENT, Message, Reply};
 use aim_paths::Kind;
@@ -35,13 +35,7 @@ fn call<R: Wait>(
     if now > LATEST_MOMENT || pool.room() != spans || count < 2 || count > 1_000_000 {
         return None;
     }
-    let Ok(first) = pool.take() else {
-        unreachable!()
-    };
-    let Ok(second) = pool.take() else {
-        unreachable!()
-    };
-    let prepared = prepare(manager.layout(), message, first, second);
+    let prepared = prepare_from(manager.layout(), message, pool);
     manager.serve(rt, pass, now, prepared, pool).ok()
 }
 

@@ -4,7 +4,7 @@ ghost use Rattle.std.specs.Prelude.{◌≡◌, ◌<◌, ◌≤◌, IfSome};
 ghost use Rattle.aim_buffers.specs.Requests.{IsPreparedFor};
 
 use crate::sites::CAR;
-use aim_buffers::{Prepared, prepare};
+use aim_buffers::{Prepared, prepare_from};
 use aim_msg::{Act, Body, Entry, Message, Params, Reply};
 use aim_paths::Layout;
 use aim_pool::Pool;
@@ -66,13 +66,7 @@ pub fn prepared(layout: &Layout, pool: &mut Pool, message: &Message) -> Option<P
     if pool.room() != layout.ground().grid().spans || count < 2 || count > 1000 {
         return None;
     }
-    let Ok(first) = pool.take() else {
-        unreachable!()
-    };
-    let Ok(second) = pool.take() else {
-        unreachable!()
-    };
-    Some(prepare(layout, message, first, second))
+    Some(prepare_from(layout, message, pool))
 }
 
 // How many entries of the caller the journal has, where they are messages with the numbers from 1 on, in order.

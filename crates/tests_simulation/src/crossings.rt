@@ -1,11 +1,11 @@
 //! Prepared requests, and crossings step by step.
 
-use aim_buffers::prepare;
+use aim_buffers::{bad_field, may_reach, params_in, prepare};
 use aim_geometry::Times;
 use aim_msg::{Body, Field, Message, Params, Turn};
 use aim_paths::Layout;
 use aim_pool::{Pool, Sheet};
-use aim_simulate::{RowRange, Visit, bad_crossing, simulate};
+use aim_simulate::{RowRange, Visit, bad_crossing, simulate, steady_steps};
 use std::process::Abort;
 use tests_samples::{CAR, SMALL, TIMES, built};
 
@@ -41,6 +41,7 @@ fn check_cells(
     let second = pool.take().expect(rt, "no second sheet");
     let cells = prepare(layout, message, first, second);
     assert!(rt; cells.bad().is_none() && cells.message().seq == 1);
+    assert!(rt; params_in(&cells.message().body).is_some());
     assert!(rt; cells.steps().steady == 11);
     assert!(rt; has_just(cells.cells_a(), fast));
     assert!(rt; has_just(cells.cells_b(), steady));
@@ -162,7 +163,13 @@ fn wrong_fields(rt: HostRuntime) {
             ..CAR
         };
         assert!(rt; bad_crossing(&layout, &params) == *wanted);
+        assert!(rt; bad_field(&layout, &params).ok() == Some(*wanted));
     }
+    let None = bad_crossing(&layout, &CAR) else {
+        panic!(rt; "a good crossing")
+    };
+    assert!(rt; steady_steps(&layout, &CAR) == 11);
+    assert!(rt; may_reach(&layout, &CAR, 20) && !may_reach(&layout, &CAR, 21));
     drop(layout);
 }
 

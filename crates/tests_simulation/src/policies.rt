@@ -1,7 +1,8 @@
 //! Policies, greens and claims.
 
 use aim_paths::Layout;
-use aim_switch::{Plan, Timeline, green_at, green_within};
+use aim_reservations::has_lights;
+use aim_switch::{Plan, Timeline, green_at, green_within, has_lane, least_lane};
 use std::process::Abort;
 use tests_samples::{SMALL, TIMES, built};
 
@@ -48,6 +49,7 @@ fn phases_go_round(rt: HostRuntime) {
     assert!(rt; Plan::of(&layout, 3).is_none());
     let plain = Plan::of(&layout, 1).expect(&rt, "a light policy");
     let sixteen = Plan::of(&layout, 2).expect(&rt, "a light policy");
+    assert!(rt; has_lights(&layout) && has_lane(6, 1) && least_lane(&layout, 6) == Some(1));
     drop(layout);
     check_greens(&rt, &plain, &PLAIN);
     check_greens(&rt, &sixteen, &SIXTEEN);

@@ -3,13 +3,14 @@
 ghost use Rattle.std.specs.Prelude.{◌≡◌, ◌<◌, length};
 
 use aim_msg::{Body, Message, Reason, Reply};
-use aim_session::{Approaches, Distances, Look, Sessions, next_allowed};
+use aim_session::{Approaches, Distances, Look, Sessions, asked_from, next_allowed};
 use std::process::Abort;
-use tests_samples::{confirmed, request};
+use tests_samples::{CAR, confirmed, request};
 
 #[test]
 fn least_refused_distance(rt: HostRuntime) {
     let mut distances = Distances::new();
+    assert!(rt; asked_from(8, &CAR) == 1000 && asked_from(11, &CAR) == 0);
     assert!(rt; distances.test(1, 1_000_000).is_ok());
     distances.refused(1, 5000);
     distances.refused(1, 7000);

@@ -1,7 +1,7 @@
 use Rattle.std.proofs.Common.{◌<◌, length, sym, arith}
 use Rattle.aim_geometry.proofs.BoundedLemmas.{least_below_at, least_below_none}
 use Rattle.aim_paths.specs.Policies.{has_lane}
-use Rattle.aim_book.proofs.refusals.least_lane.Goals as goal
+use Rattle.aim_switch.proofs.lanes.least_lane.Goals as goal
 
 pub returns-then-has_lane : goal.returns-then-has_lane
 returns-then-has_lane c =
