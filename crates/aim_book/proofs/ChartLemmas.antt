@@ -17,10 +17,10 @@ use Rattle.aim_rules.proofs.Lists.{some_below-same}
 use Rattle.aim_switch.specs.Changes.{is_claimed_for}
 use Rattle.aim_switch.proofs.Histories.{claimed_for_all}
 use Rattle.aim_book.specs.Charted.{is_claimed_by_some, is_held}
-use Rattle.aim_book.specs.Managed.{IsManaged}
+use Rattle.aim_desk.specs.Managed.{IsManaged}
 use Rattle.aim_reservations.specs.Rows.{is_reserved, row_of}
-use Rattle.aim_book.specs.declared.desks.Desk.{Desk}
-use Rattle.aim_book.proofs.ManagedLemmas.{row_has}
+use Rattle.aim_desk.specs.declared.desks.Desk.{Desk}
+use Rattle.aim_desk.proofs.ManagedLemmas.{row_has}
 
 -- a cell that is not past is held exactly where some vehicle keeps it
 pub held_is : (i : Intersection) (n : ℕ) (h : List Entry) (c : Cell) → i.times.early ≤ i.times.edge → i.times.late ≤ i.times.edge → IsLegal i n h → now_of h 0 ≤ c.step → is_held i h c ≡ is_owned i n (fresh h) c

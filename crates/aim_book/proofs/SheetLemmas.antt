@@ -23,7 +23,7 @@ use Rattle.aim_rules.proofs.Lists.{from_front, IsIn-filter, IsIn-snoc, last-in, 
 use Rattle.aim_rules.proofs.PolicyLaws.{changes-snoc}
 use Rattle.aim_rules.proofs.TakenLaws.{last_legal}
 use Rattle.aim_reservations.specs.Keeping.{row_count}
-use Rattle.aim_book.specs.Reserved.{IsRowOf}
+use Rattle.aim_desk.specs.Reserved.{IsRowOf}
 use Rattle.aim_book.specs.Sheets.{id_in, sheets_kept, sheets_with}
 use Rattle.aim_reservations.specs.declared.reservations.Reservation.{Reservation}
 

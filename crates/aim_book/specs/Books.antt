@@ -5,8 +5,8 @@ use Rattle.aim_msg.specs.declared.entries.Entry.{Entry}
 use Rattle.aim_msg.specs.declared.entries.TheConstants.{MOST_ENTRIES}
 use Rattle.aim_paths.specs.Intersection.{Intersection}
 use Rattle.aim_rules.specs.History.{now_of}
-use Rattle.aim_book.specs.Managed.{IsManaged}
-use Rattle.aim_book.specs.declared.desks.Desk.{Desk}
+use Rattle.aim_desk.specs.Managed.{IsManaged}
+use Rattle.aim_desk.specs.declared.desks.Desk.{Desk}
 use Rattle.std.specs.Prelude.{Option}
 
 -- the desk and the calls are those of the journal, which has the room

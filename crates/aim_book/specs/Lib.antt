@@ -1,10 +1,4 @@
 pub mod State
 pub mod Sheets
-pub mod Costs
-pub mod Reserved
-pub mod Desk
-pub mod Asking
-pub mod Managed
 pub mod Books
-pub mod Idle
 pub mod Charted

@@ -1,13 +1,11 @@
 //! The book: a layout and the journal of what was asked and answered over it.
 
-use crate::desks::Desk;
 use aim_buffers::Prepared;
+use aim_desk::Desk;
 use aim_msg::{Act, Entry, MOST_ENTRIES, MOST_VEHICLES, Message, OPERATOR, Order, Reply};
 use aim_paths::Layout;
 use aim_pool::Pool;
-use aim_reservations::{Reservations, has_lights};
-use aim_session::{Approaches, Distances, Sessions};
-use aim_switch::Timeline;
+use aim_session::Approaches;
 use aim_tiles::Steps;
 use std::alloc::{AllocError, Global};
 use std::marker::Model;
@@ -63,7 +61,7 @@ impl<L: Ledger> Book<L> {
     ghost use Rattle.aim_rules.specs.History.{now_of, params_of};
     ghost use Rattle.aim_rules.specs.Legal.{IsLegal, IsOfLayout};
     ghost use Rattle.aim_book.specs.Charted.{is_claimed_by_some, is_held};
-    ghost use Rattle.aim_book.specs.Costs.{asked_spans, spans_exchanged};
+    ghost use Rattle.aim_desk.specs.Costs.{asked_spans, spans_exchanged};
     ghost use Rattle.aim_book.specs.Sheets.{sheets_kept};
 
     /// A book with an empty journal, for that many vehicles and that many entries. It takes all its memory here.
@@ -301,34 +299,9 @@ impl<L: Ledger> Book<L> {
     }
 }
 
-ghost use Rattle.std.specs.Prelude.{◌≡◌, ℕ, ◌<◌, ◌≤◌, ◌⊎◌, ◌↔◌, [], List, Option, None, IfOk, Err, replicate, vec_capacity};
+ghost use Rattle.std.specs.Prelude.{◌≡◌, ℕ, ◌<◌, ◌≤◌, ◌⊎◌, ◌↔◌, [], None, IfOk, Err, vec_capacity};
 ghost use Rattle.aim_msg.specs.declared.entries.TheConstants.{MOST_ENTRIES, MOST_VEHICLES};
 ghost use Rattle.aim_book.specs.Books.{IsBook};
-ghost use Rattle.aim_book.specs.Managed.{IsManaged};
-
-// What is kept of the empty history of so many vehicles, with room for so many changes of policies.
-fn new_desk<L: Ledger>(
-    alloc: Global,
-    layout: &Layout,
-    vehicles: u32,
-    room: u32,
-) -> Result<Desk<L>, AllocError>
-    requires vehicles { vehicles ≤ MOST_VEHICLES }
-    requires room { room ≤ MOST_ENTRIES }
-    ensures managed { IfOk result (λ desk. (calls : List (Option (ℕ × ℕ))) → calls ≡ replicate vehicles None → IsManaged layout.now vehicles [] 0 desk calls) }
-    ensures timeline { IfOk result (λ desk. desk.timeline.room ≡ room) }
-{
-    let n = layout.ground().grid().n;
-    let horizon = layout.ground().times().horizon;
-    Ok(Desk {
-        sessions: Sessions::new(alloc, vehicles)?,
-        timeline: Timeline::new(alloc, room)?,
-        reservations: Reservations::new(alloc, n, horizon, vehicles)?,
-        distances: Distances::new(),
-        has_lights: has_lights(layout),
-        stopped: false,
-    })
-}
 
 // What a book has beside its layout and its numbers.
 struct Parts<L: Ledger> {
@@ -350,7 +323,7 @@ fn allocated<L: Ledger>(
 {
     let journal = Vec::with_capacity(alloc, room as usize)?;
     let approaches = Approaches::new(alloc, vehicles)?;
-    let desk = new_desk(alloc, layout, vehicles, room)?;
+    let desk = Desk::new(alloc, layout, vehicles, room)?;
     Ok(Parts {
         journal,
         desk,

@@ -1,27 +1,14 @@
 //! A book that belongs to no ledger.
 
 use crate::book::{Book, OpenFault};
-use crate::desks::Desk;
+use aim_desk::IdleDesk;
 use aim_msg::Entry;
 use aim_paths::Layout;
-use aim_reservations::IdleReservations;
-use aim_session::{Approaches, Distances, Sessions};
-use aim_switch::Timeline;
+use aim_session::Approaches;
 use aim_tiles::Steps;
 use std::alloc::Global;
 use std::marker::{Brand, Model};
 use std::sync::ledger::{Blank, Ledger};
-
-/// What a manager keeps of its history, where the table of its reservations belongs to no ledger.
-#[derive(Drop)]
-pub(crate) struct IdleDesk {
-    pub(crate) sessions: Sessions,
-    pub(crate) reservations: IdleReservations,
-    pub(crate) timeline: Timeline,
-    pub(crate) distances: Distances,
-    pub(crate) has_lights: bool,
-    pub(crate) stopped: bool,
-}
 
 /// A book that belongs to no ledger. No call reads or writes a word of its table until it joins one.
 #[derive(Drop)]
@@ -41,7 +28,7 @@ impl Model for IdleBook {
     ghost Value = { State };
 
     ghost use Rattle.aim_book.specs.Books.{IsBook};
-    ghost use Rattle.aim_book.specs.Idle.{joined};
+    ghost use Rattle.aim_desk.specs.Idle.{joined};
 
     ghost view = { λ b. record { layout = b.layout; vehicles = b.vehicles; room = b.room; journal = b.journal.items } };
 
@@ -51,55 +38,6 @@ impl Model for IdleBook {
 ghost use Rattle.std.specs.Prelude.{◌≡◌, ◌<◌, ◌≤◌, ◌⊎◌, ◌↔◌, [], IfOk, Err};
 ghost use Rattle.aim_msg.specs.declared.entries.TheConstants.{MOST_ENTRIES, MOST_VEHICLES};
 ghost use Rattle.aim_rules.specs.Legal.{IsLegal};
-ghost use Rattle.aim_book.specs.Idle.{joined};
-
-impl IdleDesk {
-    // The desk in a ledger.
-    fn join<L: Ledger>(self) -> Desk<L>
-        ensures { result ≡ joined self }
-    {
-        let IdleDesk {
-            sessions,
-            reservations,
-            timeline,
-            distances,
-            has_lights,
-            stopped,
-        } = self;
-        Desk {
-            sessions,
-            reservations: reservations.join(),
-            timeline,
-            distances,
-            has_lights,
-            stopped,
-        }
-    }
-}
-
-impl<L: Ledger> Desk<L> {
-    // The desk without its ledger, whose count it takes.
-    fn leave(self, steps: Steps<L>) -> IdleDesk
-        ensures { self ≡ joined result }
-    {
-        let Desk {
-            sessions,
-            reservations,
-            timeline,
-            distances,
-            has_lights,
-            stopped,
-        } = self;
-        IdleDesk {
-            sessions,
-            reservations: reservations.leave(steps),
-            timeline,
-            distances,
-            has_lights,
-            stopped,
-        }
-    }
-}
 
 impl<L: Ledger> Book<L> {
     /// Leaves the ledger. It takes the ledger's one count with it, so no table of that ledger is read or written again.

@@ -15,7 +15,7 @@ use Rattle.aim_switch.proofs.timelines.Timeline.TheSendSync as timeline
 use Rattle.aim_session.proofs.distances.Distances.TheSendSync as distances
 use Rattle.aim_session.proofs.approaches.Approaches.TheSendSync as approaches
 use Rattle.aim_book.proofs.book.Full.TheSendSync as full
-use Rattle.aim_book.specs.contracts.desks.Desk as BookDesk
+use Rattle.aim_desk.specs.contracts.desks.Desk as BookDesk
 use Rattle.aim_reservations.specs.contracts.reservations.Reservation as Reservation
 use Rattle.aim_reservations.specs.contracts.reservations.Reservations as Reservations
 use Rattle.aim_book.specs.contracts.book.Book as Book

@@ -16,7 +16,7 @@ use Rattle.aim_switch.proofs.timelines.Timeline.TheSendSync as timeline
 use Rattle.aim_session.proofs.distances.Distances.TheSendSync as distances
 use Rattle.aim_session.proofs.approaches.Approaches.TheSendSync as approaches
 use Rattle.aim_book.specs.contracts.idle.IdleBook as IdleBook
-use Rattle.aim_book.specs.contracts.idle.IdleDesk as IdleDesk
+use Rattle.aim_desk.specs.contracts.idle.IdleDesk as IdleDesk
 use Rattle.aim_reservations.specs.contracts.idle.IdleReservations as IdleReservations
 use Rattle.aim_reservations.specs.contracts.reservations.Reservation as Reservation
 use Rattle.aim_turn.proofs.pass.Front.TheSendSync as front

@@ -1,6 +1,6 @@
 //! Prepared requests, and crossings step by step.
 
-use aim_buffers::{bad_field, may_reach, params_in, prepare};
+use aim_buffers::{NeedsCells, bad_field, may_reach, params_in, prepare};
 use aim_geometry::Times;
 use aim_msg::{Body, Field, Message, Params, Turn};
 use aim_paths::Layout;
@@ -163,7 +163,10 @@ fn wrong_fields(rt: HostRuntime) {
             ..CAR
         };
         assert!(rt; bad_crossing(&layout, &params) == *wanted);
-        assert!(rt; bad_field(&layout, &params).ok() == Some(*wanted));
+        match bad_field(&layout, &params) {
+            Ok(field) => assert!(rt; field == *wanted),
+            Err(NeedsCells) => panic!(rt; "a sheet has room"),
+        }
     }
     let None = bad_crossing(&layout, &CAR) else {
         panic!(rt; "a good crossing")

@@ -1,4 +1,4 @@
-use Rattle.aim_book.proofs.SameLemmas.{in_any}
+use Rattle.aim_book.proofs.EntryLemmas.{in_any}
 use Rattle.aim_book.proofs.book.Book.leave.Goals as goal
 
 pub invariant_of-result : goal.invariant_of-result

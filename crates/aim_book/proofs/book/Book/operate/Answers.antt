@@ -8,9 +8,9 @@ use Rattle.aim_rules.specs.History.{now_of}
 use Rattle.aim_rules.specs.Kept.{changes}
 use Rattle.aim_rules.specs.Legal.{IsOfLayout}
 use Rattle.aim_rules.proofs.HistoryLaws.{now_of-max}
-use Rattle.aim_book.proofs.SameLemmas.{now_next}
+use Rattle.aim_desk.proofs.SameLemmas.{now_next}
 use Rattle.aim_book.proofs.SheetLemmas.{changes_fit}
-use Rattle.aim_book.proofs.GivenLemmas.{one_more_fits, entry_added}
+use Rattle.aim_book.proofs.EntryLemmas.{one_more_fits, entry_added}
 use Rattle.aim_book.proofs.book.Book.operate.Goals as goal
 
 pub operate-reply-requires-clause-room : goal.operate-reply-requires-clause-room

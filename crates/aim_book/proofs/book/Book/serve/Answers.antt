@@ -1,20 +1,19 @@
 use Rattle.std.proofs.Common.{◌≡◌, ◌<◌, ◌+◌, [], ◌∷◌, ◌++◌, length, sym, ◌∙◌, ap, arith, subst}
 use Rattle.aim_msg.specs.declared.entries.Act.TheVariants as act
 use Rattle.aim_msg.specs.declared.entries.Entry.{Entry}
-use Rattle.std.specs.Prelude.{◌-◌}
 use Rattle.aim_rules.specs.Answer.{answer}
 use Rattle.aim_rules.specs.History.{fresh, now_of}
 use Rattle.aim_rules.specs.Kept.{kept}
 use Rattle.aim_reservations.specs.Keeping.{row_count}
-use Rattle.aim_book.specs.Managed.{IsManaged}
+use Rattle.aim_desk.specs.Managed.{IsManaged}
 use Rattle.aim_reservations.specs.Rows.{row_of}
-use Rattle.aim_book.specs.Reserved.{rows_exchanged}
-use Rattle.aim_book.specs.Costs.{spans_exchanged}
+use Rattle.aim_desk.specs.Reserved.{rows_exchanged}
+use Rattle.aim_desk.specs.Costs.{spans_exchanged}
 use Rattle.aim_book.specs.Sheets.{sheets_kept}
 use Rattle.aim_book.proofs.CostLemmas.{cost_served, exchanged_is}
 use Rattle.aim_book.proofs.SheetLemmas.{count_is}
 use Rattle.aim_rules.specs.Legal.{IsLegal}
-use Rattle.aim_book.proofs.GivenLemmas.{two_more, one_more_fits, sheets_served, entry_added}
+use Rattle.aim_book.proofs.EntryLemmas.{two_more, one_more_fits, sheets_served, entry_added}
 use Rattle.aim_book.proofs.book.Book.serve.Goals as goal
 
 pub invariant_of-self : goal.invariant_of-self

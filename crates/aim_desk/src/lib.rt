@@ -1,0 +1,14 @@
+//! What a manager keeps of its history, and what it answers by that: it answers messages and orders, and keeps no journal.
+#![tactic(auto)]
+
+mod answers;
+mod at_once;
+mod conflicts;
+mod desks;
+mod idle;
+mod keeping;
+mod refusals;
+mod serving;
+
+pub use desks::Desk;
+pub use idle::IdleDesk;
