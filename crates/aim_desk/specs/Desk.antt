@@ -1,5 +1,5 @@
 -- What a manager keeps of its history, and what it knows by that for an answer.
--- No public clause cites it: only contracts of private functions.
+-- No public clause cites `IsHeld` and `Tells`: only contracts of private functions. `IsDesk` is a part of `IsManaged`.
 use Rattle.std.specs.Prelude.{◌≡◌, ℕ, ◌<◌, ◌≤◌, ◌&&◌, ◌==◌, not, List, length, Option, Some, None, is_some, slice_index_or}
 use Rattle.aim_geometry.specs.Bounded.{least_below}
 use Rattle.aim_geometry.specs.Cells.{Cell}

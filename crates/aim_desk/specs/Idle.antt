@@ -1,5 +1,4 @@
 -- What is kept of a history where the table belongs to no ledger.
--- No public clause cites it: only the model of `IdleBook` and contracts of private functions.
 use Rattle.aim_desk.specs.declared.desks.Desk.{Desk}
 use Rattle.aim_desk.specs.declared.idle.IdleDesk.{IdleDesk}
 

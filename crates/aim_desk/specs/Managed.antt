@@ -1,5 +1,4 @@
 -- What is kept after a history.
--- No public clause cites it: only the models of books and contracts of private functions.
 use Rattle.std.specs.Prelude.{◌≡◌, ℕ, ◌≤◌, List, length, Option}
 use Rattle.aim_msg.specs.declared.entries.Entry.{Entry}
 use Rattle.aim_msg.specs.declared.entries.TheConstants.{MOST_VEHICLES}

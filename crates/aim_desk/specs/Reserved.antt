@@ -1,5 +1,4 @@
 -- The reservations that a manager keeps, and how they follow a history.
--- No public clause cites it: only contracts of private functions.
 use Rattle.std.specs.Prelude.{◌≡◌, ℕ, ◌<◌, ◌+◌, ◌==◌, ◌&&◌, nat_le, if◌then◌else◌, List, length, Option, Some, None}
 use Rattle.aim_geometry.specs.Cells.{Cell}
 use Rattle.aim_paths.specs.Intersection.{Intersection}
