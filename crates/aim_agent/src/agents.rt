@@ -22,7 +22,6 @@ use aim_driver::{Driver, LogItem, NoMemory, begin_turn};
 use aim_links::Link;
 use aim_manager::{Full, Manager, ManagerFront, ManagerPass};
 use aim_msg::{LATEST_MOMENT, Message, Reply};
-use aim_paths::Layout;
 use aim_pool::Pool;
 use std::marker::Model;
 use std::sync::Wait;

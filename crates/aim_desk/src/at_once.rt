@@ -8,7 +8,6 @@ ghost use Rattle.aim_msg.specs.declared.entries.TheConstants.{LATEST_MOMENT};
 ghost use Rattle.aim_session.specs.Calls.{call_of};
 ghost use Rattle.aim_rules.specs.Answer.{answer};
 ghost use Rattle.aim_rules.specs.Bad.{bad};
-ghost use Rattle.aim_rules.specs.Cells.{cells};
 ghost use Rattle.aim_rules.specs.History.{is_confirm, now_of, params_of};
 ghost use Rattle.aim_rules.specs.Known.{Known, answer_fresh_by, first_reason_by, in_the_way_by, own_refusal_by, too_distant_by, too_far_by, too_late_by};
 ghost use Rattle.aim_session.specs.declared.sessions.Look.{Look};

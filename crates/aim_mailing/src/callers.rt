@@ -9,7 +9,6 @@ ghost use Rattle.aim_mailing.specs.Calling.{AllByPlace, Called, Finished, HasShe
 use aim_buffers::prepare_from;
 use aim_events::Event;
 use aim_mailbox::Client;
-use aim_msg::Message;
 use aim_paths::Layout;
 use aim_pool::Pool;
 use std::sync::Wait;
