@@ -122,17 +122,45 @@ impl<L: Ledger> Book<L> {
             + spans_exchanged self.old.layout vehicle self.old.journal self.new.journal
             + self.old.layout.grid.n * min (now_of self.new.journal 0 - now_of self.old.journal 0) self.old.layout.times.horizon }
     {
-        let place = self.journal.len();
-        if place == self.room as usize {
+        if self.journal.len() == self.room as usize {
             prepared.give_back(back);
             return Err(Full);
         }
+        Ok(self.answer(vehicle, moment, prepared, back, steps))
+    }
+
+    // Answers a message of a vehicle at a moment, and keeps both in the journal, which has room for them.
+    fn answer(
+        &mut self,
+        vehicle: u32,
+        moment: u32,
+        prepared: Prepared,
+        back: &mut Pool,
+        steps: &mut Steps<L>,
+    ) -> Reply
+        requires vehicle { vehicle < self.old.vehicles }
+        requires moment { moment ≤ LATEST_MOMENT }
+        requires prepared { IsPreparedFor self.old.layout prepared }
+        requires count { back.old.count ≤ 1000000 }
+        requires room { back.old.room ≡ self.old.layout.grid.spans }
+        requires place { length self.old.journal ≡ self.old.room → ⊥ }
+        ensures reply { result ≡ answer self.old.layout self.old.journal vehicle moment (Act.Message prepared.message) }
+        ensures entry { self.new
+            ≡ record self.old { journal = self.old.journal ++ (record { caller = vehicle; moment = moment; act = Act.Message prepared.message; reply = result }) ∷ [] } }
+        ensures legal { IsLegal self.new.layout self.new.vehicles self.new.journal }
+        ensures sheets { back.new.count + sheets_kept vehicle self.new.journal ≡ back.old.count + sheets_kept vehicle self.old.journal + 2 }
+        ensures pool { back.new.room ≡ back.old.room }
+        ensures cost { steps.new ≤ steps.old + length prepared.first.spans + length prepared.second.spans
+            + spans_exchanged self.old.layout vehicle self.old.journal self.new.journal
+            + self.old.layout.grid.n * min (now_of self.new.journal 0 - now_of self.old.journal 0) self.old.layout.times.horizon }
+    {
+        let place = self.journal.len() as u32;
         let message = *prepared.message();
         let reply = self.desk.serve(
             &self.layout,
             &mut self.approaches,
             vehicle,
-            place as u32,
+            place,
             moment,
             prepared,
             back,
@@ -144,7 +172,7 @@ impl<L: Ledger> Book<L> {
             act: Act::Message(message),
             reply,
         });
-        Ok(reply)
+        reply
     }
 
     /// Answers a message of a vehicle at a moment, and keeps both in the journal. Only where the answer depends on the cells of
