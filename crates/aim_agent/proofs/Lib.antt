@@ -1,3 +1,4 @@
+pub use Rattle.aim_manager.proofs.Crosses
 pub mod Passes
 pub mod Places
 pub mod Courses

@@ -6,7 +6,7 @@ use Rattle.aim_msg.specs.declared.messages.Body.{Body}
 use Rattle.aim_msg.specs.declared.messages.Body.TheVariants as body
 use Rattle.aim_msg.specs.declared.replies.Reply.{Reply}
 use Rattle.aim_msg.specs.declared.replies.Reply.TheVariants as reply
-use Rattle.aim_book.specs.Sheets.{sheets_kept}
+use Rattle.aim_manager.specs.Sheets.{sheets_kept}
 use Rattle.aim_links.specs.declared.links.Fate.TheVariants as fate
 use Rattle.aim_driver.specs.Follows.{Call, follows_from}
 use Rattle.aim_driver.proofs.Rows.{car, granted, plain}

@@ -4,7 +4,7 @@ use Rattle.aim_msg.specs.declared.entries.Entry.{Entry}
 use Rattle.aim_msg.specs.declared.messages.Message.{Message}
 use Rattle.aim_msg.specs.declared.replies.Reply.{Reply}
 use Rattle.aim_pool.specs.Pools.{Stock}
-use Rattle.aim_book.specs.Sheets.{sheets_kept}
+use Rattle.aim_manager.specs.Sheets.{sheets_kept}
 use Rattle.aim_driver.specs.Models.{DriverModel}
 use Rattle.aim_links.specs.Links.{LinkModel}
 use Rattle.aim_driver.specs.Turns.{State, state}

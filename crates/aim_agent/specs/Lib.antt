@@ -1,3 +1,6 @@
+pub use Rattle.aim_manager.specs.declared.keeper.Setting
+pub use Rattle.aim_manager.specs.Seen
+pub use Rattle.aim_manager.specs.Full
 pub mod Rests
 pub mod Agents
 pub mod Places

@@ -16,11 +16,11 @@ ghost use Rattle.aim_agent.specs.Went.{new_agent, Went, Met};
 ghost use Rattle.aim_agent.specs.Followed.{IsNew};
 ghost use Rattle.aim_agent.specs.Turns.{Called, Tried};
 
-use aim_book::laws::sheets_are_those_of_own_entries;
-use aim_buffers::prepare_from;
 use aim_driver::{Driver, LogItem, NoMemory, begin_turn};
 use aim_links::Link;
-use aim_manager::{Full, Manager, ManagerFront, ManagerPass};
+use aim_manager::{
+    Full, Manager, ManagerFront, ManagerPass, prepare_from, sheets_are_those_of_own_entries,
+};
 use aim_msg::{LATEST_MOMENT, Message, Reply};
 use aim_pool::Pool;
 use std::marker::Model;

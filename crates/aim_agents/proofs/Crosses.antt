@@ -6,7 +6,7 @@ use Rattle.aim_msg.proofs.replies.Reply.TheSendSync as reply
 use Rattle.aim_agent.proofs.agents.Trouble.TheSendSync as trouble
 use Rattle.aim_driver.proofs.drivers.Driver.TheSendSync as driver
 use Rattle.aim_links.proofs.links.Link.TheSendSync as link
-use Rattle.aim_manager.proofs.Crosses.{pass_send, pool_send}
+pub use Rattle.aim_agent.proofs.Crosses.{manager_sync, pass_send, pool_send}
 use Rattle.aim_agent.specs.contracts.agents.Agent as Agent
 
 pub agent_send : IsSend Agent.the_row

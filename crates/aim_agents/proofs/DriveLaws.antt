@@ -6,8 +6,8 @@ use Rattle.aim_msg.specs.declared.entries.Entry.{Entry}
 use Rattle.aim_driver.specs.Models.{step_of}
 use Rattle.aim_turn.specs.Models.{TurnstileModel, HasPass, IsPassOf, IsSamePass}
 use Rattle.aim_turn.specs.History.{entries_of}
-use Rattle.aim_manager.specs.Seen.{caller_of}
-use Rattle.aim_manager.specs.declared.keeper.Setting.{Setting}
+use Rattle.aim_agent.specs.Seen.{caller_of}
+use Rattle.aim_agent.specs.Setting.{Setting}
 use Rattle.aim_agent.specs.Agents.{AgentModel, AgentPass, IsAgentOf, IsWhole}
 use Rattle.aim_agent.specs.Places.{At, IsCall, IsCallSince, Before, Earlier, SameMoment}
 use Rattle.aim_agent.specs.Went.{ExtendsBy, Sees, Went}

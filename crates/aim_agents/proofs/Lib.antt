@@ -1,3 +1,9 @@
+pub use Rattle.aim_agent.proofs.Followed
+pub use Rattle.aim_agent.proofs.Passes
+pub use Rattle.aim_agent.proofs.Places
+pub use Rattle.aim_agent.proofs.Courses
+pub use Rattle.aim_agent.proofs.Rests
+pub use Rattle.aim_agent.proofs.Sheets
 pub mod RunLaws
 pub mod RoundLaws
 pub mod Crosses

@@ -5,7 +5,7 @@ use Rattle.std.proofs.lemmas.Bool.{cases_lt}
 use Rattle.aim_msg.specs.declared.entries.Entry.{Entry}
 use Rattle.aim_turn.specs.Models.{TurnstileModel, IsSamePass}
 use Rattle.aim_turn.specs.History.{Begins}
-use Rattle.aim_manager.specs.declared.keeper.Setting.{Setting}
+use Rattle.aim_agent.specs.Setting.{Setting}
 use Rattle.aim_agent.specs.Agents.{AgentModel, AgentPass, Idles, IsAgentOf, front_of}
 use Rattle.aim_agent.specs.Places.{IsCallSince, Before, Any, Earlier, SameMoment}
 use Rattle.aim_agent.specs.Went.{Went, Met, Sees}

@@ -10,8 +10,8 @@ use Rattle.aim_msg.specs.declared.entries.Entry.{Entry}
 use Rattle.aim_turn.specs.Models.{TurnstileModel, IsSamePass}
 use Rattle.aim_turn.specs.History.{Begins}
 use Rattle.aim_turn.proofs.Histories.{begins_trans}
-use Rattle.aim_manager.specs.declared.keeper.Setting.{Setting}
-use Rattle.aim_manager.specs.Seen.{Meets}
+use Rattle.aim_agent.specs.Setting.{Setting}
+use Rattle.aim_agent.specs.Seen.{Meets}
 use Rattle.aim_driver.specs.Models.{step_of}
 use Rattle.aim_agent.specs.Agents.{AgentFront, AgentModel, AgentPass, IsAgentOf}
 use Rattle.aim_agent.specs.Places.{IsCallSince, Before, Any}

@@ -2,8 +2,8 @@
 use Rattle.std.specs.Prelude.{◌≡◌, ℕ, ◌<◌, ◌≤◌, ◌⊎◌, List, [], length, slice_index_or, All}
 use Rattle.aim_msg.specs.declared.entries.Entry.{Entry}
 use Rattle.aim_turn.specs.Models.{HasPass}
-use Rattle.aim_manager.specs.Seen.{caller_of}
-use Rattle.aim_manager.specs.declared.keeper.Setting.{Setting}
+use Rattle.aim_agent.specs.Seen.{caller_of}
+use Rattle.aim_agent.specs.Setting.{Setting}
 use Rattle.aim_agent.specs.Agents.{AgentModel, AgentPass, IsWhole}
 use Rattle.aim_agent.specs.Places.{At, IsCall, IsCallSince, Before, Earlier, SameMoment}
 use Rattle.aim_agent.specs.Went.{Went}

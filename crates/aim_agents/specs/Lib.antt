@@ -1,3 +1,11 @@
+pub use Rattle.aim_agent.specs.Seen
+pub use Rattle.aim_agent.specs.Setting
+pub use Rattle.aim_agent.specs.Full
+pub use Rattle.aim_agent.specs.Agents
+pub use Rattle.aim_agent.specs.declared.agents.Trouble
+pub use Rattle.aim_agent.specs.Places
+pub use Rattle.aim_agent.specs.Followed
+pub use Rattle.aim_agent.specs.Went
 pub mod Rounds
 pub mod Runs
 pub mod Driven

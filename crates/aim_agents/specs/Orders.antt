@@ -8,10 +8,10 @@ use Rattle.aim_msg.specs.declared.replies.Reply.{Reply}
 use Rattle.aim_paths.specs.Intersection.{Intersection}
 use Rattle.aim_rules.specs.Legal.{IsOfLayout}
 use Rattle.aim_plans.specs.declared.scripts.Ordered.{Ordered}
-use Rattle.aim_book.specs.declared.book.Full.{Full}
+use Rattle.aim_agent.specs.Full.{Full}
 use Rattle.aim_turn.specs.Models.{IsSamePass}
-use Rattle.aim_manager.specs.Seen.{IsServed}
-use Rattle.aim_manager.specs.declared.keeper.Setting.{Setting}
+use Rattle.aim_agent.specs.Seen.{IsServed}
+use Rattle.aim_agent.specs.Setting.{Setting}
 use Rattle.aim_agent.specs.Agents.{AgentModel, AgentPass}
 use Rattle.aim_agents.specs.Rounds.{Rounds}
 use Rattle.aim_agents.specs.Driven.{Driven}

@@ -3,7 +3,7 @@ use Rattle.std.specs.Prelude.{◌≡◌, ℕ, ◌+◌, ◌*◌, ◌<◌, ◌≤�
 use Rattle.aim_msg.specs.declared.entries.Entry.{Entry}
 use Rattle.aim_turn.specs.Models.{TurnstileModel}
 use Rattle.aim_turn.specs.History.{Begins}
-use Rattle.aim_manager.specs.declared.keeper.Setting.{Setting}
+use Rattle.aim_agent.specs.Setting.{Setting}
 use Rattle.aim_agent.specs.Agents.{AgentModel, AgentPass, AgentFront, Idles, IsWhole}
 use Rattle.aim_agent.specs.Places.{IsCallSince, Before, Any}
 use Rattle.aim_agent.specs.Went.{Sees, Went}

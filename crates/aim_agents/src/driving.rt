@@ -12,8 +12,7 @@ ghost use Rattle.aim_agents.specs.Driven.{Driven};
 ghost use Rattle.aim_agents.specs.Orders.{AreOrders, FoundFull, CarryOrders, Given, AllGiven};
 
 use crate::steps::rounds;
-use aim_agent::{Agent, Gate};
-use aim_manager::{Full, Manager, ManagerPass};
+use aim_agent::{Agent, Full, Gate, Manager, ManagerPass};
 use aim_msg::Reply;
 use aim_plans::Ordered;
 use std::sync::Wait;

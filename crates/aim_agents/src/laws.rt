@@ -1,6 +1,6 @@
 //! What a drive leaves, as the contract of a function that does nothing.
 
-ghost use Rattle.aim_manager.specs.declared.keeper.Setting.{Setting};
+ghost use Rattle.aim_agent.specs.Setting.{Setting};
 ghost use Rattle.aim_agents.specs.Driven.{JournalInOrder};
 
 /// Of each journal that begins with what the passes of a drive have seen and that has no other caller's entries, the

@@ -8,8 +8,7 @@ ghost use Rattle.aim_agent.specs.Agents.{IsAgentOf, front_of};
 ghost use Rattle.aim_agent.specs.Went.{Met};
 ghost use Rattle.aim_agents.specs.Runs.{Behind, Done, Followed, Gathered, IsFrontOf, Ran, shown_by};
 
-use aim_agent::{Agent, Gate};
-use aim_manager::{Manager, ManagerFront, ManagerPass};
+use aim_agent::{Agent, Gate, Manager, ManagerFront, ManagerPass};
 use std::sync::Wait;
 
 // Lets the agent meet the one before it, if there is one.

@@ -9,8 +9,7 @@ ghost use Rattle.aim_agents.specs.Runs.{AllIdle, Ran, RunsWent};
 ghost use Rattle.aim_agents.specs.Rounds.{Rounds, Stepped, run_size};
 
 use crate::runs::{gather, meet_all, run_turns};
-use aim_agent::{Agent, Gate};
-use aim_manager::{Manager, ManagerPass};
+use aim_agent::{Agent, Gate, Manager, ManagerPass};
 use std::sync::Wait;
 use std::thread;
 use std::thread::Threads;

@@ -14,11 +14,11 @@ use Rattle.aim_rules.proofs.Lists.{IsIn-test, some_passes}
 use Rattle.aim_rules.proofs.TakenLaws.{are_below-legal, granted-lasts, kept-is, below-in, reservations-have, reservations-kept}
 use Rattle.aim_rules.specs.Kept.{policy_in}
 use Rattle.aim_rules.proofs.Lists.{some_below-same}
-use Rattle.aim_switch.specs.Changes.{is_claimed_for}
-use Rattle.aim_switch.proofs.Histories.{claimed_for_all}
+use Rattle.aim_desk.specs.Changes.{is_claimed_for}
+use Rattle.aim_desk.proofs.Histories.{claimed_for_all}
 use Rattle.aim_book.specs.Charted.{is_claimed_by_some, is_held}
 use Rattle.aim_desk.specs.Managed.{IsManaged}
-use Rattle.aim_reservations.specs.Rows.{is_reserved, row_of}
+use Rattle.aim_desk.specs.Rows.{is_reserved, row_of}
 use Rattle.aim_desk.specs.declared.desks.Desk.{Desk}
 use Rattle.aim_desk.proofs.ManagedLemmas.{row_has}
 

@@ -6,7 +6,7 @@ use Rattle.aim_paths.specs.Intersection.{Intersection}
 use Rattle.aim_rules.specs.History.{Fresh, now_of}
 use Rattle.aim_desk.specs.Costs.{exchanged, spans_exchanged}
 use Rattle.aim_desk.specs.Reserved.{IsRowOf, rows_exchanged}
-use Rattle.aim_reservations.specs.declared.reservations.Reservation.{Reservation}
+use Rattle.aim_desk.specs.Reservation.{Reservation}
 use Rattle.aim_rules.proofs.HistoryLaws.{now_of-max}
 use Rattle.aim_book.specs.State.{State}
 use Rattle.aim_desk.proofs.SameLemmas.{now_next}

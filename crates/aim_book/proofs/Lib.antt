@@ -1,3 +1,4 @@
+pub mod Crosses
 mod EntryLemmas
 mod SheetLemmas
 mod ChartLemmas

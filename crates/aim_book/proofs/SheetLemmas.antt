@@ -22,10 +22,10 @@ use Rattle.aim_rules.proofs.LegalLemmas.{IsLegal-before}
 use Rattle.aim_rules.proofs.Lists.{from_front, IsIn-filter, IsIn-snoc, last-in, last-test}
 use Rattle.aim_rules.proofs.PolicyLaws.{changes-snoc}
 use Rattle.aim_rules.proofs.TakenLaws.{last_legal}
-use Rattle.aim_reservations.specs.Keeping.{row_count}
+use Rattle.aim_desk.specs.Keeping.{row_count}
 use Rattle.aim_desk.specs.Reserved.{IsRowOf}
 use Rattle.aim_book.specs.Sheets.{id_in, sheets_kept, sheets_with}
-use Rattle.aim_reservations.specs.declared.reservations.Reservation.{Reservation}
+use Rattle.aim_desk.specs.Reservation.{Reservation}
 
 asks : (a : Asked) (b : Body) → is_confirm (answer_fresh a b) ≡ true → (p : Params) × (params_of b ≡ Some p)
 asks a (body.Cancel id) e = absurd (cc)

@@ -1,11 +1,9 @@
 //! The book: a layout and the journal of what was asked and answered over it.
 
-use aim_buffers::Prepared;
-use aim_desk::Desk;
+use aim_desk::{Approaches, Desk, Prepared};
 use aim_msg::{Act, Entry, MOST_ENTRIES, MOST_VEHICLES, Message, OPERATOR, Order, Reply};
 use aim_paths::Layout;
 use aim_pool::Pool;
-use aim_session::Approaches;
 use aim_tiles::Steps;
 use std::alloc::{AllocError, Global};
 use std::marker::Model;
@@ -56,7 +54,7 @@ impl<L: Ledger> Book<L> {
     ghost use Rattle.aim_geometry.specs.Cells.{cell_at};
     ghost use Rattle.aim_geometry.specs.Rects.{has_bit};
     ghost use Rattle.aim_msg.specs.declared.entries.TheConstants.{LATEST_MOMENT, MOST_ENTRIES, MOST_VEHICLES, OPERATOR};
-    ghost use Rattle.aim_buffers.specs.Requests.{IsPreparedFor};
+    ghost use Rattle.aim_desk.specs.Requests.{IsPreparedFor};
     ghost use Rattle.aim_rules.specs.Answer.{answer};
     ghost use Rattle.aim_rules.specs.History.{now_of, params_of};
     ghost use Rattle.aim_rules.specs.Legal.{IsLegal, IsOfLayout};

@@ -1,10 +1,9 @@
 //! A book that belongs to no ledger.
 
 use crate::book::{Book, OpenFault};
-use aim_desk::IdleDesk;
+use aim_desk::{Approaches, IdleDesk};
 use aim_msg::Entry;
 use aim_paths::Layout;
-use aim_session::Approaches;
 use aim_tiles::Steps;
 use std::alloc::Global;
 use std::marker::{Brand, Model};

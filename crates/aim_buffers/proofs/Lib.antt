@@ -1,3 +1,5 @@
+pub use Rattle.aim_simulate.proofs.FieldLemmas
+pub use Rattle.aim_simulate.proofs.GoodLemmas
 pub mod BorderLemmas
 pub mod CountLemmas
 pub mod RowLemmas

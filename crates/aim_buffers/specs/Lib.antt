@@ -1,3 +1,4 @@
+pub use Rattle.aim_simulate.specs.Fields
 pub mod Rows
 pub mod Counts
 pub mod Cells

@@ -1,22 +1,16 @@
--- Threads may share the quadrants of a grid. A sheet's nodes refer to one another, and of such a type, and of each that
--- holds one, nothing is kept ready: so the search alone takes seconds, and it is shown part by part. What others cite is at
--- the end.
+-- Threads may share the quadrants of a grid. They hold sheets (`Crosses` of `aim_pool`): so the search alone takes seconds,
+-- and it is shown part by part. What others cite is at the end.
 use denote.Param.Send.{IsSend, IsSync, sendable}
 use denote.Param.SendFields.{declared_sync}
 use Rattle.std.proofs.Crossing.{crosses}
 use Rattle.std.specs.contracts.option.Option as Option
-use Rattle.aim_pool.proofs.sheets.Slots.TheSendSync as slots
-use Rattle.aim_pool.proofs.sheets.Node.TheLaws.TheKnot as node
-use Rattle.aim_pool.specs.contracts.sheets.Sheet as Sheet
+use Rattle.aim_pool.proofs.Crosses.{sheet_sync}
 use Rattle.atomic_table.proofs.owned.Table.TheSendSync as table
 use Rattle.aim_shards.proofs.quarter.Quarter.TheSendSync as quarter
 use Rattle.aim_shards.specs.contracts.quarter.Quarter as Quarter
 use Rattle.aim_shards.specs.contracts.sets.Quartered as Quartered
 use Rattle.aim_shards.specs.contracts.calls.Shards as Shards
 use Rattle.aim_shards.specs.contracts.calls.Shards.TheInside as Inside
-
-sheet_sync : IsSync Sheet.the_row
-sheet_sync = search (sendable, crosses, node.sync-Node, slots.the_sync) depth 20
 
 quartered_sync : IsSync Quartered.the_row
 quartered_sync = search (sendable, crosses, sheet_sync) depth 20

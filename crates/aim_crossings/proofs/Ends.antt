@@ -11,9 +11,9 @@ use Rattle.aim_msg.specs.declared.entries.Entry.{Entry}
 use Rattle.aim_msg.specs.declared.entries.TheConstants.{OPERATOR}
 use Rattle.aim_turn.specs.History.{entries_of}
 use Rattle.aim_turn.specs.Models.{TurnstileModel, IsSamePass, HasPass, new_pass}
-use Rattle.aim_manager.specs.declared.keeper.Setting.{Setting}
-use Rattle.aim_manager.specs.Seen.{caller_of, callers}
-use Rattle.aim_agent.specs.Agents.{AgentPass}
+use Rattle.aim_travel.specs.Setting.{Setting}
+use Rattle.aim_travel.specs.Seen.{caller_of, callers}
+use Rattle.aim_travel.specs.Agents.{AgentPass}
 use Rattle.aim_travel.specs.Rode.{Managers}
 use Rattle.aim_drive.specs.Headline.{VehicleLog}
 use Rattle.aim_drive.specs.declared.running.Drove.{Drove}

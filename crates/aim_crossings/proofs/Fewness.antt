@@ -4,9 +4,9 @@ use Rattle.std.specs.Prelude.{slice_get}
 use Rattle.std.specs.List.{AllByRecursion, AllZip}
 use Rattle.aim_driver.specs.declared.plans.DrivePlan.{DrivePlan}
 use Rattle.aim_turn.specs.Models.{TurnstileModel, IsSamePass, new_pass}
-use Rattle.aim_manager.specs.declared.keeper.Setting.{Setting}
-use Rattle.aim_agent.specs.declared.agents.Trouble.TheVariants as trouble
-use Rattle.aim_agent.specs.Agents.{AgentModel, AgentPass}
+use Rattle.aim_travel.specs.Setting.{Setting}
+use Rattle.aim_travel.specs.Trouble.TheVariants as trouble
+use Rattle.aim_travel.specs.Agents.{AgentModel, AgentPass}
 use Rattle.aim_travel.specs.Models.{LegModel, OverModel, TravellerModel}
 use Rattle.aim_travel.specs.Rode.{Managers, IsOver, IsRidden, IsAlong, Rode}
 use Rattle.aim_travel.specs.Legs.{AreFresh, LegTold, legs_told, told, told_unbegun}

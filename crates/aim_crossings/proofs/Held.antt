@@ -5,7 +5,7 @@ use Rattle.std.specs.List.{AllByRecursion}
 use Rattle.std.proofs.lemmas.Bool.{and_parts, and_from, and_cases, eqb-true, eqb-false, eq-eqb}
 use Rattle.std.proofs.lemmas.List.{append-nil, append_assoc}
 use Rattle.std.proofs.lemmas.Option.{slice_get_within, slice_get-get_or}
-use Rattle.aim_agent.specs.Agents.{AgentPass}
+use Rattle.aim_travel.specs.Agents.{AgentPass}
 use Rattle.aim_drive.specs.Making.{log_of}
 use Rattle.aim_crossings.specs.declared.seats.Seats.{Seats}
 use Rattle.aim_crossings.specs.Making.{Seat, AreOthers, held, Keeps, AllKeep}

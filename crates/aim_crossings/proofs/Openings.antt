@@ -10,8 +10,8 @@ use Rattle.aim_paths.specs.Valid.{IsValid}
 use Rattle.aim_driver.specs.declared.plans.DrivePlan.{DrivePlan}
 use Rattle.aim_driver.specs.Models.{step_of}
 use Rattle.aim_turn.specs.Models.{TurnstileModel, IsPassOf, new_pass}
-use Rattle.aim_manager.specs.declared.keeper.Setting.{Setting}
-use Rattle.aim_agent.specs.Agents.{AgentPass}
+use Rattle.aim_travel.specs.Setting.{Setting}
+use Rattle.aim_travel.specs.Agents.{AgentPass}
 use Rattle.aim_travel.specs.Models.{LegModel, TravellerModel, IsLegOf, AreLegsOf}
 use Rattle.aim_travel.specs.Rode.{Managers}
 use Rattle.aim_travel.specs.Travels.{IsLegAt, IsReady, SetsOut}

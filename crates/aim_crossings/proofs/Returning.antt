@@ -5,8 +5,8 @@ use Rattle.std.specs.List.{AllByRecursion, AllZip, zip}
 use Rattle.std.proofs.lemmas.List.{append-nil, append_assoc, get_or-map, length-map, map-append}
 use Rattle.std.proofs.lemmas.List.Elements.{All-from_recursion}
 use Rattle.aim_turn.specs.Models.{TurnstileModel}
-use Rattle.aim_manager.specs.declared.keeper.Setting.{Setting}
-use Rattle.aim_agent.specs.Agents.{AgentPass}
+use Rattle.aim_travel.specs.Setting.{Setting}
+use Rattle.aim_travel.specs.Agents.{AgentPass}
 use Rattle.aim_travel.specs.Legs.{legs_told, told}
 use Rattle.aim_travel.specs.Models.{OverModel, TravellerModel}
 use Rattle.aim_travel.specs.Rode.{Managers}

@@ -8,7 +8,7 @@ use Rattle.std.proofs.lemmas.List.{append-nil, get_or-take, get_or_past, get_or_
 use Rattle.std.proofs.lemmas.List.Elements.{filter_more}
 use Rattle.std.proofs.lemmas.Option.{get_or_from_slice_get, slice_get_within}
 use Rattle.aim_driver.specs.declared.logs.LogItem.{LogItem}
-use Rattle.aim_agent.specs.Agents.{AgentPass}
+use Rattle.aim_travel.specs.Agents.{AgentPass}
 use Rattle.aim_travel.specs.Rode.{Managers}
 use Rattle.aim_travel.specs.Models.{LegModel}
 use Rattle.aim_drive.specs.Making.{log_of}

@@ -14,8 +14,8 @@ use Rattle.aim_safety.specs.Occupied.{Passage, passage, is_on, is_occupied}
 use Rattle.aim_safety.specs.Tiles.{EntersBy}
 use Rattle.aim_turn.specs.History.{entries_of}
 use Rattle.aim_turn.specs.Models.{TurnstileModel}
-use Rattle.aim_manager.specs.declared.keeper.Setting.{Setting}
-use Rattle.aim_manager.specs.Seen.{caller_of}
+use Rattle.aim_travel.specs.Setting.{Setting}
+use Rattle.aim_travel.specs.Seen.{caller_of}
 use Rattle.aim_travel.specs.Route.{IsRoute}
 use Rattle.aim_travel.specs.Models.{TravellerModel}
 use Rattle.aim_travel.specs.Rode.{Managers}

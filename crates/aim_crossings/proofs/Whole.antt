@@ -9,9 +9,9 @@ use Rattle.aim_msg.specs.declared.entries.Entry.{Entry}
 use Rattle.aim_paths.specs.Intersection.{Intersection}
 use Rattle.aim_driver.specs.Fits as driver_fits
 use Rattle.aim_turn.specs.Models.{TurnstileModel, HasPass}
-use Rattle.aim_manager.specs.declared.keeper.Setting.{Setting}
-use Rattle.aim_manager.specs.Seen.{caller_of}
-use Rattle.aim_agent.specs.Agents.{AgentPass}
+use Rattle.aim_travel.specs.Setting.{Setting}
+use Rattle.aim_travel.specs.Seen.{caller_of}
+use Rattle.aim_travel.specs.Agents.{AgentPass}
 use Rattle.aim_travel.specs.Models.{LegModel, TravellerModel}
 use Rattle.aim_travel.specs.Rode.{Managers, Rode}
 use Rattle.aim_travel.specs.Travels.{IsReady, Travels}

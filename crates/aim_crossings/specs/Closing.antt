@@ -5,10 +5,10 @@ use Rattle.aim_rules.specs.Legal.{IsLegal}
 use Rattle.aim_driver.specs.declared.logs.LogItem.{LogItem}
 use Rattle.aim_turn.specs.History.{entries_of}
 use Rattle.aim_turn.specs.Models.{TurnstileModel, HasPass}
-use Rattle.aim_manager.specs.declared.keeper.Setting.{Setting}
-use Rattle.aim_manager.specs.Seen.{caller_of, callers}
-use Rattle.aim_agent.specs.declared.agents.Trouble.TheVariants as trouble
-use Rattle.aim_agent.specs.Agents.{AgentPass, IsFull}
+use Rattle.aim_travel.specs.Setting.{Setting}
+use Rattle.aim_travel.specs.Seen.{caller_of, callers}
+use Rattle.aim_travel.specs.Trouble.TheVariants as trouble
+use Rattle.aim_travel.specs.Agents.{AgentPass, IsFull}
 use Rattle.aim_travel.specs.Legs.{LegTold, legs_told}
 use Rattle.aim_travel.specs.Models.{TravellerModel}
 use Rattle.aim_travel.specs.Rode.{Managers}

@@ -5,8 +5,8 @@ use Rattle.aim_msg.specs.declared.entries.TheConstants.{OPERATOR}
 use Rattle.aim_paths.specs.Intersection.{Intersection}
 use Rattle.aim_paths.specs.Valid.{IsValid}
 use Rattle.aim_turn.specs.Models.{TurnstileModel, new_pass}
-use Rattle.aim_manager.specs.declared.keeper.Setting.{Setting}
-use Rattle.aim_agent.specs.Agents.{AgentPass}
+use Rattle.aim_travel.specs.Setting.{Setting}
+use Rattle.aim_travel.specs.Agents.{AgentPass}
 use Rattle.aim_travel.specs.Models.{LegModel, TravellerModel}
 use Rattle.aim_travel.specs.Rode.{Managers}
 use Rattle.aim_travel.specs.Travels.{SetsOut}

@@ -10,8 +10,7 @@ use crate::making::Crossings;
 use crate::seats::Seats;
 use aim_drive::Drove;
 use aim_driver::Driver;
-use aim_manager::{Manager, ManagerPass};
-use aim_travel::Traveller;
+use aim_travel::{Manager, ManagerPass, Traveller};
 use std::alloc::Global;
 
 // The passes, all of which are held.

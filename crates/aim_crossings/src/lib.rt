@@ -7,4 +7,5 @@ mod running;
 mod seats;
 
 pub use aim_drive::{Drove, Logged, NoMemory};
+pub use aim_travel::Gate;
 pub use running::run_routes;

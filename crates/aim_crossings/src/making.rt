@@ -12,11 +12,10 @@ use crate::NoMemory;
 use crate::seats::Seats;
 use aim_drive::open;
 use aim_driver::{Changes, DrivePlan};
-use aim_manager::{Manager, Opened};
 use aim_paths::Layout;
 use aim_pool::Pool;
 use aim_routes::PlannedLeg;
-use aim_travel::{Leg, Traveller};
+use aim_travel::{Leg, Manager, Opened, Traveller};
 use std::alloc::Global;
 
 /// Crossings with open managers.

@@ -1,8 +1,8 @@
 //! A whole run.
 
 ghost use Rattle.std.specs.Prelude.{◌≡◌, ◌≢◌, false, ◌+◌, ◌*◌, ◌<◌, ◌≤◌, length, map, All, Some, IfOk};
-ghost use Rattle.aim_agent.specs.declared.agents.Trouble.TheVariants as trouble;
-ghost use Rattle.aim_agent.specs.Agents.{IsFull};
+ghost use Rattle.aim_travel.specs.Trouble.TheVariants as trouble;
+ghost use Rattle.aim_travel.specs.Agents.{IsFull};
 ghost use Rattle.aim_safety.specs.Tiles.{EntersBy};
 ghost use Rattle.aim_routes.specs.Fits.{AreWithin};
 ghost use Rattle.aim_crossings.specs.Closing.{HasMemory};
@@ -10,10 +10,9 @@ ghost use Rattle.aim_crossings.specs.Runs.{IsRunOf, journal_left, logs_left};
 
 use crate::NoMemory;
 use crate::making::Crossings;
-use aim_agent::{Gate, Trouble};
 use aim_drive::Drove;
 use aim_routes::Routes;
-use aim_travel::{Traveller, travel};
+use aim_travel::{Gate, Traveller, Trouble, travel};
 use std::alloc::Global;
 use std::sync::Wait;
 use std::thread::Threads;

@@ -1,13 +1,13 @@
 //! The seats of one crossing.
 
 ghost use Rattle.std.specs.Prelude.{◌≡◌, ◌<◌, [], length, map, Some, IfOk, OnOk};
-ghost use Rattle.aim_agent.specs.Agents.{AgentPass};
+ghost use Rattle.aim_travel.specs.Agents.{AgentPass};
 ghost use Rattle.aim_crossings.specs.Closing.{IsBackAt};
 ghost use Rattle.aim_crossings.specs.Making.{IsTakenAt, held};
 
 use aim_drive::{Logged, NoMemory};
 use aim_driver::Driver;
-use aim_manager::ManagerPass;
+use aim_travel::ManagerPass;
 use std::alloc::Global;
 
 /// What is held at a crossing.

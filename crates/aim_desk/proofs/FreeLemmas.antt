@@ -12,9 +12,9 @@ use Rattle.aim_paths.specs.Intersection.{Intersection}
 use Rattle.aim_pool.specs.declared.spans.Span.{Span}
 use Rattle.aim_pool.specs.Sheets.{Spans}
 use Rattle.aim_tiles.specs.Sheets.{AreTiles}
-use Rattle.aim_simulate.specs.Fields.{bad_crossing}
-use Rattle.aim_simulate.proofs.FieldLemmas.{fields}
-use Rattle.aim_simulate.proofs.GoodLemmas.{good_crossing}
+use Rattle.aim_buffers.specs.Fields.{bad_crossing}
+use Rattle.aim_buffers.proofs.FieldLemmas.{fields}
+use Rattle.aim_buffers.proofs.GoodLemmas.{good_crossing}
 use Rattle.aim_buffers.specs.Cells.{HaveCells}
 use Rattle.aim_buffers.specs.Requests.{Request, fast_sheet, steady_sheet}
 use Rattle.aim_buffers.specs.declared.requests.TrialSteps.{TrialSteps}

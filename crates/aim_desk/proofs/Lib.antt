@@ -1,3 +1,5 @@
+pub mod Crosses
+pub use Rattle.aim_switch.proofs.Histories
 mod ConflictLemmas
 mod HeldLemmas
 mod EarlyLemmas

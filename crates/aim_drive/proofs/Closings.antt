@@ -13,16 +13,16 @@ use Rattle.aim_driver.specs.Fits.{call_of}
 use Rattle.aim_driver.proofs.CountLemmas.{follows_few}
 use Rattle.aim_turn.specs.Models.{HasPass}
 use Rattle.aim_turn.specs.History.{entries_of}
-use Rattle.aim_manager.specs.declared.keeper.Setting.{Setting}
-use Rattle.aim_manager.specs.Seen.{caller_of, callers}
-use Rattle.aim_agent.specs.declared.agents.Trouble.{Trouble}
-use Rattle.aim_agent.specs.declared.agents.Trouble.TheVariants as trouble
-use Rattle.aim_agent.specs.Agents.{AgentModel, AgentPass, IsFull}
-use Rattle.aim_agent.specs.Followed.{IsNew}
-use Rattle.aim_agent.specs.Went.{Carry, Went, replies}
-use Rattle.aim_agent.proofs.Followed.{followed, stopped}
-use Rattle.aim_agent.proofs.Passes.{length_begins}
-use Rattle.aim_agent.proofs.Places.{none_later}
+use Rattle.aim_agents.specs.Setting.{Setting}
+use Rattle.aim_agents.specs.Seen.{caller_of, callers}
+use Rattle.aim_agents.specs.Trouble.{Trouble}
+use Rattle.aim_agents.specs.Trouble.TheVariants as trouble
+use Rattle.aim_agents.specs.Agents.{AgentModel, AgentPass, IsFull}
+use Rattle.aim_agents.specs.Followed.{IsNew}
+use Rattle.aim_agents.specs.Went.{Carry, Went, replies}
+use Rattle.aim_agents.proofs.Followed.{followed, stopped}
+use Rattle.aim_agents.proofs.Passes.{length_begins}
+use Rattle.aim_agents.proofs.Places.{none_later}
 use Rattle.aim_agents.specs.Driven.{Closes}
 use Rattle.aim_drive.specs.Closing.{IsClosed}
 use Rattle.aim_drive.proofs.Lists.{element}

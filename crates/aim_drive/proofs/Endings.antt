@@ -5,12 +5,12 @@ use Rattle.std.proofs.lemmas.List.{length-map, append-nil, drop_all, take_all}
 use Rattle.std.proofs.lemmas.List.Elements.{All-map, All-append}
 use Rattle.std.proofs.lemmas.List.Sorted.{length_permutation}
 use Rattle.aim_msg.specs.declared.entries.Entry.{Entry}
-use Rattle.aim_book.specs.declared.book.Full.{Full}
+use Rattle.aim_agents.specs.Full.{Full}
 use Rattle.aim_turn.specs.Models.{TurnstileModel}
-use Rattle.aim_manager.specs.declared.keeper.Setting.{Setting}
+use Rattle.aim_agents.specs.Setting.{Setting}
 use Rattle.aim_plans.specs.declared.scripts.Planned.{Planned}
-use Rattle.aim_agent.specs.Agents.{AgentModel, AgentPass}
-use Rattle.aim_agent.proofs.Passes.{length_begins}
+use Rattle.aim_agents.specs.Agents.{AgentModel, AgentPass}
+use Rattle.aim_agents.proofs.Passes.{length_begins}
 use Rattle.aim_agents.specs.Rounds.{run_size}
 use Rattle.aim_agents.specs.Driven.{Driven}
 use Rattle.aim_agents.specs.Orders.{FoundFull}

@@ -14,15 +14,15 @@ use Rattle.aim_driver.specs.Keeps.{keeps}
 use Rattle.aim_driver.proofs.FollowLemmas.{follows_fits}
 use Rattle.aim_driver.proofs.TurnLemmas.{follows_keeps}
 use Rattle.aim_turn.specs.Models.{TurnstileModel}
-use Rattle.aim_manager.specs.declared.keeper.Setting.{Setting}
+use Rattle.aim_agents.specs.Setting.{Setting}
 use Rattle.aim_plans.specs.declared.scripts.Ordered.{Ordered}
 use Rattle.aim_plans.specs.declared.scripts.Planned.{Planned}
 use Rattle.aim_plans.specs.Said.{Drive}
 use Rattle.aim_plans.specs.Scripts.{drive_told}
 use Rattle.aim_safety.proofs.MeetLemmas.{no_two_drivers, no_green}
-use Rattle.aim_agent.specs.Agents.{AgentModel, AgentPass}
-use Rattle.aim_agent.specs.Went.{Went}
-use Rattle.aim_agent.proofs.Followed.{followed}
+use Rattle.aim_agents.specs.Agents.{AgentModel, AgentPass}
+use Rattle.aim_agents.specs.Went.{Went}
+use Rattle.aim_agents.proofs.Followed.{followed}
 use Rattle.aim_agents.specs.Driven.{Driven, InOrder}
 use Rattle.aim_agents.specs.Orders.{CarryOrders, order_of}
 use Rattle.aim_agents.proofs.DriveLaws.{journal_is_in_order}

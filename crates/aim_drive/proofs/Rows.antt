@@ -14,7 +14,7 @@ use Rattle.aim_driver.specs.Follows.{Call}
 use Rattle.aim_driver.proofs.Rows.{car, plain}
 use Rattle.aim_plans.specs.declared.scripts.Ordered.{Ordered}
 use Rattle.aim_plans.specs.Said.{Drive}
-use Rattle.aim_agent.specs.Went.{Carry}
+use Rattle.aim_agents.specs.Went.{Carry}
 use Rattle.aim_drive.specs.Headline.{VehicleLog, IsFollowed, Headline}
 
 abbrev drive : ℕ → Drive

@@ -8,9 +8,9 @@ use Rattle.std.proofs.lemmas.List.FromFn.{length-range_with_len, get_or-map-rang
 use Rattle.std.proofs.lemmas.List.Sorted.{Contains-permutation, All-permutation, IsPermutation-more}
 use Rattle.aim_msg.specs.declared.entries.Entry.{Entry}
 use Rattle.aim_turn.specs.Models.{TurnstileModel, IsPassOf, new_pass}
-use Rattle.aim_manager.specs.declared.keeper.Setting.{Setting}
+use Rattle.aim_agents.specs.Setting.{Setting}
 use Rattle.aim_plans.specs.declared.scripts.Planned.{Planned}
-use Rattle.aim_agent.specs.Agents.{AgentModel, AgentPass, IsAgentOf}
+use Rattle.aim_agents.specs.Agents.{AgentModel, AgentPass, IsAgentOf}
 use Rattle.aim_drive.specs.Making.{ArePlans, IsMadeOf, IsTaken, all_passes, AreAgentsFor, AreLeft}
 use Rattle.aim_drive.proofs.Lists.{element}
 

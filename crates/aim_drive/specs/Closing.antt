@@ -6,13 +6,13 @@ use Rattle.aim_paths.specs.Valid.{IsValid}
 use Rattle.aim_rules.specs.Legal.{IsLegal}
 use Rattle.aim_turn.specs.History.{entries_of}
 use Rattle.aim_turn.specs.Models.{TurnstileModel, HasPass, new_pass}
-use Rattle.aim_manager.specs.Seen.{caller_of, callers}
-use Rattle.aim_manager.specs.declared.keeper.Setting.{Setting}
+use Rattle.aim_agents.specs.Seen.{caller_of, callers}
+use Rattle.aim_agents.specs.Setting.{Setting}
 use Rattle.aim_plans.specs.declared.scripts.Ordered.{Ordered}
 use Rattle.aim_plans.specs.declared.scripts.Planned.{Planned}
 use Rattle.aim_plans.specs.Scripts.{drive_told}
-use Rattle.aim_agent.specs.declared.agents.Trouble.TheVariants as trouble
-use Rattle.aim_agent.specs.Agents.{AgentModel, AgentPass, IsFull}
+use Rattle.aim_agents.specs.Trouble.TheVariants as trouble
+use Rattle.aim_agents.specs.Agents.{AgentModel, AgentPass, IsFull}
 use Rattle.aim_agents.specs.Rounds.{run_size}
 use Rattle.aim_drive.specs.declared.running.Drove.{Drove}
 use Rattle.aim_drive.specs.Headline.{Headline}

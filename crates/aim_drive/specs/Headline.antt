@@ -12,7 +12,7 @@ use Rattle.aim_driver.specs.Follows.{Call, follows}
 use Rattle.aim_plans.specs.declared.scripts.Ordered.{Ordered}
 use Rattle.aim_plans.specs.Said.{Drive}
 use Rattle.aim_safety.specs.Occupied.{Passage, passage, is_on, is_occupied}
-use Rattle.aim_agent.specs.Places.{At}
+use Rattle.aim_agents.specs.Places.{At}
 use Rattle.aim_agents.specs.Runs.{InRun}
 use Rattle.aim_agents.specs.Orders.{CarryOrders}
 

@@ -2,10 +2,10 @@
 use Rattle.std.specs.Prelude.{◌≡◌, ◌≢◌, ℕ, ◌<◌, ◌≤◌, List, ◌++◌, length, map, slice_index_or, remove, All, AllPairs, IsPermutation}
 use Rattle.std.specs.List.{range_with_len}
 use Rattle.aim_turn.specs.Models.{TurnstileModel, new_pass}
-use Rattle.aim_manager.specs.declared.keeper.Setting.{Setting}
+use Rattle.aim_agents.specs.Setting.{Setting}
 use Rattle.aim_plans.specs.declared.scripts.Planned.{Planned}
-use Rattle.aim_agent.specs.Agents.{AgentModel, AgentPass}
-use Rattle.aim_agent.specs.Followed.{IsNew}
+use Rattle.aim_agents.specs.Agents.{AgentModel, AgentPass}
+use Rattle.aim_agents.specs.Followed.{IsNew}
 use Rattle.aim_drive.specs.declared.running.Logged.{Logged}
 use Rattle.aim_drive.specs.Headline.{VehicleLog}
 

@@ -4,5 +4,6 @@
 mod making;
 mod running;
 
+pub use aim_agents::Gate;
 pub use aim_driver::NoMemory;
 pub use running::{Drove, Logged, open, run_script};

@@ -5,10 +5,9 @@ ghost use Rattle.aim_turn.specs.Models.{new_pass};
 ghost use Rattle.aim_drive.specs.Making.{AreAgentsFor, AreLeft, ArePlans, IsMadeOf, IsTaken, all_passes};
 
 use crate::NoMemory;
-use aim_agent::Agent;
+use aim_agents::{Agent, Manager, ManagerPass};
 use aim_driver::Driver;
 use aim_links::Link;
-use aim_manager::{Manager, ManagerPass};
 use aim_plans::Planned;
 use aim_pool::Pool;
 use std::alloc::Global;

@@ -3,7 +3,7 @@
 ghost use Rattle.std.specs.Prelude.{◌≡◌, [], false, ◌+◌, ◌*◌, ◌<◌, ◌≤◌, ◌++◌, length, map, vec_capacity, All, IfOk, OnOk};
 ghost use Rattle.aim_msg.specs.declared.entries.TheConstants.{OPERATOR};
 ghost use Rattle.aim_turn.specs.Models.{new_pass};
-ghost use Rattle.aim_agent.specs.Agents.{AgentModel};
+ghost use Rattle.aim_agents.specs.Agents.{AgentModel};
 ghost use Rattle.aim_agents.specs.Rounds.{run_size};
 ghost use Rattle.aim_safety.specs.Tiles.{EntersBy};
 ghost use Rattle.aim_agents.specs.Orders.{AreOrders};
@@ -15,10 +15,8 @@ ghost use Rattle.aim_drive.specs.Making.{AreAgentsFor, AreLeft, ArePlans, all_pa
 
 use crate::NoMemory;
 use crate::making::agents_of;
-use aim_agent::{Agent, Gate, Trouble};
-use aim_agents::drive;
+use aim_agents::{Agent, Gate, Manager, ManagerPass, OpenFault, Opened, Trouble, drive};
 use aim_driver::Driver;
-use aim_manager::{Manager, ManagerPass, OpenFault, Opened};
 use aim_msg::Entry;
 use aim_paths::Layout;
 use aim_plans::{DriveScript, Ordered, Planned};

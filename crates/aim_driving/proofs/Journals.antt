@@ -15,8 +15,8 @@ use Rattle.aim_driver.proofs.SmallFacts.{some_is, none_some}
 use Rattle.aim_plans.specs.declared.scripts.Ordered.{Ordered}
 use Rattle.aim_plans.specs.Said.{Drive}
 use Rattle.aim_safety.proofs.PlaceLemmas.{legal_at}
-use Rattle.aim_agent.specs.Places.{At}
-use Rattle.aim_agents.specs.Runs.{InRun}
+use Rattle.aim_drive.specs.Places.{At}
+use Rattle.aim_drive.specs.Runs.{InRun}
 use Rattle.aim_drive.specs.Headline.{VehicleLog, IsFollowed}
 use Rattle.aim_driving.proofs.Lists.{get_behind, heads, tails, at_behind}
 use Rattle.aim_driving.proofs.Nexts.{Done, done_by, first_of, first_here, stands_first, HasDrive, drive_of, Holds, stranger_next, same_next}

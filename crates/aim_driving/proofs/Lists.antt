@@ -1,7 +1,7 @@
 -- What stands at a place of lists that are made of two.
 use Rattle.std.proofs.Common.{◌≡◌, ◌<◌, ◌+◌, ℕ, zero, suc, List, [], ◌∷◌, ◌++◌, length, slice_get, refl, arith}
 use Rattle.aim_msg.specs.declared.entries.Entry.{Entry}
-use Rattle.aim_agent.specs.Places.{At}
+use Rattle.aim_drive.specs.Places.{At}
 
 pub get_within : {X : Type 0} (xs ys : List X) (k : ℕ) → k < length xs → slice_get (xs ++ ys) k ≡ slice_get xs k
 get_within [] ys k l = absurd (omega arith)

@@ -16,8 +16,8 @@ use Rattle.aim_driver.specs.Follows.{Call, follows}
 use Rattle.aim_driver.proofs.SmallFacts.{same, some_is, none_some}
 use Rattle.aim_plans.specs.declared.scripts.Ordered.{Ordered}
 use Rattle.aim_plans.specs.Said.{Drive}
-use Rattle.aim_agent.specs.Places.{At}
-use Rattle.aim_agents.specs.Orders.{order_at, order_of}
+use Rattle.aim_drive.specs.Places.{At}
+use Rattle.aim_drive.specs.Orders.{order_at, order_of}
 use Rattle.aim_drive.specs.Headline.{VehicleLog, Headline}
 use Rattle.aim_driving.proofs.Lists.{get_behind, right_none, tails}
 use Rattle.aim_driving.proofs.Courses.{next_call}

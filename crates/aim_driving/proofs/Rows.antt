@@ -22,8 +22,8 @@ use Rattle.aim_script.specs.declared.decisions.Kind.TheVariants as why
 use Rattle.aim_script.specs.declared.decisions.Limit.TheVariants as limit
 use Rattle.aim_script.specs.Said.{layout_of}
 use Rattle.aim_plans.specs.Said.{Drive, drives_of}
-use Rattle.aim_agents.specs.Runs.{InRun}
-use Rattle.aim_agents.specs.Rounds.{run_size}
+use Rattle.aim_drive.specs.Runs.{InRun}
+use Rattle.aim_drive.specs.Rounds.{run_size}
 use Rattle.aim_drive.specs.Headline.{VehicleLog, Headline}
 use Rattle.aim_drive.proofs.Rows.{idle_agents}
 use Rattle.aim_driving.specs.Arms.{layout_lines, moves}

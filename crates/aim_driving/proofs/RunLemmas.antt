@@ -11,7 +11,7 @@ use Rattle.aim_plans.specs.declared.scripts.Ordered.{Ordered}
 use Rattle.aim_plans.specs.Said.{Drive, until_of, drives_of, orders_of}
 use Rattle.aim_plans.specs.Scripts.{IsScriptOf, drive_told}
 use Rattle.aim_report.specs.Reports.{report}
-use Rattle.aim_agents.specs.Rounds.{run_size}
+use Rattle.aim_drive.specs.Rounds.{run_size}
 use Rattle.aim_drive.specs.Headline.{Headline, VehicleLog}
 use Rattle.aim_driving.specs.Traffic.{traffic_lines}
 use Rattle.aim_driving.specs.Ordered.{in_order}

@@ -9,7 +9,7 @@ use Rattle.aim_script.specs.Said.{layout_of, vehicles_of}
 use Rattle.aim_plans.specs.Said.{until_of, drives_of, orders_of}
 use Rattle.aim_plans.specs.Verdicts.{drive_verdict}
 use Rattle.aim_report.specs.Reports.{report}
-use Rattle.aim_agents.specs.Rounds.{run_size}
+use Rattle.aim_drive.specs.Rounds.{run_size}
 use Rattle.aim_drive.specs.Headline.{VehicleLog}
 use Rattle.aim_driving.specs.Traffic.{traffic_lines}
 use Rattle.aim_driving.specs.Ordered.{in_order}

@@ -4,7 +4,7 @@ use Rattle.aim_msg.specs.declared.entries.Entry.{Entry}
 use Rattle.aim_msg.specs.declared.script.Line.{Line}
 use Rattle.aim_script.specs.Said.{layout_of, vehicles_of}
 use Rattle.aim_plans.specs.Said.{until_of, drives_of, orders_of}
-use Rattle.aim_agents.specs.Rounds.{run_size}
+use Rattle.aim_drive.specs.Rounds.{run_size}
 use Rattle.aim_drive.specs.Headline.{Headline, VehicleLog}
 
 -- The journal and the logs are as the headline says, by the lines of the script and with so many workers.

@@ -12,8 +12,7 @@ ghost use Rattle.aim_driving.specs.Commands.{Completes, IsReport, Shows, ShowsFr
 ghost use Rattle.aim_driving.specs.Endings.{EndsWith};
 
 use crate::reports::report_of;
-use aim_agent::Gate;
-use aim_drive::run_script;
+use aim_drive::{Gate, run_script};
 use aim_io::{Sink, Source, put_all};
 use aim_paths::Layout;
 use aim_plans::{DriveScript, Ending, read_drive};

@@ -7,8 +7,7 @@ ghost use Rattle.aim_driving.specs.Generated.{Counts, CountsFront, IsSummary};
 
 use crate::making::traffic;
 use crate::summaries::summary_of;
-use aim_agent::Gate;
-use aim_drive::run_script;
+use aim_drive::{Gate, run_script};
 use aim_io::{Sink, put_all};
 use aim_report::NoMemory;
 use std::alloc::Global;

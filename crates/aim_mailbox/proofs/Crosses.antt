@@ -5,27 +5,17 @@ use denote.Param.Send.{IsSend, sendable}
 use Rattle.std.proofs.Crossing.{crosses}
 use Rattle.std.specs.contracts.option.Option as Option
 use Rattle.std.specs.declared.sync.ledger.Ledger.{Ghosts}
-use Rattle.aim_msg.proofs.entries.Entry.TheSendSync as entry
 use Rattle.aim_msg.proofs.replies.Reply.TheSendSync as reply
-use Rattle.aim_paths.proofs.layouts.Layout.TheSendSync as layout
 use Rattle.aim_tiles.proofs.counters.Steps.TheSendSync as steps
-use Rattle.aim_tiles.proofs.tables.Table.TheSendSync as tiles
-use Rattle.aim_session.proofs.sessions.Sessions.TheSendSync as sessions
-use Rattle.aim_switch.proofs.timelines.Timeline.TheSendSync as timeline
-use Rattle.aim_session.proofs.distances.Distances.TheSendSync as distances
-use Rattle.aim_session.proofs.approaches.Approaches.TheSendSync as approaches
 use Rattle.aim_book.proofs.book.Full.TheSendSync as full
-use Rattle.aim_desk.specs.contracts.desks.Desk as BookDesk
-use Rattle.aim_reservations.specs.contracts.reservations.Reservation as Reservation
-use Rattle.aim_reservations.specs.contracts.reservations.Reservations as Reservations
-use Rattle.aim_book.specs.contracts.book.Book as Book
+use Rattle.aim_book.proofs.Crosses.{book_send}
 use Rattle.atomic_table.proofs.badge.Badge.TheSendSync as badge
 use Rattle.atomic_table.proofs.shared.Seat.TheSendSync as seat
 use Rattle.atomic_table.specs.contracts.badge.Badge as Badge
 use Rattle.atomic_table.specs.contracts.shared.Seat as Seat
 use Rattle.crossbeam_channel.specs.contracts.flavors.array.Doing as Doing
 use Rattle.crossbeam_channel.specs.contracts.flavors.array.Key as Key
-use Rattle.aim_post.proofs.Crosses.{declared_send, ends, intake_send, note_send, pool_send, port_send, sheet_send}
+use Rattle.aim_post.proofs.Crosses.{declared_send, ends, intake_send, note_send, pool_send, port_send}
 use Rattle.aim_mailbox.specs.contracts.response.Response as Response
 use Rattle.aim_mailbox.specs.contracts.slip.Inlet as Inlet
 use Rattle.aim_mailbox.specs.contracts.slip.Inlet.TheInside as InletInside
@@ -71,19 +61,7 @@ client_send = search (sendable, port_send, inlet_send) depth 20
 pub ended_send : IsSend Ended.the_row
 ended_send = search (sendable, port_send, inlet_send) depth 20
 
-reservation_send : IsSend Reservation.the_row
-reservation_send = search (sendable, crosses, sheet_send) depth 20
-
 module _ (L : RattleType) (g : Ghosts L.Denot) where
-  reservations_send : IsSend (Reservations.the_field L g).row
-  reservations_send = search (sendable, crosses, tiles.the_send, reservation_send) depth 20
-
-  book_desk_send : IsSend (BookDesk.the_field L g).row
-  book_desk_send = search (sendable, crosses, sessions.the_send, reservations_send, timeline.the_send, distances.the_send) depth 30
-
-  book_send : IsSend (Book.the_row L g)
-  book_send = search (sendable, crosses, layout.the_send, entry.the_send, book_desk_send, approaches.the_send) depth 30
-
   desk_send : IsSend (Desk.the_field L g).row
   desk_send = search (sendable, crosses, book_send, steps.the_send) depth 20
 

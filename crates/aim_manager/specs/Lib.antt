@@ -1,2 +1,4 @@
+pub use Rattle.aim_book.specs.Sheets
+pub use Rattle.aim_book.specs.declared.book.Full
 pub mod Seen
 pub mod Asking

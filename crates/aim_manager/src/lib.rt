@@ -7,6 +7,8 @@
 mod keeper;
 mod manager;
 
+pub use aim_book::laws::sheets_are_those_of_own_entries;
 pub use aim_book::{Full, OpenFault};
+pub use aim_buffers::prepare_from;
 pub use keeper::{Ask, Keeper, Setting, Told};
 pub use manager::{Closed, Manager, ManagerFront, ManagerPass, Opened};

@@ -1,3 +1,4 @@
+pub mod Crosses
 pub mod Order
 pub mod Edits
 pub mod Masks

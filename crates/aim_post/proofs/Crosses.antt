@@ -7,10 +7,8 @@ use Rattle.std.proofs.Crossing.{crosses}
 use Rattle.std.specs.contracts.option.Option as Option
 use Rattle.aim_msg.proofs.replies.Field.TheSendSync as field
 use Rattle.aim_paths.proofs.layouts.Layout.TheSendSync as layout
-use Rattle.aim_pool.proofs.sheets.Slots.TheSendSync as slots
-use Rattle.aim_pool.proofs.sheets.Node.TheLaws.TheKnot as node
-use Rattle.aim_pool.specs.contracts.pools.Pool as Pool
-use Rattle.aim_pool.specs.contracts.sheets.Sheet as Sheet
+use Rattle.aim_pool.proofs.Crosses.{sheet_send}
+pub use Rattle.aim_pool.proofs.Crosses.{pool_send}
 use Rattle.aim_buffers.specs.contracts.requests.Prepared as Prepared
 use Rattle.atomic_table.proofs.badge.Badge.TheSendSync as badge
 use Rattle.atomic_table.proofs.owned.Table.TheSendSync as table
@@ -38,13 +36,6 @@ use Rattle.aim_post.specs.contracts.post.Port.TheInside as PortInside
 -- a struct crosses where its fields do
 pub declared_send : (T : Declared) → AllSend (fields T) → IsSend (row T)
 declared_send T s = recorded_send (Struct (shape T)) T.D T.to T.to_one (struct_send (shape T) s)
-
-pub sheet_send : IsSend Sheet.the_row
-sheet_send = search (sendable, crosses, node.send-Node, slots.the_send) depth 20
-
--- a pool may go to another thread
-pub pool_send : IsSend Pool.the_row
-pool_send = search (sendable, crosses, node.send-Node, slots.the_send) depth 20
 
 prepared_send : IsSend Prepared.the_row
 prepared_send = search (sendable, crosses, field.the_send, sheet_send) depth 30

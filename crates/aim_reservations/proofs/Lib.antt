@@ -1,3 +1,4 @@
+pub mod Crosses
 pub mod SpanSteps
 mod RowLemmas
 mod GreenLemmas

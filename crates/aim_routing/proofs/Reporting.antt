@@ -3,7 +3,7 @@ use Rattle.std.proofs.Common.{◌≡◌, ℕ, List, Result, Ok, Err, sym, ap, �
 use Rattle.std.specs.Prelude.{IfOk}
 use Rattle.aim_msg.specs.declared.entries.Entry.{Entry}
 use Rattle.aim_paths.specs.Intersection.{Intersection}
-use Rattle.aim_drive.specs.Headline.{VehicleLog}
+use Rattle.aim_crossings.specs.Headline.{VehicleLog}
 use Rattle.aim_routes.specs.declared.lines.GridLine.{GridLine}
 use Rattle.aim_routes.specs.declared.routes.PlannedLeg.{PlannedLeg}
 use Rattle.aim_routes.specs.declared.routes.Routes.{Routes}

@@ -18,8 +18,8 @@ use Rattle.aim_driver.proofs.SmallFacts.{none_some}
 use Rattle.aim_script.specs.declared.decisions.Kind.TheVariants as why
 use Rattle.aim_script.specs.declared.decisions.Limit.TheVariants as limit
 use Rattle.aim_script.specs.Said.{layout_of}
-use Rattle.aim_drive.specs.Headline.{VehicleLog}
-use Rattle.aim_grid.specs.Travelled.{IsCrossing}
+use Rattle.aim_crossings.specs.Headline.{VehicleLog}
+use Rattle.aim_crossings.specs.Travelled.{IsCrossing}
 use Rattle.aim_routes.specs.declared.decisions.GridDecision.TheVariants as decision
 use Rattle.aim_routes.specs.declared.decisions.GridKind.TheVariants as kind
 use Rattle.aim_crossings.specs.Runs.{IsRunOf}

@@ -4,7 +4,7 @@ use Rattle.std.specs.Io.KnownBytes.{Appends}
 use Rattle.aim_io.specs.Causes.{Rose}
 use Rattle.aim_io.specs.Known.{AppendsFront}
 use Rattle.aim_msg.specs.declared.entries.Entry.{Entry}
-use Rattle.aim_drive.specs.Headline.{VehicleLog}
+use Rattle.aim_crossings.specs.Headline.{VehicleLog}
 use Rattle.aim_routes.specs.declared.lines.GridLine.{GridLine}
 use Rattle.aim_routes.specs.declared.decisions.GridDecision.{GridDecision}
 use Rattle.aim_routes.specs.declared.decisions.GridDecision.TheVariants as decision

@@ -6,7 +6,7 @@ use Rattle.aim_msg.specs.Texts.{Words, spaced}
 use Rattle.aim_paths.specs.Intersection.{Intersection}
 use Rattle.aim_script.specs.Decided.{printed}
 use Rattle.aim_report.specs.Reports.{all_logs, all_tiles, end_words, journal_lines}
-use Rattle.aim_drive.specs.Headline.{VehicleLog}
+use Rattle.aim_crossings.specs.Headline.{VehicleLog}
 use Rattle.aim_driving.specs.Ordered.{in_order}
 
 -- the words of the line that begins a crossing

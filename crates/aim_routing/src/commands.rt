@@ -13,8 +13,7 @@ ghost use Rattle.aim_routing.specs.Commands.{Completes, IsReport, Shows, ShowsFr
 
 use crate::refusals::{refusal_line, status_of};
 use crate::reports::report_of;
-use aim_agent::Gate;
-use aim_crossings::run_routes;
+use aim_crossings::{Gate, run_routes};
 use aim_io::{Sink, Source, put_all};
 use aim_paths::Layout;
 use aim_report::NoMemory;

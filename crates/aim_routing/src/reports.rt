@@ -5,11 +5,11 @@ ghost use Rattle.std.specs.List.{sum_by};
 ghost use Rattle.aim_msg.specs.Texts.{spaced};
 ghost use Rattle.aim_script.specs.Decided.{printed};
 ghost use Rattle.aim_safety.specs.Tiles.{EntersBy};
-ghost use Rattle.aim_drive.specs.declared.running.Drove.{Drove};
+ghost use Rattle.aim_crossings.specs.Drove.{Drove};
 ghost use Rattle.aim_crossings.specs.Runs.{journal_left, logs_left};
 ghost use Rattle.aim_routing.specs.Texts.{crossing_text, crossing_words, crossings_text, grid_report};
 
-use aim_drive::Drove;
+use aim_crossings::Drove;
 use aim_driving::{put_all_tiles, put_logs};
 use aim_msg::Text;
 use aim_paths::Layout;

@@ -5,13 +5,13 @@ use Rattle.std.proofs.lemmas.Bool.{eqb-false}
 use Rattle.aim_driver.specs.Models.{step_of}
 use Rattle.aim_driver.specs.Follows.{Course, running, turns}
 use Rattle.aim_turn.specs.Models.{TurnstileModel, IsPassOf}
-use Rattle.aim_manager.specs.declared.keeper.Setting.{Setting}
-use Rattle.aim_agent.specs.declared.agents.Trouble.{Trouble}
-use Rattle.aim_agent.specs.Agents.{AgentModel, AgentPass, IsAgentOf, Idles, state_of}
-use Rattle.aim_agent.specs.Went.{Went, replies}
-use Rattle.aim_agent.proofs.Courses.{went_then, stays_went}
-use Rattle.aim_agent.proofs.Rests.{idles_went}
-use Rattle.aim_agent.proofs.Sheets.{agent_went}
+use Rattle.aim_agents.specs.Setting.{Setting}
+use Rattle.aim_agents.specs.Trouble.{Trouble}
+use Rattle.aim_agents.specs.Agents.{AgentModel, AgentPass, IsAgentOf, Idles, state_of}
+use Rattle.aim_agents.specs.Went.{Went, replies}
+use Rattle.aim_agents.proofs.Courses.{went_then, stays_went}
+use Rattle.aim_agents.proofs.Rests.{idles_went}
+use Rattle.aim_agents.proofs.Sheets.{agent_went}
 use Rattle.aim_travel.specs.Acked.{acked}
 use Rattle.aim_travel.proofs.Logs.{acked_turn}
 use Rattle.aim_travel.specs.Models.{LegModel, OverModel, TravellerModel}

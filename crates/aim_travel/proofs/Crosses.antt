@@ -3,7 +3,7 @@ use denote.Param.Send.{IsSend, sendable}
 use Rattle.std.proofs.Crossing.{crosses}
 use Rattle.aim_driver.proofs.drivers.Driver.TheSendSync as driver
 use Rattle.aim_driver.proofs.plans.DrivePlan.TheSendSync as plan
-use Rattle.aim_manager.proofs.Crosses.{pass_send, pool_send}
+use Rattle.aim_agents.proofs.Crosses.{pass_send, pool_send}
 use Rattle.aim_agents.proofs.Crosses.{agent_send}
 use Rattle.aim_travel.specs.contracts.travellers.Leg as Leg
 use Rattle.aim_travel.specs.contracts.travellers.Traveller as Traveller

@@ -6,11 +6,11 @@ use Rattle.aim_driver.specs.declared.logs.LogItem.{LogItem}
 use Rattle.aim_driver.specs.Models.{DriverModel}
 use Rattle.aim_driver.specs.Follows.{Call, Course, running, fresh, turns, course, follows}
 use Rattle.aim_driver.proofs.TurnLemmas.{follows_later}
-use Rattle.aim_manager.specs.declared.keeper.Setting.{Setting}
-use Rattle.aim_agent.specs.Agents.{AgentModel, AgentPass, state_of}
-use Rattle.aim_agent.specs.Went.{Carry, replies, Went}
-use Rattle.aim_agent.proofs.Courses.{stays_went}
-use Rattle.aim_agent.proofs.Followed.{fresh_is, mine_made}
+use Rattle.aim_agents.specs.Setting.{Setting}
+use Rattle.aim_agents.specs.Agents.{AgentModel, AgentPass, state_of}
+use Rattle.aim_agents.specs.Went.{Carry, replies, Went}
+use Rattle.aim_agents.proofs.Courses.{stays_went}
+use Rattle.aim_agents.proofs.Followed.{fresh_is, mine_made}
 use Rattle.aim_travel.specs.Acked.{acked, begun_at}
 use Rattle.aim_travel.proofs.Rests.{rests}
 use Rattle.aim_travel.specs.Models.{LegModel, OverModel, TravellerModel}

@@ -2,8 +2,8 @@
 use Rattle.std.specs.Prelude.{◌≡◌, ℕ, ◌≤◌, List, [], ◌∷◌, ◌++◌, map, Option, Some, None}
 use Rattle.aim_driver.specs.declared.logs.LogItem.{LogItem}
 use Rattle.aim_driver.specs.Follows.{Call, follows}
-use Rattle.aim_agent.specs.Agents.{AgentPass}
-use Rattle.aim_agent.specs.Went.{Carry, replies}
+use Rattle.aim_agents.specs.Agents.{AgentPass}
+use Rattle.aim_agents.specs.Went.{Carry, replies}
 use Rattle.aim_travel.specs.Acked.{acked, begun_at}
 use Rattle.aim_travel.specs.Models.{LegModel, OverModel, TravellerModel}
 

@@ -1,3 +1,7 @@
+pub use Rattle.aim_agents.specs.Setting
+pub use Rattle.aim_agents.specs.Seen
+pub use Rattle.aim_agents.specs.Trouble
+pub use Rattle.aim_agents.specs.Agents
 pub mod Models
 pub mod Rode
 pub mod Travels

@@ -3,7 +3,7 @@ use Rattle.std.specs.Prelude.{◌≡◌, ℕ, ◌≤◌, List, [], All}
 use Rattle.aim_pool.specs.Pools.{Stock}
 use Rattle.aim_driver.specs.declared.plans.DrivePlan.{DrivePlan}
 use Rattle.aim_driver.specs.Models.{DriverModel}
-use Rattle.aim_agent.specs.Agents.{AgentModel, AgentPass}
+use Rattle.aim_agents.specs.Agents.{AgentModel, AgentPass}
 
 -- a leg: its crossing, what its driver is to do, a pass of the manager there, and three sheets
 pub record LegModel : Type 0 where

@@ -2,10 +2,10 @@
 use Rattle.std.specs.Prelude.{◌≡◌, ◌⊎◌, ℕ, ◌+◌, List, [], ◌∷◌, Some, None, slice_get}
 use Rattle.aim_driver.specs.declared.plans.DrivePlan.{DrivePlan}
 use Rattle.aim_turn.specs.Models.{TurnstileModel}
-use Rattle.aim_manager.specs.declared.keeper.Setting.{Setting}
-use Rattle.aim_agent.specs.Agents.{AgentModel, AgentPass}
-use Rattle.aim_agent.specs.Followed.{IsNew}
-use Rattle.aim_agent.specs.Went.{Went}
+use Rattle.aim_agents.specs.Setting.{Setting}
+use Rattle.aim_agents.specs.Agents.{AgentModel, AgentPass}
+use Rattle.aim_agents.specs.Followed.{IsNew}
+use Rattle.aim_agents.specs.Went.{Went}
 use Rattle.aim_travel.specs.Acked.{acked, begun_at}
 use Rattle.aim_travel.specs.Models.{LegModel, OverModel, TravellerModel}
 

@@ -2,9 +2,9 @@
 use Rattle.std.specs.Prelude.{◌≡◌, ◌⊎◌, ℕ, ◌+◌, ◌<◌, ◌≤◌, Bool, true, false, List, [], ◌∷◌, ◌++◌, length, Some, None, slice_get, slice_index_or, All}
 use Rattle.aim_driver.specs.Models.{step_of}
 use Rattle.aim_turn.specs.Models.{TurnstileModel, IsPassOf}
-use Rattle.aim_manager.specs.declared.keeper.Setting.{Setting}
-use Rattle.aim_agent.specs.Agents.{IsAgentOf, Idles}
-use Rattle.aim_agent.specs.Went.{Went}
+use Rattle.aim_agents.specs.Setting.{Setting}
+use Rattle.aim_agents.specs.Agents.{IsAgentOf, Idles}
+use Rattle.aim_agents.specs.Went.{Went}
 use Rattle.aim_travel.specs.Acked.{acked}
 use Rattle.aim_travel.specs.Models.{LegModel, TravellerModel}
 use Rattle.aim_travel.specs.Rode.{Managers, IsBegun, Rode}

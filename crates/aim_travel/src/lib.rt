@@ -8,6 +8,7 @@ mod travellers;
 mod travelling;
 
 pub use acks::acked_at;
+pub use aim_agents::{Gate, Manager, ManagerPass, Opened, Trouble};
 pub use aim_driver::NoMemory;
 pub use travellers::{Leg, Traveller};
 pub use travelling::travel;

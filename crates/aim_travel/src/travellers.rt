@@ -2,7 +2,7 @@
 
 ghost use Rattle.std.specs.Prelude.{◌≡◌, ℕ, ◌+◌, ◌++◌, ◌<◌, ◌≤◌, [], length, map, Some, true, All, IfOk, OnOk};
 ghost use Rattle.aim_msg.specs.declared.entries.TheConstants.{LATEST_MOMENT};
-ghost use Rattle.aim_agent.specs.Agents.{Idles, IsFull};
+ghost use Rattle.aim_agents.specs.Agents.{Idles, IsFull};
 ghost use Rattle.aim_travel.specs.Acked.{begun_at};
 ghost use Rattle.aim_travel.specs.Legs.{legs_told, told, told_unbegun};
 ghost use Rattle.aim_travel.specs.Models.{AreLegsOf};
@@ -10,10 +10,9 @@ ghost use Rattle.aim_travel.specs.Rode.{IsMade};
 ghost use Rattle.aim_travel.specs.Travels.{Begins, GoesOn, IsReady, Moves, SetsOut, TakesTurn};
 
 use crate::acks::acked_at;
-use aim_agent::{Agent, Gate, Trouble};
+use aim_agents::{Agent, Gate, Manager, ManagerPass, Trouble};
 use aim_driver::{DrivePlan, Driver, NoMemory};
 use aim_links::Link;
-use aim_manager::{Manager, ManagerPass};
 use aim_pool::Pool;
 use std::alloc::Global;
 use std::marker::Model;

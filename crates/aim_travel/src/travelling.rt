@@ -5,8 +5,7 @@ ghost use Rattle.aim_msg.specs.declared.entries.TheConstants.{LATEST_MOMENT};
 ghost use Rattle.aim_travel.specs.Travels.{AllIdle, IsReady, Travels};
 
 use crate::Traveller;
-use aim_agent::Gate;
-use aim_manager::Manager;
+use aim_agents::{Gate, Manager};
 use std::sync::Wait;
 use std::thread;
 use std::thread::Threads;

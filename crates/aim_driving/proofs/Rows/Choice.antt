@@ -22,8 +22,8 @@ use Rattle.aim_driver.proofs.SmallFacts.{some_is, none_some}
 use Rattle.aim_plans.specs.Said.{Drive}
 use Rattle.aim_script.specs.Said.{layout_of}
 use Rattle.aim_safety.specs.Occupied.{passage, is_occupied}
-use Rattle.aim_agent.specs.Places.{At}
-use Rattle.aim_agents.specs.Orders.{order_of}
+use Rattle.aim_drive.specs.Places.{At}
+use Rattle.aim_drive.specs.Orders.{order_of}
 use Rattle.aim_drive.specs.Headline.{VehicleLog, IsFollowed, Headline}
 use Rattle.aim_driving.specs.Runs.{IsRunOf}
 use Rattle.aim_driving.proofs.Lists.{heads}

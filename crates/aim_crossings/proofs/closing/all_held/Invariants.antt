@@ -1,6 +1,6 @@
 use Rattle.std.proofs.Common.{◌≡◌, ◌≤◌, map, length, vec_len, Some}
 use Rattle.std.specs.Prelude.{vec_capacity}
-use Rattle.aim_agent.specs.Agents.{AgentPass}
+use Rattle.aim_travel.specs.Agents.{AgentPass}
 use Rattle.aim_crossings.proofs.closing.all_held.Given as goal
 
 abbrev pub invariant-loop-one : goal.invariant-loop-one

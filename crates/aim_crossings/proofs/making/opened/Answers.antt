@@ -1,6 +1,6 @@
 use Rattle.std.proofs.Common.{ap, subst, sym}
 use Rattle.aim_paths.specs.Valid.{IsValid}
-use Rattle.aim_manager.specs.declared.keeper.Setting.{Setting}
+use Rattle.aim_travel.specs.Setting.{Setting}
 use Rattle.aim_crossings.proofs.Openings.{manager_new, setting_new}
 use Rattle.aim_crossings.proofs.making.opened.Goals as goal
 

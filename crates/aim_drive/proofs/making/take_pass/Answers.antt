@@ -1,6 +1,6 @@
 use Rattle.std.proofs.Common.{◌≡◌, ◌<◌, length, map, sym, ap, ◌∙◌, arith}
 use Rattle.std.proofs.lemmas.List.{get_or-map, length-map}
-use Rattle.aim_agent.specs.Agents.{AgentPass}
+use Rattle.aim_agents.specs.Agents.{AgentPass}
 use Rattle.aim_drive.proofs.Lists.{element}
 use Rattle.aim_drive.proofs.Seats.{taken_at}
 use Rattle.aim_drive.proofs.making.take_pass.Goals as goal

@@ -1,5 +1,5 @@
 use Rattle.std.proofs.Common.{◌≡◌, ◌≢◌, ℕ, ◌-◌, ◌<◌, length, get_or}
-use Rattle.aim_agent.specs.Agents.{AgentPass}
+use Rattle.aim_agents.specs.Agents.{AgentPass}
 use Rattle.aim_drive.proofs.making.take_pass.Given as goal
 
 abbrev pub invariant-loop-place : goal.invariant-loop-place

@@ -1,7 +1,7 @@
 use Rattle.std.proofs.Common.{◌≡◌, ℕ, ◌+◌, List, length, length-append, map, sym, ap, ◌∙◌, subst}
 use Rattle.std.specs.Prelude.{All}
 use Rattle.std.proofs.lemmas.List.{length-map}
-use Rattle.aim_agent.specs.Agents.{AgentModel, AgentPass}
+use Rattle.aim_agents.specs.Agents.{AgentModel, AgentPass}
 use Rattle.aim_drive.specs.Closing.{IsClosed}
 use Rattle.aim_drive.proofs.running.closed.Goals as goal
 

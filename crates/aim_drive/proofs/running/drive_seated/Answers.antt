@@ -1,7 +1,7 @@
 use Rattle.std.proofs.Common.{◌≡◌, ◌+◌, ◌++◌, List, [], length, map, refl, sym, ap, ◌∙◌, subst, arith}
 use Rattle.std.specs.Prelude.{All}
 use Rattle.aim_plans.specs.Scripts.{drive_told}
-use Rattle.aim_agent.specs.Agents.{AgentModel, AgentPass, IsAgentOf}
+use Rattle.aim_agents.specs.Agents.{AgentModel, AgentPass, IsAgentOf}
 use Rattle.aim_agents.specs.Rounds.{run_size}
 use Rattle.aim_drive.specs.Closing.{Leaves}
 use Rattle.aim_drive.specs.Making.{told_by, log_of}

@@ -1,6 +1,6 @@
 use Rattle.std.proofs.Common.{◌≡◌, ◌≢◌, ℕ, ◌<◌, get_or, Some}
-use Rattle.aim_agent.specs.declared.agents.Trouble.TheVariants as trouble
-use Rattle.aim_agent.specs.Agents.{AgentModel, IsFull}
+use Rattle.aim_agents.specs.Trouble.TheVariants as trouble
+use Rattle.aim_agents.specs.Agents.{AgentModel, IsFull}
 use Rattle.aim_drive.proofs.running.lack_memory.Given as goal
 
 abbrev pub invariant-loop-agent : goal.invariant-loop-agent

@@ -1,6 +1,6 @@
 use Rattle.std.proofs.Common.{◌≡◌, ◌+◌, ◌≤◌, ◌++◌, map, length, vec_len}
 use Rattle.std.specs.Prelude.{vec_capacity}
-use Rattle.aim_agent.specs.Agents.{AgentModel}
+use Rattle.aim_agents.specs.Agents.{AgentModel}
 use Rattle.aim_drive.specs.Making.{told_by, log_of}
 use Rattle.aim_drive.proofs.running.part_all.Given as goal
 

@@ -3,7 +3,7 @@ use Rattle.std.specs.Prelude.{All, IfOk}
 use Rattle.aim_geometry.specs.declared.ground.Grid.{Grid}
 use Rattle.aim_paths.specs.Intersection.{Intersection}
 use Rattle.aim_paths.specs.Valid.{IsValid}
-use Rattle.aim_manager.specs.declared.keeper.Setting.{Setting}
+use Rattle.aim_agents.specs.Setting.{Setting}
 use Rattle.aim_plans.specs.declared.scripts.Ordered.{Ordered}
 use Rattle.aim_plans.specs.Scripts.{drive_told}
 use Rattle.aim_agents.specs.Rounds.{run_size}

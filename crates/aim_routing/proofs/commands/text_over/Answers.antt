@@ -1,7 +1,7 @@
 use Rattle.std.proofs.Common.{List, ap, arith, map, length, sym, ◌∙◌}
 use Rattle.std.proofs.lemmas.List.{length-map}
 use Rattle.aim_crossings.specs.Runs.{journal_left, logs_left}
-use Rattle.aim_drive.specs.declared.running.Drove.{Drove}
+use Rattle.aim_crossings.specs.Drove.{Drove}
 use Rattle.aim_routing.specs.Texts.{grid_report}
 use Rattle.aim_routing.proofs.Reporting.{if_ok, is_report}
 use Rattle.aim_routing.proofs.commands.text_over.Goals as goal

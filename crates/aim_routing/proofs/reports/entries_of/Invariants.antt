@@ -1,6 +1,6 @@
 use Rattle.std.proofs.Common.{◌≡◌, ◌*◌, ◌≤◌, length, take}
 use Rattle.std.specs.List.{sum_by}
-use Rattle.aim_drive.specs.declared.running.Drove.{Drove}
+use Rattle.aim_crossings.specs.Drove.{Drove}
 use Rattle.aim_routing.proofs.reports.entries_of.Given as goal
 
 abbrev pub invariant-loop-drove : goal.invariant-loop-drove

@@ -2,7 +2,7 @@ use Rattle.std.proofs.Common.{◌≡◌, ◌+◌, List, length, subst, arith}
 use Rattle.std.specs.Fork.{slice_chunk}
 use denote.Param.Send.{sendable}
 use Rattle.std.proofs.Crossing.{crosses}
-use Rattle.aim_manager.proofs.Crosses.{manager_sync}
+use Rattle.aim_agents.proofs.Crosses.{manager_sync}
 use Rattle.aim_travel.specs.Models.{TravellerModel}
 use Rattle.aim_travel.specs.Travels.{Travels}
 use Rattle.aim_travel.proofs.Runs.{chunks_turned}

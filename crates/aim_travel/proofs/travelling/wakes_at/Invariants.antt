@@ -1,5 +1,5 @@
 use Rattle.std.proofs.Common.{ℕ, ◌<◌, ◌≤◌, get_or}
-use Rattle.aim_agent.specs.Agents.{Idles}
+use Rattle.aim_agents.specs.Agents.{Idles}
 use Rattle.aim_travel.specs.Models.{TravellerModel}
 use Rattle.aim_travel.proofs.travelling.wakes_at.Given as goal
 

@@ -4,9 +4,9 @@ use Rattle.aim_msg.specs.declared.entries.Entry.{Entry}
 use Rattle.aim_rules.specs.Answer.{answer}
 use Rattle.aim_rules.specs.History.{fresh, now_of}
 use Rattle.aim_rules.specs.Kept.{kept}
-use Rattle.aim_reservations.specs.Keeping.{row_count}
+use Rattle.aim_desk.specs.Keeping.{row_count}
 use Rattle.aim_desk.specs.Managed.{IsManaged}
-use Rattle.aim_reservations.specs.Rows.{row_of}
+use Rattle.aim_desk.specs.Rows.{row_of}
 use Rattle.aim_desk.specs.Reserved.{rows_exchanged}
 use Rattle.aim_desk.specs.Costs.{spans_exchanged}
 use Rattle.aim_book.specs.Sheets.{sheets_kept}

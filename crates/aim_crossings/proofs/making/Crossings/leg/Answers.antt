@@ -4,7 +4,7 @@ use Rattle.aim_geometry.specs.declared.ground.Grid.{Grid}
 use Rattle.aim_paths.specs.Intersection.{Intersection}
 use Rattle.aim_pool.specs.Pools.{Stock}
 use Rattle.aim_turn.specs.Models.{TurnstileModel, new_pass}
-use Rattle.aim_manager.specs.declared.keeper.Setting.{Setting}
+use Rattle.aim_travel.specs.Setting.{Setting}
 use Rattle.aim_crossings.specs.declared.seats.Seats.{Seats}
 use Rattle.aim_crossings.specs.Making.{held}
 use Rattle.aim_crossings.proofs.Steps.{one_taken, read_seats}

@@ -3,7 +3,7 @@ use Rattle.std.specs.Prelude.{All, vec_capacity}
 use Rattle.std.specs.List.{AllZip}
 use Rattle.aim_paths.specs.Valid.{IsValid}
 use Rattle.aim_turn.specs.Models.{TurnstileModel}
-use Rattle.aim_manager.specs.declared.keeper.Setting.{Setting}
+use Rattle.aim_travel.specs.Setting.{Setting}
 use Rattle.aim_crossings.specs.Making.{AreNew, setting_in, setting_of}
 use Rattle.aim_crossings.proofs.making.Crossings.open.Given as goal
 

@@ -1,5 +1,5 @@
 use Rattle.std.proofs.Common.{◌≡◌, ◌<◌, List, ◌∷◌, [], ◌++◌, length, refl, sym, ap, ◌∙◌, subst}
-use Rattle.aim_agent.specs.Agents.{AgentModel}
+use Rattle.aim_agents.specs.Agents.{AgentModel}
 use Rattle.aim_travel.specs.Models.{LegModel, TravellerModel}
 use Rattle.aim_travel.specs.Rode.{IsBegun}
 use Rattle.aim_travel.proofs.Along.{first_out}
