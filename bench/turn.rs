@@ -1,7 +1,7 @@
 //! The baseline of `bench_turn`: the same work by four threads, in plain Rust.
 //!
-//! Arguments: `mutex` for one `std` mutex, or `tickets` for a mutex whose callers come in the order of drawn tickets and
-//! wait as the turn's callers do; the calls of each thread; the rounds of work in a call; the rounds of work that a thread
+//! Arguments: `mutex` for one `std` mutex, or `tickets` for a mutex whose callers come in the order of drawn tickets, and look
+//! and yield until theirs comes; the calls of each thread; the rounds of work in a call; the rounds of work that a thread
 //! does between two calls.
 use std::env;
 use std::hint;

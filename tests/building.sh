@@ -7,7 +7,7 @@ source tests/judge.sh
 
 copy=$(mktemp -d) && trap 'rm -rf "$copy"' EXIT
 mkdir "$copy/tools" "$copy/repository" "$copy/elsewhere" "$copy/temporary"
-cp aim crates.txt HANDLES "$copy/repository"
+cp -r aim crates.txt HANDLES packaging "$copy/repository"
 for name in $(sed -n 's/^\([a-z_0-9]*\).*:.*/\1/p' crates.txt); do mkdir -p "$copy/repository/crates/$name/src"; done
 ln -s ../repository/aim "$copy/elsewhere/link"
 

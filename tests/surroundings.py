@@ -2,7 +2,7 @@
 status other than 0 where anything differs. AIM names another program."""
 import os
 import pathlib
-import resource
+import select
 import subprocess
 import sys
 
@@ -122,6 +122,24 @@ def reader_goes_away():
     judge("a reader that goes away", True, status == 5 or status < 0)
 
 
+def answers_while_it_waits():
+    """Calls that come in pieces that end anywhere: all calls that are whole are answered before further bytes come."""
+    calls = [b"0 0 cancel %d 0\n" % (k + 1) for k in range(300)]
+    answers = [b"%d %s -> ack 0\n" % (k, call[:-1]) for k, call in enumerate(calls)]
+    whole = HEADER + b"".join(calls)
+    program = subprocess.Popen([PROGRAM, "replay"], stdin=subprocess.PIPE, stdout=subprocess.PIPE, bufsize=0)
+    place, got = 0, b""
+    for size in (1, len(HEADER), 3, 16, 17, 100, 1, 999, 2, 2000):
+        program.stdin.write(whole[place : place + size])
+        place += size
+        wanted = b"".join(answers[: whole[len(HEADER) : place].count(b"\n")])
+        while len(got) < len(wanted) and select.select([program.stdout], [], [], 60)[0]:
+            got += os.read(program.stdout.fileno(), 65536) or bytes(len(wanted))
+        judge(f"the answers to {place} bytes, before more come", wanted, got)
+    text, _ = program.communicate(whole[place:] + b"end\n", timeout=60)
+    judge("the answers to the rest", (0, b"".join(answers) + b"end 300\n"), (program.returncode, got + text))
+
+
 def cut_line(rest, line, number):
     """The text for a drive of whose line of that number only such a rest is there, and no line behind it."""
     words, whole = rest.split(" "), line.split(" ")
@@ -214,43 +232,19 @@ def reader_of_a_drive_goes_away():
         judge(f"a reader of a drive that goes away {what}", True, status == 5 or status < 0)
 
 
-def run_within(limit, script, words):
-    """The status and the text of a run that may have so many bytes of address space."""
-    bound = lambda: resource.setrlimit(resource.RLIMIT_AS, (limit, limit))
-    done = subprocess.run(
-        [PROGRAM, *words], input=script, stdout=subprocess.PIPE, stderr=subprocess.DEVNULL, timeout=60, check=False, preexec_fn=bound
-    )
-    return done.returncode, done.stdout
-
-
-def scarce_memory():
-    """Ever more memory: first the words alone are answered, then memory is wanting, at last the whole text comes."""
-    pages = 16 * resource.getpagesize()
-    least = next(k for k in range(1, 4000) if run_within(k * pages, b"", [])[0] == 2)
-    for words, script, text in ((["replay"], SCRIPT, TEXT), (DRIVE.words, DRIVE.script, DRIVE.text)):
-        refused, whole, limit = 0, 0, least
-        while whole < 3 and limit < 4000:
-            status, got = run_within(limit * pages, script, words)
-            refused, whole = refused + (status == 7), whole + (status == 0)
-            judge(f"{words[0]} within {limit * pages} bytes", True, (status, got) in ((0, text), (7, b"")))
-            limit += 1
-        judge(f"{words[0]}: how often memory was wanting", True, refused > 0)
-        judge(f"{words[0]}: how often the whole text came", 3, whole)
-
-
 def main():
     cut_everywhere()
     bytes_everywhere()
     great_inputs()
     endless_input()
     reader_goes_away()
+    answers_while_it_waits()
     for command in (DRIVE, MAIL):
         whole_cut_everywhere(command)
         whole_with_other_bytes(command)
         whole_in_pieces(command)
     many_events()
     reader_of_a_drive_goes_away()
-    scarce_memory()
     return JUDGE.status()
 
 

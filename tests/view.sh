@@ -37,9 +37,9 @@ if ! has_browser; then
   one_by_one install_browser
 fi
 if has_browser; then
-  timeout 400 python3 tests/view/check.py
+  timeout 900 python3 tests/view/check.py
   status=$?
-  [ "$status" -ne 124 ] || tell 'not all is tested: stopped after 400 seconds'
+  [ "$status" -ne 124 ] || tell 'not all is tested: stopped after 900 seconds'
   exit "$status"
 fi
 tell 'not tested: the page, since no Chromium is here and none could be installed; only the stored outputs are'

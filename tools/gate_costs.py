@@ -4,9 +4,8 @@
   tools/gate_costs.py -- bash .ci/run     runs the command, watches the prover's processes below it, keeps and prints what they took
   tools/gate_costs.py                     prints what the last such run took
 
-A crate's budget is 2.1 times its proof, 0.15, 0.35 for each must-fail edit, and its tests: at most 8 (docs/GATE.md). A crate
-of which the run did nothing anew is shown as kept. A process is looked at twice a second, so its last half second may be
-missing. Needs Linux's /proc.
+A crate may take 12 minutes (docs/GATE.md); one that takes more is marked. A crate of which the run did nothing anew is shown as
+kept. A process is looked at twice a second, so its last half second may be missing. Needs Linux's /proc.
 """
 import json
 import os
@@ -17,7 +16,7 @@ import time
 ROOT = os.path.dirname(os.path.dirname(os.path.realpath(__file__)))
 KEPT = f"{ROOT}/.build/gate_costs.json"
 TICKS = os.sysconf("SC_CLK_TCK")
-MOST = 8.0
+MOST = 12.0
 
 
 def processes():
@@ -91,18 +90,18 @@ def edits_of(crate):
 
 
 def show(sums):
-    print("| crate | proof | tests | edits | took | number of edits | budget |")
-    print("|---|---|---|---|---|---|---|")
+    print("| crate | proof | tests | edits | all | number of edits |")
+    print("|---|---|---|---|---|---|")
     whole = 0.0
     for crate in crates():
-        proof, tests, edits = (sums.get(crate, {}).get(kind, 0.0) / 60 for kind in ("proof", "tests", "edits"))
-        budget = 2.1 * proof + 0.15 + 0.35 * edits_of(crate) + tests
-        whole += proof + tests + edits
-        over = " over" if budget > MOST else ""
-        if not proof + tests + edits:
-            print(f"| `{crate}` | kept | | | | {edits_of(crate)} | |")
+        parts = [sums.get(crate, {}).get(kind, 0.0) / 60 for kind in ("proof", "tests", "edits")]
+        took = sum(parts)
+        whole += took
+        if not took:
+            print(f"| `{crate}` | kept | | | | {edits_of(crate)} |")
             continue
-        print(f"| `{crate}` | {proof:.1f} | {tests:.1f} | {edits:.1f} | {proof + tests + edits:.1f} | {edits_of(crate)} | {budget:.1f}{over} |")
+        over = " over" if took > MOST else ""
+        print(f"| `{crate}` | {parts[0]:.1f} | {parts[1]:.1f} | {parts[2]:.1f} | {took:.1f}{over} | {edits_of(crate)} |")
     print(f"\nAll crates took {whole:.1f} processor minutes.")
 
 

@@ -35,7 +35,7 @@ class Browser:
             os.dup2(high_ends[0], 3, inheritable=True)
             os.dup2(high_ends[1], 4, inheritable=True)
 
-        words = [path or find(), "--headless", "--no-sandbox", "--disable-gpu", "--hide-scrollbars", "--no-first-run",
+        words = [path or find(), "--headless", "--no-sandbox", "--disable-gpu", "--no-first-run",
                  "--disable-extensions", "--disable-background-networking", "--disable-dev-shm-usage",
                  "--remote-debugging-pipe", f"--user-data-dir={self.folder}", "about:blank"]
         self.process = subprocess.Popen(words, preexec_fn=places, close_fds=False, stdin=subprocess.DEVNULL,
@@ -48,6 +48,7 @@ class Browser:
         self.session = self.call("Target.attachToTarget", targetId=page["targetId"], flatten=True)["sessionId"]
         for part in ("Page", "Runtime", "Network", "DOM"):
             self.call(f"{part}.enable")
+        self.call("Emulation.setScrollbarsHidden", hidden=True)
         self.size(wide, high)
 
     def read(self, until):
@@ -63,7 +64,7 @@ class Browser:
         line, _, self.left = self.left.partition(b"\0")
         return json.loads(line)
 
-    def call(self, method, seconds=60, **words):
+    def call(self, method, seconds=180, **words):
         """What the browser answers to a call."""
         self.count += 1
         message = {"id": self.count, "method": method, "params": words}
@@ -106,7 +107,7 @@ class Browser:
         self.run("ready.then(() => 0)")
         self.settle()
 
-    def run(self, code, seconds=60):
+    def run(self, code, seconds=180):
         """The value of JavaScript in the page; a promise is waited for."""
         answer = self.call("Runtime.evaluate", seconds, expression=code, awaitPromise=True, returnByValue=True)
         if "exceptionDetails" in answer:
@@ -124,6 +125,14 @@ class Browser:
             self.call("Input.dispatchMouseEvent", type=kind, x=x, y=y, button="left", clickCount=1,
                       buttons=1 if kind == "mousePressed" else 0)
         self.settle()
+
+    def drag(self, start, end):
+        """The mouse goes from a place of the window to another one with its button down."""
+        places = [start, [(one + other) / 2 for one, other in zip(start, end)], end, end]
+        for kind, (x, y) in zip(("mousePressed", "mouseMoved", "mouseMoved", "mouseReleased"), places):
+            self.call("Input.dispatchMouseEvent", type=kind, x=x, y=y, button="left", clickCount=1,
+                      buttons=0 if kind == "mouseReleased" else 1)
+            self.settle()
 
     def press_in(self, selector):
         """A press in the middle of an element."""

@@ -65,12 +65,13 @@ function drop(texts) {
   document.dispatchEvent(new DragEvent("drop", { dataTransfer, bubbles: true }));
 }
 
-// Every beginning of a text that isn't told as a fault in its last line, or behind it.
+// Every beginning of a text that isn't told as a fault in its last line, or behind it, and isn't a head alone.
 async function untoldCuts(text, read) {
   const found = [];
   for (let cut = 1; cut < text.length; cut++) {
     const part = text.slice(0, cut), lines = part.split("\n").length - (part.endsWith("\n") ? 1 : 0);
-    const { fault } = await read(part, "cut", new Steady(() => {}));
+    const { fault, head } = await read(part, "cut", new Steady(() => {}));
+    if (head && !fault && part.endsWith("\n") && !part.includes("begin")) continue;
     if (!fault || (fault.line !== lines && fault.line !== lines + 1)) found.push([cut, fault && fault.message]);
   }
   return found;
@@ -113,12 +114,12 @@ function lookAt(run) {
   }
 }
 
-// Draws at forty times from the first step to the last.
+// Draws at twenty times from the first step to the last.
 function lookThrough() {
   const { first, last } = state.run;
   for (const layer in state.layers) state.layers[layer] = true;
-  for (let i = 0; i < 40; i++) {
-    setTime(first + (last - first) * i / 40);
+  for (let i = 0; i < 20; i++) {
+    setTime(first + (last - first) * i / 20);
     drawNow();
   }
 }
@@ -138,4 +139,99 @@ function watchFrames() {
 function longestFrame() {
   window.frames_seen.on = false;
   return Math.round(window.frames_seen.most);
+}
+
+// All entries of the crossing that is shown, by their numbers: from JSON lines they are those of the words.
+function journalNow() {
+  const { journal } = crossingNow();
+  return Array.from({ length: journal.count }, (_, i) => Object.keys(BLANK).map(name => journal["$" + name][i]).join(" "));
+}
+
+// Whether something stands on the plan's canvas besides its ground's colour.
+function isDrawn() {
+  drawNow();
+  const { data } = plan.getContext("2d").getImageData(0, 0, plan.width, plan.height);
+  let other = 0;
+  for (let i = 0; i < data.length; i += 4) if (data[i] !== data[0] || data[i + 1] !== data[1]) other++;
+  return other > 500;
+}
+
+// Numbers that meet another or a sign, that stand outside of the plan, or that are missing; at some times of the run.
+function wrongLabels() {
+  const found = [], { first, last } = state.run;
+  for (let i = 0; i <= 12; i++) {
+    setTime(first + (last - first) * i / 12);
+    drawPlan();
+    const { labels } = view, { drawn } = labels, { left, top } = plan.getBoundingClientRect();
+    const over = [...$("planbar").children, $("layers")].map(each => each.getBoundingClientRect());
+    for (const { x, y, wide, high, word } of drawn)
+      if (over.some(box => box.width && Math.abs(box.x - left + box.width / 2 - x) * 2 < box.width + wide &&
+        Math.abs(box.y - top + box.height / 2 - y) * 2 < box.height + high)) found.push(["under the page's own", word]);
+    drawn.forEach((one, at) => {
+      if (one.x < one.wide / 2 - 1 || one.x > view.wide - one.wide / 2 + 1 || one.y < 0 || one.y > view.high)
+        found.push(["outside", state.time, one.word]);
+      for (const other of drawn.slice(0, at))
+        if (Math.abs(one.x - other.x) * 2 < one.wide + other.wide - .01 &&
+          Math.abs(one.y - other.y) * 2 < one.high + other.high - .01) found.push(["meet", state.time, one.word, other.word]);
+    });
+    for (const { v } of view.bodies) if (!drawn.some(label => label.v === v)) found.push(["missing", state.time, v]);
+  }
+  return found.slice(0, 5);
+}
+
+// Whether what a label's place shows is the label itself: nothing was painted on it behind it.
+function paintedLast() {
+  const whole = () => plan.getContext("2d").getImageData(0, 0, plan.width, plan.height).data;
+  drawPlan();
+  const before = whole(), pen = plan.getContext("2d");
+  for (const label of view.labels.drawn) view.labels.drawOne(pen, label);
+  const after = whole();
+  let other = 0;
+  for (let i = 0; i < before.length; i++) if (Math.abs(before[i] - after[i]) > 90) other++;
+  return other;
+}
+
+// What the page says of a script, in the program's words.
+async function judgeText(text) {
+  const { fault } = await readScript(text, "", new Steady(() => {}));
+  return fault ? `bad line ${fault.line} ${fault.kind}` : "whole";
+}
+
+// Sets the form's draft: roads, numbers of the head in place of others, and the vehicle; the head, what is said of it, and
+// the trial with what each of its requests needs.
+async function draftedBy(roads, numbers, vehicle, points = []) {
+  drafted.vehicle = { ...VEHICLES.car, ...vehicle };
+  const old = { ...START, lanes: [], policies: structuredClone(POLICIES) };
+  drafted.draft = Object.assign(draftOfRoads(roads, old), numbers);
+  for (const [lane, move, point, place] of points) drafted.draft.lanes[lane].moves[move].points[point] = place;
+  drafted.text = draftText(drafted.draft);
+  await readDraft();
+  const layout = layoutNow(), said = saidOf(drafted.script, drafted.vehicle);
+  const needs = layout ? layout.lanes.flatMap(lane => Object.entries(lane.moves).map(([turn, path]) => {
+    const { steps, spans, reach, length, fixed } = tilesOf(layout, path, drafted.vehicle).needs;
+    return { lane: lane.at, turn, steps, spans, reach, length, fixed };
+  })) : [];
+  return { text: drafted.text, said, needs, trial: layout && !said.faults.length ? trialText() : null };
+}
+
+// The head that a script's own head is as a draft.
+async function redrafted(text) {
+  const script = await readScript(text, "", new Steady(() => {}));
+  return draftText(draftOf(script));
+}
+
+// The place in the window of a point of the sketch, in mm.
+function placeOnSketch(x, y) {
+  const box = sketch.getBoundingClientRect();
+  return [box.x + view.x(x), box.y + view.y(y)];
+}
+
+// The moves of the form's layout that take tiles outside of their lane's tile set, with that HALF.
+function unclaimed(half) {
+  const layout = Object.assign(layoutNow(), { half });
+  return layout.lanes.flatMap(lane => Object.entries(lane.moves).filter(([, path]) => {
+    lane.tiles = null;
+    const claimed = laneTiles(layout, lane), { reserved } = tilesOf(layout, path, drafted.vehicle);
+    return reserved.some((is, tile) => is && !claimed[tile]);
+  }).map(([turn]) => [lane.at, turn]));
 }

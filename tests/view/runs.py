@@ -9,10 +9,6 @@ ROOT = pathlib.Path(__file__).resolve().parents[2]
 EXAMPLES = ROOT / "examples"
 OUTPUTS = ROOT / "tests" / "view" / "outputs"
 
-# A mailbox's journal may have the events of two vehicles in another order than the script, so the page doesn't read
-# `mail.out`. It reads what the program prints for that script as a replay.
-UNREAD = {"mail.out"}
-
 
 class Stored:
     """An example with a stored output, and the words for which the program prints it."""
@@ -27,8 +23,10 @@ class Stored:
 
 
 def words_of(script):
-    """The words that a script is for: a drive has `until`, a grid begins with `crossings`."""
+    """The words that a script is for: a drive has `until`, a grid begins with `crossings`, one is for a mailbox."""
     text = script.read_text()
+    if script.stem == "mail":
+        return ["mail", "1"]
     if text.startswith("crossings "):
         return ["grid", "1"]
     return ["drive", "1"] if re.search(r"^until ", text, re.M) else ["replay"]
@@ -48,7 +46,7 @@ def stored():
     found = []
     for script in sorted(EXAMPLES.glob("*.aim")) + sorted(OUTPUTS.glob("*.aim")):
         for folder in (EXAMPLES, OUTPUTS):
-            if (folder / f"{script.stem}.out").is_file() and f"{script.stem}.out" not in UNREAD:
+            if (folder / f"{script.stem}.out").is_file():
                 found.append(Stored(script, folder / f"{script.stem}.out", words_of(script)))
         for output in sorted(OUTPUTS.glob(f"{script.stem}.chart-*.out")):
             step = re.fullmatch(r".*\.chart-(\d+)\.out", output.name).group(1)

@@ -17,15 +17,17 @@ class State(Enum):
 class Car:
     """One vehicle; places are metres along its path, 0 at the line."""
 
-    def __init__(self, arrival, move, crossing, leader, vehicle, step):
-        self.id = arrival.id
-        self.kind = arrival.kind
+    def __init__(self, name, kind, move, crossing, leader, step):
+        vehicle = crossing.vehicle
+        self.id = name
+        self.kind = kind
         self.move = move
+        self.vehicle = vehicle
         self.crossing = crossing
         self.way = crossing.way
         self.leader = leader
         self.driver = None
-        self.state = State.HUMAN if arrival.kind == "human" else State.FREE
+        self.state = State.HUMAN if kind == "human" else State.FREE
         self.place = -math.inf
         self.speed = 0.0
         self.plan = None
@@ -34,9 +36,10 @@ class Car:
         self.next = 0
         self.entered = None
         self.refused_at = math.inf
+        self.refused_speed = 0
+        self.last_reason = ""
         self.drift = 0.0
         self.correction = 0.0
-        self._vehicle = vehicle
         self._step = step
         self._exit = None
 
@@ -72,8 +75,8 @@ class Car:
         time = (step - now) * self._step
         if self.state is not State.OUT:
             return self.place + self.speed * time
-        gathering = max(0.0, min(time, (self._vehicle.road_speed - self.speed) / self._vehicle.accel))
-        return self.place + self.speed * time + self._vehicle.accel * gathering * (time - gathering / 2)
+        gathering = max(0.0, min(time, (self.vehicle.road_speed - self.speed) / self.vehicle.accel))
+        return self.place + self.speed * time + self.vehicle.accel * gathering * (time - gathering / 2)
 
     def foreseen_speed(self, step, now):
         """The true speed at a later step."""

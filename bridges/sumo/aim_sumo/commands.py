@@ -1,83 +1,131 @@
-"""`net` makes the nets of a layout, `run` lets traffic cross, `check` replays runs, `report` tells a table."""
+"""`net` makes the nets of a layout, or a layout of a net; `run` lets traffic cross; `experiment` runs many and compares
+them; `check` replays runs; `report` tells a table."""
 
-import argparse
-import csv
 import json
+import os
 import pathlib
-import statistics
+import shlex
+import shutil
+import signal
 import sys
-import time
+from dataclasses import replace
 
-from . import controls, demand, metrics, net, report, rules
-from .drive import Bridge, Settings
-from .layout import BadHead
-from .mail import Faults
-from .manager import Manager, ManagerFailed, replays
-from .planner import Vehicle
-from .simulator import NoSumo
+from . import advice, controls, experiment, importing, net, report, words
+from .faults import BadWord, Trouble
+from .fit import Fits
+from .manager import replays, scripts_of, words_of
+from .metrics import header, row
+from .runs import Options, Runner, progress
+from .site import open_site
+from .vehicles import NAMED, read_mix, read_types
 
 ROOT = pathlib.Path(__file__).resolve().parents[3]
+# The manager that is asked where no other is named.
+MANAGER = os.environ.get("AIM_MANAGER") or str(ROOT / "aim")
 
 
-def main(words=None):
-    """Runs a command; gives the status: 0 all is well, 1 something was found, 2 it couldn't be done."""
-    options = _parser().parse_args(words)
+def main(arguments=None):
+    """Runs a command; gives the status: 0 well, 1 something was found, 2 it couldn't be done, 130 interrupted."""
+    for name in ("SIGTERM", "SIGHUP"):
+        if signal.getsignal(getattr(signal, name)) == signal.SIG_DFL:
+            signal.signal(getattr(signal, name), _interrupt)
     try:
+        options = _parser().parse_args(arguments)
         return options.command(options)
-    except (BadHead, NoSumo, ManagerFailed) as fault:
-        print(f"aim-sumo: {fault}", file=sys.stderr)
+    except Trouble as fault:
+        progress("")
+        print(f"aim-sumo: {' '.join(str(fault).split())}", file=sys.stderr)
+        return 2
+    except KeyboardInterrupt:
+        progress("")
+        print("aim-sumo: interrupted; what it had begun was ended", file=sys.stderr)
+        return 130
+    except BrokenPipeError:
+        sys.stderr.close()
+        return 141
+    except OSError as fault:
+        progress("")
+        print(f"aim-sumo: {fault.filename or 'a file'}: {fault.strerror or fault}", file=sys.stderr)
         return 2
 
 
+def _interrupt(number, frame):
+    raise KeyboardInterrupt
+
+
 def _parser():
-    parser = argparse.ArgumentParser(prog="aim-sumo", description=__doc__)
-    commands = parser.add_subparsers(required=True)
-    made = commands.add_parser("net", help="make SUMO nets of the head of a script")
-    made.add_argument("head", help="a script's lines up to the last policy or phase")
-    made.add_argument("folder")
-    made.add_argument("--step", type=float, default=0.02, help="seconds of a step of the layout's times (0.02)")
-    made.add_argument("--approach", type=float, default=300.0, help="metres of each road in")
-    made.add_argument("--exit", type=float, default=150.0, help="metres of each road out")
-    made.add_argument("--speed", type=float, default=13.89, help="metres a second on the roads")
-    made.set_defaults(command=_net)
+    parser = words.Parser(prog="aim-sumo", description=__doc__)
+    commands = parser.add_subparsers(required=True, metavar="COMMAND", parser_class=words.Parser)
+    _add_net(commands.add_parser("net", help="make SUMO nets of the head of a script, or layouts of a SUMO net"))
     _add_run(commands.add_parser("run", help="let traffic cross, one row a control"))
+    _add_experiment(commands.add_parser("experiment", help="run a whole file of experiments, and compare them"))
     checked = commands.add_parser("check", help="replay runs, and compare the answers byte by byte")
     checked.add_argument("runs", nargs="+")
-    checked.add_argument("--manager", default=str(ROOT / "aim"))
+    checked.add_argument("--manager", default=MANAGER)
     checked.set_defaults(command=_check)
-    told = commands.add_parser("report", help="a table and a chart of the results of many runs")
-    told.add_argument("results", nargs="+", help="files of results, one a line")
+    told = commands.add_parser("report", help="a table and a figure of the results of many runs")
+    told.add_argument("results", nargs="+", help="files of results: results.csv, or one JSON result a line")
     told.add_argument("--columns", default=report.USUAL, help=f"of {', '.join(report.COLUMNS)}")
+    told.add_argument("--pivot", metavar="COLUMN", help="only this column, with the controls side by side")
     told.add_argument("--title", default="Delay over flow")
-    told.add_argument("--chart", help="the chart's file, SVG")
+    told.add_argument("--figure", help="the figure's file; its ending, .svg, .pdf or .png, tells its kind")
     told.set_defaults(command=report.tell)
     return parser
+
+
+def _add_net(parser):
+    add = parser.add_argument
+    add("source", metavar="FILE", help="a script's lines up to the last policy or phase, or a SUMO net (.net.xml)")
+    add("folder", nargs="?", help="what is made (in this folder, by the file's name)")
+    add("--step", type=words.number(0.001, 1.0), default=0.02, help="seconds of a step of the layout's times (0.02)")
+    add("--approach", type=words.number(20.0), default=300.0, help="metres of each road in, of a head's net (300)")
+    add("--exit", type=words.number(20.0), default=150.0, help="metres of each road out, of a head's net (150)")
+    add("--speed", type=words.number(1.0, 60.0), default=13.89, help="metres a second on the roads of a head's net")
+    add("--hold", type=words.number(0.5, 30.0), default=2.0, help="metres before the line from which vehicles start")
+    add("--types", help="a TOML file of types of vehicles")
+    add("--mix", default="car=1", help="the types for which the layout is looked at, NAME=SHARE,..")
+    add("--junction", action="append", default=[], metavar="ID", help="of a SUMO net: a junction to be managed")
+    add("--routes", type=lambda text: text.split(","), default=[], help="of a SUMO net: its files of routes")
+    add("--additional", type=lambda text: text.split(","), default=[], help="of a SUMO net: more files, say of types")
+    add("--sumo", default="", help="of a SUMO net: further options for SUMO, in one word")
+    parser.set_defaults(command=_net)
 
 
 def _add_run(parser):
     add = parser.add_argument
     add("folder", help="a folder that `net` made")
-    add("--manager", default=str(ROOT / "aim"), help="the manager's command (the repository's ./aim)")
-    add("--control", default=",".join(net.CONTROLS), help="which of aim,actuated,static,priority")
-    add("--flow", default="1800", help="vehicles an hour, several with commas between them")
-    add("--seed", default="1", help="seeds of the demand, several with commas between them")
-    add("--seconds", type=float, default=600.0, help="how long vehicles come")
-    add("--end", type=float, default=1500.0, help="the run ends then, even with vehicles on their way")
+    add("--manager", default=MANAGER, help="the manager's command (the repository's ./aim, or what AIM_MANAGER says)")
+    add("--control", type=lambda text: text.split(","),
+        help="which of aim,actuated,static,priority; in a net of your own of aim,own (all)")
+    add("--flow", type=words.several(words.flow), default=[1800], help="vehicles an hour, several with commas")
+    add("--seed", type=words.several(words.whole(0)), default=[1], help="seeds of the demand, several with commas")
+    add("--seconds", type=words.positive, default=600.0, help="how long vehicles come (600)")
+    add("--end", type=words.positive, help="the run ends then, even with vehicles on their way (900 s after the last)")
     add("--policy", help="the policy in force from the begin (the head's first)")
-    add("--switch", action="append", default=[], metavar="SECONDS=NAME", help="switch to a policy in the run")
-    add("--stop", type=float, metavar="SECONDS", help="the operator's stop")
-    add("--human", type=float, default=0.0, help="share of people, who drive by the lights")
-    add("--emergency", type=float, default=0.0, help="share of emergency vehicles")
-    add("--headway", type=float, default=1.0, help="seconds that all vehicles keep, under each control (1.0)")
-    add("--gap", type=float, default=2.5, help="metres between standing vehicles (2.5)")
-    add("--ask", type=float, default=50.0, help="metres before the line from which a vehicle asks")
-    add("--hold", type=float, default=2.0, help="metres before the line where one without a reservation stands")
-    add("--error", type=float, default=0.0, help="error of a vehicle's speed, standard deviation in m/s")
-    add("--lost", type=float, default=0.0, help="share of messages and of answers that are lost")
-    add("--late", type=float, default=0.0, help="share that comes up to a second too late")
-    add("--repeated", type=float, default=0.0, help="share that comes twice")
+    add("--switch", type=words.switch, action="append", default=[], metavar="SECONDS=NAME", help="switch to a policy")
+    add("--stop", type=words.natural, metavar="SECONDS", help="the operator's stop")
+    add("--human", type=words.share, default=0.0, help="share of people, who drive by the lights")
+    add("--emergency", type=words.share, default=0.0, help="share of emergency vehicles")
+    add("--turns", type=words.turns, help="shares of turns, left=0.25,straight=0.5,right=0.25")
+    add("--sides", type=words.sides, default={}, help="shares of the sides, W=1,S=1,E=1,N=1")
+    add("--types", help="a TOML file of types of vehicles")
+    add("--mix", default="car=1", help=f"shares of types, car=0.9,bus=0.1; known are {', '.join(NAMED)}")
+    add("--widen", action="store_true", help="vehicles whose rear leaves its tiles on curves declare a greater width")
+    add("--swing", action="store_true", help="bodies may come over other lanes outside the box, where no manager looks")
+    add("--sigma", type=words.share, default=0.0, help="SUMO's imperfection of drivers (0)")
+    add("--headway", type=words.positive, default=1.0, help="seconds that all vehicles keep, under each control (1)")
+    add("--gap", type=words.natural, default=2.5, help="metres between standing vehicles (2.5)")
+    add("--ask", type=words.positive, default=50.0, help="metres before the line from which a vehicle asks (50)")
+    add("--hold", type=words.number(0.5, 30.0), default=2.0,
+        help="metres before the line where one without a reservation stands (2)")
+    add("--error", type=words.natural, default=0.0, help="error of a vehicle's speed, standard deviation in m/s")
+    add("--lost", type=words.share, default=0.0, help="share of messages and of answers that are lost")
+    add("--late", type=words.share, default=0.0, help="share that comes up to a second too late")
+    add("--repeated", type=words.share, default=0.0, help="share that comes twice")
     add("--blind", action="store_true", help="ignore the answers: shows that the judges see collisions")
     add("--unmapped", action="store_true", help="take stations for arc length: shows what the mapping is for")
+    add("--routes", type=lambda text: text.split(","), default=[], help="in a net of your own: its files of routes")
+    add("--sumo", default="", help="further options for SUMO, in one word")
     add("--gui", action="store_true", help="show the run in SUMO's window")
     add("--keep", help="the folder for runs (runs in the net's folder)")
     add("--results", help="add each result to this file, one a line")
@@ -85,146 +133,173 @@ def _add_run(parser):
     parser.set_defaults(command=_run)
 
 
+def _add_experiment(parser):
+    add = parser.add_argument
+    add("file", help="a TOML file of experiments, such as those in bridges/sumo/experiments")
+    add("folder", help="where the nets, the runs, the tables and the figures come to be")
+    add("--manager", default=MANAGER, help="the manager's command (the repository's ./aim, or what AIM_MANAGER says)")
+    add("--jobs", type=words.whole(1), default=os.cpu_count(), help="runs at a time (the processors)")
+    add("--part", action="append", default=[], help="only this part; may come several times")
+    one = parser.add_mutually_exclusive_group()
+    one.add_argument("--list", action="store_true", help="only print the runs' names")
+    one.add_argument("--nets", action="store_true", help="only make the nets")
+    one.add_argument("--only", metavar="NAME", help="only make this run")
+    one.add_argument("--tables", action="store_true", help="only make the tables and figures of what is there")
+    parser.set_defaults(command=_experiment)
+
+
+def _known_types(options):
+    """The types that are known, and the mix of them."""
+    known = read_types(options.types) if options.types else dict(NAMED)
+    return known, read_mix(options.mix, known)
+
+
 def _net(options):
-    settings = {key: getattr(options, key) for key in ("step", "approach", "exit", "speed")}
-    site = net.make(options.head, options.folder, settings)
-    controls.free_times(site, Vehicle(road_speed=options.speed), site.folder)
-    print(f"{options.folder}: {len(site.links)} paths through the box, nets for {', '.join(net.CONTROLS)}")
+    known, mix = _known_types(options)
+    name = pathlib.Path(options.source).name.split(".")[0]
+    folder = pathlib.Path(options.folder or name)
+    settings = {"name": name, **{key: getattr(options, key) for key in ("step", "approach", "exit", "speed")}}
+    types = [known[each] for each in mix]
+    if options.source.endswith((".net.xml", ".net.xml.gz", ".sumocfg")):
+        lines = importing.make(options, folder, settings)
+        print("\n".join(lines))
+        return 0
+    if options.junction:
+        raise BadWord(f"--junction goes with a SUMO net; {options.source} has to end in .net.xml or .sumocfg")
+    types = [replace(each, road_speed=options.speed) for each in types]
+    site = net.make(options.source, folder, settings)
+    controls.free_times(site, types, site.folder)
+    print(f"{folder}: {len(site.links)} paths through the box, nets for {', '.join(site.controls)}")
+    fits = [Fits(junction, widest=max(each.width for each in types)) for junction in site.junctions]
+    if "priority" not in site.controls:
+        print("left turns face each other from lanes that offer another turn too, and under a priority rule SUMO's "
+              "vehicles collide there: so no net for priority, and lights that let one side go at a time")
+    for line in advice.told_of(fits, types, options.step, options.hold):
+        print(line)
     return 0
 
 
 def _run(options):
-    site = net.open_site(options.folder)
-    vehicle = Vehicle(headway=options.headway, gap=options.gap, road_speed=site.settings["speed"])
-    free = controls.free_times(site, vehicle, site.folder)
-    print(metrics.header())
-    well = True
-    for flow in options.flow.split(","):
-        for seed in options.seed.split(","):
-            for control in options.control.split(","):
-                result = _one_run(options, site, vehicle, free, control, int(flow), int(seed))
-                print(metrics.row(result), flush=True)
+    site = open_site(options.folder)
+    known, mix = _known_types(options)
+    asked = options.control or list(site.controls)
+    for control in asked:
+        if control not in site.controls:
+            raise BadWord(f"{control!r} isn't one of the controls of this folder: {', '.join(site.controls)}")
+    if "aim" in asked:
+        words_of(options.manager)
+    runner = Runner(site, options.manager, known, options.keep, options.gui)
+    flows = options.flow if site.is_made else [None]
+    well = None
+    noted = set()
+    for flow in flows:
+        for seed in options.seed:
+            for control in asked:
+                made = _options(options, mix, control, flow, seed)
+                _warn(runner, made, noted)
+                result = runner.run(made, options.label)
+                if well is None:
+                    print(header())
+                print(row(result), flush=True)
+                for fault in result["faults"]:
+                    print(f"aim-sumo: {made.name}: {fault}", file=sys.stderr)
                 _add_result(options, result)
-                well = well and (options.blind or is_well(result))
+                well = well is not False and not result["faults"]
     return 0 if well else 1
 
 
-def is_well(result):
-    """True where a run has no collision, and one of the manager's also no miss, no broken rule and the same replay."""
-    if result["control"] != "aim":
-        return True
-    clean = not (result["by_sumo"] or result["by_rectangles"] or result["misses"] or result["broken_rules"])
-    return clean and result["replays"]
+def _options(options, mix, control, flow, seed):
+    """What one run is made with."""
+    same = ("seconds", "policy", "stop", "human", "emergency", "sides", "sigma", "headway", "gap", "ask", "hold",
+            "error", "lost", "late", "repeated", "widen", "swing", "blind", "unmapped")
+    turns = {"turns": options.turns} if options.turns else {}
+    return Options(
+        control, flow, seed, **{key: getattr(options, key) for key in same}, **turns, mix=mix,
+        end=options.end, switch=tuple(options.switch), routes=tuple(options.routes),
+        sumo=tuple(shlex.split(options.sumo)))
+
+
+def _warn(runner, made, noted):
+    """Says before a run what will go wrong by its options, once."""
+    site = runner.site
+    lines = []
+    if site.is_made:
+        lines += runner.refusals(made).values()
+        if made.control == "aim":
+            lines += advice.few_spans(runner.fits(made), runner.mixed(made), site.step, made.hold)
+        names = [made.policy or site.layout.policies[0].name, *(each.partition("=")[2] for each in made.switch)]
+        if made.human and made.control == "aim" and not any(site.layout.policy(name).has_lights for name in names):
+            lit = [policy.name for policy in site.layout.policies if policy.has_lights]
+            lines.append(f"people drive by lights, and the policy {names[0]} has none: they will never be let in"
+                         + (f"; take --policy {lit[0]}" if lit else ""))
+    for line in lines:
+        if line not in noted:
+            noted.add(line)
+            print(f"aim-sumo: {line}", file=sys.stderr)
 
 
 def _add_result(options, result):
     if options.results:
-        with open(options.results, "a", encoding="ascii") as file:
+        with open(options.results, "a", encoding="utf-8") as file:
             file.write(json.dumps(result) + "\n")
 
 
-def _one_run(options, site, vehicle, free, control, flow, seed):
-    """One run; gives its result."""
-    base = pathlib.Path(options.keep) if options.keep else site.folder / "runs"
-    folder = base / f"{control}-{flow}-{seed}"
-    folder.mkdir(parents=True, exist_ok=True)
-    files = {key: folder / f"run.{key}" for key in ("routes", "trips", "log")}
-    begun = time.time()
-    arrivals = demand.arrivals(site.layout, flow, seed, options.seconds, options.human, options.emergency)
-    if control == "aim":
-        result = _run_aim(options, site, vehicle, free, arrivals, folder, files, flow, seed)
-    else:
-        extra = None
-        if control != "priority":
-            extra = controls.tuned(site, control, flow, vehicle, free, site.folder / "tuned")
-        trips, collided, teleported = controls.run(
-            site, control, arrivals, vehicle, files, seed, options.end, extra)
-        result = {**metrics.summary(trips, arrivals, free, options.seconds), "by_sumo": collided}
-        result.update(teleports=teleported, lights=extra.name if extra else "default")
-    named = {"label": options.label, "control": control, "flow": flow, "seed": seed, "headway": options.headway}
-    result = {**named, **result}
-    result["wall"] = round(time.time() - begun, 1)
-    (folder / "run.json").write_text(json.dumps(result, indent=1) + "\n")
-    return result
+def _experiment(options):
+    told = experiment.read(options.file)
+    folder = pathlib.Path(options.folder)
+    made = [cell for cell in experiment.cells(told, folder, options.manager, _name_of)
+            if not options.part or cell.part in options.part]
+    if options.list:
+        print("\n".join(cell.name for cell in made))
+        return 0
+    runs = experiment.Runs(folder, options.jobs)
+    if not options.tables:
+        words_of(options.manager)
+        _make_nets(told, folder, {cell.layout for cell in made if options.only in (None, cell.name)})
+    if options.nets:
+        return 0
+    if options.only and options.only not in [cell.name for cell in made]:
+        raise BadWord(f"{options.file} has no run {options.only}; --list prints their names")
+    failed = []
+    if not options.tables:
+        todo = [cell for cell in made if options.only in (None, cell.name) and not runs.result_of(cell).is_file()]
+        if len(todo) < len(made) and not options.only:
+            print(f"aim-sumo: {len(made) - len(todo)} of {len(made)} runs are there already", file=sys.stderr)
+        failed = runs.make(todo)
+    if not options.only:
+        experiment.tell(told, folder, made)
+        print(f"{folder}: results.csv, means.csv, and a table of each part")
+    return 2 if failed else 0
 
 
-def _run_aim(options, site, vehicle, free, arrivals, folder, files, flow, seed):
-    """One run by the manager's answers."""
-    settings = _settings(options, site, vehicle, seed)
-    demand.write_routes(files["routes"], site, arrivals, vehicle)
-    manager = Manager(options.manager, site.layout.head(settings.policy), max(1, len(arrivals)), folder)
-    bridge = Bridge(site, settings, arrivals, manager, files)
-    try:
-        bridge.run(lambda now, arrived: _progress(f"aim {flow}/h: {now:.0f} s, {arrived} of {len(arrivals)} through"))
-        manager.close()
-    except BaseException:
-        manager.abandon()
-        raise
-    finally:
-        _progress("")
-    trips = metrics.read_trips(files["trips"])
-    result = metrics.summary(trips, arrivals, free, options.seconds)
-    result.update(_told(bridge, len(arrivals)))
-    result["replays"] = replays(options.manager, folder)
-    _write_table(folder / "run.csv", bridge, trips, metrics.delays(trips, arrivals, free), arrivals)
-    return result
+def _name_of(arguments):
+    """The name of the folder of a run by its words."""
+    options = _parser().parse_args(arguments)
+    _, mix = _known_types(options)
+    flow = options.flow[0] if "--flow" in arguments else None
+    return _options(options, mix, options.control[0], flow, options.seed[0]).name
 
 
-def _settings(options, site, vehicle, seed):
-    orders = []
-    for order in options.switch:
-        seconds, _, name = order.partition("=")
-        site.layout.policy(name)
-        orders.append((float(seconds), f"switch {name}"))
-    if options.stop is not None:
-        orders.append((options.stop, "stop"))
-    return Settings(
-        policy=options.policy or site.layout.policies[0].name, seed=seed, end=options.end, vehicle=vehicle,
-        ask=options.ask, hold=options.hold, error=options.error,
-        faults=Faults(options.lost, options.late, options.repeated, round(1.0 / site.settings["step"])),
-        orders=tuple(orders), is_blind=options.blind, is_mapped=not options.unmapped, with_window=options.gui,
-    )
-
-
-def _told(bridge, demanded):
-    """What only a run by the manager tells."""
-    errors = bridge.arrival_errors
-    broken = [rule for rule in (rules.broken_rule(driver.log) for driver in bridge.drivers) if rule]
-    return {
-        "by_sumo": len(bridge.judge.by_sumo), "by_rectangles": len(bridge.judge.by_rectangles),
-        "misses": bridge.counts["misses"], "broken_rules": len(broken), "rules": sorted(set(broken)),
-        "messages": sum(driver.messages for driver in bridge.drivers) / max(1, demanded),
-        "answers": metrics.answers(bridge.drivers), "counts": dict(bridge.counts),
-        "arrival_error": statistics.pstdev(errors) if errors else 0.0,
-        "asked": bridge.manager.entries, "manager": bridge.manager.seconds,
-    }
-
-
-def _write_table(path, bridge, trips, delays, arrivals):
-    """Writes one line a vehicle."""
-    drivers = {driver.number: driver for driver in bridge.drivers}
-    with open(path, "w", newline="", encoding="ascii") as file:
-        table = csv.writer(file)
-        table.writerow(("vehicle", "move", "kind", "came", "messages", "entered", "arrived", "delay", "stops"))
-        for arrival in arrivals:
-            driver, trip = drivers.get(arrival.number), trips.get(arrival.id)
-            entered = [item[1] for item in driver.log if item[0] == "entered"] if driver else []
-            table.writerow((
-                arrival.number, arrival.move, arrival.kind, arrival.time, driver.messages if driver else 0,
-                entered[0] if entered else "", trip.arrival if trip else "",
-                round(delays[arrival.id], 2) if trip else "", trip.stops if trip else "",
-            ))
-
-
-def _progress(words):
-    """Shows how far a run is, where someone looks."""
-    if sys.stderr.isatty():
-        print(f"\r\x1b[K{words}", end="", file=sys.stderr, flush=True)
+def _make_nets(told, folder, layouts):
+    """Makes the nets of layouts that aren't there yet, or were made by other words; runs on those are taken away."""
+    for layout in sorted(layouts):
+        arguments = told.words_of_net(layout, folder)
+        mark = folder / "nets" / layout / "made-by.json"
+        wanted = json.dumps([arguments, pathlib.Path(arguments[1]).read_text(encoding="utf-8", errors="replace")])
+        if not mark.is_file() or mark.read_text(encoding="utf-8") != wanted:
+            for runs in folder.glob(f"runs/*/{layout}"):
+                shutil.rmtree(runs)
+            options = _parser().parse_args(arguments)
+            options.command(options)
+            mark.write_text(wanted, encoding="utf-8")
 
 
 def _check(options):
+    words_of(options.manager)
     well = True
     for run in options.runs:
+        if not scripts_of(run):
+            raise BadWord(f"{run} has no run that a manager made; name a folder below runs/")
         same = replays(options.manager, run)
         print(f"{run}: {'the script gives the answers' if same else 'THE ANSWERS DIFFER'}")
         well = well and same

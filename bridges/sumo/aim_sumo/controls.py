@@ -5,69 +5,100 @@ demand of another seed; the lights with detectors may end a green early and hold
 longer is tried out on that demand too, as is SUMO's default. The one with the least mean delay is taken.
 """
 
+import fcntl
 import json
 import os
-import re
-import subprocess
 import sys
 import xml.etree.ElementTree as ET
+from dataclasses import replace
 
 from . import demand, metrics, simulator
-from .simulator import NoSumo
+from .faults import NoSumo, Trouble
+from .judge import Judge
 
-TOOLS = "/usr/share/sumo/tools"
 TUNING_SEED = 1000
 TUNING_SECONDS = 600
 TUNING_STEP = 0.1
+LONE_EVERY = 60.0
+"""Seconds between vehicles that are to be alone."""
 
 
-def run(site, control, arrivals, vehicle, files, seed, end, extra=None, step=None):
-    """One run of SUMO under one of its own controls; gives the trips and what went wrong."""
-    demand.write_routes(files["routes"], site, arrivals, vehicle)
-    words = simulator.options(
-        site.net(control), files["routes"], files["trips"], files["log"], step or site.settings["step"], seed)
-    more = ["-a", str(extra)] if extra else []
-    command = ["sumo", *words, *more, "--end", str(end)]
-    done = subprocess.run(command, capture_output=True, text=True, check=False)
+def run(site, control, files, seed, end, extra=(), progress=lambda now, arrived: None):
+    """One run of SUMO under one of its own controls, looked at by both judges; gives these, and the teleports."""
+    words = [*simulator.options(site.net(control), files, site.step, seed), "--no-warnings", "true", *extra]
+    sumo = simulator.start(words)
+    teleports = arrived = step = 0
+    each_second = max(1, round(1 / site.step))
+    try:
+        judge = Judge(sumo, site.junctions)
+        while sumo.simulation.getMinExpectedNumber() and step * site.step < end:
+            sumo.simulationStep()
+            step += 1
+            teleports += sumo.simulation.getStartingTeleportNumber()
+            arrived += sumo.simulation.getArrivedNumber()
+            judge.look()
+            if step % each_second == 0:
+                progress(step * site.step, arrived)
+    except sumo.TraCIException as fault:
+        raise Trouble(f"SUMO ended at {step * site.step:.0f} s: {' '.join(str(fault).split())}") from fault
+    finally:
+        sumo.close()
+    return judge, teleports
+
+
+def _tuning_trips(site, control, files, extra):
+    """The trips of a run without judges, by SUMO's own program."""
+    command = ["sumo", *simulator.options(site.net(control), files, TUNING_STEP, TUNING_SEED),
+               "-r", str(files["routes"]), "--end", str(3 * TUNING_SECONDS), "--no-warnings", "true",
+               *(["-a", str(extra)] if extra else [])]
+    done = simulator.call(command)
     if done.returncode != 0:
-        raise NoSumo(f"sumo ended with {done.returncode}: {done.stderr[-500:]}")
-    return metrics.read_trips(files["trips"]), len(collisions(done.stderr)), teleports(done.stderr)
+        raise NoSumo(f"sumo ended with {done.returncode}: {' '.join(done.stderr.split())[-300:]}")
+    return metrics.read_trips(files["trips"], 3 * TUNING_SECONDS)
 
 
-def collisions(warnings):
-    """The pairs of vehicles that SUMO's warnings call collided."""
-    found = re.findall(r"Vehicle '(\d+)'; [a-z ]*collision with vehicle '(\d+)'", warnings)
-    return {tuple(sorted(pair)) for pair in found}
-
-
-def teleports(warnings):
-    """How many vehicles SUMO took out of a place where they had waited too long."""
-    return warnings.count("Teleporting vehicle")
-
-
-def tuned(site, control, flow, vehicle, free, folder):
-    """The file of the tuned lights of a control for a flow, or None where SUMO's defaults are better."""
-    name = f"{control}-{flow}-{vehicle.headway}"
+def tuned(site, control, wanted, free, folder):
+    """The file of the tuned lights of a control for a demand, or None where SUMO's defaults are better."""
+    name = tuning_name(control, wanted)
     kept = folder / f"{name}.json"
-    if not kept.is_file():
-        folder.mkdir(parents=True, exist_ok=True)
-        kept.write_text(json.dumps(_tune(site, control, flow, vehicle, free, folder, name), indent=1) + "\n")
-    best = json.loads(kept.read_text())["best"]
+    folder.mkdir(parents=True, exist_ok=True)
+    with open(folder / f"{name}.lock", "w", encoding="ascii") as lock:
+        fcntl.flock(lock, fcntl.LOCK_EX)
+        _keep_tuned(kept, site, control, wanted, free, folder, name)
+    best = json.loads(kept.read_text(encoding="ascii"))["best"]
     return folder / best if best else None
 
 
-def _tune(site, control, flow, vehicle, free, folder, name):
+def _keep_tuned(kept, site, control, wanted, free, folder, name):
+    """Tunes lights where nobody has, and keeps what is found."""
+    if not kept.is_file():
+        found = json.dumps(_tune(site, control, wanted, free, folder, name), indent=1) + "\n"
+        whole = folder / f"{name}.{os.getpid()}.part"
+        whole.write_text(found, encoding="ascii")
+        whole.replace(kept)
+
+
+def tuning_name(control, wanted):
+    """A name that tells what lights are tuned for."""
+    car = wanted.types["car"]
+    parts = [control, f"{wanted.flow:g}", f"{car.headway}"]
+    for what, usual in ((wanted.turns, demand.SHARES), (wanted.sides, {}), (wanted.mix, {"car": 1.0})):
+        if what != usual:
+            parts.append("_".join(f"{key}{share:.3g}" for key, share in what.items()))
+    parts += [f"gap{car.gap}"] * (car.gap != 2.5) + [f"sigma{car.sigma}"] * (car.sigma != 0)
+    return "-".join(parts)
+
+
+def _tune(site, control, wanted, free, folder, name):
     """Tries SUMO's defaults and each program made by its tool; gives the delays and the best file's name."""
-    arrivals = demand.arrivals(site.layout, flow, TUNING_SEED, TUNING_SECONDS)
-    files = {key: folder / f"{name}.{key}.xml" for key in ("routes", "trips", "log")}
-    demand.write_routes(files["routes"], site, arrivals, vehicle)
+    wanted = replace(wanted, seed=TUNING_SEED, seconds=TUNING_SECONDS, human=0.0, emergency=0.0)
+    arrivals = demand.arrivals(site.layout, wanted)
+    files = {key: folder / f"{name}.{os.getpid()}.{key}.xml" for key in ("routes", "trips", "log")}
+    demand.write_routes(files["routes"], site, arrivals)
     tried = {}
-    for candidate in ["", *_programs(site, control, files["routes"], vehicle, folder, name)]:
-        extra = folder / candidate if candidate else None
-        trips, _, _ = run(
-            site, control, arrivals, vehicle, files, TUNING_SEED, 3 * TUNING_SECONDS, extra, TUNING_STEP)
-        found = metrics.summary(trips, arrivals, free, TUNING_SECONDS)
-        tried[candidate] = found["delay"] + found["left"] * TUNING_SECONDS / max(1, len(arrivals))
+    for candidate in ["", *_programs(site, control, files["routes"], wanted.types["car"], folder, name)]:
+        trips = _tuning_trips(site, control, files, folder / candidate if candidate else None)
+        tried[candidate] = metrics.summary(trips, metrics.delays(trips, arrivals, free), TUNING_SECONDS)["delay"]
     for path in files.values():
         path.unlink()
     return {"delays": tried, "best": min(tried, key=tried.get)}
@@ -78,12 +109,12 @@ def _programs(site, control, routes, vehicle, folder, name):
     found = []
     for saturation in (2.0, round(vehicle.headway + (vehicle.gap + vehicle.length) / vehicle.road_speed, 2)):
         path = folder / f"{name}-webster-{saturation}.add.xml"
-        tool = [sys.executable, f"{TOOLS}/tlsCycleAdaptation.py", "-n", str(site.net("static")), "-r", str(routes),
-                "-o", str(path), "-b", "0", "-H", str(saturation), "-y", "3", "-a", "0"]
-        environment = {**os.environ, "SUMO_HOME": "/usr/share/sumo"}
-        done = subprocess.run(tool, capture_output=True, text=True, env=environment, check=False)
+        tool = [sys.executable, f"{simulator.TOOLS}/tlsCycleAdaptation.py", "-n", str(site.net("static")),
+                "-r", str(routes), "-o", str(path), "-b", "0", "-H", str(saturation), "-y", "3", "-a", "0"]
+        environment = {**os.environ, "SUMO_HOME": "/usr/share/sumo", "PYTHONPATH": ""}
+        done = simulator.call(tool, env=environment)
         if done.returncode != 0 or not path.is_file():
-            raise NoSumo(f"tlsCycleAdaptation.py failed: {done.stderr[-500:]}")
+            raise NoSumo(f"SUMO's tlsCycleAdaptation.py failed: {' '.join(done.stderr.split())[-300:]}")
         if control == "static":
             found.append(path.name)
         else:
@@ -106,25 +137,40 @@ def _with_detectors(path, share):
     return made.name
 
 
-def free_times(site, vehicle, folder):
-    """The seconds of a lone vehicle on each path, right of way switched off; kept in the folder."""
-    kept = folder / f"free-{vehicle.headway}-{vehicle.gap}.json"
-    if kept.is_file():
-        return json.loads(kept.read_text())
-    lone = [demand.Arrival(number, 60.0 * number, name, "car") for number, name in enumerate(site.links)]
-    routes, trips, log = (folder / f"free-{os.getpid()}.{key}.xml" for key in ("routes", "trips", "log"))
-    demand.write_routes(routes, site, lone, vehicle)
-    sumo = simulator.start(simulator.options(site.net("aim"), routes, trips, log, site.settings["step"], 1))
-    left = len(lone)
-    while left:
-        sumo.simulationStep()
-        for name in sumo.simulation.getDepartedIDList():
-            sumo.vehicle.setSpeedMode(name, simulator.SAFE_BUT_NO_WAY)
-        left -= len(sumo.simulation.getArrivedIDList())
-    sumo.close()
-    found = metrics.read_trips(trips)
-    times = {arrival.move: found[arrival.id].seconds for arrival in lone}
-    kept.write_text(json.dumps(times, indent=1) + "\n")
-    for path in (routes, trips, log):
+def free_times(site, types, folder):
+    """The seconds of a lone vehicle of each type on each path, right of way switched off; kept in the folder.
+
+    They have the keys of `metrics.free_key`.
+    """
+    found = {}
+    for vehicle in types:
+        kept = folder / f"free-{_measures(vehicle)}.json"
+        if not kept.is_file():
+            whole = folder / f"{kept.name}.{os.getpid()}.part"
+            whole.write_text(json.dumps(_free_times(site, vehicle, folder), indent=1) + "\n", encoding="ascii")
+            whole.replace(kept)
+        found.update(json.loads(kept.read_text(encoding="ascii")))
+    return found
+
+
+def _measures(vehicle):
+    """A type's name and what its lone way depends on."""
+    return f"{vehicle.name}-{vehicle.length}-{vehicle.accel}-{vehicle.headway}-{vehicle.gap}-{vehicle.sigma}"
+
+
+def _free_times(site, vehicle, folder):
+    lone = [demand.Arrival(number, LONE_EVERY * number, name, "car", vehicle) for number, name in enumerate(site.links)]
+    files = {key: folder / f"free-{os.getpid()}.{key}" for key in ("routes", "trips", "log")}
+    demand.write_routes(files["routes"], site, lone)
+    sumo = simulator.start([*simulator.options(site.net("aim"), files, site.step, 1), "-r", str(files["routes"])])
+    try:
+        while sumo.simulation.getMinExpectedNumber():
+            sumo.simulationStep()
+            for name in sumo.simulation.getDepartedIDList():
+                sumo.vehicle.setSpeedMode(name, simulator.SAFE_BUT_NO_WAY)
+    finally:
+        sumo.close()
+    found = metrics.read_trips(files["trips"], 0.0)
+    for path in files.values():
         path.unlink(missing_ok=True)
-    return times
+    return {metrics.free_key(arrival): found[arrival.id].seconds for arrival in lone}

@@ -5,6 +5,8 @@ neighbouring stations are not one spacing apart, so a vehicle that drives by its
 reservation or fall behind it. A `Way` maps the manager's distance to the arc length on the lane of the simulator,
 and says which length a vehicle must declare so that its rear, too, is never behind the rear that the manager reserves.
 
+A `Track` is the simulator's lane; in a net that was made of the layout it is the path itself.
+
 Here all lengths are metres.
 """
 
@@ -23,6 +25,12 @@ def shape_of(move):
     return [_bezier(points, piece / PIECES) for piece in range(PIECES + 1)]
 
 
+def _cut(line):
+    """The places of a line of two points, cut into as many pieces as a curve."""
+    (x0, y0), (x1, y1) = line
+    return [(x0 + (x1 - x0) * piece / PIECES, y0 + (y1 - y0) * piece / PIECES) for piece in range(PIECES + 1)]
+
+
 def _bezier(points, share):
     """The place on a quadratic curve at a share of its parameter."""
     (x0, y0), (x1, y1), (x2, y2) = points
@@ -33,25 +41,99 @@ def _bezier(points, share):
     )
 
 
+class Track:
+    """The lane on which a vehicle goes before the box, in it and behind it: a chain of places, 0 at the line.
+
+    `length` is how long the simulator says that the part in the box is; its shape is scaled to that.
+    """
+
+    def __init__(self, before, inside, after, length=None):
+        self.inside = _arcs(inside)
+        self.arc = length or self.inside[-1]
+        scale = self.arc / self.inside[-1]
+        self.inside = [arc * scale for arc in self.inside]
+        self.shape = list(inside)
+        back = [-arc for arc in _arcs(before[::-1])][:0:-1]
+        self._places = [*back, *self.inside, *(self.arc + arc for arc in _arcs(after)[1:])]
+        self._points = [*before[:-1], *inside, *after[1:]]
+
+    def at(self, place):
+        """The point at a place; past either end the track goes straight on."""
+        last = len(self._places) - 2
+        piece = min(max(bisect.bisect_right(self._places, place) - 1, 0), last)
+        begin, end = self._places[piece], self._places[piece + 1]
+        share = (place - begin) / (end - begin)
+        (x0, y0), (x1, y1) = self._points[piece], self._points[piece + 1]
+        return x0 + share * (x1 - x0), y0 + share * (y1 - y0)
+
+    def nearest(self, point, place):
+        """The place in the box, not before `place`, whose point is nearest to another; and how far that is."""
+        best = (math.inf, place)
+        for begin, end, here, there in zip(self.inside, self.inside[1:], self.shape, self.shape[1:]):
+            if end >= place:
+                share = min(max(_share(here, there, point), (place - begin) / (end - begin), 0.0), 1.0)
+                found = (here[0] + share * (there[0] - here[0]), here[1] + share * (there[1] - here[1]))
+                best = min(best, (math.dist(found, point), begin + share * (end - begin)))
+        return best[1], best[0]
+
+
+def _arcs(points):
+    """The arc length from the first point to each."""
+    arcs = [0.0]
+    for here, there in zip(points, points[1:]):
+        arcs.append(arcs[-1] + math.dist(here, there))
+    return arcs
+
+
+def _share(here, there, point):
+    """How far along a piece the foot of a point stands, as a share of the piece."""
+    dx, dy = there[0] - here[0], there[1] - here[1]
+    return ((point[0] - here[0]) * dx + (point[1] - here[1]) * dy) / (dx * dx + dy * dy)
+
+
+def track_of(move, reach=60.0):
+    """The track of a move's own path, which goes straight on before the box and behind it."""
+    shape = shape_of(move)
+    before, after = _beyond(shape[1], shape[0], reach), _beyond(shape[-2], shape[-1], reach)
+    return Track([before, shape[0]], shape, [shape[-1], after])
+
+
+def _beyond(here, there, reach):
+    """The point so far beyond `there` as one comes from `here`."""
+    share = reach / math.dist(here, there)
+    return there[0] + share * (there[0] - here[0]), there[1] + share * (there[1] - here[1])
+
+
 class Way:
     """A move's path, mapped between the manager's distance and the arc length; negative ones lie before the line.
 
-    With `is_mapped` false each distance is taken for an arc length: this shows what the mapping is for.
+    The vehicle goes on `track`, which is the path itself where none is given: each piece of the path ends where the
+    track is nearest to it. `deviation` is how far the two are apart at most. With `is_mapped` false each distance is
+    taken for an arc length: this shows what the mapping is for.
     """
 
-    def __init__(self, move, spacing, vehicle_length, is_mapped=True):
+    def __init__(self, move, spacing, vehicle_length, is_mapped=True, track=None):
         self.counted = move.parts * spacing / 1000
         shape = shape_of(move)
-        self._arcs = [0.0]
-        for here, there in zip(shape, shape[1:]):
-            self._arcs.append(self._arcs[-1] + math.dist(here, there))
+        self.track = track or track_of(move)
+        self.deviation = 0.0
+        self._arcs = _arcs(shape) if track is None else self._along(shape if len(shape) > 2 else _cut(shape))
         self.arc = self._arcs[-1]
-        self._pieces = len(shape) - 1
+        self._pieces = len(self._arcs) - 1
         self.is_mapped = is_mapped
         self.entry_ratio = self._slope(0) if is_mapped else 1.0
         self.exit_ratio = self._slope(self._pieces - 1) if is_mapped else 1.0
         self.greatest_ratio = max(map(self._slope, range(self._pieces))) if is_mapped else 1.0
         self.declared = self._declared(vehicle_length)
+
+    def _along(self, shape):
+        """The place on the track at the end of each piece of the path."""
+        arcs = [0.0]
+        for point in shape[1:-1]:
+            place, apart = self.track.nearest(point, arcs[-1])
+            self.deviation = max(self.deviation, apart)
+            arcs.append(min(max(place, arcs[-1] + 1e-3), self.track.arc - 1e-3))
+        return [*arcs, self.track.arc]
 
     def _slope(self, piece):
         """True metres per counted metre in a piece."""

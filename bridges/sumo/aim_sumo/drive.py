@@ -1,32 +1,32 @@
-"""Drives SUMO's vehicles by the manager's answers, step by step."""
+"""Drives SUMO's vehicles by the managers' answers, step by step."""
 
-import math
 import random
 import time
 from collections import Counter
 from dataclasses import dataclass, field
 
 from . import simulator
-from .car import Car, State
-from .curve import Way
-from .driver import Driver
-from .gaps import Gaps
+from .faults import Trouble
 from .judge import Judge
-from .lights import Signals
-from .mail import Faults, Mail
-from .net import greatest_speed
-from .planner import Crossing, Vehicle
-from .proposal import Proposer
+from .junction import JunctionRun
+from .mail import Faults
+from .vehicles import Vehicle
+
+SEEN_BEFORE = 30.0
+"""Metres before a vehicle may ask from which on it keeps its lane, in a net that somebody else made."""
 
 
 @dataclass(frozen=True)
 class Settings:
-    """How a run is driven; seconds, metres and metres a second."""
+    """How a run is driven; seconds, metres and metres a second.
 
-    policy: str
+    `policy` is the one in force first, the head's first where it is None. `is_made` says that the net was made of a
+    head, and `shows_lights` that people are shown the manager's greens.
+    """
+
+    policy: str = None
     seed: int = 1
     end: float = 1500.0
-    vehicle: Vehicle = field(default_factory=Vehicle)
     ask: float = 50.0
     hold: float = 2.0
     slow_down: float = 0.8
@@ -40,421 +40,159 @@ class Settings:
     is_blind: bool = False
     is_mapped: bool = True
     with_window: bool = False
+    is_made: bool = True
+    shows_lights: bool = True
+    widen: bool = False
+    swing: bool = False
 
 
 class Bridge:
-    """One run: SUMO, the manager, and the vehicles between them."""
+    """One run: SUMO, the junctions with their managers, and the vehicles.
 
-    def __init__(self, site, settings, arrivals, manager, files):
+    `arrivals` are the vehicles of a demand that the bridge made; in a net of somebody else's it is None, and each
+    vehicle is taken over as it comes near a junction.
+    """
+
+    def __init__(self, site, settings, managers, fits, files, arrivals=None, extra=()):
         self.site = site
         self.settings = settings
-        self.manager = manager
         self.now = 0
-        self.counts = Counter()
-        self.arrival_errors = []
-        self.drivers = []
-        self._files = files
-        self._arrivals = {arrival.id: arrival for arrival in arrivals}
-        self._layout = site.layout
-        self._step = site.settings["step"]
-        self._vehicle = settings.vehicle
-        self._moves = {move.name: move for move in self._layout.moves}
-        self._crossings = {move.name: self._crossing(move) for move in self._layout.moves}
-        gaps = Gaps(self._vehicle, self._step)
-        lateness = settings.faults.longest if settings.faults.late > 0 else 0
-        self._proposer = Proposer(self._layout, self._vehicle, gaps, settings.hold, self._step, lateness)
-        self._gaps = gaps
-        self._mail = Mail(manager, settings.faults, settings.seed)
-        self._signals = Signals(self._layout, settings.policy)
-        self._chance = random.Random(settings.seed)
-        self._cars = {}
-        self._lanes = {lane: [] for lane in range(self._layout.lanes)}
-        self._exits = {}
-        self._orders = sorted((self._steps(seconds), words) for seconds, words in settings.orders)
-        self._shown = None
-        self._sumo = None
+        self.left = []
+        self.pending = 0
         self.judge = None
+        self.junctions = []
+        self._managers = managers
+        self._fits = fits
+        self._files = files
+        self._extra = list(extra)
+        self._arrivals = None if arrivals is None else {arrival.id: arrival for arrival in arrivals}
+        self._step = site.step
+        self._sumo = None
+        self._visits = {}
+        self._types = {}
 
-    def _crossing(self, move):
-        way = Way(move, self._layout.spacing, self._vehicle.length, self.settings.is_mapped)
-        greatest = greatest_speed(way, self.site.speeds[move.name], self._vehicle.road_speed, self._step)
-        return Crossing(way, greatest, self._vehicle, self._step)
+    @property
+    def counts(self):
+        return sum((junction.counts for junction in self.junctions), Counter())
+
+    @property
+    def drivers(self):
+        return [driver for junction in self.junctions for driver in junction.drivers]
+
+    @property
+    def arrival_errors(self):
+        return [error for junction in self.junctions for error in junction.arrival_errors]
 
     def _steps(self, seconds):
         return max(1, round(seconds / self._step))
 
-    # The run
-
     def run(self, progress):
         """Runs until all have arrived or the end is there; in a window no faster than real time."""
-        files = self._files
-        words = simulator.options(
-            self.site.net("aim"), files["routes"], files["trips"], files["log"], self._step, self.settings.seed)
-        words += ["--time-to-teleport", "-1", "--no-warnings", "true"]
+        words = simulator.options(self.site.net("aim"), self._files, self._step, self.settings.seed)
+        words += ["--time-to-teleport", "-1", "--no-warnings", "true", *self._extra]
         self._sumo = simulator.start(words, self.settings.with_window)
-        self.judge = Judge(self._sumo, self._vehicle)
-        left = len(self._arrivals)
-        begun = time.monotonic()
         try:
-            while left and self.now * self._step < self.settings.end:
-                left -= self._one_step()
-                if self.settings.with_window:
-                    time.sleep(max(0.0, begun + self.now * self._step - time.monotonic()))
-                if self.now % self._steps(1.0) == 0:
-                    progress(self.now * self._step, len(self._arrivals) - left)
+            self._open()
+            self._steps_of_run(progress)
+            self.left = sorted(self._sumo.vehicle.getIDList())
+            self.pending = len(self._sumo.simulation.getPendingVehicles())
         finally:
             self._sumo.close()
-        return left
+
+    def _open(self):
+        """Makes what looks at SUMO while it runs."""
+        chance = random.Random(self.settings.seed)
+        self.judge = Judge(self._sumo, self.site.junctions)
+        for junction, manager, fits in zip(self.site.junctions, self._managers, self._fits):
+            self.junctions.append(JunctionRun(junction, self.settings, self._step, manager, fits, self._sumo, chance))
+
+    def _steps_of_run(self, progress):
+        begun = time.monotonic()
+        arrived = 0
+        while self._sumo.simulation.getMinExpectedNumber() and self.now * self._step < self.settings.end:
+            arrived += self._one_step()
+            if self.settings.with_window:
+                time.sleep(max(0.0, begun + self.now * self._step - time.monotonic()))
+            if self.now % self._steps(1.0) == 0:
+                progress(self.now * self._step, arrived)
 
     def _one_step(self):
         """One step of SUMO and of all vehicles; gives the number of vehicles that arrived in it."""
-        self._sumo.simulationStep()
+        try:
+            self._sumo.simulationStep()
+        except Exception as fault:  # SUMO's own exceptions have no common class in its two modules
+            raise Trouble(f"SUMO ended at {self.now * self._step:.0f} s: {' '.join(str(fault).split())}") from fault
         self.now += 1
-        for name in self._sumo.simulation.getDepartedIDList():
-            self._welcome(self._arrivals[name])
+        if self._arrivals is not None:
+            for name in self._sumo.simulation.getDepartedIDList():
+                self._welcome(self._arrivals[name])
+        elif self.now % self._steps(0.1) == 0:
+            self._look_around()
         arrived = self._sumo.simulation.getArrivedIDList()
         for name in arrived:
-            self._farewell(name)
-        self._mail.deliver(self.now)
-        self._serve_orders()
-        self._show_signals()
-        for lane in self._lanes.values():
-            for car in list(lane):
-                self._drive(car)
-        self.judge.look([car for car in self._cars.values() if -1.0 < car.place < car.way.arc + 15])
+            if name in self._visits:
+                self._visits.pop(name).farewell(name)
+        for junction in self.junctions:
+            junction.take_step(self.now)
+        self.judge.look()
         return len(arrived)
 
     def _welcome(self, arrival):
-        """Makes the vehicle that SUMO has let in."""
-        move = self._moves[arrival.move]
-        lane = self._lanes[move.lane]
-        leader = lane[-1] if lane else None
-        crossing = self._crossings[move.name]
-        car = Car(arrival, move, crossing, leader, self._vehicle, self._step)
-        listener = Listener(self, car)
-        car.driver = Driver(arrival.number, self._mail, listener, self._steps(self.settings.resend))
-        self.drivers.append(car.driver)
-        lane.append(car)
-        self._cars[car.id] = car
-        self._exits.setdefault(self._exit(car), []).append(car)
-        is_human = car.state is State.HUMAN
-        self._sumo.vehicle.setSpeedMode(
-            car.id, simulator.LIGHTS_BUT_NO_WAY if is_human else simulator.SAFE_BUT_NO_WAY)
-        self._sumo.vehicle.setLaneChangeMode(car.id, 0)
+        """Takes over a vehicle of the bridge's own demand as soon as SUMO has let it in."""
+        junction = self.junctions[0]
+        junction.welcome(arrival.id, arrival.kind, self.site.layout.move(arrival.move), arrival.vehicle)
+        self._visits[arrival.id] = junction
 
-    def _exit(self, car):
-        link = self.site.links[car.move.name]
-        return link.exit, link.exit_lane
+    # Nets that somebody else made
 
-    def _farewell(self, name):
-        """Forgets a vehicle that has arrived."""
-        car = self._cars.pop(name)
-        car.place = math.inf
-        self._forget(car)
+    def _look_around(self):
+        """Takes over the vehicles that have come near a junction on a lane by which they can go on."""
+        lane, place = self._sumo.lane.getLastStepVehicleIDs, self._sumo.vehicle.getLanePosition
+        for run in self.junctions:
+            links = {}
+            for link in run.junction.links.values():
+                links.setdefault(link.entry_name, []).append(link)
+            for entry, choices in links.items():
+                near = choices[0].entry_length - self.settings.ask - SEEN_BEFORE
+                for name in reversed(lane(entry)):
+                    if place(name) < near:
+                        break
+                    if self._visits.get(name) is not run or name not in run.cars:
+                        self._take_over(run, name, choices)
 
-    def _forget(self, car):
-        """Takes a vehicle out of its lanes; those behind have none ahead any more."""
-        if car in self._lanes[car.move.lane]:
-            self._lanes[car.move.lane].remove(car)
-            self._exits[self._exit(car)].remove(car)
-        for other in self._lanes[car.move.lane]:
-            if other.leader is car:
-                other.leader = None
-
-    def _serve_orders(self):
-        """Gives the operator's orders whose time has come."""
-        while self._orders and self._orders[0][0] <= self.now:
-            _, words = self._orders.pop(0)
-            reply = self.manager.ask(f"operator {self.now} {words}")
-            if reply.kind == "switched":
-                self._signals.switch(reply.start, words.split(" ")[1])
-
-    def _show_signals(self):
-        """Shows the manager's greens to those who drive by them."""
-        shown = self._signals.shown(self.now, self._steps(self.settings.yellow))
-        if shown != self._shown:
-            self._shown = shown
-            state = {self.site.lights[name]: shown[move.lane] for name, move in self._moves.items()}
-            self._sumo.trafficlight.setRedYellowGreenState("C", "".join(state[index] for index in sorted(state)))
-
-    # One vehicle in one step
-
-    def _drive(self, car):
-        if self._may_skip(car):
-            return
-        self._sense(car)
-        if car.is_gone and not (car.driver.grant and car.state is not State.HUMAN):
-            self._forget(car)
-        if car.state is State.HUMAN:
-            self._watch_human(car)
-            return
-        car.driver.again(self.now)
-        if car.state is State.FREE:
-            self._drive_free(car)
-        elif car.state is State.BOUND:
-            self._drive_bound(car)
-        elif car.state is State.INSIDE:
-            self._drive_inside(car)
-        elif car.state is State.OUT:
-            self._finish(car)
-
-    def _may_skip(self, car):
-        """True where nothing can happen to the vehicle in this step; one that follows its plan is moved on."""
-        if self.now % 10 == 0:
-            return False
-        if car.state is State.BOUND and not self.settings.error and self.now < car.plan.start - 3:
-            car.place = car.plan.at(self.now)
-            self._sumo.vehicle.setSpeed(car.id, car.plan.speed_at(self.now))
-            return True
-        far = car.place < -self.settings.ask - 5 or car.state is State.OUT
-        return far and not car.driver.is_waiting
-
-    def _sense(self, car):
-        """Reads where the vehicle is and how fast."""
+    def _take_over(self, run, name, links):
+        """Takes over a vehicle whose way on is one of the links of its lane."""
         vehicle = self._sumo.vehicle
-        road, place = vehicle.getRoadID(car.id), vehicle.getLanePosition(car.id)
-        link = self.site.links[car.move.name]
-        if road == link.entry:
-            car.place = place - self.site.lengths[f"{link.entry}_{link.entry_lane}"]
-        else:
-            car.place = place if road.startswith(":") else place + car.way.arc
-        car.speed = vehicle.getSpeed(car.id)
-
-    def _watch_human(self, car):
-        """Counts where a person drives on red, or stays in the box beyond the clearance."""
-        if car.place > 0 and car.entered is None:
-            car.entered = self.now
-            if car.move.lane not in self._signals.green_lanes(self.now - 1):
-                self.counts["humans on red"] += 1
-        if car.entered and car.place - self._vehicle.length > car.way.arc and car.plan is None:
-            car.plan = False
-            if not self._signals.is_claimed(car.move.lane, self.now):
-                self.counts["humans beyond the clearance"] += 1
-
-    def _drive_free(self, car):
-        """Asks where it may, and else rolls towards the hold point."""
-        driver = car.driver
-        if car.place > 0:
-            self._stray(car)
+        route, index = vehicle.getRoute(name), vehicle.getRouteIndex(name)
+        onwards = route[index + 1] if index + 1 < len(route) else None
+        if onwards is None:
             return
-        if -car.place > self.settings.ask:
+        link = next((link for link in links if link.exit == onwards), None)
+        if link is None:
+            if all(each.exit != onwards for each in run.junction.links.values() if each.entry == links[0].entry):
+                raise Trouble(f"{name} goes from {links[0].entry} to {onwards} at {run.junction.id}, "
+                              "which its layout doesn't have; aim-sumo net told why")
             return
-        if driver.may_ask and self.now >= car.next and (car.leader is None or car.leader.is_across):
-            self._ask(car)
-        if car.state is State.FREE:
-            self._sumo.vehicle.setSpeed(car.id, self._cap(car))
-        else:
-            self._drive_bound(car)
+        earlier = self._visits.get(name)
+        if earlier is not None and name in earlier.cars:
+            if earlier.cars[name].has_plan:
+                return
+            earlier.farewell(name)
+        kind = "emergency" if vehicle.getVehicleClass(name) == "emergency" else "car"
+        run.welcome(name, kind, run.junction.layout.move(link.move), self._type(name, link))
+        self._visits[name] = run
 
-    def _stray(self, car):
-        """Notes an entry without a reservation, which is a miss, and leaves the vehicle to SUMO."""
-        car.driver.enter(self.now)
-        self.counts["misses"] += 1
-        car.entered = self.now
-        car.state = State.OUT
-        self._sumo.vehicle.setSpeed(car.id, -1)
-
-    def _cap(self, car):
-        """The greatest speed at which a vehicle without a reservation can stop at the hold point, and its wish."""
-        left = -car.place - self.settings.hold
-        if left <= 0:
-            return 0.0
-        half = self._vehicle.brake * self._step / 2
-        stopping = math.sqrt(2 * self._vehicle.brake * left + half * half) - half
-        wish = car.wish if car.speed <= car.wish else max(car.wish, car.speed - 1.5 * self._step)
-        return min(stopping, left / self._step / 2, wish)
-
-    def _others(self, car):
-        """The vehicles that leave by the same lane and of which something can be foreseen."""
-        return [other for other in self._exits[self._exit(car)] if other is not car and other.is_across]
-
-    def _ask(self, car):
-        """Sends a request where there is a plan for it."""
-        car.next = self.now + self._steps(0.1)
-        proposal = self._proposer.best(car, self._others(car), self.now)
-        if proposal is None:
-            self.counts["no plan"] += 1
-            return
-        if not self._proposer.may_ask(car, proposal):
-            car.next = self.now + 2
-            return
-        if proposal.reach > car.refused_at:
-            car.next = self.now + self._steps(0.2)
-            proposal = None if self.settings.is_blind else self._proposer.unlocking(car, self.now)
-            self.counts["unlocking requests"] += proposal is not None
-        if proposal is not None:
-            car.proposal = proposal
-            car.driver.request(self.now, self._words(car, proposal.plan), self._proposer.until(car, proposal.plan))
-
-    def _words(self, car, plan):
-        """The fields of a request for a plan, behind its number."""
-        kind = "emergency" if car.kind == "emergency" else "car"
-        width = round(self._vehicle.width * 1000)
-        return (
-            f"{car.move.lane} {car.move.turn} {plan.start} {plan.speed} {car.crossing.greatest} {plan.accel} "
-            f"{car.way.declared} {width} {kind}"
-        )
-
-    def _drive_bound(self, car):
-        """Follows the plan up to the line, and enters where the window is open."""
-        if self.now % self._steps(0.1) == 0 and self._can_stop(car) and self._is_lost(car):
-            self._recover(car)
-            return
-        want = self._wanted(car)
-        if car.place + want * self._step > 1e-4:
-            self._enter(car, want)
-        self._sumo.vehicle.setSpeed(car.id, want)
-
-    def _wanted(self, car):
-        """The speed of this step by the plan, with the error of a driver that isn't exact."""
-        ahead = car.plan.at(self.now + 1)
-        if not self.settings.error:
-            return max(0.0, (ahead - car.place) / self._step)
-        sigma, step = self.settings.error, self._step
-        car.drift += -car.drift * step + sigma * math.sqrt(2 * step) * self._chance.gauss(0, 1)
-        if self.now % self._steps(0.1) == 0:
-            car.correction = max(-1.0, min(1.0, (car.plan.at(self.now) - car.place) / 0.4))
-        return max(0.0, car.plan.speed_at(self.now) + car.correction + car.drift)
-
-    def _can_stop(self, car):
-        return car.place < -(car.speed**2 / (2 * self._vehicle.hardest_brake) + self.settings.hold)
-
-    def _is_lost(self, car):
-        """True where the plan can't be kept: the one ahead has lost its own, drives otherwise, or the time is past."""
-        leader = car.leader
-        if leader is not None and not leader.is_across:
-            return True
-        if leader is not None and leader.state is State.HUMAN:
-            return not self._gaps.keeps_room(car, car.plan, [], self.now)
-        if not self.settings.error:
-            return False
-        off = abs(car.plan.at(self.now) - car.place) - (car.plan.start - self.now) * self._step
-        return off > self._layout.late * self._step * max(car.speed, 2.0)
-
-    def _recover(self, car):
-        """Leaves a plan that can't be kept, before the line."""
-        car.release()
-        self._sumo.vehicle.setSpeedMode(car.id, simulator.SAFE_BUT_NO_WAY)
-        self._exchange(car)
-        self._sumo.vehicle.setSpeed(car.id, self._cap(car) if car.state is State.FREE else self._wanted(car))
-
-    def _exchange(self, car):
-        """Changes a reservation to one that can be kept, or gives it back."""
-        proposal = None
-        if (car.leader is None or car.leader.is_across) and self.now >= car.next:
-            proposal = self._proposer.best(car, self._others(car), self.now)
-        if proposal is not None and self._proposer.may_ask(car, proposal):
-            self.counts["changes"] += 1
-            car.proposal = proposal
-            until = self._proposer.until(car, proposal.plan)
-            car.driver.change(self.now, self._words(car, proposal.plan), until)
-        else:
-            self.counts["cancels"] += 1
-            car.driver.cancel(self.now)
-
-    def _enter(self, car, want):
-        """Notes that the front passes the line in this step."""
-        short = -car.place / (max(want, 0.1) * self._step) if car.place < -1e-4 else 0.0
-        self.arrival_errors.append(self.now - car.plan.start + short)
-        if not car.driver.enter(self.now) and not self.settings.is_blind:
-            self.counts["misses"] += 1
-        car.entered = self.now
-        car.state = State.INSIDE
-        self.counts["entered"] += 1
-
-    def _drive_inside(self, car):
-        """Keeps the manager's law of motion until the rear is out."""
-        self._count_strays(car)
-        if car.place - self._vehicle.length < car.way.arc:
-            self._sumo.vehicle.setSpeed(car.id, self._wanted(car))
-            return
-        car.state = State.OUT
-        self._sumo.vehicle.setSpeedMode(car.id, simulator.SAFE_BUT_NO_WAY)
-        self._sumo.vehicle.setSpeed(car.id, -1)
-
-    def _count_strays(self, car):
-        """Counts the steps in which the front is outside the reserved time in the box."""
-        behind = car.plan.at(self.now - self._layout.late) - 0.02
-        ahead = car.plan.at(self.now + 1 + self._layout.early) + 0.02
-        if car.place < car.way.arc and not behind <= car.place <= ahead:
-            self.counts["steps astray in the box"] += 1
-
-    def _finish(self, car):
-        """Tells the manager that the crossing is over, as soon as the reserved steps are."""
-        grant = car.driver.grant
-        if grant is not None and self.now > car.entered + grant.last - grant.start:
-            car.driver.done(self.now)
-
-    # Answers
-
-    def answered(self, car, kind, reply):
-        """Takes the answer that counts to a message of a vehicle."""
-        if car.id not in self._cars:
-            return
-        self._sense(car)
-        if self.settings.is_blind and kind == "request":
-            self._go(car, car.proposal.plan)
-        elif reply.kind == "confirm":
-            self._confirmed(car, reply)
-        elif reply.kind == "reject":
-            self._refused(car, reply)
-        elif kind == "cancel":
-            car.next = max(car.next, self.now + self._steps(0.2))
-
-    def _confirmed(self, car, grant):
-        """Takes a reservation where there is still a plan for it, else changes it or gives it back."""
-        car.refused_at = math.inf
-        plan = car.proposal.plan if car.proposal.is_real else None
-        is_late = plan is None or plan.begun != self.now
-        if plan is not None and (is_late or grant.is_fast != (plan.accel > 0)):
-            accel = plan.accel if grant.is_fast else 0
-            plan = self._proposer.at(car, grant.start, plan.speed, accel, self._others(car), self.now)
-        if plan is not None and self._is_too_slow(car, plan, grant):
-            self.counts["slow grants given back"] += 1
-            plan = None
-        if plan is not None and (car.leader is None or car.leader.is_across):
-            self._go(car, plan)
-        elif is_late:
-            self._exchange(car)
-        else:
-            self.counts["cancels"] += 1
-            car.driver.cancel(self.now)
-
-    def _is_too_slow(self, car, plan, grant):
-        """True where the manager granted a slow crossing without the acceleration that was asked for."""
-        if grant.is_fast or plan.speed >= car.crossing.greatest:
-            return False
-        return plan.speed / 1000 / self._step < self.settings.slowest_steady
-
-    def _go(self, car, plan):
-        car.adopt(plan)
-        self._sumo.vehicle.setSpeedMode(car.id, simulator.NO_CHECKS)
-
-    def _refused(self, car, reply):
-        """Notes when it may ask again, and slows down where the box is taken."""
-        car.next = max(reply.next, self.now + 1)
-        reason = reply.reason[0]
-        if not car.proposal.is_real:
-            car.next = max(car.next, self.now + self._steps(0.2))
-        if reason in ("taken", "green"):
-            car.refused_at = min(car.refused_at, car.proposal.reach)
-            car.wish = max(self.settings.slowest_wish, min(car.wish, car.speed) * self.settings.slow_down)
-        elif reason == "distance":
-            car.refused_at = int(reply.reason[1])
-        elif reason == "bad":
-            car.crossing.refused_speed = max(car.crossing.refused_speed, car.proposal.plan.speed)
-        elif reason != "emergency":
-            car.next = max(car.next, self.now + self._steps(0.2))
-        if reply.held is not None:
-            car.driver.cancel(self.now, reply.held)
-
-
-class Listener:
-    """Hands a driver's answers to the bridge, with the vehicle that they are for."""
-
-    def __init__(self, bridge, car):
-        self._bridge = bridge
-        self._car = car
-
-    def answered(self, step, kind, reply):
-        self._bridge.answered(self._car, kind, reply)
+    def _type(self, name, link):
+        """What a run needs to know of a vehicle, as SUMO has it, on the roads of a link."""
+        vehicle = self._sumo.vehicle
+        factor = vehicle.getSpeedFactor(name)
+        speed = min(vehicle.getMaxSpeed(name), factor * min(link.entry_speed, link.exit_speed))
+        speed = max(1.0, int(speed * 10) / 10)
+        key = (vehicle.getTypeID(name), speed)
+        if key not in self._types:
+            decel = vehicle.getDecel(name)
+            self._types[key] = Vehicle(
+                key[0], vehicle.getLength(name), vehicle.getWidth(name), min(vehicle.getAccel(name), 2.5),
+                min(3.0, 0.67 * decel), decel, vehicle.getTau(name), vehicle.getMinGap(name),
+                road_speed=speed, widen=self.settings.widen, swing=self.settings.swing)
+        return self._types[key]

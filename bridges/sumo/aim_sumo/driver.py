@@ -9,7 +9,10 @@ from dataclasses import dataclass, field
 
 @dataclass
 class Driver:
-    """Asks for one vehicle; `listener` is told each answer that counts: `answered(step, kind, reply)`."""
+    """Asks for one vehicle; `listener` is told each answer that counts: `answered(step, kind, reply)`.
+
+    Its number, and the greatest `seq` that was used with it, are lent to it before its first message.
+    """
 
     number: int
     mail: object
@@ -22,6 +25,7 @@ class Driver:
     has_given_up: bool = False
     is_halted: bool = False
     has_entered: bool = False
+    is_through: bool = False
     messages: int = 0
     log: list = field(default_factory=list)
     replies: list = field(default_factory=list)
@@ -113,4 +117,5 @@ class Driver:
         self.named = None
         if reply.kind == "confirm":
             self.grant = reply
+        self.is_through = self._kind == "done" and reply.kind == "ack"
         self.listener.answered(step, self._kind, reply)

@@ -7,8 +7,7 @@ EVERY = 0.1
 class Gaps:
     """Tells whether a plan keeps the room that vehicles keep to one another."""
 
-    def __init__(self, vehicle, step):
-        self._vehicle = vehicle
+    def __init__(self, step):
         self._step = step
         self._stride = max(1, round(EVERY / step))
 
@@ -24,10 +23,10 @@ class Gaps:
         shared = leader.move.name == car.move.name
         for step in range(plan.begun, plan.end, self._stride):
             ahead = leader.foreseen(step, now)
-            if not shared and ahead > self._vehicle.length:
+            if not shared and ahead > leader.vehicle.length:
                 return True
-            room = self._vehicle.room(plan.speed_at(step)) - 0.05
-            if ahead - self._vehicle.length - plan.at(step) < room:
+            room = car.vehicle.room(plan.speed_at(step)) - 0.05
+            if ahead - leader.vehicle.length - plan.at(step) < room:
                 return False
         return True
 
@@ -40,9 +39,11 @@ class Gaps:
             my_place = plan.at(step) - car.way.arc
             their_place = other.foreseen(step, now) - other.way.arc
             if theirs <= mine:
-                gap, speed = their_place - my_place, plan.speed_at(step)
+                gap = their_place - other.vehicle.length - my_place
+                room = car.vehicle.room(plan.speed_at(step))
             else:
-                gap, speed = my_place - their_place, other.foreseen_speed(step, now)
-            if gap - self._vehicle.length < self._vehicle.room(speed) - 0.05:
+                gap = my_place - car.vehicle.length - their_place
+                room = other.vehicle.room(other.foreseen_speed(step, now))
+            if gap < room - 0.05:
                 return False
         return True

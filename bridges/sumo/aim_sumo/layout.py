@@ -6,9 +6,7 @@ read, so that SUMO's net and the vehicles' plans can be made of it.
 
 from dataclasses import dataclass, field
 
-
-class BadHead(Exception):
-    """The head can't be used for a bridge; the text says why."""
+from .faults import BadHead
 
 
 @dataclass(frozen=True)
@@ -62,6 +60,8 @@ class Layout:
     side: int = 0
     tiles: int = 0
     spacing: int = 0
+    fixed: int = 0
+    half: int = 0
     spans: int = 0
     horizon: int = 0
     longest: int = 0
@@ -79,6 +79,10 @@ class Layout:
             if policy.name == name:
                 return policy
         raise BadHead(f"the head has no policy {name}; it has {', '.join(p.name for p in self.policies)}")
+
+    def move(self, name):
+        """The move of that name."""
+        return next(move for move in self.moves if move.name == name)
 
     def head(self, first=None):
         """The head's lines with the policy named `first` in front, since the first one is in force from step 0."""
@@ -111,7 +115,7 @@ def _take(layout, words):
     """Adds one line of the head."""
     keyword, rest = words[0], words[1:]
     if keyword == "grid":
-        layout.side, layout.tiles, layout.spacing, _, _, layout.spans = map(int, rest)
+        layout.side, layout.tiles, layout.spacing, layout.fixed, layout.half, layout.spans = map(int, rest)
     elif keyword == "times":
         layout.horizon, layout.longest, layout.clearance, *windows, layout.edge = map(int, rest)
         layout.early, layout.late = windows[0], windows[-1]

@@ -3,15 +3,16 @@
 Script and answers are kept, so that every run can be checked afterwards by replaying the one and comparing the other.
 """
 
+import os
 import pathlib
 import shlex
+import shutil
+import signal
 import subprocess
 import time
 from dataclasses import dataclass
 
-
-class ManagerFailed(Exception):
-    """The manager ended, or answered something else than what was asked."""
+from .faults import ManagerFailed
 
 
 @dataclass(frozen=True)
@@ -53,17 +54,18 @@ def read_reply(text):
 
 
 class Manager:
-    """A running `replay`; `head` is the lines of the layout."""
+    """A running `replay`; `head` is the lines of the layout, and `name` that of the files that are kept."""
 
-    def __init__(self, command, head, vehicles, folder):
-        self._script = open(pathlib.Path(folder) / "run.script", "w", encoding="ascii")
-        self._answers = open(pathlib.Path(folder) / "run.answers", "w", encoding="ascii")
+    def __init__(self, command, head, vehicles, folder, name="run"):
         self._process = subprocess.Popen(
-            [*shlex.split(command), "replay"], stdin=subprocess.PIPE, stdout=subprocess.PIPE, text=True,
-        )
+            words_of(command), stdin=subprocess.PIPE, stdout=subprocess.PIPE, text=True, start_new_session=True)
+        self._script = open(pathlib.Path(folder) / f"{name}.script", "w", encoding="ascii")
+        self._answers = open(pathlib.Path(folder) / f"{name}.answers", "w", encoding="ascii")
+        self.vehicles = vehicles
         self.entries = 0
         self.seconds = 0.0
-        for line in [*head, f"vehicles {vehicles}", "begin"]:
+        self._lines = [*head, f"vehicles {vehicles}", "begin"]
+        for line in self._lines:
             self._tell(line)
 
     def _tell(self, line):
@@ -76,11 +78,18 @@ class Manager:
     def _hear(self):
         """The next line that the manager prints."""
         try:
-            self._process.stdin.flush()
+            if not self._process.stdin.closed:
+                self._process.stdin.flush()
         except BrokenPipeError:
             pass
         line = self._process.stdout.readline()
         self._answers.write(line)
+        words = line.split()
+        if words[:2] == ["bad", "line"]:
+            said = self._lines[int(words[2]) - 1] if int(words[2]) <= len(self._lines) else ""
+            raise ManagerFailed(
+                f"the manager refuses line {words[2]} of what it was told, {said!r}: {' '.join(words[3:])}; "
+                "docs/LAYOUT.md and docs/SCRIPTS.md say what each number of a head may be")
         return line.rstrip("\n")
 
     def ask(self, event):
@@ -92,7 +101,8 @@ class Manager:
         known = _as_printed(event)
         head, arrow, reply = line.partition(" -> ")
         if not arrow or (known and head != f"{self.entries} {known}"):
-            raise ManagerFailed(f"to {event!r} the manager said {line!r}")
+            raise ManagerFailed(f"to {event!r} the manager said {line!r}" if line else
+                                f"the manager ended at {event!r}; what it said of it is above")
         self.entries += 1
         return read_reply(reply)
 
@@ -100,8 +110,7 @@ class Manager:
         """Ends the script; the last line must tell the number of entries."""
         self._tell("end")
         self._process.stdin.close()
-        last = self._process.stdout.readline()
-        self._answers.write(last)
+        last = self._hear() + "\n"
         self._script.close()
         self._answers.close()
         self._process.stdout.close()
@@ -110,9 +119,16 @@ class Manager:
             raise ManagerFailed(f"the manager ended with {last!r} and status {status}")
 
     def abandon(self):
-        """Ends the process without asking for its last line."""
-        self._process.kill()
-        self._process.wait(10)
+        """Ends the process, and all that it began, without asking for its last line."""
+        for number, patience in ((signal.SIGTERM, 5), (signal.SIGKILL, 10)):
+            try:
+                os.killpg(self._process.pid, number)
+                self._process.wait(patience)
+                break
+            except ProcessLookupError:
+                break
+            except subprocess.TimeoutExpired:
+                pass
         for stream in (self._process.stdin, self._process.stdout, self._script, self._answers):
             try:
                 stream.close()
@@ -125,9 +141,28 @@ def _as_printed(event):
     return None if event.startswith("operator") else event
 
 
+def words_of(command):
+    """The words that start a manager; refuses a command that isn't there before anything else is begun."""
+    try:
+        words = shlex.split(command)
+    except ValueError as fault:
+        raise ManagerFailed(f"--manager {command!r} can't be read as a command: {fault}") from None
+    if not words or shutil.which(words[0]) is None:
+        raise ManagerFailed(f"there is no manager {command!r} to run; name another by --manager, or build ./aim")
+    return [*words, "replay"]
+
+
+def scripts_of(folder):
+    """The names of a run's scripts, one a manager, without their ending."""
+    return sorted(path.stem for path in pathlib.Path(folder).glob("*.script"))
+
+
 def replays(command, folder):
-    """True where the manager answers the script of a run with the answers of that run, byte by byte."""
+    """True where the manager answers each script of a run with the answers of that run, byte by byte."""
     folder = pathlib.Path(folder)
-    with open(folder / "run.script", "rb") as script:
-        done = subprocess.run([*shlex.split(command), "replay"], stdin=script, capture_output=True, check=False)
-    return done.stdout == (folder / "run.answers").read_bytes()
+    for name in scripts_of(folder):
+        with open(folder / f"{name}.script", "rb") as script:
+            done = subprocess.run(words_of(command), stdin=script, capture_output=True, check=False)
+        if done.stdout != (folder / f"{name}.answers").read_bytes():
+            return False
+    return True

@@ -4,17 +4,18 @@ Each side of the square gets one road in and one road out, with a lane where the
 of one shape are made, one a control. What netconvert made is read back and compared with the layout.
 """
 
-import json
-import math
 import pathlib
-import subprocess
+import shutil
 import xml.etree.ElementTree as ET
 from dataclasses import dataclass
 
-from .curve import Way, shape_of
-from .layout import BadHead, read_head
+from . import reading, simulator
+from .curve import shape_of, track_of
+from .faults import BadHead
+from .layout import read_head
+from .site import CONTROLS, Junction, Link, Site, write_site
 
-CONTROLS = ("aim", "actuated", "static", "priority")
+EXAMPLES = pathlib.Path(__file__).resolve().parents[1] / "examples"
 HEADINGS = {"W": (1, 0), "S": (0, 1), "E": (-1, 0), "N": (0, -1)}
 """The heading of a vehicle that comes in from a side."""
 TOLERANCE = 0.02
@@ -37,17 +38,6 @@ class Road:
     def heading(self):
         x, y = HEADINGS[self.side]
         return (x, y) if self.is_entry else (-x, -y)
-
-
-@dataclass(frozen=True)
-class Link:
-    """A move between two roads' lanes."""
-
-    move: object
-    entry: str
-    entry_lane: int
-    exit: str
-    exit_lane: int
 
 
 def side_of(point, side):
@@ -81,19 +71,32 @@ def roads_of(layout, lane_width=3.0):
     return roads
 
 
-def links_of(layout, roads):
-    """How each move leads from one road's lane to another's."""
+def ends_of_moves(layout, roads):
+    """How each move leads from one road's lane to another's: (road, lane, road, lane) by the move's name."""
     starts = {}
-    links = []
+    ends = {}
     for move in layout.moves:
         if starts.setdefault(move.lane, move.points[0]) != move.points[0]:
             raise BadHead(f"the moves of lane {move.lane} begin at different places")
-        ends = []
+        found = []
         for point, kind in ((move.points[0], "in"), (move.points[-1], "out")):
             road = roads[f"{kind}_{side_of(point, layout.side)}"]
-            ends += [road.name, road.places.index(across(point, road.heading))]
-        links.append(Link(move, *ends))
-    return links
+            found += [road.name, road.places.index(across(point, road.heading))]
+        ends[move.name] = tuple(found)
+    return ends
+
+
+def has_facing_lefts(layout):
+    """True where left turns from opposite sides face each other, both from lanes that offer another turn too.
+
+    Lights can't let such lanes go one by one in each direction, and where both go at once SUMO's vehicles collide.
+    """
+    sides = set()
+    for move in layout.moves:
+        alike = {other.turn for other in layout.moves if other.lane == move.lane}
+        if move.turn == "left" and len(alike) > 1:
+            sides.add(side_of(move.points[0], layout.side))
+    return {"W", "E"} <= sides or {"S", "N"} <= sides
 
 
 def _road_ends(road, side, length):
@@ -121,7 +124,7 @@ def _write(path, root, elements):
     ET.ElementTree(tree).write(path, encoding="unicode")
 
 
-def _plain(folder, layout, control, roads, links, settings):
+def _plain(folder, layout, control, roads, ends, settings):
     """Writes the plain files of one control; gives netconvert's words."""
     side = layout.side / 1000
     middle = side / 2
@@ -133,15 +136,15 @@ def _plain(folder, layout, control, roads, links, settings):
         outer, inner = _road_ends(road, side, settings["approach" if road.is_entry else "exit"])
         far = f"{road.name}_far"
         nodes.append(("node", {"id": far, "x": outer[0], "y": outer[1], "type": "dead_end"}))
-        ends = {"from": far, "to": "C"} if road.is_entry else {"from": "C", "to": far}
+        nodes_of_it = {"from": far, "to": "C"} if road.is_entry else {"from": "C", "to": far}
         shape = (outer, inner) if road.is_entry else (inner, outer)
         lanes = {"numLanes": len(road.places), "width": road.width, "speed": settings["speed"]}
-        edges.append(("edge", {"id": road.name, **ends, **lanes, "spreadType": "right", "shape": _text(shape)}))
+        edges.append(("edge", {"id": road.name, **nodes_of_it, **lanes, "spreadType": "right", "shape": _text(shape)}))
     joins = []
-    for link in links:
-        ends = {"from": link.entry, "to": link.exit, "fromLane": link.entry_lane, "toLane": link.exit_lane}
+    for name, (entry, entry_lane, leaving, exit_lane) in ends.items():
+        lanes = {"from": entry, "to": leaving, "fromLane": entry_lane, "toLane": exit_lane}
         whole = {"contPos": 0} if control == "aim" else {}
-        joins.append(("connection", {**ends, **whole, "shape": _text(shape_of(link.move))}))
+        joins.append(("connection", {**lanes, **whole, "shape": _text(shape_of(layout.move(name)))}))
     words = []
     for root, letter, name, elements in (
         ("nodes", "n", "nod", nodes), ("edges", "e", "edg", edges), ("connections", "x", "con", joins),
@@ -152,103 +155,62 @@ def _plain(folder, layout, control, roads, links, settings):
     return words
 
 
-def _convert(folder, control, words):
-    """Runs netconvert; gives the path of its net."""
+def _convert(folder, control, words, faces):
+    """Runs netconvert; where left turns face each other its lights give each side a green of its own."""
     path = folder / f"{control}.net.xml"
     lights = {"static": "static", "actuated": "actuated", "aim": "static"}.get(control)
     command = [
         "netconvert", *words, "-o", str(path), "--no-turnarounds", "true", "--precision", "3",
         "--offset.disable-normalization", "true", "--xml-validation", "never",
         *(["--tls.default-type", lights] if lights else []),
+        *(["--tls.layout", "incoming"] if lights and faces else []),
     ]
-    done = subprocess.run(command, capture_output=True, text=True, check=False)
+    done = simulator.call(command)
     if done.returncode != 0:
-        raise BadHead(f"netconvert refused the net of {control}: {done.stderr.strip()}")
-    return path
+        raise BadHead(f"netconvert refused the net of {control}: {' '.join(done.stderr.split())}")
 
 
-def read_links(path):
-    """What a net says of each connection through the box: (entry, lane, exit, lane) to (via, length, speed, index)."""
-    root = ET.parse(path).getroot()
-    lanes = {lane.get("id"): lane for lane in root.iter("lane")}
-    found = {}
-    for join in root.iter("connection"):
-        if join.get("from", ":").startswith(":"):
-            continue
-        lane = lanes[join.get("via")]
-        ends = (join.get("from"), int(join.get("fromLane")), join.get("to"), int(join.get("toLane")))
-        found[ends] = (join.get("via"), float(lane.get("length")), float(lane.get("speed")), join.get("linkIndex"))
-    return found
-
-
-def _compare(path, layout, links):
-    """Refuses a net whose paths through the box aren't the layout's."""
-    found = read_links(path)
-    for link in links:
-        via, length, _, _ = found[(link.entry, link.entry_lane, link.exit, link.exit_lane)]
-        arc = Way(link.move, layout.spacing, 1.0).arc
-        if abs(length - arc) > TOLERANCE:
-            raise BadHead(f"the net's path {via} is {length} m long, the layout's move {link.move.name} {arc:.3f} m")
-
-
-@dataclass
-class Site:
-    """A folder that `net` made: the layout, its links, and the numbers with which the nets were made."""
-
-    folder: pathlib.Path
-    layout: object
-    links: dict
-    settings: dict
-    speeds: dict
-    lights: dict
-    lengths: dict
-
-    def net(self, control):
-        return self.folder / f"{control}.net.xml"
+def clear(folder):
+    """Makes a folder, or takes out of it what was worked out for earlier nets; runs that are there stay."""
+    folder.mkdir(parents=True, exist_ok=True)
+    shutil.rmtree(folder / "tuned", ignore_errors=True)
+    for path in (*folder.glob("free-*.json"), *folder.glob("*.net.xml"), folder / "site.json"):
+        path.unlink(missing_ok=True)
 
 
 def make(head_path, folder, settings):
     """Makes the nets of a head in a folder; gives the site."""
-    text = pathlib.Path(head_path).read_text()
+    try:
+        text = pathlib.Path(head_path).read_text(encoding="ascii")
+    except FileNotFoundError:
+        raise BadHead(f"there is no head {head_path}; the bridge's examples are in {EXAMPLES}") from None
+    except (UnicodeDecodeError, OSError) as fault:
+        raise BadHead(f"{head_path} can't be read as a head: {fault}") from None
     layout = read_head(text)
     folder = pathlib.Path(folder)
-    folder.mkdir(parents=True, exist_ok=True)
+    clear(folder)
     roads = roads_of(layout)
-    links = links_of(layout, roads)
-    for control in CONTROLS:
-        words = _plain(folder, layout, control, roads, links, settings)
-        path = _convert(folder, control, words)
-        if control == "aim":
-            _compare(path, layout, links)
-    (folder / "head.aim").write_text("\n".join(layout.head()) + "\n")
-    (folder / "settings.json").write_text(json.dumps(settings, indent=1) + "\n")
-    return open_site(folder)
+    ends = ends_of_moves(layout, roads)
+    faces = has_facing_lefts(layout)
+    settings = {**settings, "controls": tuple(control for control in CONTROLS if not faces or control != "priority")}
+    for control in settings["controls"]:
+        _convert(folder, control, _plain(folder, layout, control, roads, ends, settings), faces)
+    site = Site(folder, settings, [_junction(folder, layout, ends)])
+    write_site(site)
+    return site
 
 
-def open_site(folder):
-    """The site of a folder that `net` made."""
-    folder = pathlib.Path(folder)
-    if not (folder / "head.aim").is_file():
-        raise BadHead(f"{folder} has no net; make one by `aim-sumo net HEAD {folder}`")
-    layout = read_head((folder / "head.aim").read_text())
-    links = links_of(layout, roads_of(layout))
-    settings = json.loads((folder / "settings.json").read_text())
-    net = folder / "aim.net.xml"
-    found = read_links(net)
-    named = {link.move.name: found[(link.entry, link.entry_lane, link.exit, link.exit_lane)] for link in links}
-    lengths = {lane.get("id"): float(lane.get("length")) for lane in ET.parse(net).getroot().iter("lane")}
-    return Site(
-        folder, layout, {link.move.name: link for link in links}, settings,
-        {name: speed for name, (_, _, speed, _) in named.items()},
-        {name: int(index) for name, (_, _, _, index) in named.items()},
-        lengths,
-    )
-
-
-def greatest_speed(way, path_speed, road_speed, step):
-    """The greatest speed in counted millimetres a step at which a path is crossed.
-
-    At it a vehicle takes as long as at the net's speed for the path, and is nowhere faster than the road's speed.
-    """
-    counted = min(path_speed * way.counted / way.arc, road_speed / way.greatest_ratio)
-    return math.floor(counted * 1000 * step + 1e-9)
+def _junction(folder, layout, ends):
+    """How the junction lies in the net of `aim`; refuses a net whose paths through the box aren't the layout's."""
+    paths = {path.ends: path for path in reading.paths_of(reading.read_net(folder / "aim.net.xml"), "C")}
+    links = {}
+    for name, move_ends in ends.items():
+        path = paths[move_ends]
+        track = track_of(layout.move(name))
+        if abs(path.length - track.arc) > TOLERANCE:
+            raise BadHead(f"the net's path {path.name} is {path.length} m long, the layout's {name} {track.arc:.3f} m")
+        before, after = reading.ends_of(path)
+        links[name] = Link(
+            name, *move_ends, path.entry.getLength(), path.via, track.arc, path.speed, path.entry.getSpeed(),
+            path.exit.getSpeed(), path.light, before, track.shape, after)
+    return Junction("C", layout, links, light="C")

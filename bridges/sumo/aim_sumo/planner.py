@@ -6,12 +6,13 @@ steps are the manager's.
 
 import bisect
 import math
-from dataclasses import dataclass
 
 STANDING = 0.3
 """Below this speed, metres a second, a vehicle counts as standing: it may wait before it starts."""
 LONGEST_WAIT = 30.0
 SLOWEST_CRUISE = 0.4
+GATHERED = 0.98
+"""Of the speed that it could gather up to the line a vehicle asks for this share."""
 
 
 class Motion:
@@ -115,16 +116,30 @@ class Crossing:
     """The ways through the box of one move: the manager's own law of motion, mapped to true places.
 
     The front is at `speed*k + accel*k*(k-1)/2` counted millimetres after k steps, until the speed reaches the greatest
-    one. The law is kept until the rear has left the box; then the vehicle gathers speed for its road.
+    one. The law is kept until the rear has left the box; then the vehicle gathers speed for its road. `least` is the
+    least counted speed with which the manager has room for the crossing, `hold` how many metres before the line one
+    without a reservation stands, so that it can gather that speed, and `width` the millimetres that it declares.
     """
 
-    def __init__(self, way, greatest, vehicle, step):
+    def __init__(self, way, greatest, vehicle, step, least=1, hold=2.0, width=None):
         self.way = way
         self.greatest = greatest
-        self.refused_speed = 0
-        self._vehicle = vehicle
+        self.vehicle = vehicle
+        self.least = least
+        self.width = width or round(vehicle.width * 1000)
         self._step = step
         self._known = {}
+        self.hold = max(hold, self._hold_of(least))
+
+    def _hold_of(self, speed):
+        """The metres from which a standing vehicle gathers a counted speed up to the line, and some to spare."""
+        true_speed = speed / 1000 / self._step * self.way.entry_ratio
+        return (true_speed / GATHERED) ** 2 / (2 * self.vehicle.accel) * 1.05
+
+    def speed_from(self, speed, way):
+        """The greatest counted speed that a vehicle has at the line after some metres."""
+        reached = math.sqrt(speed**2 + 2 * self.vehicle.accel * way) * GATHERED
+        return min(self.greatest, math.floor(reached / self.way.entry_ratio * 1000 * self._step))
 
     def places(self, speed, accel):
         """The places of the front at the line and in each step after it, up to 60 metres past the box."""
@@ -136,33 +151,15 @@ class Crossing:
     def _places(self, speed, accel):
         places = [0.0]
         counted, now = 0, speed
-        while places[-1] < self.way.arc + self._vehicle.length:
+        while places[-1] < self.way.arc + self.vehicle.length:
             counted += now
             now = min(now + accel, self.greatest)
             places.append(self.way.to_arc(counted / 1000))
         true_speed = (places[-1] - places[-2]) / self._step
         while places[-1] < self.way.arc + 60:
-            true_speed = min(true_speed + self._vehicle.accel * self._step, self._vehicle.road_speed)
+            true_speed = min(true_speed + self.vehicle.accel * self._step, self.vehicle.road_speed)
             places.append(places[-1] + true_speed * self._step)
         return places
-
-
-@dataclass(frozen=True)
-class Vehicle:
-    """What all vehicles of a run have in common; metres, seconds."""
-
-    length: float = 4.5
-    width: float = 1.8
-    accel: float = 2.5
-    brake: float = 3.0
-    hardest_brake: float = 4.5
-    headway: float = 1.0
-    gap: float = 2.5
-    road_speed: float = 13.89
-
-    def room(self, speed):
-        """The gap that a vehicle keeps to the one ahead."""
-        return self.gap + self.headway * speed
 
 
 class Plan:

@@ -30,21 +30,18 @@ class Proposal:
 
 
 class Proposer:
-    """Makes proposals for vehicles.
+    """Makes proposals for vehicles; `lateness` is by how many steps a message may come too late to the manager."""
 
-    `hold` is where one without a reservation stands before the line, in metres. `lateness` is by how many steps a
-    message may come too late to the manager.
-    """
-
-    def __init__(self, layout, vehicle, gaps, hold, step, lateness=0):
+    def __init__(self, layout, gaps, step, lateness=0):
         self._layout = layout
-        self._vehicle = vehicle
         self._gaps = gaps
-        self._hold = hold
         self._floors = {}
         self._step = step
         self._lateness = lateness
-        self.accel = accel_of(vehicle.accel, step)
+
+    def _accel(self, car, speed):
+        """The acceleration that a vehicle asks for with a speed."""
+        return accel_of(car.vehicle.accel, self._step) if speed < car.crossing.greatest else 0
 
     def floor(self, car):
         """The reach of a vehicle that starts from the hold point: nobody asks from less.
@@ -52,14 +49,13 @@ class Proposer:
         A lane's reservation distance falls to the least reach that was refused, and only a confirm lifts it. A refused
         vehicle that has come to stand must be able to ask again, so it may not have asked from a shorter reach before.
         """
-        if car.move.name not in self._floors:
-            entry = math.sqrt(2 * self._vehicle.accel * self._hold) * 0.98
-            speed = min(car.crossing.greatest, math.floor(entry / car.way.entry_ratio * 1000 * self._step))
+        crossing, vehicle = car.crossing, car.vehicle
+        if crossing not in self._floors:
+            speed = crossing.speed_from(0.0, crossing.hold)
             start = Approach(
-                self._hold, 0.0, self._true_speed(car, speed), self._vehicle.road_speed, self._vehicle.accel,
-                self._vehicle.brake)
-            self._floors[car.move.name] = math.ceil(start.soonest / self._step - 1e-6) * speed
-        return self._floors[car.move.name]
+                crossing.hold, 0.0, self._true_speed(car, speed), vehicle.road_speed, vehicle.accel, vehicle.brake)
+            self._floors[crossing] = math.ceil(start.soonest / self._step - 1e-6) * speed
+        return self._floors[crossing]
 
     def may_ask(self, car, proposal):
         """True where a refusal of the proposal, however late it is served, can't keep the vehicle from asking again."""
@@ -72,7 +68,7 @@ class Proposer:
 
     def is_standing(self, car):
         """True where the vehicle has come to rest at the hold point."""
-        return car.speed < STILL and -car.place < self._hold + 0.05
+        return car.speed < STILL and -car.place < car.crossing.hold + 0.05
 
     def best(self, car, others, now):
         """The earliest proposal that keeps room to the others, or None."""
@@ -93,7 +89,7 @@ class Proposer:
         if speed < self._least_speed(car) or not self._is_locked(car):
             return None
         steps = math.floor(car.refused_at / speed)
-        accel = self.accel if speed < car.crossing.greatest else 0
+        accel = self._accel(car, speed)
         return Proposal(self._plan(car, None, steps, speed, accel, now), is_real=False)
 
     def _is_locked(self, car):
@@ -122,26 +118,25 @@ class Proposer:
 
     def _entry_speed(self, car):
         """The greatest counted speed with which it can be at the line."""
-        reached = math.sqrt(car.speed**2 - 2 * self._vehicle.accel * car.place) * 0.98
-        return min(car.crossing.greatest, math.floor(reached / car.way.entry_ratio * 1000 * self._step))
+        return car.crossing.speed_from(car.speed, -car.place)
 
     def _least_speed(self, car):
-        """A counted speed at which the crossing at constant speed has no more steps than the manager takes.
+        """A counted speed at which the crossing has no more steps, and no more spans, than the manager takes.
 
-        Where the manager found more rows of tiles in it than its layout has room for, the speed is greater.
+        Where the manager refused the vehicle a speed all the same, it is greater.
         """
         steps = int((car.way.counted * 1000 + car.way.declared) / MOST_CROSSING_STEPS) + 1
-        return max(steps, car.crossing.refused_speed + 1)
+        return max(steps, car.crossing.least, car.refused_speed + 1)
 
     def _approach(self, car, speed):
         entry = self._true_speed(car, speed)
-        top = max(car.wish, car.speed, min(entry, self._vehicle.road_speed))
-        return Approach(-car.place, car.speed, entry, top, self._vehicle.accel, self._vehicle.brake)
+        top = max(car.wish, car.speed, min(entry, car.vehicle.road_speed))
+        return Approach(-car.place, car.speed, entry, top, car.vehicle.accel, car.vehicle.brake)
 
     def _plan(self, car, motion, steps, speed, accel, now):
         after = car.crossing.places(speed, accel)
         return Plan(
-            now, now + steps, car.place, motion, after, speed, accel, self._step, self._vehicle.road_speed)
+            now, now + steps, car.place, motion, after, speed, accel, self._step, car.vehicle.road_speed)
 
     def _earliest(self, car, speed, others, now):
         """The earliest proposal with an entry speed."""
@@ -155,7 +150,7 @@ class Proposer:
         leader = car.leader
         if leader is not None and leader.state is State.BOUND:
             steps = max(steps, leader.plan.start - now + 5)
-        accel = self.accel if speed < car.crossing.greatest else 0
+        accel = self._accel(car, speed)
         stride = max(1, round(0.1 / self._step))
         for attempt in range(TRIES):
             motion = approach.motion((steps + attempt * stride) * self._step)

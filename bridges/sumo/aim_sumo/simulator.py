@@ -1,51 +1,73 @@
 """Starts SUMO: as a library, or with its window, in which one can watch."""
 
 import importlib
+import os
+import shutil
+import subprocess
 import sys
+
+from .faults import NoSumo
 
 DEBIAN = "/usr/lib/python3/dist-packages"
 """Where Debian's packages put SUMO's modules; another Python than the system's doesn't look there."""
+TOOLS = "/usr/share/sumo/tools"
+INSTALL = "apt-get install --no-install-recommends sumo sumo-tools"
 
 SAFE_BUT_NO_WAY = 39
 """SUMO's checks of a vehicle's speed: safe gap and bounds on; right of way and lights off."""
 NO_CHECKS = 0
 LIGHTS_BUT_NO_WAY = 55
 """Safe gap, bounds and lights on; right of way off, before the box and in it."""
-
-
-class NoSumo(Exception):
-    """SUMO can't be used; the text says why."""
+ALL_CHECKS = 31
+ALL_LANE_CHANGES = 1621
+NO_LANE_CHANGES = 0
 
 
 def module(name):
-    """One of SUMO's Python modules."""
+    """One of SUMO's Python modules; a folder of SUMO's tools on the path, which hides some of them, does no harm."""
     try:
         return importlib.import_module(name)
     except ImportError:
-        if DEBIAN not in sys.path:
-            sys.path.append(DEBIAN)
+        for known in [each for each in sys.modules if each == name or each.startswith(f"{name}.")]:
+            del sys.modules[known]
+    sys.path.insert(0, DEBIAN)
     try:
         return importlib.import_module(name)
     except ImportError as fault:
-        raise NoSumo(f"SUMO's Python module {name} isn't there ({fault}); apt-get install sumo sumo-tools") from fault
+        raise NoSumo(f"SUMO's Python module {name} isn't there ({fault}); {INSTALL}") from fault
+    finally:
+        sys.path.remove(DEBIAN)
+
+
+def call(words, **how):
+    """Runs one of SUMO's programs to its end; gives what `subprocess.run` gives, with texts."""
+    if shutil.which(words[0]) is None:
+        raise NoSumo(f"SUMO's program {words[0]} isn't there; {INSTALL}")
+    return subprocess.run(words, capture_output=True, text=True, check=False, **how)
 
 
 def start(words, with_window=False):
     """A running SUMO; `words` are its options."""
-    if with_window:
-        sumo = module("traci")
-        sumo.start(["sumo-gui", "--start", "true", "--quit-on-end", "true", *words])
-    else:
-        sumo = module("libsumo")
-        sumo.start(["sumo", *words])
+    sumo = module("traci" if with_window else "libsumo")
+    name = "sumo-gui" if with_window else "sumo"
+    if shutil.which(name) is None:
+        raise NoSumo(f"SUMO's program {name} isn't there; {INSTALL}")
+    if with_window and not os.environ.get("DISPLAY"):
+        raise NoSumo("there is no display for SUMO's window; run it without --gui, or set DISPLAY")
+    try:
+        sumo.start([name, *(["--start", "true", "--quit-on-end", "true"] if with_window else []), *words])
+    except Exception as fault:  # SUMO's own exceptions have no common class in its two modules
+        raise NoSumo(f"SUMO didn't start: {' '.join(str(fault).split()) or 'see what it said above'}") from fault
     return sumo
 
 
-def options(net, routes, trips, log, step, seed):
+def options(net, files, step, seed):
     """The options that all runs have in common."""
     return [
-        "-n", str(net), "-r", str(routes), "--step-length", str(step), "--seed", str(seed),
-        "--tripinfo-output", str(trips), "--message-log", str(log), "--no-step-log", "true",
+        "-n", str(net), "--step-length", str(step), "--seed", str(seed),
+        "--tripinfo-output", str(files["trips"]), "--tripinfo-output.write-unfinished", "true",
+        "--tripinfo-output.write-undeparted", "true",
+        "--message-log", str(files["log"]), "--no-step-log", "true",
         "--collision.check-junctions", "true", "--collision.action", "warn", "--collision.mingap-factor", "0",
         "--xml-validation", "never", "--duration-log.disable", "true",
     ]

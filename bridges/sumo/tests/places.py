@@ -1,7 +1,8 @@
-"""Where the tests find the package, the examples and the manager."""
+"""Where the tests find the package, the examples, the manager and SUMO."""
 
 import os
 import pathlib
+import shutil
 
 HERE = pathlib.Path(__file__).resolve().parent
 EXAMPLES = HERE.parent / "examples"
@@ -11,3 +12,8 @@ MANAGER = os.environ.get("AIM_MANAGER", str(HERE.parents[2] / "aim"))
 def head(name):
     """The text of an example's head."""
     return (EXAMPLES / f"{name}.aim").read_text(encoding="ascii")
+
+
+def has_sumo():
+    """True where SUMO's programs are there."""
+    return all(map(shutil.which, ("sumo", "netconvert", "netgenerate")))

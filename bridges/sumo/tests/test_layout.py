@@ -1,8 +1,10 @@
 import unittest
 
-from aim_sumo.layout import BadHead, Phase, read_head
-from aim_sumo.net import greatest_speed, links_of, roads_of
 from aim_sumo.curve import Way
+from aim_sumo.faults import BadHead
+from aim_sumo.layout import Phase, read_head
+from aim_sumo.net import ends_of_moves, has_facing_lefts, roads_of
+from aim_sumo.site import greatest_speed
 
 from .places import head
 
@@ -54,19 +56,23 @@ class Nets(unittest.TestCase):
 
     def test_links_go_from_lane_to_lane_of_which_the_rightmost_is_the_first(self):
         layout = read_head(head("twelve-lanes"))
-        found = {link.move.name: link for link in links_of(layout, roads_of(layout))}
+        found = ends_of_moves(layout, roads_of(layout))
         for name, entry, exit_road, lane in (
             ("0.left", "in_W", "out_N", 2), ("1.straight", "in_W", "out_E", 1), ("2.right", "in_W", "out_S", 0),
             ("7.straight", "in_E", "out_W", 1), ("11.right", "in_N", "out_W", 0),
         ):
-            link = found[name]
-            self.assertEqual((link.entry, link.entry_lane, link.exit, link.exit_lane), (entry, lane, exit_road, lane))
+            self.assertEqual(found[name], (entry, lane, exit_road, lane))
 
     def test_a_lane_with_several_turns_has_one_entry(self):
         layout = read_head(head("four-way"))
-        links = [link for link in links_of(layout, roads_of(layout)) if link.move.lane == 0]
-        self.assertEqual({(link.entry, link.entry_lane) for link in links}, {("in_W", 0)})
-        self.assertEqual([link.exit for link in links], ["out_N", "out_E", "out_S"])
+        found = [ends for name, ends in ends_of_moves(layout, roads_of(layout)).items() if name.startswith("0.")]
+        self.assertEqual({ends[:2] for ends in found}, {("in_W", 0)})
+        self.assertEqual([ends[2] for ends in found], ["out_N", "out_E", "out_S"])
+
+    def test_left_turns_that_face_each_other_from_lanes_that_offer_more(self):
+        for name, faces in (("twelve-lanes", False), ("four-way", True), ("tee", False)):
+            with self.subTest(name):
+                self.assertEqual(has_facing_lefts(read_head(head(name))), faces)
 
     def test_layouts_of_which_no_net_is_made(self):
         good = head("tee")
@@ -76,7 +82,7 @@ class Nets(unittest.TestCase):
         ):
             layout = read_head(good.replace(old, new))
             with self.subTest(name), self.assertRaises(BadHead):
-                links_of(layout, roads_of(layout))
+                ends_of_moves(layout, roads_of(layout))
 
     def test_greatest_speed_is_the_path_s_and_nowhere_above_the_road_s(self):
         layout = read_head(head("twelve-lanes"))

@@ -2,7 +2,8 @@ import unittest
 
 from aim_sumo.curve import Way
 from aim_sumo.layout import Move
-from aim_sumo.planner import Approach, Crossing, Plan, Vehicle, accel_of
+from aim_sumo.planner import Approach, Crossing, Plan, accel_of
+from aim_sumo.vehicles import Vehicle
 
 LINE = Move(1, "straight", ((0, 7500), (24000, 7500)), 240)
 LEFT = Move(0, "left", ((0, 10500), (13500, 10500), (13500, 24000)), 280)

@@ -5,7 +5,9 @@ import unittest
 
 from aim_sumo.driver import Driver
 from aim_sumo.mail import Faults, Mail
-from aim_sumo.manager import Manager, ManagerFailed, Reply, read_reply, replays
+from aim_sumo.faults import ManagerFailed
+from aim_sumo.manager import Manager, Reply, read_reply, replays
+from aim_sumo.numbers import Numbers, most_vehicles
 from aim_sumo.rules import active, broken_rule, suspended
 
 CONFIRM = Reply("confirm", reservation=4, start=50, early=2, late=3, is_fast=True, last=80)
@@ -202,6 +204,49 @@ class Drivers(unittest.TestCase):
         self.assertFalse(driver.may_ask)
         self.assertFalse(driver.enter(50))
         self.assertEqual(broken_rule(driver.log), "it enters after an emergency stop")
+
+
+class Lent(unittest.TestCase):
+    def driver(self):
+        return Driver(None, Post(), Ear(), 10)
+
+    def through(self, driver, reservation=4):
+        """Lets a driver cross; its DONE is acknowledged."""
+        driver.request(5, "0 left 50")
+        driver.got(6, driver.seq, CONFIRM)
+        driver.enter(50)
+        driver.done(90)
+        driver.got(90, driver.seq, Reply("ack", reservation))
+
+    def test_numbers_are_used_again_with_rising_seq(self):
+        numbers = Numbers(2)
+        first, second, third, fourth = (self.driver() for _ in range(4))
+        self.assertTrue(numbers.lend(first) and numbers.lend(second))
+        self.assertEqual((first.number, second.number), (0, 1))
+        self.assertFalse(numbers.lend(third))
+        self.through(first)
+        self.assertTrue(first.is_through)
+        numbers.take_back(first)
+        self.assertTrue(numbers.lend(third))
+        self.assertEqual((third.number, third.seq, numbers.used), (0, 2, 2))
+        self.through(third)
+        self.assertEqual([text for _, _, text in third.mail.sent], ["request 3 0 left 50", "done 4 4"])
+        self.assertIsNone(broken_rule(third.log))
+        self.assertFalse(numbers.lend(fourth))
+
+    def test_a_driver_isn_t_through_before_its_done_is_answered(self):
+        driver = self.driver()
+        Numbers(1).lend(driver)
+        driver.request(5, "0 left 50")
+        driver.got(6, 1, CONFIRM)
+        driver.enter(50)
+        driver.done(90)
+        self.assertFalse(driver.is_through)
+
+    def test_how_many_vehicles_a_manager_is_told(self):
+        for spans, wanted, count in ((8192, 100, 100), (8192, 5000, 2048), (131072, 5000, 128), (1, 5000, 5000)):
+            with self.subTest(spans=spans, wanted=wanted):
+                self.assertEqual(most_vehicles(spans, wanted), count)
 
 
 def sent(step, seq, text):

@@ -1,16 +1,20 @@
+import pathlib
+import tempfile
 import unittest
-import xml.etree.ElementTree as ET
 
-from aim_sumo import chart, controls, demand, metrics, report
+from aim_sumo import demand, figures, metrics, report
 from aim_sumo.car import Car
 from aim_sumo.curve import Way
-from aim_sumo.demand import Arrival
+from aim_sumo.demand import Arrival, Demand
+from aim_sumo.faults import BadWord
 from aim_sumo.gaps import Gaps
 from aim_sumo.judge import overlap, rectangle
 from aim_sumo.layout import Move, read_head
 from aim_sumo.lights import Signals
-from aim_sumo.planner import Approach, Crossing, Plan, Vehicle
+from aim_sumo.planner import Approach, Crossing, Plan
 from aim_sumo.proposal import Proposer
+from aim_sumo.runs import Options, faults_of
+from aim_sumo.vehicles import Vehicle
 
 from .places import head
 
@@ -81,22 +85,41 @@ class Demands(unittest.TestCase):
             ("four-way", {"0.left": 225, "0.straight": 450, "3.right": 225}),
             ("tee", {"0.straight": 800, "0.right": 400, "1.left": 600, "1.right": 600, "2.left": 400}),
         ):
-            rates = demand.rates(read_head(head(name)), 3600)
+            rates = demand.rates(read_head(head(name)), Demand(3600, 1))
             self.assertAlmostEqual(sum(rates.values()), 1.0)
             for move, flow in expected.items():
                 with self.subTest(name=name, move=move):
                     self.assertAlmostEqual(rates[move] * 3600, flow)
 
+    def test_shares_of_turns_and_sides(self):
+        layout = read_head(head("four-way"))
+        wanted = Demand(3600, 1, turns={"straight": 1.0}, sides={"W": 0.75, "E": 0.25})
+        self.assertEqual({move: rate * 3600 for move, rate in demand.rates(layout, wanted).items() if rate},
+                         {"0.straight": 2700.0, "2.straight": 900.0})
+        with self.assertRaises(BadWord):
+            demand.rates(read_head(head("tee")), Demand(3600, 1, sides={"N": 1.0}))
+
+    def test_types_go_only_where_they_can_be_driven(self):
+        layout = read_head(head("four-way"))
+        wanted = Demand(3600, 1, mix={"car": 0.5, "bus": 0.5}, refused=frozenset({("0.right", "bus")}))
+        found = demand.arrivals(layout, wanted)
+        self.assertEqual({each.vehicle.name for each in found if each.move == "0.right"}, {"car"})
+        self.assertEqual({each.vehicle.name for each in found if each.move == "0.left"}, {"car", "bus"})
+        buses = sum(each.vehicle.name == "bus" for each in found if each.move != "0.right")
+        self.assertAlmostEqual(buses / sum(each.move != "0.right" for each in found), 0.5, delta=0.06)
+        with self.assertRaises(BadWord):
+            demand.arrivals(layout, Demand(3600, 1, mix={"bus": 1.0}, refused=frozenset({("0.right", "bus")})))
+
     def test_the_same_seed_gives_the_same_vehicles_whoever_drives_them(self):
         layout = read_head(head("four-way"))
-        plain = demand.arrivals(layout, 1800, 1, 600)
-        mixed = demand.arrivals(layout, 1800, 1, 600, human=0.3, emergency=0.1)
+        plain = demand.arrivals(layout, Demand(1800, 1))
+        mixed = demand.arrivals(layout, Demand(1800, 1, human=0.3, emergency=0.1))
         self.assertEqual([(each.time, each.move) for each in plain], [(each.time, each.move) for each in mixed])
         self.assertEqual({each.kind for each in plain}, {"car"})
         shares = [sum(1 for each in mixed if each.kind == kind) / len(mixed) for kind in ("human", "emergency")]
         self.assertAlmostEqual(shares[0], 0.3, delta=0.06)
         self.assertAlmostEqual(shares[1], 0.1, delta=0.04)
-        self.assertNotEqual(plain, demand.arrivals(layout, 1800, 2, 600))
+        self.assertNotEqual(plain, demand.arrivals(layout, Demand(1800, 2)))
         self.assertAlmostEqual(len(plain), 300, delta=60)
 
 
@@ -107,7 +130,7 @@ OTHER = Move(1, "right", ((7500, 0), (7500, 4500), (12000, 4500)), 95)
 
 def a_car(move, leader=None, number=0):
     crossing = Crossing(Way(move, 100, VEHICLE.length), 1000, VEHICLE, 0.1)
-    return Car(Arrival(number, 0.0, move.name, "car"), move, crossing, leader, VEHICLE, 0.1)
+    return Car(str(number), "car", move, crossing, leader, 0.1)
 
 
 def plan_of(car, start, speed=10.0):
@@ -120,7 +143,7 @@ def plan_of(car, start, speed=10.0):
 
 class Rooms(unittest.TestCase):
     def test_room_to_the_one_ahead(self):
-        gaps = Gaps(VEHICLE, 0.1)
+        gaps = Gaps(0.1)
         leader = a_car(LINE)
         leader.adopt(plan_of(leader, 100))
         for name, move, start, keeps in (
@@ -134,7 +157,7 @@ class Rooms(unittest.TestCase):
                 self.assertEqual(gaps.keeps_room(car, plan_of(car, start), [], 0), keeps)
 
     def test_room_on_the_lane_by_which_two_leave(self):
-        gaps = Gaps(VEHICLE, 0.1)
+        gaps = Gaps(0.1)
         car, other = a_car(LINE), a_car(OTHER, number=1)
         other.adopt(plan_of(other, 100))
         for name, start, keeps in (
@@ -148,7 +171,7 @@ class Rooms(unittest.TestCase):
 class Proposals(unittest.TestCase):
     def setUp(self):
         self.layout = read_head(head("four-way"))
-        self.proposer = Proposer(self.layout, VEHICLE, Gaps(VEHICLE, 0.1), 2.0, 0.1)
+        self.proposer = Proposer(self.layout, Gaps(0.1), 0.1)
 
     def car(self, place, speed, leader=None):
         car = a_car(LINE, leader)
@@ -179,13 +202,13 @@ class Proposals(unittest.TestCase):
             self.assertGreaterEqual(room, VEHICLE.room(plan.speed_at(step)) - 0.06)
 
     def test_a_rolling_one_does_not_ask_from_below_the_reach_of_a_standing_start(self):
-        proposer = Proposer(self.layout, VEHICLE, Gaps(VEHICLE, 0.02), 2.0, 0.02)
+        proposer = Proposer(self.layout, Gaps(0.02), 0.02)
         crossing = Crossing(Way(LINE, 100, VEHICLE.length), 200, VEHICLE, 0.02)
         for place, speed, is_below in (
             (-2.0, 0.0, False), (-1.9, 0.0, False), (-2.1, 0.2, False), (-2.5, 2.5, True), (-6.0, 5.0, False),
             (-50.0, 10.0, False),
         ):
-            car = Car(Arrival(0, 0.0, LINE.name, "car"), LINE, crossing, None, VEHICLE, 0.02)
+            car = Car("0", "car", LINE, crossing, None, 0.02)
             car.place, car.speed = place, speed
             with self.subTest(place=place, speed=speed):
                 reach = proposer.best(car, [], 0).reach
@@ -196,7 +219,7 @@ class Proposals(unittest.TestCase):
 
     def test_where_messages_may_be_late_it_asks_so_much_farther_ahead(self):
         for lateness in (0, 5, 30):
-            proposer = Proposer(self.layout, VEHICLE, Gaps(VEHICLE, 0.1), 2.0, 0.1, lateness)
+            proposer = Proposer(self.layout, Gaps(0.1), 0.1, lateness)
             car = self.car(-2.0, 0.0)
             proposal = proposer.best(car, [], 0)
             with self.subTest(lateness):
@@ -234,31 +257,59 @@ class Proposals(unittest.TestCase):
 
 class Tellings(unittest.TestCase):
     def test_sums_of_a_run(self):
-        arrivals = [Arrival(number, 0.0, "a", kind) for number, kind in enumerate(("car", "car", "human", "car"))]
+        kinds = {"0": "car", "1": "car", "2": "human", "3": "car", "4": "car"}
+        arrivals = [Arrival(int(name), 0.0, "a", kind) for name, kind in kinds.items()]
         trips = {
-            "0": metrics.Trip(40.0, 100.0, 0), "1": metrics.Trip(50.0, 700.0, 2),
-            "2": metrics.Trip(60.0, 200.0, 1),
+            "0": metrics.Trip(40.0, 100.0, 0), "1": metrics.Trip(50.0, 700.0, 2), "2": metrics.Trip(60.0, 200.0, 1),
+            "3": metrics.Trip(140.0, None, 2), "4": metrics.Trip(30.0, None, 0),
         }
-        found = metrics.summary(trips, arrivals, {"a": 40.0}, 600.0)
-        self.assertEqual((found["demand"], found["through"], found["left"]), (4, 2, 1))
-        self.assertEqual((found["delay"], found["p95"], found["stops"], found["delay_human"]), (10.0, 20.0, 1.0, 20.0))
+        late = metrics.delays(trips, arrivals, {"a": 40.0})
+        self.assertEqual(late, {"0": 0.0, "1": 10.0, "2": 20.0, "3": 100.0, "4": 0.0})
+        found = metrics.summary(trips, late, 600.0, kinds)
+        self.assertEqual((found["demand"], found["through"], found["left"]), (5, 2, 2))
+        self.assertEqual((found["delay"], found["p95"], found["stops"], found["delay_human"]), (26.0, 100.0, 1.0, 20.0))
 
-    def test_what_sumo_warns_of(self):
-        warnings = """Warning: Vehicle '7'; collision with vehicle '3', lane='in_E_1', gap=-0.10, time=23.14.
-Warning: Vehicle '12'; junction collision with vehicle '3', lane=':C_1_0', gap=-1.00, time=23.20, stage=move.
-Warning: Vehicle '3'; junction collision with vehicle '12', lane=':C_1_0', gap=-1.00, time=23.22, stage=move.
-Warning: Teleporting vehicle '26'; waited too long (yield), lane='in_E_2', time=356.20.
-Warning: Vehicle '26' ends teleporting on edge 'out_S', time=356.20.
-"""
-        self.assertEqual(controls.collisions(warnings), {("3", "7"), ("12", "3")})
-        self.assertEqual(controls.teleports(warnings), 1)
+    def test_vehicles_that_are_left_are_a_fault_where_nobody_else_was_to_come(self):
+        result = {"control": "aim", "left": 3, "demand": 9, "left_why": "3 are people", "replays": True}
+        for name, options, last_came, is_fault in (
+            ("the run went on long after", Options("aim", end=900.0), 590.0, True),
+            ("more were to come", Options("aim", end=300.0), 590.0, False),
+            ("the operator had stopped all", Options("aim", end=900.0, stop=30.0), 590.0, False),
+            ("the answers were ignored", Options("aim", end=900.0, blind=True), 590.0, False),
+        ):
+            with self.subTest(name):
+                found = faults_of(result, options, last_came)
+                self.assertEqual(bool(found), is_fault)
+                if found:
+                    self.assertIn("3 of 9 vehicles hadn't left by 900 s: 3 are people", found[0])
+
+    def test_a_folder_s_name_tells_the_options(self):
+        for options, name in (
+            (Options("aim", 1800, 1), "aim-1800-1"),
+            (Options("aim", 1800.5, 2, policy="siren", emergency=0.05), "aim-1800.5-2_policy-siren_emergency-0.05"),
+            (Options("aim", 600, 1, blind=True, switch=("1=lights", "20=plain")),
+             "aim-600-1_switch-1=lights-20=plain_blind"),
+            (Options("own", None, 3, routes=("/there/a.rou.xml",)), "own-own-3_routes-a.rou.xml"),
+        ):
+            with self.subTest(name):
+                self.assertEqual(options.name, name)
 
     def test_percentiles(self):
         for values, share, expected in (([], 0.95, 0.0), ([3.0], 0.95, 3.0), (list(range(100)), 0.95, 95)):
             with self.subTest(values=len(values)):
                 self.assertEqual(metrics.percentile(values, share), expected)
 
-    def test_table_and_chart_of_results(self):
+    def test_intervals_by_student_s_t(self):
+        for values, mean, half in (([3.0], 3.0, None), ([1.0, 3.0], 2.0, 12.706), ([1.0, 2.0, 3.0], 2.0, 2.484)):
+            with self.subTest(values):
+                found = report.interval(values)
+                self.assertAlmostEqual(found[0], mean)
+                if half is None:
+                    self.assertIsNone(found[1])
+                else:
+                    self.assertAlmostEqual(found[1], half, 2)
+
+    def test_tables_of_results(self):
         results = [
             {"flow": flow, "control": control, "delay": delay, "demand": 10,
              **({"misses": 0} if control == "aim" else {})}
@@ -268,22 +319,35 @@ Warning: Vehicle '26' ends teleporting on edge 'out_S', time=356.20.
         lines = report.table(results, ["demand", "delay", "misses"]).splitlines()
         self.assertEqual(lines[0], "| veh/h | control | runs | demand | delay s | misses |")
         self.assertEqual(lines[2:], [
-            "| 600 | aim | 2 | 10 | 0.2 | 0 |", "| 600 | static | 1 | 10 | 15.0 |  |",
+            "| 600 | aim | 2 | 10 | 0.2 ± 1.3 | 0 |", "| 600 | static | 1 | 10 | 15.0 |  |",
             "| 1800 | aim | 1 | 10 | 2.0 | 0 |"])
-        series = report.series(results)
-        self.assertEqual(series, {"aim": [(600, 0.2), (1800, 2.0)], "static": [(600, 15.0)]})
-        root = ET.fromstring(chart.draw("A < B", series, "flow", "delay"))
-        circles = [part for part in root.iter() if part.tag.endswith("circle")]
-        self.assertEqual(len(circles), 3)
+        self.assertEqual(report.pivot(results, "delay").splitlines(), [
+            "| veh/h | runs | aim | static |", "|---|---|---|---|", "| 600 | 2 | 0.2 ± 1.3 | 15.0 |",
+            "| 1800 | 1 | 2.0 |  |"])
         labelled = [{**result, "label": "rain"} for result in results]
-        self.assertEqual(report.table(labelled, ["delay"]).splitlines()[2], "| rain | 600 | aim | 2 | 0.2 |")
+        self.assertEqual(report.table(labelled, ["delay"]).splitlines()[2], "| rain | 600 | aim | 2 | 0.2 ± 1.3 |")
         self.assertEqual(list(report.series(labelled)), ["aim, rain", "static, rain"])
+        rows = report.means(results)
+        self.assertEqual([(row["flow"], row["control"], row["runs"]) for row in rows],
+                         [(600, "aim", 2), (600, "static", 1), (1800, "aim", 1)])
+        self.assertAlmostEqual(rows[0]["delay ±"], 1.27, 2)
+        self.assertEqual((rows[0]["misses"], rows[1]["delay"], rows[1]["delay ±"]), (0, 15.0, ""))
 
-    def test_scales(self):
-        scale = chart.Scale(0.1, 100, 300, 0, True)
-        for value, place in ((0.1, 300), (1, 200), (10, 100), (100, 0), (-3, 300)):
-            with self.subTest(value):
-                self.assertAlmostEqual(scale.place(value), place)
+    def test_figures(self):
+        lines = {"aim": [(600, 0.02, None), (1800, 2.0, 0.5)], "static": [(600, 15.0, 3.0)]}
+        with tempfile.TemporaryDirectory() as folder:
+            for name, begin in (("a.svg", b"<?xml"), ("a.pdf", b"%PDF"), ("a.png", b"\x89PNG")):
+                path = pathlib.Path(folder) / name
+                figures.draw(path, "A < B", lines)
+                made = path.read_bytes()
+                self.assertTrue(made.startswith(begin), name)
+                figures.draw(path, "A < B", lines)
+                self.assertEqual(path.read_bytes(), made, name)
+            text = (pathlib.Path(folder) / "a.svg").read_text(encoding="utf-8")
+            for words in ("aim", "static", "A &lt; B", "least shown: 0.1"):
+                self.assertIn(words, text)
+            with self.assertRaises(BadWord):
+                figures.draw(pathlib.Path(folder) / "a.txt", "A", lines)
 
 
 if __name__ == "__main__":

@@ -1,1 +1,3 @@
 mod ObeyLemmas
+mod SettleLemmas
+mod WordLemmas

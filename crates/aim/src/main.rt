@@ -1,6 +1,7 @@
 //! An intersection manager: replays what vehicles asked, and prints what it answers.
 #![tactic(auto)]
 
+mod help;
 mod program;
 mod words;
 
@@ -33,7 +34,9 @@ fn main(rt: HostRuntime) -> ExitCode {
         return ExitCode::from(7);
     };
     let mut source = StdSource::new(rt.reader());
-    let mut sink = StdSink::new(io::writer(&rt));
+    let Ok(mut sink) = StdSink::new(alloc, io::writer(&rt)) else {
+        return ExitCode::from(7);
+    };
     let status = program::run(&rt, alloc, &words, &mut source, &mut sink, &NoGate);
     ExitCode::from(status)
 }

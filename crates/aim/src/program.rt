@@ -2,7 +2,7 @@
 
 ghost use Rattle.std.specs.Prelude.{◌≡◌, ◌⊎◌, ◌<◌, ◌≤◌, ◌↔◌, ℕ, true, false, [], None, Some, map, length, IfSome, codes};
 ghost use Rattle.std.specs.String.{string_bytes};
-ghost use Rattle.std.specs.Io.KnownBytes.{Appends, IsAtEnd};
+ghost use Rattle.std.specs.Io.KnownBytes.{Appends, IsAtEnd, Keeps};
 ghost use Rattle.aim_io.specs.Causes.{Rose};
 ghost use Rattle.aim_io.specs.Known.{AppendsFront};
 ghost use Rattle.aim_replay.specs.Replays.{LastNeededBy, ReplaysBy, StopsShortBy, TakesAtMost, WritesFront};
@@ -18,12 +18,15 @@ ghost use Rattle.aim_claims.specs.Short.{StopsShort as StopsShortClaims};
 ghost use Rattle.aim_callers.specs.Commands.{Completes as CompletesShards, Shows, ShowsFront};
 ghost use Rattle.aim_events.specs.Short.{StopsShort as StopsShortMail};
 ghost use Rattle.aim_mailing.specs.Commands.{Completes as CompletesMail, Shows as ShowsMail, ShowsFront as ShowsFrontOfMail};
-ghost use Rattle.aim.specs.Runs.{Answers, Completes, Generates, Obeys, Reports, TellsUsage};
+ghost use Rattle.aim.specs.Runs.{Answers, Completes, Generates, IsStatus, IsWhole, Obeys, Prints, Reports, Settles, TellsUsage};
+ghost use Rattle.aim.specs.declared.help.Topic.{Topic};
+ghost use Rattle.aim.specs.Help.{TellsText, text_of, versions};
 
+use crate::help::VERSIONS;
 use crate::words::{Command, command_of};
 use aim_agent::Gate;
 use aim_callers::shards;
-use aim_driving::{drive, generate};
+use aim_driving::{drive, generate, print_traffic};
 use aim_io::{Sink, Source, put_all};
 use aim_json_replay::replay_json;
 use aim_mailing::mail;
@@ -53,6 +56,18 @@ fn tell_usage<K: Sink>(sink: &mut K) -> u8
     }
 }
 
+// Tells a text.
+fn tell<K: Sink>(sink: &mut K, text: &[u8]) -> u8
+    ensures told { TellsText text.now (K.held sink.old) (K.held sink.new) result }
+    ensures write { result ≡ 5 → Rose (K.faults sink.old) (K.faults sink.new) }
+    ensures sink { K.faults sink.old ≤ K.faults sink.new }
+{
+    match put_all(sink, text) {
+        Ok(()) => 0,
+        Err(_) => 5,
+    }
+}
+
 // Does what the command asks for.
 fn obey<R: Threads + Wait + Sync, S: Source, K: Sink, G: Gate>(
     rt: &R,
@@ -63,7 +78,7 @@ fn obey<R: Threads + Wait + Sync, S: Source, K: Sink, G: Gate>(
     gate: &G,
 ) -> u8
     requires within { IsWithin command }
-    ensures { Obeys command (source.new ≡ source.old) (S.last_read source.new) (S.left source.old) (S.left source.new)
+    ensures { Obeys command (source.new ≡ source.old) (K.kept_back sink.new ≡ []) (S.last_read source.new) (S.left source.old) (S.left source.new)
         (S.faults source.old) (S.faults source.new) (K.held sink.old) (K.held sink.new) (K.faults sink.old) (K.faults sink.new) result }
 {
     match command {
@@ -73,8 +88,11 @@ fn obey<R: Threads + Wait + Sync, S: Source, K: Sink, G: Gate>(
         Command::Drive(workers) => drive(rt, alloc, workers, source, sink, gate),
         Command::Grid(workers) => grid(rt, alloc, workers, source, sink, gate),
         Command::Generate(number, count) => generate(rt, alloc, number, count, sink),
+        Command::Traffic(number, count) => print_traffic(alloc, number, count, sink),
         Command::Shards(workers) => shards(rt, alloc, workers, source, sink, &NoHold),
         Command::Mail(workers) => mail(rt, alloc, workers, source, sink),
+        Command::Help(topic) => tell(sink, topic.text()),
+        Command::Version => tell(sink, VERSIONS),
     }
 }
 
@@ -88,13 +106,50 @@ fn answer<R: Threads + Wait + Sync, S: Source, K: Sink, G: Gate>(
     gate: &G,
 ) -> u8
     requires within { IfSome told IsWithin }
-    ensures { Answers told (source.new ≡ source.old) (S.last_read source.new) (S.left source.old) (S.left source.new)
+    ensures { Answers told (source.new ≡ source.old) (K.kept_back sink.new ≡ []) (S.last_read source.new) (S.left source.old) (S.left source.new)
         (S.faults source.old) (S.faults source.new) (K.held sink.old) (K.held sink.new) (K.faults sink.old) (K.faults sink.new) result }
 {
     match told {
         None => tell_usage(sink),
         Some(command) => obey(rt, alloc, command, source, sink, gate),
     }
+}
+
+// Hands on what the sink keeps back, where something whole was written, and answers the status to end with: the one that it
+// is given, or 5 where the sink fails. With status 4 a replay has handed on all, and others have written nothing.
+fn settle<K: Sink>(sink: &mut K, status: u8) -> u8
+    requires { IsStatus status }
+    ensures bytes { Keeps (K.held sink.old) (K.held sink.new) }
+    ensures settles { Settles status (K.kept_back sink.new ≡ []) (K.faults sink.old) (K.faults sink.new) result }
+    ensures read { status ≡ 4 → sink.new ≡ sink.old }
+    ensures sink { K.faults sink.old ≤ K.faults sink.new }
+{
+    if status == 4 || status == 5 {
+        return status;
+    }
+    match sink.settle() {
+        Ok(()) => status,
+        Err(_) if status == 7 => 7,
+        Err(_) => 5,
+    }
+}
+
+// Does what the command asks for, if the words name one, and hands on all that was written.
+fn conclude<R: Threads + Wait + Sync, S: Source, K: Sink, G: Gate>(
+    rt: &R,
+    alloc: Global,
+    told: Option<Command>,
+    source: &mut S,
+    sink: &mut K,
+    gate: &G,
+) -> u8
+    requires within { IfSome told IsWithin }
+    ensures answers { Answers told (source.new ≡ source.old) (K.kept_back sink.new ≡ []) (S.last_read source.new) (S.left source.old) (S.left source.new)
+        (S.faults source.old) (S.faults source.new) (K.held sink.old) (K.held sink.new) (K.faults sink.old) (K.faults sink.new) result }
+    ensures settled { IsWhole result → K.kept_back sink.new ≡ [] }
+{
+    let status = answer(rt, alloc, told, source, sink, gate);
+    settle(sink, status)
 }
 
 /// Does what the words after the program's name ask for, and answers the status to end with. It is
@@ -139,6 +194,11 @@ pub fn run<R: Threads + Wait + Sync, S: Source, K: Sink, G: Gate>(
     ensures memory { (command : Command) → command_in (map string_bytes words.now) ≡ Some command → (spelled_in command).takes_memory ≡ false
         → result ≡ 7 → Appends (K.held sink.old) (K.held sink.new) [] }
 
+    // All that is written is handed on, where it is whole. A replay hands on what it has written before it reads, so it has
+    // handed on all where its source failed.
+    ensures settled { IsWhole result → K.kept_back sink.new ≡ [] }
+    ensures waited { (command : Command) → command_in (map string_bytes words.now) ≡ Some command → is_replay command ≡ true → result ≡ 4 → K.kept_back sink.new ≡ [] }
+
     // A drive, in so many runs side by side: THE HEADLINE. With status 0, 3 or 6 a whole text of the source's bytes is
     // written, and the status is theirs. Of a whole script it is the report of a journal and logs of which the headline
     // holds, by the script's lines. With status 5 a front of such a text is written, with status 4 or 7 nothing.
@@ -159,8 +219,18 @@ pub fn run<R: Threads + Wait + Sync, S: Source, K: Sink, G: Gate>(
 
     // Generated traffic. With status 0 the counts of a drive of its script, with one worker, are written: of a journal and
     // logs of which the headline holds. With status 5 a front of these lines is written, with 7 nothing, and there is no
-    // other status. Nothing is read.
+    // other status.
     ensures generate { (number count : ℕ) → command_in (map string_bytes words.now) ≡ Some (Command.Generate number count) → Generates number count (K.held sink.old) (K.held sink.new) result }
+
+    // The script of generated traffic: with status 0 its text is written, with status 5 a front of it, with 7 nothing.
+    ensures traffic { (number count : ℕ) → command_in (map string_bytes words.now) ≡ Some (Command.Traffic number count) → Prints number count (K.held sink.old) (K.held sink.new) result }
+
+    // What the words are, or what a word does, and the versions: with status 0 the text is written, with status 5 a front of
+    // it, and there is no other status.
+    ensures help { (topic : Topic) → command_in (map string_bytes words.now) ≡ Some (Command.Help topic) → TellsText (text_of topic) (K.held sink.old) (K.held sink.new) result }
+    ensures version { command_in (map string_bytes words.now) ≡ Some Command.Version → TellsText versions (K.held sink.old) (K.held sink.new) result }
+
+    // These read nothing.
     ensures unread { (command : Command) → command_in (map string_bytes words.now) ≡ Some command → reads_input command ≡ false → source.new ≡ source.old }
 
     // A run of a script of claims. With status 0, 3 or 6 a whole text of the source's bytes is written, and the status is
@@ -191,5 +261,5 @@ pub fn run<R: Threads + Wait + Sync, S: Source, K: Sink, G: Gate>(
     ensures complete { (command : Command) → command_in (map string_bytes words.now) ≡ Some command → is_replay command ≡ true → IfSome (S.left source.old)
         (λ bytes. Completes (spelled_in command) bytes (S.faults source.old) (S.faults source.new) (K.faults sink.old) (K.faults sink.new) result) }
 {
-    answer(rt, alloc, command_of(words), source, sink, gate)
+    conclude(rt, alloc, command_of(words), source, sink, gate)
 }

@@ -1,6 +1,6 @@
 //! Agents.
 
-ghost use Rattle.std.specs.Prelude.{◌≡◌, ℕ, ◌+◌, ◌<◌, ◌≤◌, [], true, Some, IfNone, OnOk};
+ghost use Rattle.std.specs.Prelude.{◌≡◌, ℕ, ◌+◌, ◌-◌, ◌<◌, ◌≤◌, [], true, Some, IfNone, OnOk};
 ghost use Rattle.aim_msg.specs.declared.entries.TheConstants.{LATEST_MOMENT};
 ghost use Rattle.aim_msg.specs.declared.entries.Act.TheVariants as act;
 ghost use Rattle.aim_driver.specs.Models.{step_of};
@@ -9,6 +9,7 @@ ghost use Rattle.aim_links.specs.Links.{delivered, after_delivery};
 ghost use Rattle.aim_driver.specs.Turns.{begun};
 ghost use Rattle.aim_driver.specs.Follows.{calling, turn};
 ghost use Rattle.aim_turn.specs.Models.{IsPassOf, IsSamePass};
+ghost use Rattle.aim_manager.specs.Requests.{IsPreparedFor};
 ghost use Rattle.aim_manager.specs.Seen.{IsServed};
 ghost use Rattle.aim_agent.specs.Rests.{AreStill};
 ghost use Rattle.aim_agent.specs.Agents.{front_of, state_of, HasSheets, Idles, IsAgentOf, IsFull, IsWhole};
@@ -19,11 +20,13 @@ ghost use Rattle.aim_agent.specs.Turns.{Called, Tried};
 use aim_driver::{Driver, LogItem, NoMemory, begin_turn};
 use aim_links::Link;
 use aim_manager::{
-    Full, Manager, ManagerFront, ManagerPass, prepare_from, sheets_are_those_of_own_entries,
+    Full, Manager, ManagerFront, ManagerPass, Memo, Prepared, prepare_from,
+    sheets_are_those_of_own_entries,
 };
 use aim_msg::{LATEST_MOMENT, Message, Reply};
 use aim_pool::Pool;
 use std::marker::Model;
+use std::mem;
 use std::sync::Wait;
 
 /// What is called before each call of a vehicle, at the step of its turn. It says nothing of what it does.
@@ -72,12 +75,32 @@ struct Rest {
 // No step.
 const NO_REST: Rest = Rest { first: 0, last: 0 };
 
+// Prepares the message for the manager, with the memo if there is one.
+fn prepared(
+    manager: &Manager,
+    memo: &mut Option<Memo>,
+    message: &Message,
+    pool: &mut Pool,
+) -> Prepared
+    requires two { 2 ≤ pool.old.count }
+    requires room { pool.old.room ≡ manager.now.setting.layout.grid.spans }
+    ensures message { result.message ≡ message.now }
+    ensures prepared { IsPreparedFor manager.now.setting.layout result }
+    ensures pool { pool.new ≡ record pool.old { count = pool.old.count - 2 } }
+{
+    match memo {
+        Some(memo) => memo.prepare_from(manager.layout(), message, pool),
+        None => prepare_from(manager.layout(), message, pool),
+    }
+}
+
 // The gate is told, and the manager serves the message with an agent's pass and sheets.
 fn ask<R: Wait, G: Gate>(
     rt: &R,
     manager: &Manager,
     gate: &G,
     pass: &mut ManagerPass,
+    memo: &mut Option<Memo>,
     pool: &mut Pool,
     step: u32,
     message: &Message,
@@ -93,11 +116,11 @@ fn ask<R: Wait, G: Gate>(
     ensures room { pool.new.room ≡ pool.old.room }
 {
     gate.before(pass.number(), step);
-    let prepared = prepare_from(manager.layout(), message, pool);
+    let prepared = prepared(manager, memo, message, pool);
     manager.serve(rt, pass, step, prepared, pool)
 }
 
-/// A driver with its two links, a pass of a manager and three sheets.
+/// A driver with its two links, a pass of a manager and three sheets; and a memo of its last crossing, if it was given one.
 ///
 /// Contracts see the driver, the links, the pass, how many sheets are not in use and their room, and the trouble.
 #[derive(Drop)]
@@ -107,6 +130,7 @@ pub struct Agent {
     down: Link<(u32, Reply)>,
     pass: ManagerPass,
     pool: Pool,
+    memo: Option<Memo>,
     trouble: Option<Trouble>,
     rest: Rest,
 }
@@ -147,9 +171,25 @@ impl Agent {
             down,
             pass,
             pool,
+            memo: None,
             trouble: None,
             rest: NO_REST,
         }
+    }
+
+    /// Gives it a memo, with which the cells of a crossing that it asks for again are not found again.
+    pub fn give_memo(&mut self, memo: Memo)
+        ensures { self.new ≡ self.old }
+    {
+        self.memo = Some(memo);
+    }
+
+    /// Takes over the memo of another one, which gets its own.
+    pub fn swap_memo(&mut self, other: &mut Agent)
+        ensures same { self.new ≡ self.old }
+        ensures other { other.new ≡ other.old }
+    {
+        mem::swap(&mut self.memo, &mut other.memo);
     }
 
     /// Why it does nothing more, if it doesn't.
@@ -187,6 +227,7 @@ impl Agent {
             down: _,
             pass,
             pool: _,
+            memo: _,
             trouble: _,
             rest: _,
         } = self;
@@ -255,6 +296,7 @@ impl Agent {
             manager,
             gate,
             &mut self.pass,
+            &mut self.memo,
             &mut self.pool,
             step,
             message,

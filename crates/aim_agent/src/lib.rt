@@ -5,4 +5,4 @@ mod agents;
 pub mod laws;
 
 pub use agents::{Agent, Gate, Trouble};
-pub use aim_manager::{Full, Manager, ManagerFront, ManagerPass, OpenFault, Opened};
+pub use aim_manager::{Full, Manager, ManagerFront, ManagerPass, Memo, OpenFault, Opened};

@@ -7,7 +7,8 @@ use Rattle.aim_agent.proofs.agents.Trouble.TheSendSync as trouble
 use Rattle.aim_driver.proofs.drivers.Driver.TheSendSync as driver
 use Rattle.aim_links.proofs.links.Link.TheSendSync as link
 pub use Rattle.aim_agent.proofs.Crosses.{manager_sync, pass_send, pool_send}
+use Rattle.aim_agent.proofs.Crosses.{memo_send}
 use Rattle.aim_agent.specs.contracts.agents.Agent as Agent
 
 pub agent_send : IsSend Agent.the_row
-agent_send = search (sendable, crosses, message.the_send, reply.the_send, trouble.the_send, driver.the_send, link.the_send, pass_send, pool_send) depth 30 fits 20000
+agent_send = search (sendable, crosses, message.the_send, reply.the_send, trouble.the_send, driver.the_send, link.the_send, pass_send, pool_send, memo_send) depth 30 fits 20000

@@ -6,6 +6,6 @@ pub mod laws;
 mod runs;
 mod steps;
 
-pub use aim_agent::{Agent, Gate, Manager, ManagerPass, OpenFault, Opened, Trouble};
+pub use aim_agent::{Agent, Gate, Manager, ManagerPass, Memo, OpenFault, Opened, Trouble};
 pub use driving::drive;
 pub use steps::rounds;

@@ -1,3 +1,4 @@
+pub use Rattle.aim_desk.specs.Shapes
 pub mod State
 pub mod Sheets
 pub mod Books

@@ -1,6 +1,6 @@
 //! The book: a layout and the journal of what was asked and answered over it.
 
-use aim_desk::{Approaches, Desk, Prepared};
+use aim_desk::{Approaches, Desk, Prepared, Shapes};
 use aim_msg::{Act, Entry, MOST_ENTRIES, MOST_VEHICLES, Message, OPERATOR, Order, Reply};
 use aim_paths::Layout;
 use aim_pool::Pool;
@@ -55,6 +55,7 @@ impl<L: Ledger> Book<L> {
     ghost use Rattle.aim_geometry.specs.Rects.{has_bit};
     ghost use Rattle.aim_msg.specs.declared.entries.TheConstants.{LATEST_MOMENT, MOST_ENTRIES, MOST_VEHICLES, OPERATOR};
     ghost use Rattle.aim_desk.specs.Requests.{IsPreparedFor};
+    ghost use Rattle.aim_desk.specs.Shapes.{ArePreparedFor};
     ghost use Rattle.aim_rules.specs.Answer.{answer};
     ghost use Rattle.aim_rules.specs.History.{now_of, params_of};
     ghost use Rattle.aim_rules.specs.Legal.{IsLegal, IsOfLayout};
@@ -174,18 +175,20 @@ impl<L: Ledger> Book<L> {
     }
 
     /// Answers a message of a vehicle at a moment, and keeps both in the journal. Only where the answer depends on the cells of
-    /// a crossing they are prepared, in two sheets of the pool: the sheet of the trial that a fresh Confirm grants is kept,
-    /// and each sheet that isn't kept comes into the pool.
+    /// a crossing they are prepared, in two sheets of the pool, from its shape where that is kept: the sheet of the trial that
+    /// a fresh Confirm grants is kept, and each sheet that isn't kept comes into the pool.
     pub fn serve_message(
         &mut self,
         vehicle: u32,
         moment: u32,
         message: &Message,
+        shapes: &mut Shapes,
         pool: &mut Pool,
         steps: &mut Steps<L>,
     ) -> Result<Reply, Full>
         requires vehicle { vehicle < self.old.vehicles }
         requires moment { moment ≤ LATEST_MOMENT }
+        requires known { ArePreparedFor self.old.layout shapes.old }
         requires two { 2 ≤ pool.old.count }
         requires count { pool.old.count ≤ 1000000 }
         requires room { pool.old.room ≡ self.old.layout.grid.spans }
@@ -196,6 +199,7 @@ impl<L: Ledger> Book<L> {
         ensures err { OnErr result (self.new ≡ self.old) }
         ensures legal { IsLegal self.new.layout self.new.vehicles self.new.journal }
         ensures sheets { pool.new.count + sheets_kept vehicle self.new.journal ≡ pool.old.count + sheets_kept vehicle self.old.journal }
+        ensures known { ArePreparedFor self.old.layout shapes.new }
         ensures pool { pool.new.room ≡ pool.old.room }
         ensures cost { steps.new ≤ steps.old + asked_spans self.old.layout (params_of message.now.body)
             + spans_exchanged self.old.layout vehicle self.old.journal self.new.journal
@@ -212,6 +216,7 @@ impl<L: Ledger> Book<L> {
             place as u32,
             moment,
             message,
+            shapes,
             pool,
             steps,
         );

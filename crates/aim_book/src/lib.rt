@@ -5,5 +5,6 @@ mod book;
 mod idle;
 pub mod laws;
 
+pub use aim_desk::Shapes;
 pub use book::{Book, Full, OpenFault};
 pub use idle::IdleBook;

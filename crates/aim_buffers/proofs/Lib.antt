@@ -1,3 +1,4 @@
+pub mod Crosses
 pub use Rattle.aim_simulate.proofs.FieldLemmas
 pub use Rattle.aim_simulate.proofs.GoodLemmas
 pub mod BorderLemmas
@@ -8,5 +9,9 @@ pub mod WindowLemmas
 pub mod StepLemmas
 pub mod SpanLemmas
 pub mod RequestLemmas
+pub mod GroundLemmas
+pub mod ShiftLemmas
+pub mod ShapeLemmas
+mod MemoLemmas
 mod WrittenLemmas
 mod BoundLemmas

@@ -29,7 +29,7 @@ range_more a (suc k) =
     let n : suc k + 1 ≡ suc (k + 1) = omega arith in
     rw n (rw e at (ap (λ xs. a ∷ xs) (range_more (a + 1) k)))
 
-rows_counted : (q : Cell → Bool) (s n : ℕ) → length (filter q (map (λ r. record { row = r; col = 0; step = s }) (range_with_len 0 n))) ≡ count_below n (λ r. q (record { row = r; col = 0; step = s }))
+pub rows_counted : (q : Cell → Bool) (s n : ℕ) → length (filter q (map (λ r. record { row = r; col = 0; step = s }) (range_with_len 0 n))) ≡ count_below n (λ r. q (record { row = r; col = 0; step = s }))
 unfolding count_below
 rows_counted q s zero = refl
 rows_counted q s (suc n) =

@@ -5,3 +5,6 @@ pub mod Cells
 pub mod Moves
 pub mod Requests
 pub mod Written
+pub mod Shapes
+pub mod Grounds
+pub mod Memos

@@ -5,10 +5,15 @@
 //! within the edge buffer, and a narrow one inside, of those within the early and late buffers. Both only move on.
 #![tactic(auto)]
 
+mod arrivals;
 mod bounds;
+mod memos;
 mod requests;
 mod rows;
+mod shapes;
 mod trials;
 
 pub use bounds::{NeedsCells, bad_field, may_reach};
+pub use memos::Memo;
 pub use requests::{Prepared, TrialSteps, params_in, prepare, prepare_from};
+pub use shapes::Shapes;

@@ -10,7 +10,10 @@ ghost use Rattle.aim_rules.specs.Footprint.{crossing_steps};
 ghost use Rattle.aim_simulate.specs.Fields.{bad_crossing as bad_crossing_of};
 ghost use Rattle.aim_simulate.specs.Fills.{AreRectsOf};
 ghost use Rattle.aim_simulate.specs.Windows.{AreSteady};
-ghost use Rattle.aim_buffers.specs.Requests.{IsPreparedFor, IsStepsOf, IsTrialOf, fast_sheet, steady_sheet};
+ghost use Rattle.aim_msg.specs.declared.messages.Body.TheVariants as body;
+ghost use Rattle.aim_msg.specs.declared.entries.TheConstants.{LATEST_MOMENT};
+ghost use Rattle.aim_buffers.specs.Requests.{IsPreparedFor, IsStepsOf, IsTrialOf, fast_sheet, prepared_params, steady_sheet};
+ghost use Rattle.aim_buffers.specs.Shapes.{AsksAnew};
 
 use crate::trials::write_trial;
 use aim_geometry::TileRect;
@@ -160,7 +163,7 @@ fn write_request(
 }
 
 /// A message with the cells of its crossing in two sheets, or with two empty sheets where it is no request or a field of
-/// it is wrong. It is made by `prepare` alone and never changes, so what holds of `prepare`'s answer holds of it.
+/// it is wrong. Nobody but this crate makes or changes one, so it is what `prepare` would answer for some layout.
 #[derive(Drop)]
 pub struct Prepared {
     message: Message,
@@ -205,6 +208,22 @@ pub fn prepare(layout: &Layout, message: &Message, first: Sheet, second: Sheet) 
     }
 }
 
+/// No request, with two empty sheets.
+pub(crate) fn no_request(first: Sheet, second: Sheet) -> Prepared
+    requires first { first.spans ≡ [] }
+    requires second { second.spans ≡ [] }
+    requires room { first.room ≡ second.room }
+    ensures { result ≡ record { message = record { seq = 0; body = body.Cancel 0 }; bad = None; steps = record { fast = 0; steady = 0 }; first = first; second = second } }
+{
+    Prepared {
+        message: NO_REQUEST,
+        bad: None,
+        steps: NO_STEPS,
+        first,
+        second,
+    }
+}
+
 /// Prepares a message with two sheets of the pool.
 pub fn prepare_from(layout: &Layout, message: &Message, pool: &mut Pool) -> Prepared
     requires two { 2 ≤ pool.old.count }
@@ -221,6 +240,12 @@ pub fn prepare_from(layout: &Layout, message: &Message, pool: &mut Pool) -> Prep
     };
     prepare(layout, message, first, second)
 }
+
+/// A message that asks for no crossing.
+pub(crate) const NO_REQUEST: Message = Message {
+    seq: 0,
+    body: Body::Cancel(0),
+};
 
 // The steps of no trial.
 const NO_STEPS: TrialSteps = TrialSteps { fast: 0, steady: 0 };
@@ -253,6 +278,100 @@ fn prepare_request(
 }
 
 impl Prepared {
+    // The params of the crossing whose cells are here, if there are any.
+    pub(crate) fn asked(&self) -> Option<Params>
+        ensures { result ≡ prepared_params self.now }
+    {
+        if self.bad.is_some() {
+            return None;
+        }
+        params_in(&self.message.body)
+    }
+
+    // The request of a message that asks for this crossing at another step, its cells in two empty sheets.
+    fn moved(
+        &self,
+        layout: &Layout,
+        message: &Message,
+        from: u32,
+        to: u32,
+        mut first: Sheet,
+        mut second: Sheet,
+    ) -> Prepared
+        requires prepared { IsPreparedFor layout.now self.now }
+        requires asks { AsksAnew self.now from to (params_of message.now.body) }
+        requires from { layout.now.times.edge ≤ from }
+        requires to { layout.now.times.edge ≤ to }
+        requires last { to ≤ LATEST_MOMENT }
+        requires first { first ≡ record { spans = []; room = layout.now.grid.spans } }
+        requires second { second ≡ record { spans = []; room = layout.now.grid.spans } }
+        ensures message { result.message ≡ message.now }
+        ensures prepared { IsPreparedFor layout.now result }
+    {
+        let edge = layout.ground().times().edge;
+        let fast = self.first.spans();
+        let steady = self.second.spans();
+        first.copy_moved(fast, from - edge, to - edge);
+        second.copy_moved(steady, from - edge, to - edge);
+        Prepared {
+            message: *message,
+            bad: None,
+            steps: self.steps,
+            first,
+            second,
+        }
+    }
+
+    // The request of a message that asks for this crossing at another step, with two sheets of the pool.
+    pub(crate) fn moved_from(
+        &self,
+        layout: &Layout,
+        message: &Message,
+        from: u32,
+        to: u32,
+        pool: &mut Pool,
+    ) -> Prepared
+        requires prepared { IsPreparedFor layout.now self.now }
+        requires asks { AsksAnew self.now from to (params_of message.now.body) }
+        requires from { layout.now.times.edge ≤ from }
+        requires to { layout.now.times.edge ≤ to }
+        requires last { to ≤ LATEST_MOMENT }
+        requires two { 2 ≤ pool.old.count }
+        requires room { pool.old.room ≡ layout.now.grid.spans }
+        ensures message { result.message ≡ message.now }
+        ensures prepared { IsPreparedFor layout.now result }
+        ensures pool { pool.new ≡ record pool.old { count = pool.old.count - 2 } }
+    {
+        let Ok(first) = pool.take() else {
+            unreachable!()
+        };
+        let Ok(second) = pool.take() else {
+            unreachable!()
+        };
+        self.moved(layout, message, from, to, first, second)
+    }
+
+    // Becomes another request, in its own sheets.
+    pub(crate) fn copy(&mut self, other: &Prepared)
+        requires first { self.old.first.room ≡ other.now.first.room }
+        requires second { self.old.second.room ≡ other.now.second.room }
+        ensures { self.new ≡ other.now }
+    {
+        self.first.copy(other.first.spans());
+        self.second.copy(other.second.spans());
+        self.message = other.message;
+        self.bad = other.bad;
+        self.steps = other.steps;
+    }
+
+    // How many spans there may be in each sheet.
+    pub(crate) fn rooms(&self) -> (u32, u32)
+        ensures first { result.0 ≡ self.now.first.room }
+        ensures second { result.1 ≡ self.now.second.room }
+    {
+        (self.first.room(), self.second.room())
+    }
+
     /// The message.
     pub fn message(&self) -> &Message
         ensures message { result.now ≡ self.now.message }

@@ -56,7 +56,7 @@ fn push_row(sheet: &mut Sheet, step: u32, row: u8, mask: u64) -> Result<(), Shee
     if mask == 0 {
         return Ok(());
     }
-    sheet.push(Span { step, row, mask })
+    sheet.push_last(Span { step, row, mask })
 }
 
 // Writes the spans of one step behind all others.

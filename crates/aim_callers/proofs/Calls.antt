@@ -32,7 +32,7 @@ follows_length earlier [] (x ∷ es) f = absurd f
 follows_length earlier (b ∷ asks) [] f = absurd f
 follows_length earlier (b ∷ asks) (x ∷ es) f = ap suc (follows_length (earlier ++ x ∷ []) asks es f.1)
 
-asked_one : (n : ℕ) (l : ShardLine) (o : Option Ask) → ask_in n l ≡ o → asked_of n (l ∷ []) ≡ option_to_list o
+pub asked_one : (n : ℕ) (l : ShardLine) (o : Option Ask) → ask_in n l ≡ o → asked_of n (l ∷ []) ≡ option_to_list o
 asked_one n l None e = rw e refl
 asked_one n l (Some a) e = rw e refl
 

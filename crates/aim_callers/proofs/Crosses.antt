@@ -20,7 +20,7 @@ slot_send = search (sendable, quarter.the_send) depth 20
 
 -- the fields, in their order
 inside : IsSync Inside.the_row
-inside = declared_sync Inside.the_type (search (sendable, crosses, table.the_sync, slot_send) depth 20, (search (sendable, crosses, quartered_sync) depth 20, (quartered_sync, tt)))
+inside = declared_sync Inside.the_type (search (sendable, crosses, table.the_sync, slot_send) depth 20, (search (sendable, crosses) depth 20, (search (sendable, crosses, quartered_sync) depth 20, (quartered_sync, tt))))
 
 pub shards_sync : IsSync Shards.the_row
 shards_sync = search (sendable, inside)

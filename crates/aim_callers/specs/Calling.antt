@@ -1,5 +1,7 @@
 -- What holds between two calls of a caller. No public clause cites this file.
-use Rattle.std.specs.Prelude.{◌≡◌, ℕ, ◌<◌, ◌≤◌, List, [], ◌∷◌, ◌++◌, length, Option, None, Some, vec_capacity}
+use Rattle.std.specs.Prelude.{◌≡◌, ℕ, ◌<◌, ◌≤◌, List, [], ◌∷◌, ◌++◌, length, min, Option, None, Some, vec_capacity}
+use Rattle.aim_claims.specs.declared.lines.ShardLine.{ShardLine}
+use Rattle.aim_claims.specs.declared.lines.ShardLine.TheVariants as line
 use Rattle.aim_claims.specs.declared.script.Ask.{Ask}
 use Rattle.aim_claims.specs.declared.script.Ask.TheVariants as ask
 use Rattle.aim_shards.specs.declared.claims.ClaimEntry.{ClaimEntry}
@@ -34,3 +36,9 @@ pub record Made (a : Ask) (old new : List ClaimEntry) : Type 0 where
 abbrev pub Steps : Option Ask → List ClaimEntry → List ClaimEntry → Type 0
 Steps None old new = new ≡ old
 Steps (Some a) old new = Made a old new
+
+-- the byte that stands for the caller of which a line asks something
+abbrev pub mark_in : ShardLine → ℕ
+mark_in (line.Claim caller set) = min caller 255
+mark_in (line.Free caller call) = min caller 255
+mark_in _ = 255

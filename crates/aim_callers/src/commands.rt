@@ -10,7 +10,7 @@ ghost use Rattle.aim_callers.specs.Commands.{Completes, Shows, ShowsFront};
 ghost use Rattle.aim_callers.specs.Puts.{Puts, status_after};
 
 use crate::running::run_script;
-use crate::texts::put_history;
+use crate::texts::text_of;
 use aim_claims::{Refused, Script, ScriptRead, Stop, read_script, refused_line};
 use aim_io::{Sink, Source, put_all};
 use aim_shards::Hold;
@@ -54,12 +54,15 @@ fn put_run<R: Threads + Wait + Sync, K: Sink, H: Hold>(
     requires workers { 0 < workers }
     ensures { Puts script.now None (K.held sink.old) (K.held sink.new) (K.faults sink.old) (K.faults sink.new) result }
 {
-    match run_script(rt, alloc, script, workers, hold) {
-        Err(_) => 7,
-        Ok(log) => match put_history(sink, &log) {
-            Ok(()) => 0,
-            Err(_) => 5,
-        },
+    let Ok(log) = run_script(rt, alloc, script, workers, hold) else {
+        return 7;
+    };
+    let Ok(text) = text_of(alloc, &log) else {
+        return 7;
+    };
+    match put_all(sink, &text) {
+        Ok(()) => 0,
+        Err(_) => 5,
     }
 }
 

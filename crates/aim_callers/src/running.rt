@@ -1,14 +1,15 @@
 //! Runs the callers of a script side by side.
 
-ghost use Rattle.std.specs.Prelude.{◌≡◌, ◌<◌, ◌≤◌, List, [], length, All, IfOk};
+ghost use Rattle.std.specs.Prelude.{◌≡◌, ◌<◌, ◌≤◌, List, [], length, map, All, IfOk};
 ghost use Rattle.std.specs.Thread.{IsSync};
 ghost use Rattle.aim_claims.specs.declared.lines.ShardLine.{ShardLine};
 ghost use Rattle.aim_claims.specs.Kinds.{IsScript};
 ghost use Rattle.aim_claims.specs.Said.{sets_of, terms_of};
 ghost use Rattle.aim_shards.specs.Models.{ShardsModel};
+ghost use Rattle.aim_callers.specs.Calling.{mark_in};
 ghost use Rattle.aim_callers.specs.Running.{AreSheetsOf, HasCalled, HasDone, IsNew, IsOpened, IsReady, IsRun};
 
-use crate::callers::{Caller, make_all};
+use crate::callers::{Caller, make_all, marks_of};
 use aim_claims::{MOST_CALLS, Script, ShardLine};
 use aim_pool::Sheet;
 use aim_shards::{ClaimEntry, Hold, OpenedShards, ShardPass, Shards, history, sheets};
@@ -48,6 +49,7 @@ fn side_by_side<R: Threads + Wait + Sync, H: Hold>(
     rt: &R,
     shards: &Shards,
     lines: &[ShardLine],
+    marks: &[u8],
     callers: &mut [Caller],
     workers: u32,
     hold: &H,
@@ -55,6 +57,7 @@ fn side_by_side<R: Threads + Wait + Sync, H: Hold>(
     requires workers { 0 < workers }
     requires script { IsScript lines.now }
     requires sets { length shards.now.sets ≡ length (sets_of lines.now) }
+    requires marks { marks.now ≡ map mark_in lines.now }
     requires ready { All (IsReady shards.now) callers.old }
     ensures count { length callers.new ≡ length callers.old }
     ensures called { All (HasCalled shards.now lines.now) callers.new }
@@ -64,9 +67,9 @@ fn side_by_side<R: Threads + Wait + Sync, H: Hold>(
         callers,
         workers as usize,
         &|_place: usize, caller: &mut Caller|
-            requires { IsSync R.row × IsScript lines.now × (length shards.now.sets ≡ length (sets_of lines.now)) × IsReady shards.now caller.old }
+            requires { IsSync R.row × IsScript lines.now × (length shards.now.sets ≡ length (sets_of lines.now)) × (marks.now ≡ map mark_in lines.now) × IsReady shards.now caller.old }
             ensures { HasCalled shards.entry.now lines.entry.now caller.new }
-        { make_all(rt, shards, lines, caller, hold) },
+        { make_all(rt, shards, lines, marks, caller, hold) },
     );
 }
 
@@ -117,8 +120,9 @@ fn called<R: Threads + Wait + Sync, H: Hold>(
     ensures count { IfOk result (λ v. length v.items ≡ length passes.items) }
     ensures done { IfOk result (λ v. All (HasDone shards.now lines.now) v.items) }
 {
+    let marks = marks_of(alloc, lines)?;
     let mut callers = seated(alloc, passes)?;
-    side_by_side(rt, shards, lines, &mut callers, workers, hold);
+    side_by_side(rt, shards, lines, &marks, &mut callers, workers, hold);
     passes_of(alloc, callers)
 }
 

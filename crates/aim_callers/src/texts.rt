@@ -1,17 +1,14 @@
 //! The printed history.
 
-ghost use Rattle.std.specs.Prelude.{◌≡◌, ◌≤◌, ◌+◌, ◌++◌, ◌∷◌, [], length, take, OnErr, OnOk};
-ghost use Rattle.std.specs.Io.KnownBytes.{Appends};
-ghost use Rattle.aim_io.specs.Causes.{HasCause};
-ghost use Rattle.aim_io.specs.Known.{AppendsFront};
+ghost use Rattle.std.specs.Prelude.{◌≡◌, ◌≤◌, ◌+◌, ◌++◌, ◌∷◌, [], length, IfOk, OnOk};
 ghost use Rattle.aim_msg.specs.Texts.{spaced};
 ghost use Rattle.aim_msg.specs.Writing.{added};
 ghost use Rattle.aim_claims.specs.Texts.{printed};
 ghost use Rattle.aim_callers.specs.Texts.{act_words, answer_word, claim_line, claim_lines, claim_words, end_words, history_text};
 
-use aim_io::{Failed, Sink, put_all};
 use aim_msg::Text;
 use aim_shards::{ClaimAct, ClaimEntry};
+use std::alloc::{AllocError, Global};
 
 // The word for an answer.
 fn answer_word(yes: bool) -> &'static [u8]
@@ -51,71 +48,50 @@ fn put_words(text: &mut Text, entry: &ClaimEntry)
     text.word(answer_word(entry.yes));
 }
 
-// Puts the line of an entry at the front of `line`, its byte 10 included, and says how long it is.
-fn claim_line(entry: &ClaimEntry, line: &mut [u8; 400]) -> usize
-    ensures text { take result line.new ≡ claim_line entry.now }
-    ensures fits { result ≤ 400 }
+// Appends the text of an entry.
+fn put_text(out: &mut Vec<u8>, entry: &ClaimEntry) -> Result<(), AllocError>
+    ensures { OnOk result (out.new.items ≡ out.old.items ++ spaced (claim_words entry.now)) }
 {
     let mut text = Text::new();
     put_words(&mut text, entry);
-    let len = text.give(line);
-    line[len] = b'\n';
-    len + 1
+    out.extend_from_slice(text.line())
 }
 
-// Puts the last line, behind so many entries, at the front of `line`, its byte 10 included, and says how long it is.
-fn end_line(entries: usize, line: &mut [u8; 400]) -> usize
-    ensures text { take result line.new ≡ printed (spaced (end_words entries)) }
-    ensures fits { result ≤ 400 }
+// Appends the line of an entry.
+fn put_entry(out: &mut Vec<u8>, entry: &ClaimEntry) -> Result<(), AllocError>
+    ensures { OnOk result (out.new.items ≡ out.old.items ++ claim_line entry.now) }
 {
-    let mut text = Text::new();
-    text.word(b"end");
-    text.number(entries as u64);
-    let len = text.give(line);
-    line[len] = b'\n';
-    len + 1
+    put_text(out, entry)?;
+    Ok(out.push(b'\n')?)
 }
 
-// Writes the line of an entry.
-fn put_entry<K: Sink>(sink: &mut K, entry: &ClaimEntry) -> Result<(), Failed>
-    ensures ok { OnOk result (Appends (K.held sink.old) (K.held sink.new) (claim_line entry.now)) }
-    ensures err { OnErr result (AppendsFront (K.held sink.old) (K.held sink.new) (claim_line entry.now)) }
-    ensures cause { HasCause (K.faults sink.old) (K.faults sink.new) result }
-{
-    let mut line = [0; 400];
-    let len = claim_line(entry, &mut line);
-    put_all(sink, &line[..len])
-}
-
-// Writes the lines of all entries.
-fn put_entries<K: Sink>(sink: &mut K, log: &[ClaimEntry]) -> Result<(), Failed>
-    ensures ok { OnOk result (Appends (K.held sink.old) (K.held sink.new) (claim_lines log.now)) }
-    ensures err { OnErr result (AppendsFront (K.held sink.old) (K.held sink.new) (claim_lines log.now)) }
-    ensures cause { HasCause (K.faults sink.old) (K.faults sink.new) result }
+// Appends the lines of all entries.
+fn put_entries(out: &mut Vec<u8>, log: &[ClaimEntry]) -> Result<(), AllocError>
+    ensures { OnOk result (out.new.items ≡ out.old.items ++ claim_lines log.now) }
 {
     for entry in log {
-        put_entry(sink, entry)?;
+        put_entry(out, entry)?;
     }
     Ok(())
 }
 
-// Writes the last line, behind so many entries.
-fn put_end<K: Sink>(sink: &mut K, entries: usize) -> Result<(), Failed>
-    ensures ok { OnOk result (Appends (K.held sink.old) (K.held sink.new) (printed (spaced (end_words entries)))) }
-    ensures err { OnErr result (AppendsFront (K.held sink.old) (K.held sink.new) (printed (spaced (end_words entries)))) }
-    ensures cause { HasCause (K.faults sink.old) (K.faults sink.new) result }
+// Appends the last line, behind so many entries.
+fn put_end(out: &mut Vec<u8>, entries: usize) -> Result<(), AllocError>
+    ensures { OnOk result (out.new.items ≡ out.old.items ++ printed (spaced (end_words entries))) }
 {
-    let mut line = [0; 400];
-    let len = end_line(entries, &mut line);
-    put_all(sink, &line[..len])
+    let mut text = Text::new();
+    text.word(b"end");
+    text.number(entries as u64);
+    out.extend_from_slice(text.line())?;
+    Ok(out.push(b'\n')?)
 }
 
-/// Writes the lines of all entries, and how many they are.
-pub fn put_history<K: Sink>(sink: &mut K, log: &[ClaimEntry]) -> Result<(), Failed>
-    ensures ok { OnOk result (Appends (K.held sink.old) (K.held sink.new) (history_text log.now)) }
-    ensures err { OnErr result (AppendsFront (K.held sink.old) (K.held sink.new) (history_text log.now)) }
-    ensures cause { HasCause (K.faults sink.old) (K.faults sink.new) result }
+/// The lines of all entries, and how many they are.
+pub fn text_of(alloc: Global, log: &[ClaimEntry]) -> Result<Vec<u8>, AllocError>
+    ensures { IfOk result (λ text. text.items ≡ history_text log.now) }
 {
-    put_entries(sink, log)?;
-    put_end(sink, log.len())
+    let mut text = Vec::new(alloc);
+    put_entries(&mut text, log)?;
+    put_end(&mut text, log.len())?;
+    Ok(text)
 }

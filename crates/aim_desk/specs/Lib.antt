@@ -2,6 +2,7 @@ pub use Rattle.aim_reservations.specs.Rows
 pub use Rattle.aim_reservations.specs.declared.reservations.Reservation
 pub use Rattle.aim_reservations.specs.Keeping
 pub use Rattle.aim_buffers.specs.Requests
+pub use Rattle.aim_buffers.specs.Shapes
 pub use Rattle.aim_switch.specs.Changes
 pub mod Costs
 pub mod Reserved

@@ -7,6 +7,7 @@ ghost use Rattle.aim_msg.specs.declared.entries.Entry.{Entry};
 ghost use Rattle.aim_msg.specs.declared.entries.TheConstants.{LATEST_MOMENT};
 ghost use Rattle.aim_session.specs.Calls.{call_of};
 ghost use Rattle.aim_rules.specs.Answer.{answer};
+ghost use Rattle.aim_buffers.specs.Shapes.{ArePreparedFor};
 ghost use Rattle.aim_rules.specs.Bad.{bad};
 ghost use Rattle.aim_rules.specs.History.{is_confirm, now_of, params_of};
 ghost use Rattle.aim_rules.specs.Known.{Known, answer_fresh_by, first_reason_by, in_the_way_by, own_refusal_by, too_distant_by, too_far_by, too_late_by};
@@ -20,7 +21,7 @@ ghost use Rattle.aim_reservations.specs.Rows.{row_of};
 ghost use Rattle.aim_desk.specs.Reserved.{rows_exchanged};
 
 use crate::desks::Desk;
-use aim_buffers::{NeedsCells, bad_field, may_reach, params_in};
+use aim_buffers::{NeedsCells, Shapes, may_reach, params_in};
 use aim_msg::{Body, Message, Params, Reason, Reply};
 use aim_paths::Layout;
 use aim_pool::Pool;
@@ -30,14 +31,19 @@ use aim_tiles::Steps;
 use std::sync::ledger::Ledger;
 
 // The lane and the arrival of an emergency that asks, where no field of its params is bad.
-fn call_at_once(layout: &Layout, body: &Body) -> Result<Option<(u8, u32)>, NeedsCells>
+fn call_at_once(
+    layout: &Layout,
+    shapes: &Shapes,
+    body: &Body,
+) -> Result<Option<(u8, u32)>, NeedsCells>
+    requires known { ArePreparedFor layout.now shapes.now }
     ensures call { IfOk result (λ call. call ≡ call_of layout.now (params_of body.now)) }
     ensures range { IfOk result (λ call. IfSome call (λ c. (c.0 < 16) × (c.1 ≤ LATEST_MOMENT))) }
 {
     // This call only tells how many lanes there are at most.
     let _ground = layout.ground();
     match params_in(body) {
-        Some(params) if params.emergency => match bad_field(layout, &params)? {
+        Some(params) if params.emergency => match shapes.bad_field(layout, &params)? {
             Some(_) => Ok(None),
             None => Ok(Some((params.lane, params.arrive))),
         },
@@ -70,9 +76,11 @@ impl<L: Ledger> Desk<L> {
     fn early_at_once(
         &self,
         layout: &Layout,
+        shapes: &Shapes,
         vehicle: u32,
         params: &Params,
     ) -> Result<Reason, NeedsCells>
+        requires known { ArePreparedFor layout.now shapes.now }
         requires caller { vehicle < length self.now.sessions }
         ensures { IfOk result (λ why. (k : Known) (place : ℕ) → Tells layout.now vehicle place k self.now → first_reason_by layout.now k params.now ≡ Some why) }
     {
@@ -81,7 +89,7 @@ impl<L: Ledger> Desk<L> {
         if now < next {
             return Ok(Reason::TooSoon(next));
         }
-        match bad_field(layout, params)? {
+        match shapes.bad_field(layout, params)? {
             Some(field) => Ok(Reason::Bad(field)),
             None => self.timely_at_once(layout, params),
         }
@@ -91,10 +99,12 @@ impl<L: Ledger> Desk<L> {
     fn reason_at_once(
         &self,
         layout: &Layout,
+        shapes: &Shapes,
         vehicle: u32,
         body: &Body,
         params: &Params,
     ) -> Result<Reason, NeedsCells>
+        requires known { ArePreparedFor layout.now shapes.now }
         requires caller { vehicle < length self.now.sessions }
         requires row { vehicle < length self.now.reservations.rows.items }
         ensures { IfOk result (λ why. (k : Known) (place : ℕ) → Tells layout.now vehicle place k self.now →
@@ -104,7 +114,7 @@ impl<L: Ledger> Desk<L> {
         let _ground = layout.ground();
         match self.own_refusal(vehicle, body) {
             Some(reason) => Ok(reason),
-            None => self.early_at_once(layout, vehicle, params),
+            None => self.early_at_once(layout, shapes, vehicle, params),
         }
     }
 
@@ -112,10 +122,12 @@ impl<L: Ledger> Desk<L> {
     fn refuse_at_once(
         &self,
         layout: &Layout,
+        shapes: &Shapes,
         vehicle: u32,
         body: &Body,
         params: &Params,
     ) -> Result<Reply, NeedsCells>
+        requires known { ArePreparedFor layout.now shapes.now }
         requires caller { vehicle < length self.now.sessions }
         requires row { vehicle < length self.now.reservations.rows.items }
         requires asks { params_of body.now ≡ Some params.now }
@@ -123,7 +135,7 @@ impl<L: Ledger> Desk<L> {
         ensures reply { IfOk result (λ reply. (k : Known) (place : ℕ) → Tells layout.now vehicle place k self.now → reply ≡ answer_fresh_by layout.now k body.now) }
         ensures refused { IfOk result (λ reply. (k : Known) (place : ℕ) → Tells layout.now vehicle place k self.now → is_confirm reply ≡ false) }
     {
-        let reason = self.reason_at_once(layout, vehicle, body, params)?;
+        let reason = self.reason_at_once(layout, shapes, vehicle, body, params)?;
         Ok(self.refuse(layout, vehicle, params.arrive, reason))
     }
 
@@ -131,9 +143,11 @@ impl<L: Ledger> Desk<L> {
     fn answer_at_once(
         &self,
         layout: &Layout,
+        shapes: &Shapes,
         vehicle: u32,
         body: &Body,
     ) -> Result<Reply, NeedsCells>
+        requires known { ArePreparedFor layout.now shapes.now }
         requires caller { vehicle < length self.now.sessions }
         requires row { vehicle < length self.now.reservations.rows.items }
         ensures reply { IfOk result (λ reply. (k : Known) (place : ℕ) → Tells layout.now vehicle place k self.now → reply ≡ answer_fresh_by layout.now k body.now) }
@@ -143,7 +157,7 @@ impl<L: Ledger> Desk<L> {
             Body::Cancel(id) | Body::Done(id) => Ok(Reply::Ack { id: *id }),
             Body::Request(_) | Body::Change(_, _) if self.stopped => Ok(Reply::EmergencyStop),
             Body::Request(params) | Body::Change(_, params) => {
-                self.refuse_at_once(layout, vehicle, body, params)
+                self.refuse_at_once(layout, shapes, vehicle, body, params)
             }
         }
     }
@@ -153,12 +167,14 @@ impl<L: Ledger> Desk<L> {
     pub(crate) fn serve_at_once(
         &mut self,
         layout: &Layout,
+        shapes: &Shapes,
         approaches: &mut Approaches,
         vehicle: u32,
         message: &Message,
         back: &mut Pool,
         steps: &mut Steps<L>,
     ) -> Result<Reply, NeedsCells>
+        requires known { ArePreparedFor layout.now shapes.now }
         requires vehicle { vehicle < length self.old.sessions }
         requires managed { (h : List Entry) × (moment : ℕ) × IsManaged layout.now (length self.old.sessions) h (now_of h moment) self.old approaches.old }
         requires fresh { look_of (slice_index_or self.old.sessions vehicle no_session).last message.now ≡ Look.Fresh }
@@ -176,8 +192,8 @@ impl<L: Ledger> Desk<L> {
         ensures err_pool { OnErr result (back.new ≡ back.old) }
         ensures err_steps { OnErr result (steps.new ≡ steps.old) }
     {
-        let call = call_at_once(layout, &message.body)?;
-        let reply = self.answer_at_once(layout, vehicle, &message.body)?;
+        let call = call_at_once(layout, shapes, &message.body)?;
+        let reply = self.answer_at_once(layout, shapes, vehicle, &message.body)?;
         approaches.note(vehicle, call);
         self.sessions.keep(vehicle, *message, reply);
         self.keep_distance(&message.body, &reply);

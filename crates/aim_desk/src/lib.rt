@@ -10,7 +10,7 @@ mod keeping;
 mod refusals;
 mod serving;
 
-pub use aim_buffers::Prepared;
+pub use aim_buffers::{Prepared, Shapes};
 pub use aim_session::Approaches;
 pub use desks::Desk;
 pub use idle::IdleDesk;

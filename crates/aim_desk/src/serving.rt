@@ -7,6 +7,7 @@ ghost use Rattle.aim_msg.specs.declared.entries.TheConstants.{LATEST_MOMENT, OPE
 ghost use Rattle.aim_msg.specs.declared.messages.Message.{Message};
 ghost use Rattle.aim_paths.specs.Intersection.{Intersection};
 ghost use Rattle.aim_buffers.specs.Requests.{IsPreparedFor};
+ghost use Rattle.aim_buffers.specs.Shapes.{ArePreparedFor};
 ghost use Rattle.aim_session.specs.Calls.{call_of};
 ghost use Rattle.aim_rules.specs.Answer.{answer};
 ghost use Rattle.aim_rules.specs.History.{now_of, params_of};
@@ -21,7 +22,7 @@ ghost use Rattle.aim_reservations.specs.Rows.{row_of};
 ghost use Rattle.aim_desk.specs.Reserved.{rows_exchanged};
 
 use crate::desks::Desk;
-use aim_buffers::{NeedsCells, Prepared, params_in, prepare_from};
+use aim_buffers::{NeedsCells, Prepared, Shapes, params_in};
 use aim_msg::{Message, Order, Reason, Reply};
 use aim_paths::Layout;
 use aim_pool::Pool;
@@ -166,12 +167,14 @@ impl<L: Ledger> Desk<L> {
         vehicle: u32,
         place: u32,
         message: &Message,
+        shapes: &mut Shapes,
         pool: &mut Pool,
         steps: &mut Steps<L>,
     ) -> Reply
         requires vehicle { vehicle < length self.old.sessions }
         requires managed { (h : List Entry) × (moment : ℕ) × IsManaged layout.now (length self.old.sessions) h (now_of h moment) self.old approaches.old × (place ≡ length h) }
         requires fresh { look_of (slice_index_or self.old.sessions vehicle no_session).last message.now ≡ Look.Fresh }
+        requires known { ArePreparedFor layout.now shapes.old }
         requires two { 2 ≤ pool.old.count }
         requires count { pool.old.count ≤ 1000000 }
         requires room { pool.old.room ≡ layout.now.grid.spans }
@@ -179,15 +182,16 @@ impl<L: Ledger> Desk<L> {
         ensures managed { (h : List Entry) (moment : ℕ) → IsManaged layout.now (length self.old.sessions) h (now_of h moment) self.old approaches.old → place ≡ length h → moment ≤ LATEST_MOMENT →
             IsManaged layout.now (length self.old.sessions) (h ++ (record { caller = vehicle; moment = moment; act = Act.Message message.now; reply = result }) ∷ []) (now_of h moment) self.new approaches.new }
         ensures sheets { pool.new.count + row_count (row_of self.new.reservations.rows.items vehicle) ≡ pool.old.count + row_count (row_of self.old.reservations.rows.items vehicle) }
+        ensures known { ArePreparedFor layout.now shapes.new }
         ensures timeline { self.new.timeline ≡ self.old.timeline }
         ensures pool { pool.new.room ≡ pool.old.room }
         ensures cost { steps.new ≤ steps.old + asked_spans layout.now (params_of message.now.body)
             + rows_exchanged (row_of self.old.reservations.rows.items vehicle) (row_of self.new.reservations.rows.items vehicle) }
     {
-        match self.serve_at_once(layout, approaches, vehicle, message, pool, steps) {
+        match self.serve_at_once(layout, shapes, approaches, vehicle, message, pool, steps) {
             Ok(reply) => reply,
             Err(NeedsCells) => {
-                let prepared = prepare_from(layout, message, pool);
+                let prepared = shapes.prepare_from(layout, message, pool);
                 self.serve_fresh(layout, approaches, vehicle, place, prepared, pool, steps)
             }
         }
@@ -203,12 +207,14 @@ impl<L: Ledger> Desk<L> {
         place: u32,
         moment: u32,
         message: &Message,
+        shapes: &mut Shapes,
         pool: &mut Pool,
         steps: &mut Steps<L>,
     ) -> Reply
         requires vehicle { vehicle < length self.old.sessions }
         requires managed { (h : List Entry) × IsManaged layout.now (length self.old.sessions) h (now_of h 0) self.old approaches.old × (place ≡ length h) }
         requires moment { moment ≤ LATEST_MOMENT }
+        requires known { ArePreparedFor layout.now shapes.old }
         requires two { 2 ≤ pool.old.count }
         requires count { pool.old.count ≤ 1000000 }
         requires room { pool.old.room ≡ layout.now.grid.spans }
@@ -216,6 +222,7 @@ impl<L: Ledger> Desk<L> {
         ensures managed { (h : List Entry) → IsManaged layout.now (length self.old.sessions) h (now_of h 0) self.old approaches.old → place ≡ length h →
             IsManaged layout.now (length self.old.sessions) (h ++ (record { caller = vehicle; moment = moment; act = Act.Message message.now; reply = result }) ∷ [])
             (now_of (h ++ (record { caller = vehicle; moment = moment; act = Act.Message message.now; reply = result }) ∷ []) 0) self.new approaches.new }
+        ensures known { ArePreparedFor layout.now shapes.new }
         ensures timeline { self.new.timeline ≡ self.old.timeline }
         ensures sheets { pool.new.count + row_count (row_of self.new.reservations.rows.items vehicle) ≡ pool.old.count + row_count (row_of self.old.reservations.rows.items vehicle) }
         ensures pool { pool.new.room ≡ pool.old.room }
@@ -227,7 +234,9 @@ impl<L: Ledger> Desk<L> {
         // This call only tells the ranges of the times.
         let _ground = layout.ground();
         match self.sessions.look(vehicle, message) {
-            Look::Fresh => self.serve_new(layout, approaches, vehicle, place, message, pool, steps),
+            Look::Fresh => self.serve_new(
+                layout, approaches, vehicle, place, message, shapes, pool, steps,
+            ),
             look => self.answer_known(layout, vehicle, message, look),
         }
     }

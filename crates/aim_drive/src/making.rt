@@ -5,7 +5,7 @@ ghost use Rattle.aim_turn.specs.Models.{new_pass};
 ghost use Rattle.aim_drive.specs.Making.{AreAgentsFor, AreLeft, ArePlans, IsMadeOf, IsTaken, all_passes};
 
 use crate::NoMemory;
-use aim_agents::{Agent, Manager, ManagerPass};
+use aim_agents::{Agent, Manager, ManagerPass, Memo};
 use aim_driver::Driver;
 use aim_links::Link;
 use aim_plans::Planned;
@@ -23,6 +23,7 @@ fn agent_of(
     requires pass { pass.mine ≡ [] }
     ensures { IfOk result (λ a. IsMadeOf planned pass spans a) }
 {
+    let memo = Memo::new(alloc, spans)?;
     let Planned {
         vehicle: _,
         plan,
@@ -33,7 +34,9 @@ fn agent_of(
     let up = Link::new(alloc, 0, up);
     let down = Link::new(alloc, 1, down);
     let pool = Pool::new(alloc, 3, spans)?;
-    Ok(Agent::new(driver, up, down, pass, pool))
+    let mut agent = Agent::new(driver, up, down, pass, pool);
+    agent.give_memo(memo);
+    Ok(agent)
 }
 
 // Takes out the pass of the vehicle.

@@ -15,7 +15,7 @@ pub no_drives : (v n : ℕ) (g : Lcg) → n ≡ 0 → drives_from v n g ≡ []
 unfolding plan_lines
 no_drives v n g e = rw e refl
 
-next_line : (v n : ℕ) (g : Lcg) → v < n → plan_lines v (n - v) g ≡ drawn v g ∷ plan_lines (v + 1) (n - (v + 1)) (after_plan g)
+pub next_line : (v n : ℕ) (g : Lcg) → v < n → plan_lines v (n - v) g ≡ drawn v g ∷ plan_lines (v + 1) (n - (v + 1)) (after_plan g)
 unfolding plan_lines
 next_line v n g lt =
     let e : n - v ≡ suc (n - (v + 1)) = omega (arith, lt) in

@@ -5,6 +5,7 @@ pub mod Openings
 pub mod Bodies
 pub mod Scripts
 pub mod Drawing
+mod Printed
 pub mod Spelling
 pub mod RunLemmas
 pub mod OrderLemmas

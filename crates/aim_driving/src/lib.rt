@@ -8,10 +8,12 @@ pub mod laws;
 mod layout;
 mod making;
 mod plans;
+mod printing;
 mod reports;
 mod summaries;
 
 pub use commands::drive;
 pub use generating::generate;
 pub use making::traffic;
+pub use printing::print_traffic;
 pub use reports::{put_all_tiles, put_logs};

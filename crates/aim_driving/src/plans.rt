@@ -1,6 +1,7 @@
 //! The plans of generated traffic.
 
-ghost use Rattle.std.specs.Prelude.{◌≡◌, ◌≤◌, ◌<◌, [], Some, map, filter_map, IfOk};
+ghost use Rattle.std.specs.Prelude.{◌≡◌, ◌≤◌, ◌<◌, ◌*◌, false, [], Some, map, filter_map, IfOk};
+ghost use Rattle.aim_msg.specs.declared.script.Line.TheVariants as line;
 ghost use Rattle.aim_plans.specs.Said.{drive_in};
 ghost use Rattle.aim_plans.specs.Scripts.{drive_told};
 ghost use Rattle.aim_driving.specs.Drawn.{after_plan, drawn, generator, plan_lines, turn_of};
@@ -25,10 +26,16 @@ fn turn_of(lane: u8) -> Turn
     }
 }
 
-// Draws the plan of a vehicle, which says nothing of changes, cancels and fates.
-fn draw(alloc: Global, random: &mut Pcg32, vehicle: u32) -> Planned
-    requires { vehicle ≤ 256 }
-    ensures plan { Some (drive_told result) ≡ drive_in [] (drawn vehicle random.old) }
+// What the generator decides of a plan.
+pub(crate) struct Trip {
+    pub(crate) lead: u32,
+    pub(crate) params: Params,
+}
+
+// Draws how long a vehicle asks ahead, and for which crossing.
+pub(crate) fn draw(random: &mut Pcg32, vehicle: u32) -> Trip
+    ensures drawn { line.PlanFor vehicle (33 * vehicle) result.lead 50 result.params false ≡ drawn vehicle random.old }
+    ensures arrive { result.params.arrive ≡ 0 }
     ensures rest { random.new ≡ after_plan random.old }
 {
     let a = random.next_word();
@@ -46,11 +53,24 @@ fn draw(alloc: Global, random: &mut Pcg32, vehicle: u32) -> Planned
         width: 1900,
         emergency: false,
     };
+    Trip {
+        lead: 100 + b % 100,
+        params,
+    }
+}
+
+// Draws the plan of a vehicle, which says nothing of changes, cancels and fates.
+fn plan(alloc: Global, random: &mut Pcg32, vehicle: u32) -> Planned
+    requires { vehicle ≤ 256 }
+    ensures plan { Some (drive_told result) ≡ drive_in [] (drawn vehicle random.old) }
+    ensures rest { random.new ≡ after_plan random.old }
+{
+    let Trip { lead, params } = draw(random, vehicle);
     Planned {
         vehicle,
         plan: DrivePlan {
             first: 33 * vehicle,
-            lead: 100 + b % 100,
+            lead,
             resend: 50,
             params,
             changes: Changes::none(),
@@ -70,7 +90,7 @@ pub(crate) fn drawn(alloc: Global, number: u32, count: u32) -> Result<Vec<Planne
     let mut random = Pcg32::seed_from_u64(u64::from(number));
     let mut plans = Vec::with_capacity(alloc, count as usize)?;
     for vehicle in 0..count {
-        plans.push_reserved(draw(alloc, &mut random, vehicle));
+        plans.push_reserved(plan(alloc, &mut random, vehicle));
     }
     Ok(plans)
 }

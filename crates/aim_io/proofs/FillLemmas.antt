@@ -10,7 +10,7 @@ use Rattle.aim_io.specs.declared.source.Failed.{Failed}
 use Rattle.aim_io.proofs.WindowLemmas.{window_grows, length_window}
 
 -- how many bytes a reader holds
-pub held_size : (bytes held : List ℕ) (start stop : ℕ) → stop ≤ 4096 → length bytes ≡ 4096 → drop start (take stop bytes) ≡ held → length held ≡ stop - start
+pub held_size : (bytes held : List ℕ) (start stop : ℕ) → stop ≤ 65536 → length bytes ≡ 65536 → drop start (take stop bytes) ≡ held → length held ≡ stop - start
 held_size bytes held start stop fits size is = sym (ap (λ (l : List ℕ). length l) is) ∙ length_window bytes start stop (omega (arith, fits, size))
 
 -- what a reader holds after so many bytes more

@@ -128,6 +128,7 @@ pub record Advanced {S : Type 0} (left : S → Option (List ℕ)) (faults : S �
   pub keeps : OnErr result (Keeps (input old (left before)) (input new (left after)))
   pub shows : IfErr result (λ f. old.fault ≡ None → (f ≡ Read) ⊎ ShowsFault new.given new.place new.held f)
   pub read : IfErr result (λ f. f ≡ Read → ShowsNothing new.given new.place new.held × (new.ended ≡ false) × Rose (faults before) (faults after))
+  pub asked : IfErr result (λ f. f ≡ Read → IsOpen old.held)
 
 -- what is gone is what was held before what is held now
 gone : (old now : Reader) (before left : Option (List ℕ)) (line rest : List ℕ) → Keeps before (input now left) → now.held ≡ line ++ rest
@@ -173,6 +174,7 @@ advanced_line left faults last old now before after len on sound shows going =
       keeps = tt;
       shows = tt;
       read = tt;
+      asked = tt;
     }
 
 on_true : (b : Bool) (P : Type 0) → P → OnTrue b P
@@ -236,6 +238,7 @@ advanced_rest left faults last old now before after on sound shows at_end =
       keeps = tt;
       shows = tt;
       read = tt;
+      asked = tt;
     }
 
 answers_read : (old now new : Reader) (before left : Option (List ℕ)) → Keeps before (input now left) → new.held ≡ now.held
@@ -261,6 +264,11 @@ fault_shows now was is (Long number) next = inr next
 fault_shows now was is Bytes next = inr next
 fault_shows now was is Lines next = inr next
 
+-- a source was asked, which failed, where what was held showed nothing
+open_before : {S : Type 0} (before after : S) (old now : List ℕ) → ((after ≡ before) × (now ≡ old)) ⊎ IsOpen old → IsOpen now → IsOpen old
+open_before before after old now (inl none) is_open = subst IsOpen none.1 is_open
+open_before before after old now (inr was_open) is_open = was_open
+
 advanced_fault : {S : Type 0} (left : S → Option (List ℕ)) (faults : S → ℕ) (last : S → Option ℕ) (old now : Reader) (before after : S) (fault : LineFault)
     → ReadOn left faults last old now before after → IsSound now → FaultNext now (faults before) (faults after) fault
     → Advanced left faults old (failed now fault) before after (Err fault)
@@ -278,6 +286,7 @@ advanced_fault left faults last old now before after fault on sound next = recor
   keeps = on.keeps;
   shows = λ _. fault_shows now (faults before) (faults after) fault next;
   read = λ is. subst (λ f. FaultNext now (faults before) (faults after) f) is next;
+  asked = λ is. open_before before after old.held now.held on.ahead (subst (λ f. FaultNext now (faults before) (faults after) f) is next).0.is_open;
 }
 
 -- the call that read on and then answered what was held

@@ -40,14 +40,14 @@ pub in_window : (bytes held : List ℕ) (start stop n : ℕ) → drop start (tak
 in_window bytes held start stop n is ordered fits =
     subst (λ (l : List ℕ). n ≤ length l) (sym is ∙ window bytes start stop ordered) fits
 
-size_held : (bytes held : List ℕ) (start stop : ℕ) → length bytes ≡ 4096 → stop ≤ 4096 → drop start (take stop bytes) ≡ held → length held ≡ stop - start
+size_held : (bytes held : List ℕ) (start stop : ℕ) → length bytes ≡ 65536 → stop ≤ 65536 → drop start (take stop bytes) ≡ held → length held ≡ stop - start
 size_held bytes held start stop size fits is = sym (ap (λ (l : List ℕ). length l) is) ∙ length_window bytes start stop (omega arith)
 
-pub none_held : (bytes held : List ℕ) (start stop : ℕ) → length bytes ≡ 4096 → stop ≤ 4096 → drop start (take stop bytes) ≡ held → stop - start ≡ 0
+pub none_held : (bytes held : List ℕ) (start stop : ℕ) → length bytes ≡ 65536 → stop ≤ 65536 → drop start (take stop bytes) ≡ held → stop - start ≡ 0
     → false ≡ nat_lt 0 (length held)
 none_held bytes held start stop size fits is none = sym (ap (nat_lt 0) (size_held bytes held start stop size fits is ∙ none))
 
-pub some_held : (bytes held : List ℕ) (start stop : ℕ) → length bytes ≡ 4096 → stop ≤ 4096 → drop start (take stop bytes) ≡ held → (stop - start ≡ 0 → ⊥)
+pub some_held : (bytes held : List ℕ) (start stop : ℕ) → length bytes ≡ 65536 → stop ≤ 65536 → drop start (take stop bytes) ≡ held → (stop - start ≡ 0 → ⊥)
     → true ≡ nat_lt 0 (length held)
 some_held bytes held start stop size fits is some =
     sym (lt-ltb 0 (length held) (omega (arith, size_held bytes held start stop size fits is)))

@@ -8,6 +8,7 @@ ghost use Rattle.aim_io.specs.Look.{SaysOf, ReadOn, ShowsNext, CanAnswer, Answer
 ghost use Rattle.aim_io.specs.Pieces.{TellsLast};
 
 use crate::{Failed, Source};
+use memchr::memchr;
 use std::marker::Model;
 
 // The byte that ends a line.
@@ -23,7 +24,7 @@ const MOST_LINES: u32 = 262_144;
 const MOST_BYTES: usize = 67_108_864;
 
 // The room for bytes that are read ahead.
-const ROOM: usize = 4096;
+const ROOM: usize = 65_536;
 
 /// Why no next line is given. A reader that has answered a fault answers it again for ever, and
 /// reads no more.
@@ -56,7 +57,21 @@ fn line_end(bytes: &[u8]) -> Option<usize>
     ensures found { IfSome result (EndsAt bytes.now) }
     ensures none { IfNone result (HasNoEnd bytes.now) }
 {
-    bytes.iter().position(|&byte| byte == LINE_END)
+    memchr(LINE_END, bytes)
+}
+
+// Whether some bytes hold neither the end of the first line nor its 401st byte.
+fn leaves_open(held: &[u8]) -> bool
+    ensures yes { OnTrue result (IsOpen held.now) }
+    ensures no { OnFalse result (IsOpen held.now → ⊥) }
+{
+    if held.len() >= TOO_LONG {
+        return false;
+    }
+    match line_end(held) {
+        Some(_) => false,
+        None => true,
+    }
 }
 
 // Where the first line ends, if its end is there, where the first `seen` bytes were looked at before.
@@ -98,12 +113,12 @@ fn look_at(given: u32, place: usize, held: &[u8], seen: usize) -> Look
 
 // Moves what is held to the front where no room is left behind it, and says where it begins.
 fn make_room(bytes: &mut [u8], start: usize, end: usize) -> usize
-    requires size { length bytes.old ≡ 4096 }
+    requires size { length bytes.old ≡ 65536 }
     requires ordered { start ≤ end }
-    requires in_range { end ≤ 4096 }
+    requires in_range { end ≤ 65536 }
     requires short { end ≤ start + 400 }
     ensures held { drop result (take (result + (end - start)) bytes.new) ≡ drop start (take end bytes.old) }
-    ensures room { result + (end - start) < 4096 }
+    ensures room { result + (end - start) < 65536 }
 {
     if end < ROOM {
         return start;
@@ -159,7 +174,7 @@ impl Model for LineReader {
 
     ghost view = { λ r. record { held = drop r.start (take r.end r.bytes); line = take r.line_len (drop r.line_start r.bytes); given = r.given; place = r.place; fault = r.fault; ended = r.ended } };
 
-    ghost invariant = { λ r. (r.start ≤ r.end) × (r.end ≤ 4096) × (r.line_start + r.line_len ≤ 4096) × (r.given ≤ 262144) × (r.place ≤ 67108864) × (r.place + r.end ≤ 67108865 + r.start) × (r.ended ≡ true → r.start ≡ r.end) };
+    ghost invariant = { λ r. (r.start ≤ r.end) × (r.end ≤ 65536) × (r.line_start + r.line_len ≤ 65536) × (r.given ≤ 262144) × (r.place ≤ 67108864) × (r.place + r.end ≤ 67108865 + r.start) × (r.ended ≡ true → r.start ≡ r.end) };
 }
 
 impl LineReader {
@@ -206,6 +221,15 @@ impl LineReader {
             &self.bytes[self.start..self.end],
             seen,
         )
+    }
+
+    /// Whether the bytes that were read ahead leave the next answer open: they hold neither the end of the next line nor its
+    /// 401st byte. Else the next call of `advance` reads nothing.
+    pub fn is_open(&self) -> bool
+        ensures yes { OnTrue result (IsOpen self.now.held) }
+        ensures no { OnFalse result (IsOpen self.now.held → ⊥) }
+    {
+        leaves_open(&self.bytes[self.start..self.end])
     }
 
     // How many bytes were read ahead.
@@ -374,6 +398,7 @@ impl LineReader {
         ensures shows { IfErr result (λ f. self.old.fault ≡ None → (f ≡ LineFault.Read) ⊎ ShowsFault self.new.given self.new.place self.new.held f) }
         ensures read { result ≡ Err LineFault.Read → self.old.fault ≡ None
             → ShowsNothing self.new.given self.new.place self.new.held × (self.new.ended ≡ false) × Rose (S.faults source.old) (S.faults source.new) }
+        ensures asked { result ≡ Err LineFault.Read → self.old.fault ≡ None → IsOpen self.old.held }
         ensures again { IfSome self.old.fault (λ f. (result ≡ Err f) × (self.new ≡ self.old) × (source.new ≡ source.old)) }
 
         // When it reads.

@@ -1,7 +1,7 @@
 // Sources and sinks in memory, which fail at the calls that they are told.
-ghost use Rattle.std.specs.Prelude.{◌≡◌, ◌+◌, ◌-◌, ◌<◌, ◌≤◌, ◌==◌, ◌||◌, ◌&&◌, ◌++◌, [], Some, List, ℕ, length, drop, take, min, nat_lt, if◌then◌else◌, IfOk, is_err};
+ghost use Rattle.std.specs.Prelude.{◌≡◌, ◌+◌, ◌-◌, ◌<◌, ◌≤◌, ◌==◌, ◌||◌, ◌&&◌, ◌++◌, [], Some, List, ℕ, length, drop, take, min, nat_lt, if◌then◌else◌, IfOk, OnOk, false, is_err};
 ghost use Rattle.std.specs.Io.{ReadsAtMost, WritesAtMost};
-ghost use Rattle.std.specs.Io.KnownBytes.{ReadConsumes, WriteAppends};
+ghost use Rattle.std.specs.Io.KnownBytes.{Keeps, ReadConsumes, WriteAppends};
 ghost use Rattle.aim_io.specs.Causes.{HasCause, counted};
 ghost use Rattle.aim_io.specs.Memory.{Supply, Store, is_listed};
 ghost use Rattle.aim_io.specs.Pieces.{TellsLast};
@@ -193,6 +193,8 @@ impl MemSink {
 impl Sink for MemSink {
     ghost held = { λ s. Some s.held };
 
+    ghost kept_back = { λ _. [] };
+
     ghost faults = { λ s. s.faults };
 
     // A call that fails changes nothing but the counts. Another adds as many bytes as have room.
@@ -219,6 +221,17 @@ impl Sink for MemSink {
         put_at(&mut self.bytes, self.len, &piece[..count]);
         self.len += count;
         Ok(count)
+    }
+
+    // Nothing is kept back.
+    fn settle(&mut self) -> Result<(), Failed>
+        ensures bytes { Keeps (Some self.old.held) (Some self.new.held) }
+        ensures settled { OnOk result (◌≡◌ {A = List ℕ} [] []) }
+        ensures cause { HasCause self.old.faults self.new.faults result }
+        ensures same { self.new ≡ self.old }
+        ensures ok { is_err result ≡ false }
+    {
+        Ok(())
     }
 }
 

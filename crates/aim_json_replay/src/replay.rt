@@ -13,7 +13,7 @@ use aim_replay::replay_by;
 use std::alloc::Global;
 
 /// Replays a script of JSON lines: reads its lines, writes the line of each event's and each order's entry before it
-/// takes the next line, and last what the script comes to. The status is 0 for a whole script, 3 for a line at fault, 4
+/// takes the next line, and has the sink hand it on before it waits for one, and last what the script comes to. The status is 0 for a whole script, 3 for a line at fault, 4
 /// where the source fails, 5 where the sink fails, 6 for a limit, and 7 where memory runs out, which may be at any
 /// line. Always returns.
 pub fn replay_json<S: Source, K: Sink>(alloc: Global, source: &mut S, sink: &mut K) -> u8
@@ -30,6 +30,9 @@ pub fn replay_json<S: Source, K: Sink>(alloc: Global, source: &mut S, sink: &mut
     // With another status what is written is a front of that text.
     ensures front { (result ≡ 4) ⊎ ((result ≡ 5) ⊎ (result ≡ 7)) → WritesFront (S.left source.old) (K.held sink.old) (K.held sink.new) (text_by by_json None) }
     ensures short { result ≡ 4 → StopsShortBy by_json (S.left source.old) (S.left source.new) (K.held sink.old) (K.held sink.new) }
+
+    // All that was written is handed on, and was before each piece that was read, also before one that failed.
+    ensures settled { (result ≡ 0) ⊎ ((result ≡ 3) ⊎ ((result ≡ 4) ⊎ (result ≡ 6))) → K.kept_back sink.new ≡ [] }
 
     // Each status has its cause.
     ensures read { result ≡ 4 → Rose (S.faults source.old) (S.faults source.new) }

@@ -159,6 +159,7 @@ impl<L: Ledger> Model for Server<L> {
 }
 
 /// A server that has received the last word of every client.
+#[derive(Drop)]
 pub struct Served<L: Ledger> {
     desk: Desk<L>,
     intake: Intake,

@@ -45,6 +45,10 @@ module _ {A : Type 0} where
         others = λ k d le. get_or-set_other ys n k v d (λ e. absurd (omega arith)) ∙ p.others k d (omega arith);
       }
 
+  -- with what is said less
+  pub done_as : (R S : A → A → Type 0) (n : ℕ) (xs ys : List A) → Done R n xs ys → ((a b : A) → R a b → S a b) → Done S n xs ys
+  done_as R S n xs ys p f = record { len = p.len; each = λ k d e lt. f (get_or xs k d) (get_or ys k e) (p.each k d e lt); others = p.others }
+
   pub done_all : (R : A → A → Type 0) (n : ℕ) (xs ys : List A) → Done R n xs ys → length xs ≤ n → AllByPlace R xs ys
   done_all R n xs ys p le = record { len = p.len; each = λ k d e lt. p.each k d e (omega (arith, le, lt)) }
 

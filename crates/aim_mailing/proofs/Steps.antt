@@ -1,5 +1,5 @@
 -- What a caller does, call by call.
-use Rattle.std.proofs.Common.{◌≡◌, ℕ, ◌+◌, ◌<◌, ◌≤◌, List, [], ◌∷◌, ◌++◌, length, map, take, get_or, Option, Some, refl, sym, ap, ◌∙◌, subst, arith}
+use Rattle.std.proofs.Common.{◌≡◌, ℕ, ◌+◌, ◌<◌, ◌≤◌, Bool, true, false, ◌||◌, List, [], ◌∷◌, ◌++◌, length, map, take, get_or, Option, Some, refl, sym, ap, ◌∙◌, subst, arith}
 use Rattle.std.specs.Prelude.{All, IfSome}
 use Rattle.std.proofs.lemmas.List.{get_or-map, length-map, map-append, take_all}
 use Rattle.aim_msg.specs.declared.entries.Act.TheVariants as act
@@ -11,7 +11,7 @@ use Rattle.aim_mailbox.specs.Calls.{Call as ClientCall, ClientModel, ServerModel
 use Rattle.aim_mailbox.proofs.Clients.{same_refl, same_trans}
 use Rattle.aim_mailing.specs.declared.callers.Caller.{Caller}
 use Rattle.aim_mailing.specs.Runs.{calls_by, event_call}
-use Rattle.aim_mailing.specs.Calling.{Called, Finished, HasCalled, HasMade, HasSheets, IsNewCaller, IsSameCaller, Reached, Stepped, Works, call_by}
+use Rattle.aim_mailing.specs.Calling.{Called, Finished, HasCalled, HasMade, HasSheets, IsNewCaller, IsSameCaller, Reached, Stepped, Went, Works, call_by}
 use Rattle.aim_mailing.proofs.Events.{own_more}
 
 -- the call of the event comes behind those before it
@@ -53,6 +53,24 @@ reached_first i events a w = record { works = w; same = record { vehicle_is = re
 
 pub reached_more : (i : Intersection) (events : List Event) (n : ℕ) (a b c : Caller) → n < length events → Reached i events n a b → Stepped i events b c → Reached i events (n + 1) a c
 reached_more i events n a b c lt r s = let far : n < c.place = s.further n lt r.far in record { works = s.works; same = same_caller a b c r.same s.same; far = omega (arith, far) }
+
+or_left : (a b : Bool) → (a || b) ≡ false → a ≡ false
+or_left false b e = refl
+or_left true b e = e
+
+or_right : (a b : Bool) → (a || b) ≡ false → b ≡ false
+or_right false b e = e
+or_right true b e = absurd cc
+
+-- a caller that went on before, and the one that goes on now
+pub went_before : (i : Intersection) (events : List Event) (left more : Bool) (a b : Caller) → Went i events left a b → Went i events (left || more) a b
+went_before i events left more a b w = record { stepped = w.stepped; through = λ none. w.through (or_left left more none) }
+
+pub went_now : (i : Intersection) (events : List Event) (left more : Bool) (a b : Caller) → Stepped i events a b → (more ≡ false → length events ≤ b.place) → Went i events (left || more) a b
+went_now i events left more a b s through = record { stepped = s; through = λ none. through (or_right left more none) }
+
+pub reached_all : (i : Intersection) (events : List Event) (n : ℕ) (left : Bool) (a b c : Caller) → left ≡ false → Reached i events n a b → Went i events left b c → Finished i events a c
+reached_all i events n left a b c none r w = record { works = w.stepped.works; same = same_caller a b c r.same w.stepped.same; far = w.through none }
 
 pub reached_as : (i : Intersection) (events : List Event) (n m : ℕ) (a b : Caller) → n ≡ m → Reached i events n a b → Reached i events m a b
 reached_as i events n m a b is r = subst (λ k. Reached i events k a b) is r

@@ -1,5 +1,5 @@
 -- What holds between two calls of a caller, and what its calls are. No public clause cites this file.
-use Rattle.std.specs.Prelude.{◌≡◌, ℕ, ◌+◌, ◌<◌, ◌≤◌, List, [], ◌∷◌, ◌++◌, length, map, max, take, IfSome, slice_index_or}
+use Rattle.std.specs.Prelude.{◌≡◌, ℕ, ◌+◌, ◌<◌, ◌≤◌, Bool, false, List, [], ◌∷◌, ◌++◌, length, map, max, take, IfSome, slice_index_or}
 use Rattle.aim_msg.specs.declared.entries.Act.TheVariants as act
 use Rattle.aim_paths.specs.Intersection.{Intersection}
 use Rattle.aim_pool.specs.Pools.{Stock}
@@ -50,6 +50,11 @@ pub record Stepped (i : Intersection) (events : List Event) (a b : Caller) : Typ
   pub works : Works i events b
   pub same : IsSameCaller a b
   pub further : (n : ℕ) → n < length events → n ≤ a.place → n < b.place
+
+-- the caller went on by one event, if it was not through, and where none is left, it is through
+pub record Went (i : Intersection) (events : List Event) (left : Bool) (a b : Caller) : Type 0 where
+  pub stepped : Stepped i events a b
+  pub through : left ≡ false → length events ≤ b.place
 
 -- the caller went on until it had come to that place at least
 pub record Reached (i : Intersection) (events : List Event) (n : ℕ) (a b : Caller) : Type 0 where

@@ -4,7 +4,7 @@ ghost use Rattle.std.specs.Prelude.{◌≡◌, ◌≤◌, ◌<◌, ◌+◌, leng
 ghost use Rattle.aim_msg.specs.declared.entries.TheConstants.{LATEST_MOMENT};
 ghost use Rattle.aim_events.specs.declared.scripts.Event.{Event};
 ghost use Rattle.aim_mailing.specs.Runs.{calls_by};
-ghost use Rattle.aim_mailing.specs.Calling.{AllByPlace, Called, Finished, HasSheets, Stepped, Works};
+ghost use Rattle.aim_mailing.specs.Calling.{AllByPlace, Called, Finished, HasSheets, Stepped, Went, Works};
 
 use aim_buffers::prepare_from;
 use aim_events::Event;
@@ -72,15 +72,18 @@ fn step<R: Wait>(rt: &R, layout: &Layout, events: &[Event], caller: &mut Caller)
     }
 }
 
-// Lets each caller in its turn make one call, if it has one left.
-fn one_round<R: Wait>(rt: &R, layout: &Layout, events: &[Event], callers: &mut [Caller])
+// Lets each caller in its turn make one call, if it has one left, and answers whether one of them may have any left then.
+fn one_round<R: Wait>(rt: &R, layout: &Layout, events: &[Event], callers: &mut [Caller]) -> bool
     requires moments { All (λ e. e.moment ≤ LATEST_MOMENT) events.now }
     requires works { All (Works layout.now events.now) callers.old }
-    ensures { AllByPlace (Stepped layout.now events.now) callers.old callers.new }
+    ensures { AllByPlace (Went layout.now events.now result) callers.old callers.new }
 {
+    let mut left = false;
     for caller in callers.iter_mut() {
         step(rt, layout, events, caller);
+        left |= caller.place < events.len();
     }
+    left
 }
 
 /// Lets the callers make all their calls, in rounds in which each in its turn makes one.
@@ -90,6 +93,8 @@ pub(crate) fn make_all<R: Wait>(rt: &R, layout: &Layout, events: &[Event], calle
     ensures { AllByPlace (Finished layout.now events.now) callers.old callers.new }
 {
     for round in 0..events.len() {
-        one_round(rt, layout, events, callers);
+        if !one_round(rt, layout, events, callers) {
+            return;
+        }
     }
 }

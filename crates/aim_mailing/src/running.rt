@@ -121,7 +121,8 @@ fn staffed<L: Ledger, R: Wait>(
 /// Runs a script: a server on one thread, and beside it the clients of all vehicles, each of which calls with its
 /// vehicle's events in their order. The clients are cut into runs of neighbours, as many as there are workers at most. The
 /// runs go side by side, in threads where the machine gives them, and a run takes its clients in turn, one event each,
-/// until all are through. The answer is the journal of all calls.
+/// until all are through. The answer is the journal of all calls. Where the machine gives no thread for the server, the
+/// error is that of memory.
 pub fn run_script<L: Ledger + Send + Sync, R: Threads + Wait + Sync>(
     rt: &R,
     alloc: Global,
@@ -143,7 +144,7 @@ pub fn run_script<L: Ledger + Send + Sync, R: Threads + Wait + Sync>(
         ended,
     } = staff;
     let size = callers.len().div_ceil(workers as usize);
-    let (served, ended) = beside(
+    let both = beside(
         rt,
         server,
         &script.layout,
@@ -151,6 +152,7 @@ pub fn run_script<L: Ledger + Send + Sync, R: Threads + Wait + Sync>(
         callers,
         ended,
         size,
-    );
+    )?;
+    let (served, ended) = both;
     Ok(settle(served, ended))
 }

@@ -1,6 +1,6 @@
 //! The callers in runs, side by side, and the server beside them.
 
-ghost use Rattle.std.specs.Prelude.{◌≡◌, ◌≤◌, ◌<◌, [], length, map, All, vec_capacity};
+ghost use Rattle.std.specs.Prelude.{◌≡◌, ◌≤◌, ◌<◌, [], length, map, All, IfOk, vec_capacity};
 ghost use Rattle.std.specs.Thread.{IsSync};
 ghost use Rattle.aim_msg.specs.declared.entries.TheConstants.{LATEST_MOMENT};
 ghost use Rattle.aim_mailing.specs.Calling.{AllByPlace, Finished, HasMade, Works};
@@ -9,9 +9,11 @@ use crate::callers::{Caller, make_all};
 use aim_events::Event;
 use aim_mailbox::{Ended, Served, Server};
 use aim_paths::Layout;
+use std::alloc::AllocError;
+use std::snapshot::Snapshot;
 use std::sync::Wait;
 use std::sync::ledger::Ledger;
-use std::thread::{self, Threads};
+use std::thread::{self, Promise, Threads};
 
 // Lets the callers make their calls, in runs of so many neighbours. The runs go side by side.
 fn side_by_side<R: Threads + Wait + Sync>(
@@ -69,7 +71,18 @@ fn call_and_finish<R: Threads + Wait + Sync>(
     finish_all(rt, callers, ended)
 }
 
-/// The server on one thread, and the runs of callers beside it: what each of them leaves.
+// What a server leaves is of its own mailbox.
+#[derive(Drop)]
+struct OfServer<L: Ledger> {
+    server: Snapshot<Server<L>>,
+}
+
+impl<L: Ledger> Promise<Served<L>> for OfServer<L> {
+    ghost kept_by = { λ p r. r ≡ p.server.value };
+}
+
+/// The server on a thread of its own, and the runs of callers beside it: what each of them leaves. Where no thread can be
+/// made for the server, nothing is called, since a caller would wait for ever.
 pub(crate) fn beside<L: Ledger + Send + Sync, R: Threads + Wait + Sync>(
     rt: &R,
     server: Server<L>,
@@ -78,24 +91,34 @@ pub(crate) fn beside<L: Ledger + Send + Sync, R: Threads + Wait + Sync>(
     callers: Vec<Caller>,
     ended: Vec<Ended>,
     size: usize,
-) -> (Served<L>, Vec<Ended>)
+) -> Result<(Served<L>, Vec<Ended>), AllocError>
     requires size { 0 < size }
     requires moments { All (λ e. e.moment ≤ LATEST_MOMENT) events.now }
     requires works { All (Works layout.now events.now) callers.items }
     requires none { ended.items ≡ [] }
     requires room { length callers.items ≤ vec_capacity ended }
-    ensures served { result.0 ≡ server }
-    ensures ended { AllByPlace (HasMade events.now) callers.items result.1.items }
+    ensures served { IfOk result (λ r. r.0 ≡ server) }
+    ensures ended { IfOk result (λ r. AllByPlace (HasMade events.now) callers.items r.1.items) }
 {
-    thread::join(
+    thread::scope(
+        thread::scope_env(),
         rt,
-        move || -> Served<L>
-            requires { IsSync R.row }
-            ensures { result ≡ server }
-        { server.run(rt) },
-        move || -> Vec<Ended>
-            requires { (0 < size) × All (λ e. e.moment ≤ LATEST_MOMENT) events.now × All (Works layout.now events.now) callers.items × (ended.items ≡ []) × (length callers.items ≤ vec_capacity ended) }
-            ensures { AllByPlace (HasMade events.entry.now) callers.items result.items }
-        { call_and_finish(rt, layout, events, callers, ended, size) },
+        move |scope| -> Result<(Served<L>, Vec<Ended>), AllocError>
+            requires { IsSync R.row × (0 < size) × All (λ e. e.moment ≤ LATEST_MOMENT) events.now × All (Works layout.now events.now) callers.items × (ended.items ≡ []) × (length callers.items ≤ vec_capacity ended) }
+            ensures { IfOk result (λ r. (r.0 ≡ server) × AllByPlace (HasMade events.entry.now) callers.items r.1.items) }
+        {
+            let promise = OfServer {
+                server: Snapshot::of(&server),
+            };
+            let serving = scope.spawn_with(
+                promise,
+                move || -> Served<L>
+                    requires { IsSync R.row }
+                    ensures { result ≡ server }
+                { server.run(rt) },
+            )?;
+            let ended = call_and_finish(rt, layout, events, callers, ended, size);
+            Ok((serving.join(rt), ended))
+        },
     )
 }

@@ -5,6 +5,7 @@ use Rattle.std.proofs.Crossing.{crosses}
 use Rattle.aim_msg.specs.contracts.entries.Entry as Entry
 use Rattle.aim_paths.proofs.layouts.Layout.TheSendSync as layout
 pub use Rattle.aim_pool.proofs.Crosses.{pool_send}
+pub use Rattle.aim_buffers.proofs.Crosses.{memo_send}
 use Rattle.aim_book.proofs.Crosses.{idle_book_send}
 use Rattle.aim_turn.proofs.pass.Front.TheSendSync as front
 use Rattle.aim_turn.proofs.pass.Pass.TheSendSync as pass

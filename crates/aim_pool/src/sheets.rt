@@ -1,9 +1,10 @@
 //! Spans in order, with room for a fixed number, and the sheets that carry them.
 
-ghost use Rattle.std.specs.Prelude.{◌≡◌, ℕ, ◌≢◌, ◌↔◌, ◌+◌, ◌<◌, ◌≤◌, ◌||◌, ◌++◌, ◌∷◌, [], true, false, length, vec_len, vec_capacity, insert, slice_set, slice_index_or, All, OnOk, OnErr, IfOk, IfErr, IsErr, is_ok, if◌then◌else◌};
+ghost use Rattle.std.specs.Prelude.{◌≡◌, ℕ, ◌≢◌, ◌↔◌, ◌+◌, ◌<◌, ◌≤◌, ◌||◌, ◌++◌, ◌∷◌, [], true, false, length, vec_len, vec_capacity, insert, map, slice_set, slice_index_or, All, OnOk, OnErr, IfOk, IfErr, IsErr, is_ok, if◌then◌else◌};
 ghost use Rattle.std.specs.List.Sorted.{IsPartitionPoint};
 ghost use Rattle.aim_geometry.specs.Cells.{Cell, cell_at};
 ghost use Rattle.aim_geometry.specs.Rects.{has_bit};
+ghost use Rattle.aim_pool.specs.Moves.{MayMove, moved};
 ghost use Rattle.aim_pool.specs.Spans.{AreRising, AreMarked, in_span, in_spans, is_at, has_place, precedes};
 
 use crate::NoMemory;
@@ -81,6 +82,40 @@ fn mask_of(spans: &[Span], step: u32, row: u8) -> u64
     }
 }
 
+// Moves each span by as much as the second step is later than the first.
+fn move_spans(spans: &mut [Span], from: u32, to: u32)
+    requires { MayMove from to spans.old }
+    ensures { spans.new ≡ map (moved from to) spans.old }
+{
+    for span in spans.iter_mut() {
+        span.step = span.step - from + to;
+    }
+}
+
+// Puts these spans in place of those that are held, in room that is there.
+fn replace(held: &mut Vec<Span>, others: &[Span])
+    requires { length others.now ≤ vec_capacity held.old }
+    ensures items { held.new.items ≡ others.now }
+    ensures capacity { vec_capacity held.old ≤ vec_capacity held.new }
+{
+    held.clear();
+    let Ok(()) = held.extend_from_slice(others) else {
+        unreachable!();
+    };
+}
+
+// Puts these spans in place of those that are held, in room that is there, each as much later as the second step is than
+// the first.
+fn replace_moved(held: &mut Vec<Span>, others: &[Span], from: u32, to: u32)
+    requires room { length others.now ≤ vec_capacity held.old }
+    requires reach { MayMove from to others.now }
+    ensures items { held.new.items ≡ map (moved from to) others.now }
+    ensures capacity { vec_capacity held.old ≤ vec_capacity held.new }
+{
+    replace(held, others);
+    move_spans(held, from, to);
+}
+
 impl Slots {
     pub(crate) fn new(alloc: Global, room: u32) -> Result<Slots, NoMemory>
         ensures { IfOk result (λ slots. slots ≡ record { spans = []; room = room }) }
@@ -112,6 +147,27 @@ impl Slots {
         self.held.clear();
     }
 
+    // Has these spans in place of its own.
+    pub(crate) fn copy(&mut self, others: &[Span])
+        requires rising { AreRising others.now }
+        requires marked { AreMarked others.now }
+        requires room { length others.now ≤ self.old.room }
+        ensures { self.new ≡ record self.old { spans = others.now } }
+    {
+        replace(&mut self.held, others);
+    }
+
+    // Has these spans in place of its own, each as much later as the second step is than the first.
+    pub(crate) fn copy_moved(&mut self, others: &[Span], from: u32, to: u32)
+        requires rising { AreRising others.now }
+        requires marked { AreMarked others.now }
+        requires room { length others.now ≤ self.old.room }
+        requires reach { MayMove from to others.now }
+        ensures { self.new ≡ record self.old { spans = map (moved from to) others.now } }
+    {
+        replace_moved(&mut self.held, others, from, to);
+    }
+
     pub(crate) fn push(&mut self, span: Span) -> Result<(), SheetFull>
         requires { span.mask ≢ 0 }
         ensures cells { OnOk result ((cell : Cell) → in_spans self.new.spans cell ≡ (in_spans self.old.spans cell || in_span span cell)) }
@@ -134,6 +190,23 @@ impl Slots {
                 Ok(())
             }
         }
+    }
+
+    // Adds a span behind all others, which come before it.
+    #[inline]
+    pub(crate) fn push_last(&mut self, span: Span) -> Result<(), SheetFull>
+        requires some { span.mask ≢ 0 }
+        requires last { All (λ held. precedes held span.step span.row ≡ true) self.old.spans }
+        ensures spans { OnOk result (self.new.spans ≡ self.old.spans ++ span ∷ []) }
+        ensures full { IsErr result ↔ (length self.old.spans ≡ self.old.room) }
+        ensures err { OnErr result (self.new ≡ self.old) }
+        ensures room { self.new.room ≡ self.old.room }
+    {
+        if self.held.len() == self.room as usize {
+            return Err(SheetFull);
+        }
+        self.held.push_reserved(span);
+        Ok(())
     }
 
     // Gives the span at this place, which is of the same step and row, another one's bits too.
@@ -234,6 +307,27 @@ impl Sheet {
         self.node.slots.clear();
     }
 
+    /// Has these spans in place of its own.
+    pub fn copy(&mut self, others: &[Span])
+        requires rising { AreRising others.now }
+        requires marked { AreMarked others.now }
+        requires room { length others.now ≤ self.old.room }
+        ensures { self.new ≡ record self.old { spans = others.now } }
+    {
+        self.node.slots.copy(others);
+    }
+
+    /// Has these spans in place of its own, each as much later as the second step is than the first.
+    pub fn copy_moved(&mut self, others: &[Span], from: u32, to: u32)
+        requires rising { AreRising others.now }
+        requires marked { AreMarked others.now }
+        requires room { length others.now ≤ self.old.room }
+        requires reach { MayMove from to others.now }
+        ensures { self.new ≡ record self.old { spans = map (moved from to) others.now } }
+    {
+        self.node.slots.copy_moved(others, from, to);
+    }
+
     /// Adds the span's cells: to the mask of the span of that step and row, or else as a span of its
     /// own in its place. Behind the last span that costs no search.
     pub fn push(&mut self, span: Span) -> Result<(), SheetFull>
@@ -246,5 +340,18 @@ impl Sheet {
         ensures room { self.new.room ≡ self.old.room }
     {
         self.node.slots.push(span)
+    }
+
+    /// Adds a span behind all others, which come before it. It costs no search.
+    #[inline]
+    pub fn push_last(&mut self, span: Span) -> Result<(), SheetFull>
+        requires some { span.mask ≢ 0 }
+        requires last { All (λ held. precedes held span.step span.row ≡ true) self.old.spans }
+        ensures spans { OnOk result (self.new.spans ≡ self.old.spans ++ span ∷ []) }
+        ensures full { IsErr result ↔ (length self.old.spans ≡ self.old.room) }
+        ensures err { OnErr result (self.new ≡ self.old) }
+        ensures room { self.new.room ≡ self.old.room }
+    {
+        self.node.slots.push_last(span)
     }
 }

@@ -29,8 +29,8 @@ use Rattle.aim_replay.specs.declared.session.Stop.TheVariants as stop
 use Rattle.aim_replay.specs.Texts.{text_by}
 use Rattle.aim_replay.specs.Replays.{ReplaysBy, Writes, WritesFront}
 use Rattle.aim_replay.specs.Written.{Puts}
-use Rattle.aim_replay.specs.Sessions.{Reached, Responds, Comes, Ran, Came, Caused, at_fault, cut_by, halted, status_for, ending_text}
-use Rattle.aim_replay.proofs.SessionLemmas.{Gives, front_reached, short_reached, fault_told, fault_written, end_told, end_written, bad_told, bad_written, limit_told, stops_inside, memory_front, memory_nothing, most_call, most_fault, left_at_end, all_written, front_first, front_second, front_of_text, front_written}
+use Rattle.aim_replay.specs.Sessions.{Reached, Responds, Comes, Ran, Came, Caused, IsSettled, at_fault, cut_by, halted, status_for, ending_text}
+use Rattle.aim_replay.proofs.SessionLemmas.{Gives, front_reached, short_reached, fault_told, fault_written, end_told, end_written, bad_told, bad_written, limit_told, stops_inside, memory_front, memory_nothing, most_between, most_call, most_fault, left_at_end, all_written, front_first, front_second, front_of_text, front_written}
 
 -- a fault of the input
 pub ran_fault : {L : Type 0} (w : Spelled) (P : Type 0) (start left after held now : Option (List ℕ)) (old new : Reader) (s : Stage L) (f : LineFault) → Reached w start (input old left) held now old s → Answers old new (input old left) (input new after) (Err f)
@@ -81,6 +81,18 @@ ran_end w start left after held now old new s x r step is lines knows ended take
   front = tt;
   ended = λ whole. left_at_end new after knows ended;
   most = most_call w start left after held now old new s false r taken same sound;
+  short = λ is. absurd (cc);
+  memory = λ is without. absurd (cc);
+}
+
+-- the sink failed before a further line was asked for
+pub ran_cut : {L : Type 0} (w : Spelled) (start left held now : Option (List ℕ)) (reader : Reader) (s : Stage L) → Reached w start (input reader left) held now reader s → IsSound reader → Ran {L = L} w (Err stop.Write) start left held now
+ran_cut w start left held now reader s r sound = record {
+  verdict = tt;
+  written = tt;
+  front = front_reached w start (input reader left) held now reader s r;
+  ended = tt;
+  most = most_between w start left held now reader s r sound;
   short = λ is. absurd (cc);
   memory = λ is without. absurd (cc);
 }
@@ -249,6 +261,26 @@ statuses_are (Err stop.NoMemory) n is = inr (inr (inr (inr (inr is))))
 -- what rose later has risen
 rose_later : (first before now : ℕ) → first ≤ before → Rose before now → Rose first now
 rose_later first before now later rose = grind arith
+
+pub caused_cut : {L : Type 0} (source_old source_new sink_old sink_mid sink_new : ℕ) → source_old ≤ source_new → sink_old ≤ sink_mid → Rose sink_mid sink_new → sink_mid ≤ sink_new → Caused {T = Finish L} (Err stop.Write) source_old source_new sink_old sink_new
+caused_cut source_old source_new sink_old sink_mid sink_new source first rose later = record { read = λ is. absurd (cc); write = λ is. rose_later sink_old sink_mid sink_new first rose; source = source; sink = omega arith }
+
+-- a status at which nothing is kept back
+pub settled_at : (r : Result Decision Stop) (n : ℕ) (P : Type 0) → n ≡ status_for r → IsSettled r P → (n ≡ 0) ⊎ ((n ≡ 3) ⊎ ((n ≡ 4) ⊎ (n ≡ 6))) → P
+settled_at (Ok d) n P is settled at = settled
+settled_at (Err stop.Read) n P is settled at = settled
+settled_at (Err stop.Write) n P is settled at = absurd (grind arith)
+settled_at (Err stop.NoMemory) n P is settled at = absurd (grind arith)
+
+-- nothing was kept back before a read that failed
+pub settled_stop : (e : Stop) (P : Type 0) → (e ≡ stop.Read → P) → IsSettled (Err e) P
+settled_stop stop.Read P asked = asked refl
+settled_stop stop.Write P asked = tt
+settled_stop stop.NoMemory P asked = tt
+
+pub settled_cut : (why : Unwritten) (P : Type 0) → IsSettled (Err (cut_by why)) P
+settled_cut unwritten.Write P = tt
+settled_cut unwritten.NoMemory P = tt
 
 -- the same text
 pub puts_same : {T : Type 0} (w : Spelled) (r : Result T Unwritten) (old now : Option (List ℕ)) (faults_old faults_new : ℕ) (first second : List ℕ) → first ≡ second → Puts w r old now faults_old faults_new first → Puts w r old now faults_old faults_new second

@@ -4,7 +4,7 @@ use Rattle.std.specs.Prelude.{OnErr}
 use Rattle.std.specs.List.{AllByRecursion}
 use Rattle.std.specs.Bool.{OnTrue, OnFalse}
 use Rattle.std.specs.Io.KnownBytes.{Appends, Consumes, Keeps, IsAtEnd, prepend_known}
-use Rattle.std.proofs.KnownBytes.{Appends-nil, Appends-trans, Consumes-trans}
+use Rattle.std.proofs.KnownBytes.{Appends-kept, Appends-nil, Appends-trans, Consumes-trans}
 use Rattle.std.proofs.lemmas.Bool.{cases_Bool}
 use Rattle.aim_io.specs.declared.lines.LineFault.{LineFault}
 use Rattle.aim_io.specs.Known.{AppendsFront}
@@ -374,6 +374,22 @@ knows_start left is = absurd (cc)
 
 pub front_reached : {L : Type 0} (w : Spelled) (bytes rest start now : Option (List ℕ)) (reader : Reader) (s : Stage L) → Reached w bytes rest start now reader s → WritesFront bytes start now (entries_text w)
 front_reached w bytes rest start now reader s r = stops_whole w r.before s reader bytes rest start now r.stands r.decides r.written
+
+-- the sink handed on what it kept back, or a part of it
+pub reached_settled : {L : Type 0} (w : Spelled) (bytes rest start mid now : Option (List ℕ)) (reader : Reader) (s : Stage L) → Reached w bytes rest start mid reader s → Keeps mid now → Reached w bytes rest start now reader s
+reached_settled w bytes rest start mid now reader s r kept = record {
+  before = r.before;
+  stands = r.stands;
+  count = r.count;
+  decides = r.decides;
+  placed = r.placed;
+  took = r.took;
+  written = Appends-kept start mid now _ r.written kept;
+}
+
+-- no more bytes were taken than a reader takes, between two lines
+pub most_between : {L : Type 0} (w : Spelled) (start left old_held now : Option (List ℕ)) (reader : Reader) (s : Stage L) → Reached w start (input reader left) old_held now reader s → IsSound reader → TakesAtMost 67108865 start left
+most_between w start left old_held now reader s r sound = most_held start (input reader left) left reader r.placed (keeps_same (input reader left)) sound
 
 -- nothing more was written
 pub written_kept : (start mid now : Option (List ℕ)) (text : List ℕ) → Appends start mid text → Appends mid now [] → Appends start now text

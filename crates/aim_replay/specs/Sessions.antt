@@ -142,10 +142,18 @@ pub record Caused {T : Type 0} (result : Result T Stop) (source_old source_new s
   pub source : source_old ≤ source_new
   pub sink : sink_old ≤ sink_new
 
--- the lines of a script were read, each stop has its cause, and the last read was needed
-pub record Played {L : Type 0} (w : Spelled) (result : Result (Finish L) Stop) (needed : Type 0) (before after old now : Option (List ℕ)) (source_old source_new sink_old sink_new : ℕ) : Type 0 where
+-- nothing is kept back, unless the sink has failed or memory has run out
+abbrev pub IsSettled : Result Decision Stop → Type 0 → Type 0
+IsSettled (Ok d) settled = settled
+IsSettled (Err stop.Read) settled = settled
+IsSettled (Err stop.Write) settled = Unit {0}
+IsSettled (Err stop.NoMemory) settled = Unit {0}
+
+-- the lines of a script were read, each stop has its cause, the last read was needed, and nothing was kept back before one that failed
+pub record Played {L : Type 0} (w : Spelled) (result : Result (Finish L) Stop) (needed settled : Type 0) (before after old now : Option (List ℕ)) (source_old source_new sink_old sink_new : ℕ) : Type 0 where
   pub ran : Ran w result before after old now
   pub last : needed
+  pub asked : result ≡ Err stop.Read → settled
   pub caused : Caused result source_old source_new sink_old sink_new
 
 abbrev pub status_for : Result Decision Stop → ℕ

@@ -1,5 +1,7 @@
 //! The lines that a replay writes.
 
+ghost use Rattle.std.specs.Prelude.{◌≡◌, [], OnOk};
+ghost use Rattle.aim_script.specs.Decided.{printed};
 ghost use Rattle.aim_script.specs.Spellings.{Spelled};
 ghost use Rattle.aim_replay.specs.Sessions.{chart_text, ending_text, made_line};
 ghost use Rattle.aim_replay.specs.Written.{Puts};
@@ -7,6 +9,7 @@ ghost use Rattle.aim_replay.specs.Written.{Puts};
 use crate::faults::Unwritten;
 use crate::spellings::Spelling;
 use aim_io::Sink;
+use aim_script::Decision;
 use aim_stages::{Finish, Made, put_chart};
 use std::alloc::Global;
 use std::sync::ledger::Ledger;
@@ -42,17 +45,36 @@ fn put_asked<K: Sink, L: Ledger>(
     }
 }
 
-/// Writes what stands behind the lines of the entries: the chart, and the last line.
+// Writes the last line, and has the sink hand on all that it keeps back.
+fn put_last<P: Spelling, K: Sink>(
+    alloc: Global,
+    sink: &mut K,
+    decision: Decision,
+) -> Result<(), Unwritten>
+    ensures puts { Puts P.spelled result (K.held sink.old) (K.held sink.new) (K.faults sink.old) (K.faults sink.new) (printed (P.spelled.last_text decision)) }
+    ensures settled { OnOk result (K.kept_back sink.new ≡ []) }
+{
+    match P::put_last(alloc, sink, decision) {
+        Err(why) => Err(why),
+        Ok(()) => match sink.settle() {
+            Ok(()) => Ok(()),
+            Err(_) => Err(Unwritten::Write),
+        },
+    }
+}
+
+/// Writes what stands behind the lines of the entries: the chart, and the last line. Then nothing is kept back.
 pub(crate) fn put_ending<P: Spelling, K: Sink, L: Ledger>(
     alloc: Global,
     sink: &mut K,
     finish: &Finish<L>,
     chart: Option<u32>,
 ) -> Result<(), Unwritten>
-    ensures { Puts P.spelled result (K.held sink.old) (K.held sink.new) (K.faults sink.old) (K.faults sink.new) (ending_text P.spelled chart finish.now) }
+    ensures puts { Puts P.spelled result (K.held sink.old) (K.held sink.new) (K.faults sink.old) (K.faults sink.new) (ending_text P.spelled chart finish.now) }
+    ensures settled { OnOk result (K.kept_back sink.new ≡ []) }
 {
     match put_asked(sink, finish, chart) {
         Err(why) => Err(why),
-        Ok(()) => P::put_last(alloc, sink, finish.decision()),
+        Ok(()) => put_last::<P, K>(alloc, sink, finish.decision()),
     }
 }

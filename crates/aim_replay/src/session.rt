@@ -1,20 +1,21 @@
 //! Replays a script: from bytes to bytes.
 
-ghost use Rattle.std.specs.Prelude.{◌≡◌, ◌⊎◌, ◌<◌, ◌≤◌, true, false, List, [], Err, IfOk, IfSome};
-ghost use Rattle.std.specs.Io.KnownBytes.{Appends, IsAtEnd};
-ghost use Rattle.aim_io.specs.Causes.{Rose};
+ghost use Rattle.std.specs.Prelude.{◌≡◌, ◌⊎◌, ◌<◌, ◌≤◌, true, false, List, [], Err, IfOk, IfSome, OnOk};
+ghost use Rattle.std.specs.Io.KnownBytes.{Appends, IsAtEnd, Keeps};
+ghost use Rattle.aim_io.specs.Causes.{HasCause, Rose};
+ghost use Rattle.aim_io.specs.Lines.{IsOpen};
 ghost use Rattle.aim_io.specs.Reader.{fresh};
 ghost use Rattle.aim_msg.specs.declared.script.Line.{Line};
 ghost use Rattle.aim_stages.specs.Stages.{Makes, MayTake, Stands, journal_at, stage_of};
 ghost use Rattle.aim_replay.specs.Texts.{replay_text, text_by};
 ghost use Rattle.aim_replay.specs.Replays.{LastNeeded, LastNeededBy, Replays, ReplaysBy, StopsShort, StopsShortBy, TakesAtMost, WritesFront};
-ghost use Rattle.aim_replay.specs.Sessions.{Came, Caused, Judged, Played, Responds, at_fault, cut_by, halted, status_for};
+ghost use Rattle.aim_replay.specs.Sessions.{Came, Caused, IsSettled, Judged, Played, Responds, at_fault, cut_by, halted, status_for};
 
 use crate::faults::{Unread, Unwritten};
 use crate::outputs::{put_ending, put_made};
 use crate::spellings::Spelling;
 use crate::words::Words;
-use aim_io::{LineFault, LineReader, Sink, Source};
+use aim_io::{Failed, LineFault, LineReader, Sink, Source};
 use aim_script::{Decision, Header, Kind, Limit};
 use aim_stages::{Finish, Refusal, Stage, Taken};
 use aim_tiles::Steps;
@@ -125,6 +126,19 @@ fn after_halt<L: Ledger>(number: u32, halt: Halt) -> Result<Finish<L>, Stop>
     }
 }
 
+// Hands on what the sink keeps back, where the next line may have to be waited for.
+fn settle_before<K: Sink>(reader: &LineReader, sink: &mut K) -> Result<(), Failed>
+    ensures bytes { Keeps (K.held sink.old) (K.held sink.new) }
+    ensures settled { OnOk result (IsOpen reader.now.held → K.kept_back sink.new ≡ []) }
+    ensures cause { HasCause (K.faults sink.old) (K.faults sink.new) result }
+{
+    if reader.is_open() {
+        sink.settle()
+    } else {
+        Ok(())
+    }
+}
+
 // Reads the lines of a script by a new reader, answers its events, and says what it comes to.
 fn replay_lines<P: Spelling, S: Source, K: Sink, L: Ledger>(
     alloc: Global,
@@ -134,12 +148,17 @@ fn replay_lines<P: Spelling, S: Source, K: Sink, L: Ledger>(
     steps: &mut Steps<L>,
 ) -> Result<Finish<L>, Stop>
     requires { reader.old ≡ fresh }
-    ensures { Played P.spelled result ((source.new ≡ source.old) ⊎ LastNeededBy P.spelled (S.left source.old) (S.left source.new) (S.last_read source.new)) (S.left source.old) (S.left source.new) (K.held sink.old) (K.held sink.new)
+    ensures { Played P.spelled result ((source.new ≡ source.old) ⊎ LastNeededBy P.spelled (S.left source.old) (S.left source.new) (S.last_read source.new))
+        (K.kept_back sink.new ≡ []) (S.left source.old) (S.left source.new) (K.held sink.old) (K.held sink.new)
         (S.faults source.old) (S.faults source.new) (K.faults sink.old) (K.faults sink.new) }
 {
     let mut stage = Stage::Header(Header::new());
     let mut number = 0u32;
     'lines: loop {
+        if settle_before(reader, sink).is_err() {
+            drop(stage);
+            return Err(Stop::Write);
+        }
         match reader.advance(source) {
             Err(fault) => return after_fault(stage, fault),
             Ok(false) => return Ok(stage.at_end(number)),
@@ -166,6 +185,7 @@ fn replay_script<P: Spelling, S: Source, K: Sink, L: Ledger>(
     requires some { 0 < blank.parts }
     ensures came { Came P.spelled chart result (S.left source.old) (S.left source.new) (K.held sink.old) (K.held sink.new) }
     ensures needed { (source.new ≡ source.old) ⊎ LastNeededBy P.spelled (S.left source.old) (S.left source.new) (S.last_read source.new) }
+    ensures settled { IsSettled result (K.kept_back sink.new ≡ []) }
     ensures caused { Caused result (S.faults source.old) (S.faults source.new) (K.faults sink.old) (K.faults sink.new) }
 {
     let mut reader = LineReader::new();
@@ -199,7 +219,7 @@ fn status(came: Result<Decision, Stop>) -> u8
 }
 
 /// Replays a script in a spelling: reads its lines, writes the line of each event's and each order's
-/// entry before it takes the next line, then the chart of a step, if one is asked for and the script
+/// entry before it takes the next line, and has the sink hand it on before it waits for one, then the chart of a step, if one is asked for and the script
 /// is whole, and last what the script comes to. The status is 0 for a whole script, 3 for a line at
 /// fault, 4 where the source fails, 5 where the sink fails, 6 for a limit, and 7 where memory runs
 /// out. Always returns.
@@ -224,6 +244,9 @@ pub fn replay_by<P: Spelling, S: Source, K: Sink>(
     ensures short { result ≡ 4 → StopsShortBy P.spelled (S.left source.old) (S.left source.new) (K.held sink.old) (K.held sink.new) }
     ensures memory { result ≡ 7 → P.spelled.takes_memory ≡ false → Appends (K.held sink.old) (K.held sink.new) [] }
 
+    // All that was written is handed on, and was before each piece that was read, also before one that failed.
+    ensures settled { (result ≡ 0) ⊎ ((result ≡ 3) ⊎ ((result ≡ 4) ⊎ (result ≡ 6))) → K.kept_back sink.new ≡ [] }
+
     // Each status has its cause.
     ensures read { result ≡ 4 → Rose (S.faults source.old) (S.faults source.new) }
     ensures write { result ≡ 5 → Rose (K.faults sink.old) (K.faults sink.new) }
@@ -235,7 +258,7 @@ pub fn replay_by<P: Spelling, S: Source, K: Sink>(
 }
 
 /// Replays a script of words: reads its lines, writes the line of each event's and each order's entry before
-/// it takes the next line, then the chart of a step, if one is asked for and the script is whole,
+/// it takes the next line, and has the sink hand it on before it waits for one, then the chart of a step, if one is asked for and the script is whole,
 /// and last what the script comes to. The status is 0 for a whole script, 3 for a line at fault, 4
 /// where the source fails, 5 where the sink fails, 6 for a limit, and 7 where memory runs out, which
 /// is before the first event. Always returns.
@@ -259,6 +282,9 @@ pub fn replay<S: Source, K: Sink>(
     ensures front { (result ≡ 4) ⊎ ((result ≡ 5) ⊎ (result ≡ 7)) → WritesFront (S.left source.old) (K.held sink.old) (K.held sink.new) (replay_text chart) }
     ensures short { result ≡ 4 → StopsShort (S.left source.old) (S.left source.new) (K.held sink.old) (K.held sink.new) }
     ensures memory { result ≡ 7 → Appends (K.held sink.old) (K.held sink.new) [] }
+
+    // All that was written is handed on, and was before each piece that was read, also before one that failed.
+    ensures settled { (result ≡ 0) ⊎ ((result ≡ 3) ⊎ ((result ≡ 4) ⊎ (result ≡ 6))) → K.kept_back sink.new ≡ [] }
 
     // Each status has its cause.
     ensures read { result ≡ 4 → Rose (S.faults source.old) (S.faults source.new) }

@@ -1,9 +1,10 @@
 -- Lists of tiles, one more at a time.
-use Rattle.std.proofs.Common.{◌≡◌, ℕ, zero, suc, ◌+◌, ◌-◌, ◌<◌, ◌≤◌, Bool, true, false, cond, List, [], ◌∷◌, ◌++◌, get_or, filter, length, map, arith, refl, sym, ap, ◌∙◌, append_assoc}
+use Rattle.std.proofs.Common.{◌≡◌, ℕ, zero, suc, ◌+◌, ◌-◌, ◌<◌, ◌≤◌, Bool, true, false, cond, List, [], ◌∷◌, ◌++◌, get_or, filter, length, map, arith, refl, sym, ap, subst, ◌∙◌, append_assoc}
 use Rattle.std.specs.Prelude.{bit_or, flat_map}
 use Rattle.std.specs.List.{range_with_len}
 use Rattle.std.proofs.lemmas.Grind.{flat_map-append}
-use Rattle.std.proofs.lemmas.List.{append-nil, map-append}
+use Rattle.std.proofs.lemmas.List.{append-nil, map-append, get_or-set_other, get_or-set_same}
+use Rattle.std.proofs.Math.ListN.{set}
 use Rattle.std.proofs.lemmas.List.Elements.{filter-append}
 use Rattle.std.proofs.lemmas.List.FromFn.{filter_of_map_range_with_len_more}
 use Rattle.std.proofs.Math.Decide.{dec_lt}
@@ -77,4 +78,14 @@ unset_more steps k row shown col before j l unset =
     elim (dec_lt j k) [
       | yes below ↦ before j below parts.0
       | no above ↦ (let e : j ≡ k = omega arith in ap (λ j. has_bit (get_or (get_or steps j []) row 0) col) e ∙ parts.1)
+    ]
+
+-- the mask of one step more stands behind those of the steps before it
+pub gathered_more : (steps : List (List ℕ)) (masks : List ℕ) (k row : ℕ) → k < length masks → ((j : ℕ) → j < k → get_or masks j 0 ≡ get_or (get_or steps j []) row 0) →
+    (j : ℕ) → j < k + 1 → get_or (set masks k (get_or (get_or steps k []) row 0)) j 0 ≡ get_or (get_or steps j []) row 0
+gathered_more steps masks k row fits before j l =
+    let m = get_or (get_or steps k []) row 0 in
+    elim (dec_lt j k) [
+      | yes below ↦ get_or-set_other masks k j m 0 (λ is. absurd (omega (arith, is, below))) ∙ before j below
+      | no above ↦ (let e : k ≡ j = omega arith in subst (λ i. get_or (set masks k m) i 0 ≡ get_or (get_or steps i []) row 0) e (get_or-set_same masks k m 0 fits))
     ]

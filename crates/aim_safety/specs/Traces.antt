@@ -16,6 +16,10 @@ pub record IsTraced (old : Trace) (masks : List ℕ) (new : Trace) : Type 0 wher
 abbrev pub is_traced : List (List ℕ) → ℕ → Cell → Bool
 is_traced steps first c = tile_at (slice_index_or steps (c.step - first) []) c.row c.col
 
+-- these are the masks of the row, step by step
+abbrev pub AreOfRow : List (List ℕ) → ℕ → List ℕ → Type 0
+AreOfRow steps row masks = (k : ℕ) → k < length steps → slice_index_or masks k 0 ≡ slice_index_or (slice_index_or steps k []) row 0
+
 -- no masks show the tile
 abbrev pub IsNeverShown : List (List ℕ) → ℕ → ℕ → Type 0
 IsNeverShown steps row col = (k : ℕ) → k < length steps → tile_at (slice_index_or steps k []) row col ≡ false

@@ -8,7 +8,7 @@ ghost use Rattle.aim_safety.specs.Occupied.{entrance as entrance_of, grant_of, p
 ghost use Rattle.aim_safety.specs.Begun.{grant_as, passage_as};
 
 use crate::NoMemory;
-use aim_buffers::prepare;
+use aim_buffers::{NeedsCells, bad_field, prepare};
 use aim_driver::{Entrance, LogItem};
 use aim_msg::{Act, Body, Entry, Message, Params, Reply};
 use aim_paths::Layout;
@@ -80,8 +80,8 @@ fn are_good_on(layout: &Layout, params: &Params, first: Sheet, second: Sheet) ->
     prepared.bad().is_none()
 }
 
-/// Whether no field of the params is wrong.
-pub fn are_good(alloc: Global, layout: &Layout, params: &Params) -> Result<bool, NoMemory>
+// Whether no field of the params is wrong, by their cells.
+fn are_good_by_cells(alloc: Global, layout: &Layout, params: &Params) -> Result<bool, NoMemory>
     ensures { IfOk result (λ good. good ≡ is_none (bad_of layout.now params.now)) }
 {
     let mut pool = Pool::new(alloc, 2, layout.ground().grid().spans)?;
@@ -92,6 +92,16 @@ pub fn are_good(alloc: Global, layout: &Layout, params: &Params) -> Result<bool,
         unreachable!();
     };
     Ok(are_good_on(layout, params, first, second))
+}
+
+/// Whether no field of the params is wrong.
+pub fn are_good(alloc: Global, layout: &Layout, params: &Params) -> Result<bool, NoMemory>
+    ensures { IfOk result (λ good. good ≡ is_none (bad_of layout.now params.now)) }
+{
+    match bad_field(layout, params) {
+        Ok(field) => Ok(field.is_none()),
+        Err(NeedsCells) => are_good_by_cells(alloc, layout, params),
+    }
 }
 
 /// What an entry grants, if its reply is a Confirm of params of which no field is wrong.

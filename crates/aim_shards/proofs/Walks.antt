@@ -188,14 +188,22 @@ found_more set q here {m = m} {m'' = m''} {f = f} touch old t same free is' last
       last = last ∙ ap (λ l. head_or l 0) (sym (touched_in set q touch));
     }
 
+-- behind a quadrant in which a cell is taken
+pub found_off : (set : Quarters) (q : ℕ) {m m' m'' : Me (Option Quarter) View} {f f' : Found} → lies_in set q ≡ true → IsFound set q m f → (t : TurnCame q m m') → m'' ≡ m' → f.free ≡ false → f'.free ≡ false → f'.last ≡ q → IsFound set (suc q) m'' f'
+found_off set q {m = m} {m'' = m''} {f = f} touch old t same off is' last =
+    let held : m''.0.held ≡ turn q t.ticket t.seen ∷ m.0.held = ap (λ (y : Me (Option Quarter) View). y.0.held) (same ∙ t.after) in
+    let terms : m''.0.terms ≡ m.0.terms = ap (λ (y : Me (Option Quarter) View). y.0.terms) (same ∙ t.after) in
+    let taken : false ≡ are_free m.0.terms.sets set m.0.held = sym off ∙ old.free in
+    record {
+      free = is' ∙ ((λ i. taken i && is_free_in m.0.terms.sets set q t.seen) ∙ (λ i. are_free (sym terms i).sets set (sym held i)));
+      last = last ∙ ap (λ l. head_or l 0) (sym (touched_in set q touch));
+    }
+
 pub works_at : {n : ℕ} {terms : Terms} {qs : List ℕ} {mine : List ClaimEntry} {m m' : Me (Option Quarter) View} → m' ≡ m → Works n terms mine qs m → Works n terms mine qs m'
 works_at {n = n} {terms = terms} {qs = qs} {mine = mine} e w = subst (Works n terms mine qs) (sym e) w
 
 pub and_true : (a b : Bool) → a ≡ true → b ≡ (a && b)
 and_true a b p = sym (ap (λ x. x && b) p)
-
-pub and_false : (a b : Bool) → a ≡ false → a ≡ (a && b)
-and_false a b p = p ∙ sym (ap (λ x. x && b) p)
 
 pub in_hand_came : {q : ℕ} {m m' : Me (Option Quarter) View} → TurnCame q m m' → InHand q m'
 in_hand_came {m = m} t = record { value = t.value; others = m.1; is = ap (λ (y : Me (Option Quarter) View). y.1) t.after }

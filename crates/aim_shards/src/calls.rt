@@ -7,6 +7,7 @@ ghost use Rattle.aim_shards.specs.declared.claims.ClaimEntry.{ClaimEntry};
 ghost use Rattle.aim_shards.specs.Models.{IsFull, IsPassOf, IsSamePass, Makes};
 
 use crate::claims::ClaimAct;
+use crate::doors::Doors;
 use crate::pass::ShardPass;
 use crate::quarter::Plan;
 use crate::rule::Desk;
@@ -36,6 +37,7 @@ pub trait Hold: Sync {
 #[derive(Drop)]
 pub struct Shards {
     pub(crate) desk: Desk,
+    pub(crate) doors: Doors,
     pub(crate) quarters: Vec<Quartered>,
     pub(crate) nothing: Quartered,
 }
@@ -76,6 +78,7 @@ impl Shards {
             return Err(Full);
         }
         let parts = &self.quarters[set as usize];
+        let inside = self.doors.enter(rt, parts);
         let found = take_turns(rt, &self.desk, &mut pass.seat, number, parts);
         hold.holding(number, pass.made);
         let plan = Plan {
@@ -83,6 +86,7 @@ impl Shards {
             yes: found.free,
         };
         let entry = make(&self.desk, &mut pass.seat, number, parts, found.last, plan);
+        drop(inside);
         stand(&mut pass.standing, entry);
         pass.made += 1;
         Ok(Claimed {
@@ -112,6 +116,7 @@ impl Shards {
         }
         let known = look_up(&pass.standing, ticket);
         let parts = choose(&self.quarters, &self.nothing, known.set);
+        let inside = self.doors.enter(rt, parts);
         let found = take_turns(rt, &self.desk, &mut pass.seat, number, parts);
         hold.holding(number, pass.made);
         let plan = Plan {
@@ -119,6 +124,7 @@ impl Shards {
             yes: known.own,
         };
         let entry = make(&self.desk, &mut pass.seat, number, parts, found.last, plan);
+        drop(inside);
         stand(&mut pass.standing, entry);
         pass.made += 1;
         Ok(Claimed {

@@ -104,6 +104,7 @@ impl Shards {
     {
         let Shards {
             desk,
+            doors: _,
             quarters: _,
             nothing: _,
         } = self;

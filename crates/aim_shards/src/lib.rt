@@ -5,6 +5,7 @@ mod calls;
 mod claims;
 mod closing;
 mod cuts;
+mod doors;
 mod merging;
 mod opening;
 mod pass;

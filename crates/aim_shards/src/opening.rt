@@ -13,6 +13,7 @@ ghost use Rattle.aim_shards.specs.declared.quarter.Quarter.{Quarter};
 use crate::calls::Shards;
 use crate::claims::{ClaimAct, ClaimEntry};
 use crate::cuts::quarter_all;
+use crate::doors::Doors;
 use crate::pass::ShardPass;
 use crate::quarter::{Plan, Quarter};
 use crate::rule::{Chair, Deal, Desk, Opening};
@@ -233,6 +234,7 @@ impl Shards {
             Ok((desk, passes)) => {
                 let shards = Shards {
                     desk,
+                    doors: Doors::new(),
                     quarters,
                     nothing,
                 };

@@ -15,8 +15,8 @@ use crate::quarter::{Plan, Quarter};
 use crate::rule::{Chair, Desk, Draw, Enter, Look, ServeNext};
 use crate::sets::Quartered;
 use aim_pool::Sheet;
+use std::hint;
 use std::sync::Wait;
-use std::{hint, thread};
 
 // The word that has the next ticket of all.
 const TICKET: usize = 8;
@@ -24,7 +24,7 @@ const TICKET: usize = 8;
 // The word that has the first quadrant's ticket that is served.
 const SERVING: usize = 4;
 
-// Waits for the quadrant's turn.
+// Waits for the quadrant's turn. Its caller went through the quadrant's door, so the ticket is served at once.
 fn enter<R: Wait>(rt: &R, desk: &Desk, seat: &mut Chair, quadrant: usize)
     requires desk { (seat.old.table_id ≡ desk.now.shared.table_id) × (desk.now.shared.table_id.words ≡ 9) }
     requires quadrant { quadrant < 4 }
@@ -38,7 +38,7 @@ fn enter<R: Wait>(rt: &R, desk: &Desk, seat: &mut Chair, quadrant: usize)
         if serving == ticket {
             return;
         }
-        thread::yield_now();
+        hint::spin_loop();
     }
     unreachable!()
 }
@@ -136,9 +136,9 @@ fn take_turn<R: Wait>(
         return found;
     }
     enter(rt, desk, seat, quadrant);
-    let here = is_free(desk, seat, quadrant, set.part(quadrant));
+    let free = found.free && is_free(desk, seat, quadrant, set.part(quadrant));
     Found {
-        free: found.free && here,
+        free,
         last: quadrant,
     }
 }

@@ -1,6 +1,6 @@
 //! The manager of a script, and the sheets with which it is asked.
 
-use aim_book::{Book, Full};
+use aim_book::{Book, Full, Shapes};
 use aim_msg::{Act, MOST_ENTRIES, Message, Order, Reply};
 use aim_paths::Layout;
 use aim_pool::Pool;
@@ -9,23 +9,28 @@ use std::alloc::{AllocError as NoMemory, Global};
 use std::marker::Model;
 use std::sync::ledger::Ledger;
 
+// How many crossings are kept, so that others that differ in their arrival alone need not be found again.
+const SHAPES: u32 = 1024;
+
 /// A manager with room for an entry of every line, and a pool. The sheets in the pool and those that the manager keeps
 /// for its vehicles are one for each vehicle, and two: so two are there for every message.
 #[derive(Drop)]
 pub struct Server<L: Ledger> {
     book: Box<Book<L>>,
+    shapes: Shapes,
     pool: Pool,
 }
 
 impl<L: Ledger> Model for Server<L> {
     ghost use Rattle.aim_book.specs.State.{State};
+    ghost use Rattle.aim_book.specs.Shapes.{ArePreparedFor};
     ghost use Rattle.aim_stages.specs.Servers.{IsServed};
 
     ghost Value = { State };
 
     ghost view = { λ s. s.book.value };
 
-    ghost invariant = { λ s. IsServed s.book.value s.pool };
+    ghost invariant = { λ s. IsServed s.book.value s.pool × ArePreparedFor s.book.value.layout s.shapes };
 }
 
 impl<L: Ledger> Server<L> {
@@ -54,14 +59,10 @@ impl<L: Ledger> Server<L> {
         ensures { IfOk result (λ s. s ≡ record { layout = layout; vehicles = vehicles; room = MOST_ENTRIES; journal = [] }) }
     {
         let spans = layout.ground().grid().spans;
+        let shapes = Shapes::new(alloc, &layout, SHAPES)?;
+        let pool = Pool::new(alloc, vehicles + 2, spans)?;
         let book = Server::open_book(alloc, layout, vehicles)?;
-        match Pool::new(alloc, vehicles + 2, spans) {
-            Ok(pool) => Ok(Server { book, pool }),
-            Err(error) => {
-                drop(book);
-                Err(error)
-            }
-        }
+        Ok(Server { book, shapes, pool })
     }
 
     /// How many vehicles there are.
@@ -99,10 +100,14 @@ impl<L: Ledger> Server<L> {
         ensures reply { result ≡ answer self.old.layout self.old.journal vehicle moment (Act.Message message.now) }
         ensures entry { self.new ≡ record self.old { journal = self.old.journal ++ (record { caller = vehicle; moment = moment; act = Act.Message message.now; reply = result }) ∷ [] } }
     {
-        match self
-            .book
-            .serve_message(vehicle, moment, message, &mut self.pool, steps)
-        {
+        match self.book.serve_message(
+            vehicle,
+            moment,
+            message,
+            &mut self.shapes,
+            &mut self.pool,
+            steps,
+        ) {
             Ok(reply) => reply,
             Err(Full) => unreachable!(),
         }

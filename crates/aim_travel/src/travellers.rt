@@ -10,7 +10,7 @@ ghost use Rattle.aim_travel.specs.Rode.{IsMade};
 ghost use Rattle.aim_travel.specs.Travels.{Begins, GoesOn, IsReady, Moves, SetsOut, TakesTurn};
 
 use crate::acks::acked_at;
-use aim_agents::{Agent, Gate, Manager, ManagerPass, Trouble};
+use aim_agents::{Agent, Gate, Manager, ManagerPass, Memo, Trouble};
 use aim_driver::{DrivePlan, Driver, NoMemory};
 use aim_links::Link;
 use aim_pool::Pool;
@@ -130,18 +130,21 @@ impl Traveller {
         ensures { IfOk result (λ t. SetsOut vehicle legs.items t) }
     {
         let over = Vec::with_capacity(alloc, legs.len())?;
+        let memo = Memo::new(alloc, legs[0].pool.room())?;
         let Leg {
             crossing,
             plan,
             pass,
             pool,
         } = legs.remove(0);
+        let mut agent = new_agent(alloc, plan, pass, pool);
+        agent.give_memo(memo);
         Ok(Traveller {
             alloc,
             vehicle,
             over,
             crossing,
-            agent: new_agent(alloc, plan, pass, pool),
+            agent,
             waiting: legs,
         })
     }
@@ -200,7 +203,8 @@ impl Traveller {
             pass,
             pool,
         } = self.waiting.remove(0);
-        let agent = new_agent(self.alloc, plan_behind(step, plan), pass, pool);
+        let mut agent = new_agent(self.alloc, plan_behind(step, plan), pass, pool);
+        agent.swap_memo(&mut self.agent);
         let through = mem::replace(&mut self.crossing, crossing);
         let (driver, pass) = mem::replace(&mut self.agent, agent).into_parts();
         self.over.push_reserved((through, driver, pass));

@@ -12,10 +12,10 @@ use crate::rule::{
 };
 use atomic_table::Table;
 use std::alloc::Global;
+use std::hint;
 use std::marker::Model;
 use std::snapshot::Snapshot;
-use std::sync::Wait;
-use std::{hint, thread};
+use std::sync::{Mutex, Wait};
 
 // The word that has the next ticket to draw.
 const TICKET: usize = 0;
@@ -25,9 +25,6 @@ const SERVING: usize = 1;
 
 // The word that has the length of the history.
 const COUNT: usize = 2;
-
-// How often the next in line looks before it gives its processor away.
-const SOON: u32 = 100;
 
 // Takes the kept value out of the slot that the seat has in hand.
 fn take<K: Kept>(desk: &Desk<K>, seat: &mut Chair<K>) -> K
@@ -42,17 +39,6 @@ fn take<K: Kept>(desk: &Desk<K>, seat: &mut Chair<K>) -> K
     kept
 }
 
-// Rests between two looks, where the ticket `serving` has its turn. The next in line looks again soon, for a while,
-// since a turn is short. All others, and those that have looked long, give their processor away.
-fn pause(ticket: u64, serving: u64, looks: u32) {
-    let ahead = ticket.wrapping_sub(serving);
-    if ahead == 1 && looks < SOON {
-        hint::spin_loop();
-    } else {
-        thread::yield_now();
-    }
-}
-
 // Draws a ticket.
 fn draw<K: Kept>(desk: &Desk<K>, seat: &mut Chair<K>) -> u64
     requires desk { (seat.old.table_id ≡ desk.now.shared.table_id) × (desk.now.shared.table_id.words ≡ 3) }
@@ -64,7 +50,7 @@ fn draw<K: Kept>(desk: &Desk<K>, seat: &mut Chair<K>) -> u64
     desk.shared.fetch_add::<Draw>(seat, TICKET, 1)
 }
 
-// Waits for the ticket's turn, which brings the kept value.
+// Waits for the ticket's turn, which brings the kept value. Its caller is inside of the door, so the turn comes at once.
 fn wait<K: Kept, R: Wait>(rt: &R, desk: &Desk<K>, seat: &mut Chair<K>, ticket: u64)
     requires desk { (seat.old.table_id ≡ desk.now.shared.table_id) × (desk.now.shared.table_id.words ≡ 3) }
     requires waits { (number : ℕ) × Waits (meaning K.setting K.entries K.caller_of K.is_lawful)
@@ -72,14 +58,12 @@ fn wait<K: Kept, R: Wait>(rt: &R, desk: &Desk<K>, seat: &mut Chair<K>, ticket: u
     ensures seat { (seat.new.table_id ≡ seat.old.table_id) × (seat.new.id ≡ seat.old.id) }
     ensures came { Came (meaning K.setting K.entries K.caller_of K.is_lawful) seat.old.me seat.new.me }
 {
-    let mut looks = 0u32;
     for _ in rt.forever() {
         let serving = desk.shared.load::<Look>(seat, SERVING);
         if serving == ticket {
             return;
         }
-        pause(ticket, serving, looks);
-        looks = looks.saturating_add(1);
+        hint::spin_loop();
     }
 }
 
@@ -247,6 +231,9 @@ fn finish<K: Kept>(desk: Desk<K>, main: Chair<K>) -> K
 #[derive(Drop)]
 pub struct Turnstile<K: Kept> {
     desk: Desk<K>,
+
+    // Here callers wait, asleep, until nobody else is inside. It says nothing in contracts: the tickets do.
+    door: Mutex<()>,
 }
 
 impl<K: Kept> Model for Turnstile<K> {
@@ -277,7 +264,8 @@ impl<K: Kept> Turnstile<K> {
         let passes = Vec::with_capacity(alloc, numbers.len())?;
         let (desk, root) = laid(alloc, kept, numbers)?;
         let passes = deal(&desk, root, numbers, passes);
-        Ok((Turnstile { desk }, passes))
+        let door = Mutex::new(());
+        Ok((Turnstile { desk, door }, passes))
     }
 
     /// Waits for the turn and makes one call. What the pass has seen then ends with the call's entry, if it made one.
@@ -288,10 +276,12 @@ impl<K: Kept> Turnstile<K> {
         ensures call { MakesCall K.caller_of K.is_lawful K.does self.now.setting call result (K.is_made result) pass.old pass.new }
     {
         let number = pass.number;
+        let inside = self.door.lock(rt);
         let kept = enter(rt, &self.desk, &mut pass.seat, number);
         let (kept, answer) = kept.apply(number, call);
         let made = K::made(&answer);
         leave(&self.desk, &mut pass.seat, number, kept, made);
+        drop(inside);
         answer
     }
 
@@ -329,7 +319,7 @@ impl<K: Kept> Turnstile<K> {
         ensures others { (n : ℕ) → ¬ Contains self.numbers n → entries_of K.caller_of n (K.entries result) ≡ [] }
         ensures count { length (K.entries result) ≡ sum_by (λ p. length p.mine) passes.items }
     {
-        let Turnstile { desk } = self;
+        let Turnstile { desk, door: _ } = self;
         let (_, mut main) = desk.shared.load_new_seat::<Arrive>(SERVING);
         gather(&desk, &mut main, passes);
         finish(desk, main)
@@ -347,7 +337,7 @@ impl<K: Kept> Turnstile<K> {
         ensures others { (n : ℕ) → ¬ Contains self.numbers n → entries_of K.caller_of n (K.entries result) ≡ [] }
         ensures count { length (K.entries result) ≡ sum_by (λ p. length p.mine) (passes.items ++ last ∷ []) }
     {
-        let Turnstile { desk } = self;
+        let Turnstile { desk, door: _ } = self;
         let (_, mut main) = desk.shared.load_new_seat::<Arrive>(SERVING);
         take_in(&desk, &mut main, last);
         gather(&desk, &mut main, passes);

@@ -1,9 +1,10 @@
 -- Numbers and the digits that write them.
-use Rattle.std.proofs.Common.{◌≡◌, ℕ, zero, suc, ◌+◌, ◌-◌, ◌*◌, ◌^◌, ◌<◌, ◌≤◌, Bool, true, false, not, ◌||◌, ◌==◌, nat_lt, nat_le, cond, List, [], ◌∷◌, length, get_or, Some, None, decimal, refl, arith, rules, inl, inr}
+use Rattle.std.proofs.Common.{◌≡◌, ℕ, zero, suc, ◌+◌, ◌-◌, ◌*◌, ◌^◌, ◌<◌, ◌≤◌, Bool, true, false, not, ◌||◌, ◌==◌, nat_lt, nat_le, cond, if◌then◌else◌, Option, Result, Ok, Err, ◌∙◌, List, [], ◌∷◌, length, get_or, drop, Some, None, decimal, refl, arith, rules, inl, inr}
 use Rattle.std.specs.List.{list_all}
-use Rattle.std.proofs.lemmas.Bool.{and_parts, cases_Bool, eqb-true, eq-eqb, le-ltb, ltb-false, leb-true, lt-ltb}
+use Rattle.std.proofs.lemmas.Bool.{and_parts, cases_Bool, eqb-true, eq-eqb, le-ltb, ltb-false, ltb-true, leb-true, lt-ltb}
 use Rattle.std.proofs.lemmas.Str.Parse.{IsNumeralModel, numerals_by_fold}
 use Rattle.std.proofs.lemmas.Fmt.{digits_decimal, decimal_nonempty, decimal_digit, first_decimal, digits_value-decimal, decimal-digits_value}
+use Rattle.aim_msg.specs.declared.script.LineKind.{LineKind}
 use Rattle.aim_msg.specs.declared.script.LineKind.TheVariants as kind
 use Rattle.aim_words.specs.Faults.{is_digit, is_number, begins_with_digit, value_after, value_of, number_fault}
 use Rattle.std.specs.Prelude.{bytes_eq}
@@ -17,6 +18,28 @@ is_visible b = nat_lt 32 b
 pub value_grows : (n : ℕ) (digits : List ℕ) → n ≤ value_after n digits
 value_grows n [] = omega arith
 value_grows n (b ∷ digits) = omega (arith, value_grows (10 * n + (b - 48)) digits)
+
+-- a number that doesn't fit is too great, if all that follows are digits
+pub too_great_is : (word digits : List ℕ) (value high b : ℕ) (rest : List ℕ) (r : Result ℕ LineKind) → digits ≡ b ∷ rest → list_all is_digit word ≡ list_all is_digit digits → value_after value digits ≡ value_of word
+    → is_digit b ≡ true → high < 10 * value + (b - 48) → r ≡ (if list_all is_digit rest then Err kind.Range else Err kind.Number)
+    → r ≡ (if list_all is_digit word then (if nat_lt high (value_of word) then Err kind.Range else Ok (value_of word)) else Err kind.Number)
+too_great_is word digits value high b rest r is all same digit above came =
+    let grown : 10 * value + (b - 48) ≤ value_after (10 * value + (b - 48)) rest = value_grows (10 * value + (b - 48)) rest in
+    let value_is : value_after (10 * value + (b - 48)) rest ≡ value_of word = rw is at same in
+    let digits_are : list_all is_digit word ≡ list_all is_digit rest = all ∙ rw is (rw digit refl) in
+    rw (digits_are, lt-ltb high (value_of word) (omega (arith, above, grown, value_is))) came
+
+pub first_and_rest : (digits : List ℕ) → 1 ≤ length digits → digits ≡ get_or digits 0 0 ∷ drop 1 digits
+first_and_rest [] some = absurd (omega (arith, some))
+first_and_rest (b ∷ digits) some = refl
+
+-- what was too great for a number of 64 bits
+pub none_above : (value b high : ℕ) (r : Option ℕ) → high ≤ 18446744073709551615 → r ≡ (if nat_lt 18446744073709551615 (10 * value + (b - 48)) then None else Some (10 * value + (b - 48))) → r ≡ None → high < 10 * value + (b - 48)
+none_above value b high r most is none = by (nat_lt 18446744073709551615 (10 * value + (b - 48))) refl
+  where
+    by : (over : Bool) → nat_lt 18446744073709551615 (10 * value + (b - 48)) ≡ over → high < 10 * value + (b - 48)
+    by true over = let above = ltb-true _ _ over in omega (arith, above, most)
+    by false over = absurd (cc (is, none, over))
 
 -- the digits and their value as a numeral
 numerals : IsNumeralModel (λ ds. list_all is_digit ds ≡ true) value_of

@@ -1,7 +1,7 @@
 //! Generated traffic, and the last lines of scripts.
 
 use crate::grid::numbers_of;
-use aim_driving::traffic;
+use aim_driving::{print_traffic, traffic};
 use aim_msg::{LineKind, Turn};
 use aim_paths::{Layout, Path};
 use aim_plans::DriveScript;
@@ -32,6 +32,16 @@ fn generated_traffic(rt: HostRuntime) {
     assert!(rt; has_plans(&script));
     assert!(rt; has_the_path(&script.layout));
     drop(script);
+}
+
+// How the script of that traffic ends.
+const LAST_PLAN: &[u8] = b"plan 2 66 159 50 8 right 232 300 2 4500 1900 car\nend\n";
+
+#[test]
+fn generated_script(rt: HostRuntime) {
+    let mut sink = sink_of(rt.alloc(), 4096, &[]).expect(&rt, "memory for a sink");
+    assert!(rt; print_traffic(rt.alloc(), 2026, 3, &mut sink) == 0);
+    assert!(rt; sink.bytes().ends_with(LAST_PLAN));
 }
 
 static LAST_LINES: [(Decision, &[u8]); 4] = [

@@ -7,14 +7,14 @@ use crate::asked::{
     GRANTED_OR_TAKEN, NUMBERS_AND_RESERVATIONS, OVER_A_CURVE, TAKEN_BY_BUFFERS, TAKEN_BY_WINDOWS,
 };
 use crate::policies::{GIVING_WAY, LIGHTS_AND_SIREN, SIREN};
-use aim_book::{Book, Full};
+use aim_book::{Book, Full, Shapes};
 use aim_geometry::Times;
 use aim_msg::{Act, Entry, LATEST_MOMENT, Message, Order, Reply};
 use aim_pool::Pool;
 use aim_read_entries::read_entry;
 use aim_tiles::Steps;
 use std::alloc::Global;
-use std::marker::Brand;
+use std::marker::{Brand, Model};
 use std::process::Abort;
 use std::sync::ledger::{Blank, Ledger};
 use tests_samples::{
@@ -29,6 +29,9 @@ const VEHICLES: u32 = 8;
 
 const SHEETS: u32 = 10;
 
+// How many shapes are kept: fewer than a journal asks for.
+const SHAPES: u32 = 3;
+
 // How a message is served.
 #[derive(Clone, Copy)]
 enum Way {
@@ -38,11 +41,23 @@ enum Way {
     FromPool,
 }
 
-// A book, the sheets for its calls, and the count of the words of its table.
+// A book, the shapes and the sheets for its calls, and the count of the words of its table.
 struct Desk<L: Ledger> {
     book: Book<L>,
+    shapes: Shapes,
     pool: Pool,
     steps: Steps<L>,
+}
+
+impl<L: Ledger> Model for Desk<L> {
+    ghost use Rattle.aim_book.specs.Shapes.{ArePreparedFor};
+    ghost use Rattle.aim_book.specs.State.{State};
+
+    ghost Value = { State };
+
+    ghost view = { λ d. d.book };
+
+    ghost invariant = { λ d. ArePreparedFor d.book.layout d.shapes };
 }
 
 // A book over the site's layout, for that many vehicles and that many entries.
@@ -62,9 +77,11 @@ fn opened<L: Ledger>(
     let layout = built(alloc, site, times).expect(rt, "no layout");
     let spans = layout.ground().grid().spans;
     let pool = Pool::new(alloc, SHEETS, spans).expect(rt, "no memory for sheets");
+    let shapes = Shapes::new(alloc, &layout, SHAPES).expect(rt, "no memory for shapes");
     let book = Book::open(alloc, layout, vehicles, room).expect(rt, "no book");
     Desk {
         book,
+        shapes,
         pool,
         steps: Steps::new(blank),
     }
@@ -85,6 +102,48 @@ fn operate<L: Ledger>(
     desk.book.operate(moment, order, &mut desk.steps)
 }
 
+// Answers a message whose cells are prepared before.
+fn serve_prepared<L: Ledger>(
+    rt: &impl Abort,
+    desk: &mut Desk<L>,
+    caller: u32,
+    moment: u32,
+    message: &Message,
+) -> Result<Reply, Full>
+    requires { moment ≤ LATEST_MOMENT }
+{
+    assert!(rt; caller < desk.book.vehicles());
+    let prepared = prepared(desk.book.layout(), &mut desk.pool, message).expect(
+        rt,
+        "too few sheets",
+    );
+    desk.book
+        .serve(caller, moment, prepared, &mut desk.pool, &mut desk.steps)
+}
+
+// Answers a message whose cells are prepared where the answer depends on them.
+fn serve_message<L: Ledger>(
+    rt: &impl Abort,
+    desk: &mut Desk<L>,
+    caller: u32,
+    moment: u32,
+    message: &Message,
+) -> Result<Reply, Full>
+    requires { moment ≤ LATEST_MOMENT }
+{
+    assert!(rt; caller < desk.book.vehicles());
+    assert!(rt; desk.pool.room() == desk.book.layout().ground().grid().spans);
+    assert!(rt; desk.pool.count() >= 2 && desk.pool.count() <= SHEETS);
+    desk.book.serve_message(
+        caller,
+        moment,
+        message,
+        &mut desk.shapes,
+        &mut desk.pool,
+        &mut desk.steps,
+    )
+}
+
 // Answers a message in that way.
 fn answer<L: Ledger>(
     rt: &impl Abort,
@@ -96,22 +155,9 @@ fn answer<L: Ledger>(
 ) -> Result<Reply, Full>
     requires { moment ≤ LATEST_MOMENT }
 {
-    assert!(rt; caller < desk.book.vehicles());
     match way {
-        Way::Prepared => {
-            let prepared = prepared(desk.book.layout(), &mut desk.pool, message).expect(
-                rt,
-                "too few sheets",
-            );
-            desk.book
-                .serve(caller, moment, prepared, &mut desk.pool, &mut desk.steps)
-        }
-        Way::FromPool => {
-            assert!(rt; desk.pool.room() == desk.book.layout().ground().grid().spans);
-            assert!(rt; desk.pool.count() >= 2 && desk.pool.count() <= SHEETS);
-            desk.book
-                .serve_message(caller, moment, message, &mut desk.pool, &mut desk.steps)
-        }
+        Way::Prepared => serve_prepared(rt, desk, caller, moment, message),
+        Way::FromPool => serve_message(rt, desk, caller, moment, message),
     }
 }
 
@@ -203,6 +249,7 @@ fn giving_way(rt: HostRuntime) {
 fn journal_of<L: Ledger>(desk: Desk<L>) -> Vec<Entry> {
     let Desk {
         book,
+        shapes: _,
         pool: _,
         steps,
     } = desk;

@@ -149,10 +149,17 @@ fn all_is_put_or_a_front(rt: HostRuntime) {
 #[test]
 fn std_that_fails(rt: HostRuntime) {
     let mut taken = [0; 2];
-    assert!(rt; put_all(&mut StdSink::new(&mut taken[..]), b"ab").is_ok());
+    let mut sink = StdSink::new(rt.alloc(), &mut taken[..]).expect(&rt, NO_MEMORY);
+    assert!(rt; put_all(&mut sink, b"ab").is_ok());
+    assert!(rt; sink.settle().is_ok());
+    drop(sink);
     assert!(rt; taken == *b"ab");
     let mut full = [0; 1];
-    assert!(rt; put_all(&mut StdSink::new(&mut full[..0]), b"a") == Err(Failed));
+    let mut sink = StdSink::new(rt.alloc(), &mut full[..0]).expect(&rt, NO_MEMORY);
+    assert!(rt; put_all(&mut sink, b"a").is_ok());
+    assert!(rt; sink.settle() == Err(Failed));
+    drop(sink);
     let mut reader = LineReader::new();
+    assert!(rt; reader.is_open());
     assert!(rt; reader.advance(&mut StdSource::new(Broken)) == Err(LineFault::Read));
 }

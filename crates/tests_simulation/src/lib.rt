@@ -20,6 +20,8 @@ mod policies;
 #[cfg(test)]
 mod reservations;
 #[cfg(test)]
+mod shapes;
+#[cfg(test)]
 mod tables;
 #[cfg(test)]
 mod texts;

@@ -1,14 +1,37 @@
-use Rattle.std.proofs.Common.{sym, refl, true≢false}
+use Rattle.std.proofs.Common.{inl, inr, sym, refl, true≢false}
 use Rattle.aim.specs.declared.words.Command.TheVariants as command
-use Rattle.aim.proofs.ObeyLemmas.{generates, replays, runs}
+use Rattle.aim.specs.Help.{TellsText, text_of, versions}
+use Rattle.aim.proofs.ObeyLemmas.{replays, runs, told_text, unread_obeyed}
 use Rattle.aim.proofs.program.obey.Goals as goal
 
--- A replay's call promises all of this, clause by clause. The statuses come first: where no call is made, their causes are what is missing.
+-- Of a replay the statuses come first: where no call is made, their causes are what is missing.
 pub returns-in-Replay : goal.returns-in-Replay
-returns-in-Replay g c = replays c.args.command command.Replay c.in-Replay.is tt refl refl (assumption) (assumption)
+returns-in-Replay g c =
+    replays c.args.command command.Replay c.in-Replay.is tt refl refl (assumption)
+    (record {
+      whole = c.replay.ensures.whole;
+      ended = c.replay.ensures.ended;
+      most = c.replay.ensures.most;
+      needed = c.replay.ensures.needed;
+      front = c.replay.ensures.front;
+      short = c.replay.ensures.short;
+      waited = λ four. c.replay.ensures.settled (inr (inr (inl four)));
+      memory = λ _. c.replay.ensures.memory;
+    })
 
 pub returns-in-Chart : goal.returns-in-Chart
-returns-in-Chart g c = replays c.args.command (command.Chart c.in-Chart.step) c.in-Chart.is tt refl refl (assumption) (assumption)
+returns-in-Chart g c =
+    replays c.args.command (command.Chart c.in-Chart.step) c.in-Chart.is tt refl refl (assumption)
+    (record {
+      whole = c.replay-in-Chart.ensures.whole;
+      ended = c.replay-in-Chart.ensures.ended;
+      most = c.replay-in-Chart.ensures.most;
+      needed = c.replay-in-Chart.ensures.needed;
+      front = c.replay-in-Chart.ensures.front;
+      short = c.replay-in-Chart.ensures.short;
+      waited = λ four. c.replay-in-Chart.ensures.settled (inr (inr (inl four)));
+      memory = λ _. c.replay-in-Chart.ensures.memory;
+    })
 
 pub returns-in-ReplayJson : goal.returns-in-ReplayJson
 returns-in-ReplayJson g c =
@@ -21,6 +44,7 @@ returns-in-ReplayJson g c =
       needed = c.replay_json.ensures.needed;
       front = c.replay_json.ensures.front;
       short = c.replay_json.ensures.short;
+      waited = λ four. c.replay_json.ensures.settled (inr (inr (inl four)));
       memory = λ no. absurd (true≢false no);
     })
 
@@ -46,5 +70,21 @@ returns-in-Mail g c =
 
 pub returns-in-Generate : goal.returns-in-Generate
 returns-in-Generate g c =
-    generates c.args.command c.in-Generate.number c.in-Generate.count c.in-Generate.is refl
-    (record { counts = c.generate.ensures.whole; front = c.generate.ensures.front; nothing = c.generate.ensures.nothing; statuses = c.generate.ensures.statuses }) c.generate.ensures.write c.generate.ensures.sink
+    unread_obeyed c.args.command (command.Generate c.in-Generate.number c.in-Generate.count) c.in-Generate.is refl refl refl
+    (record { counts = c.generate.ensures.whole; front = c.generate.ensures.front; nothing = c.generate.ensures.nothing; statuses = c.generate.ensures.statuses }) refl
+    c.generate.ensures.nothing c.generate.ensures.statuses c.generate.ensures.write c.generate.ensures.sink
+
+pub returns-in-Traffic : goal.returns-in-Traffic
+returns-in-Traffic g c =
+    unread_obeyed c.args.command (command.Traffic c.in-Traffic.number c.in-Traffic.count) c.in-Traffic.is refl refl refl
+    (record { whole = c.print_traffic.ensures.whole; front = c.print_traffic.ensures.front; nothing = c.print_traffic.ensures.nothing; statuses = c.print_traffic.ensures.statuses }) refl
+    c.print_traffic.ensures.nothing c.print_traffic.ensures.statuses c.print_traffic.ensures.write c.print_traffic.ensures.sink
+
+pub returns-in-Help : goal.returns-in-Help
+returns-in-Help g c =
+    let told : TellsText (text_of c.in-Help.topic) _ _ _ = rw c.text.ensures at c.tell.ensures.told in
+    told_text c.args.command (command.Help c.in-Help.topic) (text_of c.in-Help.topic) c.in-Help.is refl refl refl told refl told c.tell.ensures.write c.tell.ensures.sink
+
+pub returns-in-Version : goal.returns-in-Version
+returns-in-Version g c =
+    told_text c.args.command command.Version versions c.in-Version.is refl refl refl c.tell-in-Version.ensures.told refl c.tell-in-Version.ensures.told c.tell-in-Version.ensures.write c.tell-in-Version.ensures.sink

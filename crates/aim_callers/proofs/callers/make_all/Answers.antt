@@ -1,30 +1,29 @@
-use Rattle.std.proofs.Common.{sym, ap, ◌∙◌, subst}
-use Rattle.std.specs.Prelude.{get_or}
-use Rattle.std.proofs.lemmas.Option.{slice_get-get_or}
-use Rattle.aim_claims.specs.declared.lines.ShardLine.TheVariants as line
-use Rattle.aim_claims.specs.Said.{ask_in}
-use Rattle.aim_callers.specs.Calling.{Steps}
-use Rattle.aim_callers.proofs.Calls.{can_in, follows_next}
+use Rattle.std.proofs.Common.{◌≡◌, ◌≤◌, ℕ, List, length, take, sym, ap, ◌∙◌, subst, arith}
+use Rattle.std.proofs.lemmas.List.{take_all}
+use Rattle.aim_claims.specs.declared.lines.ShardLine.{ShardLine}
+use Rattle.aim_claims.specs.Said.{asked_of}
+use Rattle.aim_callers.specs.Following.{Follows}
 use Rattle.aim_callers.proofs.callers.make_all.Goals as goal
 
-pub make-requires-clause-can : goal.make-requires-clause-can
-make-requires-clause-can g c κs within a e =
-    let i = c.loop-line.invariant in
-    let none = line.Shards 0 0 0 in
-    let lines = c.args.lines.now in
-    let at = c.loop-line.line-index in
-    can_in c.args.caller.now.pass.number at lines (get_or lines at none) _ _ a c.requires.script (slice_get-get_or lines at none c.loop-line-test.true) c.requires.sets i.follows
-    (ap (λ n. ask_in n (get_or lines at none)) (sym i.number) ∙ e)
+pub make_next-place-requires-clause-follows : goal.make_next-place-requires-clause-follows
+make_next-place-requires-clause-follows g c κs within =
+    let i = c.loop-place.invariant in
+    subst (λ n. Follows (asked_of n (take c.loop-place.place c.args.lines.now)) c.loop-place.caller.pass.mine) (sym i.number) i.follows
 
-pub loop-line-preserved : goal.loop-line-preserved
-loop-line-preserved g c =
-    let i = c.loop-line.invariant in
-    let none = line.Shards 0 0 0 in
-    let lines = c.args.lines.now in
-    let at = c.loop-line.line-index in
-    let old = c.loop-line.caller.pass.mine in
-    let new = c.make.new.caller.pass.mine in record {
-      works = c.make.ensures.works;
-      number = c.make.ensures.number ∙ i.number;
-      follows = follows_next c.args.caller.now.pass.number at lines none old new c.loop-line-test.true i.follows (subst (λ n. Steps (ask_in n (get_or lines at none)) old new) i.number c.make.ensures.steps);
+pub loop-place-preserved : goal.loop-place-preserved
+loop-place-preserved g c =
+    let i = c.loop-place.invariant in
+    let e = c.make_next-place.ensures in record {
+      works = e.works;
+      number = e.number ∙ i.number;
+      within = e.within;
+      follows = subst (λ n. Follows (asked_of n (take c.make_next-place.result c.args.lines.now)) c.make_next-place.new.caller.pass.mine) i.number e.follows;
     }
+
+pub returns-clause-follows : goal.returns-clause-follows
+returns-clause-follows g c =
+    let i = c.loop-place.invariant in
+    let lines = c.args.lines.now in
+    let whole : take c.loop-place.place lines ≡ lines = take_all c.loop-place.place lines (omega (arith, c.loop-place-test.false)) in
+    subst (λ n. Follows (asked_of n lines) c.loop-place.caller.pass.mine) (sym i.number)
+    (subst (λ ls. Follows (asked_of c.args.caller.now.pass.number ls) c.loop-place.caller.pass.mine) whole i.follows)

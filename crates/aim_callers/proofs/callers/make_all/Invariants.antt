@@ -1,12 +1,16 @@
-use Rattle.std.proofs.Common.{◌≡◌, take}
+use Rattle.std.proofs.Common.{◌≡◌, ◌≤◌, ◌-◌, length, take}
 use Rattle.aim_claims.specs.Said.{asked_of}
 use Rattle.aim_callers.specs.Calling.{Works}
 use Rattle.aim_callers.specs.Following.{Follows}
 use Rattle.aim_callers.proofs.callers.make_all.Given as goal
 
-abbrev pub invariant-loop-line : goal.invariant-loop-line
-invariant-loop-line g l = record {
+abbrev pub invariant-loop-place : goal.invariant-loop-place
+invariant-loop-place g l = record {
   works : Works l.shards l.caller;
   number : l.caller.pass.number ≡ l.initial.caller.pass.number;
-  follows : Follows (asked_of l.initial.caller.pass.number (take l.line-index l.lines)) l.caller.pass.mine;
+  within : l.place ≤ length l.lines;
+  follows : Follows (asked_of l.initial.caller.pass.number (take l.place l.lines)) l.caller.pass.mine;
 }
+
+abbrev pub decreases-loop-place : goal.decreases-loop-place
+decreases-loop-place g l = length l.lines - l.place

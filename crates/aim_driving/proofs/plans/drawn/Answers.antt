@@ -10,8 +10,8 @@ loop-vehicle-preserved c =
       count = omega (arith, p.len, i.count);
       room = omega (arith, p.capacity, i.room);
       drives =
-          ap (λ ps. map drive_told ps ++ drives_from (c.loop-vehicle.vehicle + 1) (c.args.count - (c.loop-vehicle.vehicle + 1)) c.draw.new.random) p.items
-          ∙ one_drawn c.loop-vehicle.plans.items c.draw.result c.loop-vehicle.vehicle c.args.count c.loop-vehicle.random c.draw.new.random c.loop-vehicle-test.true c.draw.ensures.plan c.draw.ensures.rest
+          ap (λ ps. map drive_told ps ++ drives_from (c.loop-vehicle.vehicle + 1) (c.args.count - (c.loop-vehicle.vehicle + 1)) c.plan.new.random) p.items
+          ∙ one_drawn c.loop-vehicle.plans.items c.plan.result c.loop-vehicle.vehicle c.args.count c.loop-vehicle.random c.plan.new.random c.loop-vehicle-test.true c.plan.ensures.plan c.plan.ensures.rest
           ∙ i.drives;
     }
 

@@ -1,7 +1,7 @@
 use Rattle.std.proofs.Common.{◌≡◌, ◌+◌, length, subst, arith}
-use Rattle.aim_mailing.specs.Calling.{AllByPlace, Reached, Stepped, Works}
+use Rattle.aim_mailing.specs.Calling.{AllByPlace, Finished, Reached, Went, Works}
 use Rattle.aim_mailing.proofs.Places.{all_second, by_place_self, by_place_then}
-use Rattle.aim_mailing.proofs.Steps.{reached_first, reached_more}
+use Rattle.aim_mailing.proofs.Steps.{reached_all, reached_first, reached_more}
 use Rattle.aim_mailing.proofs.callers.make_all.Goals as goal
 
 pub one_round-requires-clause-works : goal.one_round-requires-clause-works
@@ -21,7 +21,14 @@ loop-round-preserved g c =
     let i = c.args.layout.now in
     let es = c.args.events.now in
     let n = c.loop-round.round in
-    by_place_then (Reached i es n) (Stepped i es) (Reached i es (n + 1)) c.args.callers.now c.loop-round.callers c.one_round.new.callers c.loop-round.invariant c.one_round.ensures (λ a b d r s. reached_more i es n a b d (omega arith) r s)
+    by_place_then (Reached i es n) (Went i es c.one_round.result) (Reached i es (n + 1)) c.args.callers.now c.loop-round.callers c.one_round.new.callers c.loop-round.invariant c.one_round.ensures (λ a b d r w. reached_more i es n a b d (omega arith) r w.stepped)
+
+pub returns-then-not-one_round : goal.returns-then-not-one_round
+returns-then-not-one_round g c =
+    let i = c.args.layout.now in
+    let es = c.args.events.now in
+    let n = c.loop-round.round in
+    by_place_then (Reached i es n) (Went i es c.one_round.result) (Finished i es) c.args.callers.now c.loop-round.callers c.one_round.new.callers c.loop-round.invariant c.one_round.ensures (λ a b d r w. reached_all i es n c.one_round.result a b d c.if-not-one_round.true r w)
 
 pub returns : goal.returns
 returns g c =

@@ -1,7 +1,9 @@
-use Rattle.std.proofs.Common.{◌<◌, length, sym, subst, arith}
+use Rattle.std.proofs.Common.{◌<◌, ◌||◌, nat_lt, length, sym, subst, arith}
+use Rattle.std.proofs.lemmas.Bool.{ltb-false}
 use Rattle.aim_mailing.specs.declared.callers.Caller.{Caller}
-use Rattle.aim_mailing.specs.Calling.{Stepped, Works}
-use Rattle.aim_mailing.proofs.Places.{done_all, done_more}
+use Rattle.aim_mailing.specs.Calling.{Stepped, Went, Works}
+use Rattle.aim_mailing.proofs.Places.{done_all, done_as, done_more}
+use Rattle.aim_mailing.proofs.Steps.{went_before, went_now}
 use Rattle.aim_mailing.proofs.callers.one_round.Goals as goal
 
 pub step-requires-clause-works : goal.step-requires-clause-works
@@ -12,9 +14,14 @@ step-requires-clause-works g c =
 
 pub loop-caller-preserved : goal.loop-caller-preserved
 loop-caller-preserved g c =
+    let i = c.args.layout.now in
+    let es = c.args.events.now in
+    let left = c.loop-caller.left in
+    let more = nat_lt c.step.new.caller.place (length es) in
     let lt : c.loop-caller.caller-index < length c.loop-caller.callers = omega arith in
-    done_more (Stepped c.args.layout.now c.args.events.now) c.loop-caller.caller-index c.args.callers.now c.loop-caller.callers c.caller-item.result c.step.new.caller c.loop-caller.invariant lt c.caller-item.is
-    (subst (λ (x : Caller). Stepped c.args.layout.now c.args.events.now x c.step.new.caller) (sym c.caller-item.is) c.step.ensures)
+    let before = done_as (Went i es left) (Went i es (left || more)) c.loop-caller.caller-index c.args.callers.now c.loop-caller.callers c.loop-caller.invariant (went_before i es left more) in
+    done_more (Went i es (left || more)) c.loop-caller.caller-index c.args.callers.now c.loop-caller.callers c.caller-item.result c.step.new.caller before lt c.caller-item.is
+    (went_now i es left more c.caller-item.result c.step.new.caller (subst (λ (x : Caller). Stepped i es x c.step.new.caller) (sym c.caller-item.is) c.step.ensures) (ltb-false c.step.new.caller.place (length es)))
 
 pub returns : goal.returns
-returns g c = done_all (Stepped c.args.layout.now c.args.events.now) c.loop-caller.caller-index c.args.callers.now c.loop-caller.callers c.loop-caller.invariant (let len = c.loop-caller.invariant.len in omega (arith, len))
+returns g c = done_all (Went c.args.layout.now c.args.events.now c.loop-caller.left) c.loop-caller.caller-index c.args.callers.now c.loop-caller.callers c.loop-caller.invariant (let len = c.loop-caller.invariant.len in omega (arith, len))

@@ -1,4 +1,4 @@
-use Rattle.aim_replay.proofs.EndLemmas.{whole_at, ended_at, front_at, read_at, write_at, memory_at, statuses_are}
+use Rattle.aim_replay.proofs.EndLemmas.{settled_at, whole_at, ended_at, front_at, read_at, write_at, memory_at, statuses_are}
 use Rattle.aim_replay.proofs.session.replay_by.Goals as goal
 
 pub returns-clause-whole : goal.returns-clause-whole
@@ -24,3 +24,6 @@ returns-clause-write g c at = c.replay_script.ensures.caused.write (write_at _ _
 
 pub returns-clause-statuses : goal.returns-clause-statuses
 returns-clause-statuses g c = statuses_are _ _ c.status.ensures
+
+pub returns-clause-settled : goal.returns-clause-settled
+returns-clause-settled g c at = settled_at _ _ _ c.status.ensures c.replay_script.ensures.settled at

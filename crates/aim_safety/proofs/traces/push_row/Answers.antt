@@ -17,7 +17,7 @@ loop-col-preserved c =
     let part : map cell_of c.if-has_tile.cells.items ≡ old ++ tile = elim c.if-has_tile.branch [
       | then-has_tile+in_ok-push_steps w ↦ ap (λ v. map cell_of v.items) w.cells-is ∙ w.in_ok-push_steps.ensures
       | else-has_tile w ↦
-          (let never = c.shown_ever-shown.ensures c.loop-col.col (sym c.has_tile.ensures ∙ w.if-has_tile.false) in
+          (let never = c.gather_row-shown.ensures.never c.loop-col.col (sym c.has_tile.ensures ∙ w.if-has_tile.false) in
           ap (λ v. map cell_of v.items) w.cells-is ∙ sym (append-nil old)
           ∙ ap (λ xs. old ++ xs) (sym (none_traced steps c.args.first count c.args.row c.loop-col.col (omega arith) never)))
     ] in

@@ -1,4 +1,5 @@
 use Rattle.std.proofs.Common.{◌≡◌, ◌++◌, ap, arith, filter, length, map, sym, ◌∙◌, true, false}
+use Rattle.aim_geometry.specs.Rects.{has_bit}
 use Rattle.aim_safety.specs.Tiles.{cell_of, of_tile}
 use Rattle.aim_safety.specs.Traces.{is_traced}
 use Rattle.aim_safety.proofs.TraceLemmas.{step_more}
@@ -9,10 +10,10 @@ pub loop-k-preserved : goal.loop-k-preserved
 loop-k-preserved c = elim c.if-has_tile.branch [
   | then-has_tile+in_ok-push w ↦
       step_more c.args.steps.now c.args.first c.loop-k.k c.args.row c.args.col c.loop-k.cells.items c.if-has_tile.cells.items (map cell_of c.args.cells.now.items) true
-      (sym w.if-has_tile.true ∙ c.has_tile.ensures) c.loop-k.invariant (ap (λ v. v.items) w.cells-is ∙ w.in_ok-push.ensures.items)
+      (sym w.if-has_tile.true ∙ c.has_tile.ensures ∙ ap (λ m. has_bit m c.args.col) (c.requires.gathered c.loop-k.k (omega (arith, c.loop-k-test.true)))) c.loop-k.invariant (ap (λ v. v.items) w.cells-is ∙ w.in_ok-push.ensures.items)
   | else-has_tile w ↦
       step_more c.args.steps.now c.args.first c.loop-k.k c.args.row c.args.col c.loop-k.cells.items c.if-has_tile.cells.items (map cell_of c.args.cells.now.items) false
-      (sym w.if-has_tile.false ∙ c.has_tile.ensures) c.loop-k.invariant (ap (λ v. v.items) w.cells-is)
+      (sym w.if-has_tile.false ∙ c.has_tile.ensures ∙ ap (λ m. has_bit m c.args.col) (c.requires.gathered c.loop-k.k (omega (arith, c.loop-k-test.true)))) c.loop-k.invariant (ap (λ v. v.items) w.cells-is)
 ]
 
 pub returns : goal.returns

@@ -1,11 +1,11 @@
-use Rattle.std.proofs.Common.{◌≡◌, true, length}
+use Rattle.std.proofs.Common.{◌≡◌, length}
 use Rattle.std.specs.List.{list_all}
 use Rattle.aim_words.specs.Faults.{is_digit, value_after, value_of}
 use Rattle.aim_words.proofs.numbers.value_up_to.Given as goal
 
 abbrev pub invariant-loop-digits : goal.invariant-loop-digits
 invariant-loop-digits l = record {
-  digits : list_all is_digit l.digits ≡ true;
+  digits : list_all is_digit l.word ≡ list_all is_digit l.digits;
   same : value_after l.value l.digits ≡ value_of l.word;
 }
 

@@ -1,9 +1,13 @@
-use Rattle.std.proofs.Common.{◌∙◌, ap}
+use Rattle.std.proofs.Common.{◌∙◌, ap, sym, subst}
 use Rattle.aim_geometry.specs.declared.ground.Grid.{Grid}
+use Rattle.aim_book.specs.Shapes.{ArePreparedFor}
+use Rattle.aim_book.specs.State.{State}
 use Rattle.aim_stages.proofs.SheetLemmas.{served_first}
 use Rattle.aim_stages.proofs.servers.Server.open.Goals as goal
 
 pub invariant_of-result : goal.invariant_of-result
 invariant_of-result g c =
-    let spans = ap (λ (x : Grid). x.spans) (c.grid-spans.ensures.grid ∙ c.ground.ensures.grid) in
-    served_first c.args.layout c.args.vehicles _ _ c.in_ok-book.ensures (rw spans at c.in-Ok.ensures) c.requires.most
+    let spans = ap (λ (x : Grid). x.spans) (c.grid-spans.ensures.grid ∙ c.ground.ensures.grid) in (
+      served_first c.args.layout c.args.vehicles _ _ c.in_ok-book.ensures (rw spans at c.in_ok-pool.ensures) c.requires.most,
+      rw c.in_ok-book.ensures c.in_ok-shapes.ensures,
+    )

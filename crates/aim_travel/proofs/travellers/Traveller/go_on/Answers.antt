@@ -24,8 +24,9 @@ returns c =
       room_is = made.room_is;
     } in
     let through = c.replace-through.ensures.value in
-    let driver = c.into_parts-driver.ensures.driver ∙ ap (λ (a : AgentModel). a.driver) c.replace.ensures.value in
-    let pass = c.into_parts-driver.ensures.pass ∙ ap (λ (a : AgentModel). a.pass) c.replace.ensures.value in
+    let was = c.replace.ensures.value ∙ c.swap_memo.ensures.other in
+    let driver = c.into_parts-driver.ensures.driver ∙ ap (λ (a : AgentModel). a.driver) was in
+    let pass = c.into_parts-driver.ensures.pass ∙ ap (λ (a : AgentModel). a.pass) was in
     record {
       next = next;
       rest = c.remove.new.self.items;
@@ -34,6 +35,6 @@ returns c =
       over = c.push_reserved.ensures.items ∙ (λ i. c.self.inside.over.items ++ (through i, driver i, pass i) ∷ [])
           ∙ ap (λ (t : TravellerModel). t.over ++ (t.crossing, t.agent.driver, t.agent.pass) ∷ []) view;
       crossing = c.replace-through.ensures.after;
-      agent = subst (λ (a : AgentModel). IsBegun c.args.step next a) (sym c.replace.ensures.after) begun;
+      agent = subst (λ (a : AgentModel). IsBegun c.args.step next a) (sym (c.replace.ensures.after ∙ c.swap_memo.ensures.same)) begun;
       waiting = refl;
     }

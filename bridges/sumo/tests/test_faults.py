@@ -1,0 +1,156 @@
+"""What a user meets first: wrong words, a run that fails or is interrupted. Needs SUMO; the manager is a stub."""
+
+import contextlib
+import io
+import json
+import os
+import pathlib
+import signal
+import subprocess
+import sys
+import tempfile
+import time
+import unittest
+
+from aim_sumo import commands
+
+from .places import EXAMPLES, HERE, has_sumo
+
+PROGRAM = HERE.parent / "aim-sumo"
+DEAF = f"{sys.executable} -c pass"
+"""A manager that ends at once."""
+
+
+def told(*words):
+    """Runs a command; gives its status and what it said of faults."""
+    out, err = io.StringIO(), io.StringIO()
+    with contextlib.redirect_stdout(out), contextlib.redirect_stderr(err):
+        try:
+            status = commands.main(list(words))
+        except SystemExit as end:
+            status = end.code
+    return status, err.getvalue()
+
+
+@unittest.skipUnless(has_sumo(), "SUMO isn't there")
+class Words(unittest.TestCase):
+    """Each mistake is one line that says what to do, with status 2."""
+
+    @classmethod
+    def setUpClass(cls):
+        folder = tempfile.TemporaryDirectory()
+        cls.addClassCleanup(folder.cleanup)
+        cls.folder = pathlib.Path(folder.name)
+        with contextlib.redirect_stdout(io.StringIO()):
+            commands.main(["net", str(EXAMPLES / "tee.aim"), str(cls.folder / "tee")])
+
+    def test_mistakes(self):
+        site = str(self.folder / "tee")
+        bad = self.folder / "bad.aim"
+        bad.write_text((EXAMPLES / "tee.aim").read_text().replace("times 3000 100 300 2 2 5", "times 3000 x"))
+        for name, part, words in (
+            ("no manager", "no manager 'nowhere/aim'", ("run", site, "--manager", "nowhere/aim", "--control", "aim")),
+            ("a flow with a letter", "'18OO' isn't a number", ("run", site, "--flow", "18OO")),
+            ("no flow", "'0' isn't a number above 0", ("run", site, "--flow", "0")),
+            ("no results", "no file nofile", ("report", "nofile")),
+            ("an unknown control", "'police' isn't one of the controls", ("run", site, "--control", "police")),
+            ("an unknown policy", "no policy nights", ("run", site, "--control", "aim", "--policy", "nights",
+                                                       "--manager", DEAF)),
+            ("an unknown column", "no column 'beauty'", ("report", str(self.folder), "--columns", "beauty")),
+            ("a bad line of times", "'times 3000 x'", ("net", str(bad), str(self.folder / "bad"))),
+            ("no head", "no head nohead", ("net", "nohead", str(self.folder / "none"))),
+            ("no net", "has no net", ("run", str(self.folder / "none"))),
+            ("an unknown type", "'tank' isn't one of the types", ("run", site, "--mix", "car=1,tank=1")),
+            ("a share above 1", "'2' isn't a number", ("run", site, "--human", "2")),
+            ("no run to check", "has no run", ("check", site, "--manager", DEAF)),
+            ("no word at all", "required", ("run",)),
+            ("a file that can't be written", "/nowhere/results", (
+                "run", site, "--control", "priority", "--seconds", "5", "--results", "/nowhere/results")),
+            ("an option that SUMO hasn't", "SUMO didn't start", (
+                "run", site, "--control", "priority", "--seconds", "5", "--sumo=--no-such-option")),
+            ("no experiment", "no experiment nofile", ("experiment", "nofile", str(self.folder / "none"))),
+            ("no types", "no file nofile", ("run", site, "--types", "nofile")),
+        ):
+            with self.subTest(name):
+                status, said = told(*words)
+                self.assertEqual(status, 2)
+                self.assertIn(part, said)
+                self.assertEqual(len(said.splitlines()), 1, said)
+
+    def test_a_line_that_the_manager_refuses_is_told_with_its_words(self):
+        head = self.folder / "edge.aim"
+        head.write_text((EXAMPLES / "tee.aim").read_text())
+        refusing = self.folder / "refusing.py"
+        refusing.write_text("import sys\nfor line in sys.stdin:\n    pass_ = line.startswith('times') and "
+                            "print('bad line 3 times', flush=True)\n")
+        status, said = told("run", str(self.folder / "tee"), "--manager", f"{sys.executable} {refusing}",
+                            "--control", "aim", "--seconds", "30")
+        self.assertEqual(status, 2)
+        self.assertIn("'times 3000 100 300 2 2 5'", said)
+
+    def test_a_run_that_fails_leaves_the_good_one_and_nothing_else(self):
+        site = self.folder / "tee"
+        run = site / "runs" / "aim-1800-1_seconds-30"
+        run.mkdir(parents=True, exist_ok=True)
+        (run / "run.json").write_text("{}")
+        status, _ = told("run", str(site), "--manager", DEAF, "--control", "aim", "--seconds", "30")
+        self.assertEqual(status, 2)
+        self.assertEqual((run / "run.json").read_text(), "{}")
+        self.assertEqual([path.name for path in (site / "runs").iterdir() if path.name.startswith(".")], [])
+
+    def test_runs_with_other_options_have_other_folders(self):
+        results = self.folder / "results"
+        for options in ((), ("--sigma", "0.5"), ("--turns", "left=1,straight=1,right=1"), ("--gap", "3")):
+            status, _ = told("run", str(self.folder / "tee"), "--control", "priority", "--seconds", "20", "--flow",
+                             "600", "--results", str(results), *options)
+            self.assertEqual(status, 0)
+        folders = {json.loads(line)["folder"] for line in results.read_text().splitlines()}
+        self.assertEqual(len(folders), 4)
+        for folder in folders:
+            self.assertTrue((self.folder / "tee" / "runs" / folder / "run.json").is_file())
+
+    def test_a_path_with_sumo_s_tools_does_no_harm(self):
+        done = subprocess.run(
+            [str(PROGRAM), "run", str(self.folder / "tee"), "--control", "priority", "--seconds", "20"],
+            capture_output=True, text=True, env={**os.environ, "PYTHONPATH": "/usr/share/sumo/tools"}, check=False)
+        self.assertEqual((done.returncode, done.stderr), (0, ""))
+
+    def test_an_interrupt_ends_all_that_it_began(self):
+        mark = f"mark-of-{os.getpid()}"
+        slow = self.folder / "slow.py"
+        slow.write_text("import sys, time\nentries = 0\nfor line in sys.stdin:\n    line = line.rstrip()\n"
+                        "    if line[0].isdigit():\n        time.sleep(0.5)\n"
+                        "        print(f'{entries} {line} -> ack 7', flush=True)\n        entries += 1\n")
+        for number in (signal.SIGINT, signal.SIGTERM):
+            with self.subTest(number):
+                process = subprocess.Popen(
+                    [str(PROGRAM), "run", str(self.folder / "tee"), "--control", "aim", "--seconds", "300",
+                     "--manager", f"{sys.executable} {slow} {mark}"], stderr=subprocess.PIPE, text=True,
+                    preexec_fn=lambda: signal.signal(signal.SIGINT, signal.default_int_handler))
+                self.addCleanup(process.kill)
+                self._wait(lambda: len(self._with(mark)) >= 2)
+                process.send_signal(number)
+                said = process.communicate(timeout=20)[1]
+                self.assertEqual(process.returncode, 130)
+                self.assertIn("interrupted", said)
+                self.assertNotIn("Traceback", said)
+                self._wait(lambda: not self._with(mark))
+
+    def _with(self, mark):
+        """The processes with a word."""
+        found = []
+        for path in pathlib.Path("/proc").glob("[0-9]*/cmdline"):
+            with contextlib.suppress(OSError):
+                if mark.encode() in path.read_bytes():
+                    found.append(path.parent.name)
+        return found
+
+    def _wait(self, question, seconds=30):
+        begun = time.monotonic()
+        while not question():
+            self.assertLess(time.monotonic() - begun, seconds)
+            time.sleep(0.1)
+
+
+if __name__ == "__main__":
+    unittest.main()

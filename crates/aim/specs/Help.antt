@@ -1,0 +1,29 @@
+-- What the program tells of itself.
+use Rattle.std.specs.Prelude.{◌≡◌, ◌⊎◌, ℕ, List, Option}
+use Rattle.std.specs.Io.KnownBytes.{Appends}
+use Rattle.aim_io.specs.Known.{AppendsFront}
+use Rattle.aim.specs.declared.help.Topic.{Topic}
+use Rattle.aim.specs.declared.help.Topic.TheVariants as topic
+use Rattle.aim.specs.declared.help.TheConstants as told
+
+-- what the help tells of a topic
+abbrev pub text_of : Topic → List ℕ
+text_of topic.Words = told.WORDS.now
+text_of topic.Replay = told.REPLAY.now
+text_of topic.ReplayJson = told.REPLAY_JSON.now
+text_of topic.Chart = told.CHART.now
+text_of topic.Drive = told.DRIVE.now
+text_of topic.Grid = told.GRID.now
+text_of topic.Mail = told.MAIL.now
+text_of topic.Shards = told.SHARDS.now
+text_of topic.Generate = told.GENERATE.now
+text_of topic.Help = told.HELP.now
+text_of topic.Version = told.VERSION_OF.now
+
+-- the versions of the program, and of the scripts that it reads
+abbrev pub versions : List ℕ
+versions = told.VERSIONS.now
+
+-- the status is 0 and the text was written, or it is 5 and a front of it was
+abbrev pub TellsText : List ℕ → Option (List ℕ) → Option (List ℕ) → ℕ → Type 0
+TellsText text old new result = ((result ≡ 0) × Appends old new text) ⊎ ((result ≡ 5) × AppendsFront old new text)
