@@ -24,8 +24,8 @@ install() { # install PACKAGE ..: by root, or by one who may be root without bei
   local root=()
   [ "$(id -u)" -eq 0 ] || root=(sudo -n)
   command -v apt-get > /dev/null || return 1
-  timeout 60 "${root[@]}" apt-get -qq update &&
-    timeout 300 "${root[@]}" env DEBIAN_FRONTEND=noninteractive apt-get -qq -o DPkg::Lock::Timeout=120 install -y \
+  timeout 600 "${root[@]}" apt-get -qq update &&
+    timeout 1800 "${root[@]}" env DEBIAN_FRONTEND=noninteractive apt-get -qq -o DPkg::Lock::Timeout=600 install -y \
       --no-install-recommends "$@"
 }
 

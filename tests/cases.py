@@ -20,7 +20,7 @@ def difference(case):
     """What differs in a case: nothing where it passes."""
     words = words_of(case)
     with open(case / "input", "rb") as script:
-        done = subprocess.run([PROGRAM, *words], stdin=script, stdout=subprocess.PIPE, timeout=60, check=False)
+        done = subprocess.run([PROGRAM, *words], stdin=script, stdout=subprocess.PIPE, timeout=600, check=False)
     wanted = (case / "output").read_bytes()
     status = int((case / "status").read_text())
     return judging.difference(done, wanted, status)

@@ -363,7 +363,7 @@ def replayed(program, script, entries):
             words = ["switch", names[int(words[1])] if int(words[1]) < len(names) else "-"]
         lines.append(" ".join([str(entry.caller), str(entry.moment), *words]))
     text = "\n".join([*lines, "end", ""])
-    done = subprocess.run([program, "replay"], input=text.encode(), stdout=subprocess.PIPE, timeout=60, check=False)
+    done = subprocess.run([program, "replay"], input=text.encode(), stdout=subprocess.PIPE, timeout=600, check=False)
     return done.stdout.decode("utf-8", "replace")
 
 

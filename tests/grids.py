@@ -117,7 +117,7 @@ def day(seed):
 
 def printed(words, script):
     """The status and the text of a run."""
-    done = subprocess.run([PROGRAM, *words], input=script.encode(), stdout=subprocess.PIPE, timeout=120, check=False)
+    done = subprocess.run([PROGRAM, *words], input=script.encode(), stdout=subprocess.PIPE, timeout=600, check=False)
     return done.returncode, done.stdout.decode("utf-8", "replace")
 
 

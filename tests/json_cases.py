@@ -17,12 +17,12 @@ PROGRAM = os.environ.get("AIM", TOP / "crates/aim/out/aim")
 def as_json(text):
     """The lines as JSON lines, or nothing where one of them is no line of a script or of a replay."""
     done = subprocess.run([sys.executable, TOP / "examples/json_lines.py", "to-json"], input=text, capture_output=True,
-                          timeout=60, check=False)
+                          timeout=600, check=False)
     return done.stdout if done.returncode == 0 else None
 
 
 def difference(case, script):
-    done = subprocess.run([PROGRAM, "replay-json"], input=script, stdout=subprocess.PIPE, timeout=60, check=False)
+    done = subprocess.run([PROGRAM, "replay-json"], input=script, stdout=subprocess.PIPE, timeout=600, check=False)
     wanted = FAULT.sub(b'"kind":"form"}', as_json((case / "output").read_bytes()))
     status = int((case / "status").read_text())
     return judging.difference(done, wanted, status)
@@ -32,7 +32,7 @@ def long_line(length):
     """What differs where the first line of the first example has so many bytes, by white space behind it."""
     lines = as_json((TOP / "examples/first.aim").read_bytes()).splitlines()
     script = b"\n".join([lines[0].ljust(length), *lines[1:], b""])
-    done = subprocess.run([PROGRAM, "replay-json"], input=script, stdout=subprocess.PIPE, timeout=60, check=False)
+    done = subprocess.run([PROGRAM, "replay-json"], input=script, stdout=subprocess.PIPE, timeout=600, check=False)
     last = done.stdout.splitlines()[-1]
     wanted = b'{"end":1}' if length <= 400 else b'{"bad":1,"kind":"long"}'
     return "" if last == wanted else f"{last!r}, wanted {wanted!r}"

@@ -49,7 +49,7 @@ while read -r event; do
   place=$((place + 1))
   printf '%s\n' "$event" >&"$to"
   answer=
-  IFS= read -r -t 60 answer <&"$from"
+  IFS= read -r -t 600 answer <&"$from"
   judge "the answer to event $place, at once" "$(sed -n "${place}p" examples/refusal.out)" "$answer"
 done < <(grep ' request ' examples/refusal.aim)
 exec {to}>&-

@@ -67,7 +67,7 @@ def outcome(program, command, prepare):
     try:
         done = subprocess.run(
             [program, *command.words], input=command.script, stdout=subprocess.PIPE, stderr=subprocess.DEVNULL,
-            timeout=20, check=False, preexec_fn=prepare,
+            timeout=600, check=False, preexec_fn=prepare,
         )
     except subprocess.TimeoutExpired:
         return "none, since it doesn't end", b""

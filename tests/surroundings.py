@@ -38,7 +38,7 @@ def judge(what, wanted, got):
 
 def run(script, *words):
     """The status and the text of a run."""
-    done = subprocess.run([PROGRAM, *words], input=script, stdout=subprocess.PIPE, timeout=60, check=False)
+    done = subprocess.run([PROGRAM, *words], input=script, stdout=subprocess.PIPE, timeout=600, check=False)
     return done.returncode, done.stdout
 
 
@@ -99,7 +99,7 @@ def endless_input():
     """An input without an end, of which no more is read than decides."""
     for bytes_of, text in (("/dev/zero", b"bad line 1 long\n"),):
         with open(bytes_of, "rb") as endless:
-            done = subprocess.run([PROGRAM, "replay"], stdin=endless, stdout=subprocess.PIPE, timeout=60, check=False)
+            done = subprocess.run([PROGRAM, "replay"], stdin=endless, stdout=subprocess.PIPE, timeout=600, check=False)
         judge(f"an input from {bytes_of}", (3, text), (done.returncode, done.stdout))
 
 
@@ -118,7 +118,7 @@ def reader_goes_away():
         program.stdin.close()
     except BrokenPipeError:
         pass
-    status = program.wait(timeout=60)
+    status = program.wait(timeout=600)
     judge("a reader that goes away", True, status == 5 or status < 0)
 
 
@@ -133,10 +133,10 @@ def answers_while_it_waits():
         program.stdin.write(whole[place : place + size])
         place += size
         wanted = b"".join(answers[: whole[len(HEADER) : place].count(b"\n")])
-        while len(got) < len(wanted) and select.select([program.stdout], [], [], 60)[0]:
+        while len(got) < len(wanted) and select.select([program.stdout], [], [], 600)[0]:
             got += os.read(program.stdout.fileno(), 65536) or bytes(len(wanted))
         judge(f"the answers to {place} bytes, before more come", wanted, got)
-    text, _ = program.communicate(whole[place:] + b"end\n", timeout=60)
+    text, _ = program.communicate(whole[place:] + b"end\n", timeout=600)
     judge("the answers to the rest", (0, b"".join(answers) + b"end 300\n"), (program.returncode, got + text))
 
 
@@ -192,17 +192,17 @@ def whole_in_pieces(command):
     program = subprocess.Popen(words, stdin=subprocess.PIPE, stdout=subprocess.PIPE, bufsize=0)
     for place in range(len(command.script)):
         program.stdin.write(command.script[place : place + 1])
-    text, _ = program.communicate(timeout=60)
+    text, _ = program.communicate(timeout=600)
     judge(f"{what} byte by byte", (0, command.text), (program.returncode, text))
     folder = os.open(TOP, os.O_RDONLY)
-    done = subprocess.run(words, stdin=folder, stdout=subprocess.PIPE, timeout=60, check=False)
+    done = subprocess.run(words, stdin=folder, stdout=subprocess.PIPE, timeout=600, check=False)
     os.close(folder)
     judge(f"{what} from a folder", (4, b""), (done.returncode, done.stdout))
     with open("/dev/full", "wb") as full:
-        done = subprocess.run(words, input=command.script, stdout=full, timeout=60, check=False)
+        done = subprocess.run(words, input=command.script, stdout=full, timeout=600, check=False)
     judge(f"{what} to a full output", 5, done.returncode)
     with open("/dev/zero", "rb") as endless:
-        done = subprocess.run(words, stdin=endless, stdout=subprocess.PIPE, timeout=60, check=False)
+        done = subprocess.run(words, stdin=endless, stdout=subprocess.PIPE, timeout=600, check=False)
     judge(f"{what} from /dev/zero", (3, b"bad line 1 long\n"), (done.returncode, done.stdout))
     judge(f"{what} of 64 MiB in one line", (3, b"bad line 1 long\n"), run(b"a" * 67_108_864, *command.words))
 
@@ -228,7 +228,7 @@ def reader_of_a_drive_goes_away():
         if count != 0:
             os.read(read, count)
             os.close(read)
-        status = program.wait(timeout=60)
+        status = program.wait(timeout=600)
         judge(f"a reader of a drive that goes away {what}", True, status == 5 or status < 0)
 
 

@@ -23,10 +23,10 @@ install_browser() {
   [ "$(id -u)" -eq 0 ] || as=(sudo -n)
   [ "$(id -u)" -eq 0 ] || sudo -n true 2> /dev/null || return 1
   tell 'installing chromium-headless-shell from the packages of this system'
-  local install=(timeout 600 "${as[@]}" env DEBIAN_FRONTEND=noninteractive
+  local install=(timeout 1800 "${as[@]}" env DEBIAN_FRONTEND=noninteractive
     apt-get install -y -q --no-install-recommends chromium-headless-shell)
   "${install[@]}" > /dev/null 2>&1 && return 0
-  timeout 120 "${as[@]}" apt-get update -q > /dev/null 2>&1 && "${install[@]}" > /dev/null 2>&1
+  timeout 600 "${as[@]}" apt-get update -q > /dev/null 2>&1 && "${install[@]}" > /dev/null 2>&1
 }
 
 if ! command -v python3 > /dev/null; then
@@ -37,9 +37,9 @@ if ! has_browser; then
   one_by_one install_browser
 fi
 if has_browser; then
-  timeout 900 python3 tests/view/check.py
+  timeout 5400 python3 tests/view/check.py
   status=$?
-  [ "$status" -ne 124 ] || tell 'not all is tested: stopped after 900 seconds'
+  [ "$status" -ne 124 ] || tell 'not all is tested: stopped after 5,400 seconds'
   exit "$status"
 fi
 tell 'not tested: the page, since no Chromium is here and none could be installed; only the stored outputs are'

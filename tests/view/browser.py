@@ -64,7 +64,7 @@ class Browser:
         line, _, self.left = self.left.partition(b"\0")
         return json.loads(line)
 
-    def call(self, method, seconds=180, **words):
+    def call(self, method, seconds=600, **words):
         """What the browser answers to a call."""
         self.count += 1
         message = {"id": self.count, "method": method, "params": words}
@@ -100,14 +100,15 @@ class Browser:
         """Opens a file and waits until its page is ready."""
         self.call("Page.navigate", url="about:blank")
         self.call("Page.navigate", url="file://" + os.path.abspath(path) + after)
-        for _ in range(400):
-            if self.run("document.readyState") == "complete" and self.run("typeof ready") == "object":
-                break
+        until = time.monotonic() + 600
+        while self.run("document.readyState") != "complete" or self.run("typeof ready") != "object":
+            if time.monotonic() > until:
+                raise Failed("the page doesn't get ready")
             time.sleep(0.02)
         self.run("ready.then(() => 0)")
         self.settle()
 
-    def run(self, code, seconds=180):
+    def run(self, code, seconds=600):
         """The value of JavaScript in the page; a promise is waited for."""
         answer = self.call("Runtime.evaluate", seconds, expression=code, awaitPromise=True, returnByValue=True)
         if "exceptionDetails" in answer:

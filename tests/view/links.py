@@ -29,7 +29,7 @@ def check_samples(page):
             break
     page.browser.key("Enter")
     judge("by the keys Tab and Enter", True, page.wait("state.run !== null"))
-    before = page.run("state.time")
+    before = page.run("state.pace = 1 / 10, state.time")
     page.browser.key(" ")
     judge("and then it plays", True, page.wait(f"state.time !== {before} && state.playing === 1"))
 

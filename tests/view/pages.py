@@ -44,14 +44,15 @@ class Page:
         """Chooses files by the picker of an empty page, and waits until they are shown."""
         self.empty()
         self.browser.choose_files([str(path) for path in paths])
-        self.wait(DONE, 60)
+        self.wait(DONE)
         self.browser.settle()
 
     def ask(self, name, *words):
         """What a function of the page answers."""
         return self.run(f"{name}({', '.join(map(json.dumps, words))})")
 
-    def wait(self, test, seconds=10):
+    def wait(self, test, seconds=600):
+        """True once a test holds in the page; false where it never does, as far as even a busy machine tells."""
         until = time.monotonic() + seconds
         while time.monotonic() < until:
             if self.run(test):

@@ -63,7 +63,7 @@ def program():
 
 def printed(path, words, text):
     """What the program prints for a script, or None where it doesn't know the words or the script's lines yet."""
-    done = subprocess.run([path, *words], input=text.encode(), capture_output=True, timeout=100, check=False)
+    done = subprocess.run([path, *words], input=text.encode(), capture_output=True, timeout=600, check=False)
     out = done.stdout.decode("utf-8", "replace")
     return None if out == "usage\n" or re.search(r"^bad line \d+ unsupported$", out, re.M) else out
 

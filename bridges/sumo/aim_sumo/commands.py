@@ -6,7 +6,6 @@ import os
 import pathlib
 import shlex
 import shutil
-import signal
 import sys
 from dataclasses import replace
 
@@ -25,10 +24,7 @@ MANAGER = os.environ.get("AIM_MANAGER") or str(ROOT / "aim")
 
 
 def main(arguments=None):
-    """Runs a command; gives the status: 0 well, 1 something was found, 2 it couldn't be done, 130 interrupted."""
-    for name in ("SIGTERM", "SIGHUP"):
-        if signal.getsignal(getattr(signal, name)) == signal.SIG_DFL:
-            signal.signal(getattr(signal, name), _interrupt)
+    """Runs a command; gives the status: 0 well, 1 something was found, 2 it couldn't be done."""
     try:
         options = _parser().parse_args(arguments)
         return options.command(options)
@@ -36,10 +32,6 @@ def main(arguments=None):
         progress("")
         print(f"aim-sumo: {' '.join(str(fault).split())}", file=sys.stderr)
         return 2
-    except KeyboardInterrupt:
-        progress("")
-        print("aim-sumo: interrupted; what it had begun was ended", file=sys.stderr)
-        return 130
     except BrokenPipeError:
         sys.stderr.close()
         return 141
@@ -47,10 +39,6 @@ def main(arguments=None):
         progress("")
         print(f"aim-sumo: {fault.filename or 'a file'}: {fault.strerror or fault}", file=sys.stderr)
         return 2
-
-
-def _interrupt(number, frame):
-    raise KeyboardInterrupt
 
 
 def _parser():

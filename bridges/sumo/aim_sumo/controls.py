@@ -12,7 +12,7 @@ import sys
 import xml.etree.ElementTree as ET
 from dataclasses import replace
 
-from . import demand, metrics, simulator
+from . import demand, interrupts, metrics, simulator
 from .faults import NoSumo, Trouble
 from .judge import Judge
 
@@ -32,6 +32,7 @@ def run(site, control, files, seed, end, extra=(), progress=lambda now, arrived:
     try:
         judge = Judge(sumo, site.junctions)
         while sumo.simulation.getMinExpectedNumber() and step * site.step < end:
+            interrupts.look()
             sumo.simulationStep()
             step += 1
             teleports += sumo.simulation.getStartingTeleportNumber()

@@ -5,7 +5,7 @@ import time
 from collections import Counter
 from dataclasses import dataclass, field
 
-from . import simulator
+from . import interrupts, simulator
 from .faults import Trouble
 from .judge import Judge
 from .junction import JunctionRun
@@ -118,6 +118,7 @@ class Bridge:
 
     def _one_step(self):
         """One step of SUMO and of all vehicles; gives the number of vehicles that arrived in it."""
+        interrupts.look()
         try:
             self._sumo.simulationStep()
         except Exception as fault:  # SUMO's own exceptions have no common class in its two modules

@@ -14,7 +14,7 @@ import tomllib
 from concurrent.futures import ThreadPoolExecutor, as_completed
 from dataclasses import dataclass
 
-from . import figures, report
+from . import children, figures, report
 from .faults import BadWord
 
 PROGRAM = pathlib.Path(__file__).resolve().parents[1] / "aim-sumo"
@@ -182,23 +182,23 @@ class Runs:
                 self._is_over = True
                 for future in waiting:
                     future.cancel()
-                for process in list(self._running):
-                    process.terminate()
+                children.end(*self._running)
                 raise
         return failed
 
     def _make(self, cell):
         """Makes one run; gives its status and the last line that it said."""
-        if self._is_over:
-            return 130, "interrupted"
-        process = subprocess.Popen(
-            [sys.executable, str(PROGRAM), *cell.words], stdout=subprocess.DEVNULL, stderr=subprocess.PIPE, text=True,
-            start_new_session=True)
+        process = children.begin(
+            [sys.executable, str(PROGRAM), *cell.words], stdin=subprocess.DEVNULL, stdout=subprocess.DEVNULL,
+            stderr=subprocess.PIPE, text=True)
         self._running.add(process)
+        if self._is_over:
+            children.end(process)
         try:
             said = process.communicate()[1].strip().splitlines()
         finally:
             self._running.discard(process)
+            children.end(process)
         return process.returncode, said[-1] if said else "it said nothing"
 
     @staticmethod

@@ -1,5 +1,6 @@
 """Figures of a delay over the flow, with 95 % intervals, as SVG, PDF or PNG."""
 
+from . import interrupts
 from .faults import BadWord
 
 KINDS = (".svg", ".pdf", ".png")
@@ -8,16 +9,23 @@ MARKS = "osD^vPX"
 LEAST = 0.1
 
 
-def draw(path, title, lines, across="demand, vehicles an hour", up="mean delay, s"):
-    """Draws lines, each a name with points (x, mean, half of the interval or None)."""
-    if path.suffix not in KINDS:
-        raise BadWord(f"{path} must end in one of {', '.join(KINDS)}")
+def _modules():
+    """What draws; loaded where it is needed."""
     try:
         import matplotlib
     except ImportError:
         raise BadWord("figures need matplotlib; apt-get install --no-install-recommends python3-matplotlib") from None
     matplotlib.use("Agg")
     from matplotlib import pyplot
+    return matplotlib, pyplot
+
+
+def draw(path, title, lines, across="demand, vehicles an hour", up="mean delay, s"):
+    """Draws lines, each a name with points (x, mean, half of the interval or None)."""
+    if path.suffix not in KINDS:
+        raise BadWord(f"{path} must end in one of {', '.join(KINDS)}")
+    with interrupts.held():
+        matplotlib, pyplot = _modules()
     matplotlib.rcParams.update({"svg.hashsalt": "aim-sumo", "svg.fonttype": "none", "pdf.fonttype": 42})
     figure, axes = pyplot.subplots(figsize=(7.6, 4.4), layout="constrained")
     for place, (name, points) in enumerate(lines.items()):

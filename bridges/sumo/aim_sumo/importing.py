@@ -10,7 +10,7 @@ import shutil
 import xml.etree.ElementTree as ET
 from dataclasses import dataclass, replace
 
-from . import reading
+from . import interrupts, reading
 from .advice import needs, rounded
 from .curve import Track
 from .faults import BadHead, BadWord
@@ -195,7 +195,8 @@ def _found(path):
 
 def _middles(path):
     """Where the middle point of a curve may be: where both lanes' directions meet, and where the curve is nearest."""
-    from scipy import optimize
+    with interrupts.held():
+        from scipy import optimize
     before, after = reading.ends_of(path)
     (x0, y0), (x2, y2) = path.inside[0], path.inside[-1]
     found = []

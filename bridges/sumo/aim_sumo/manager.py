@@ -3,16 +3,20 @@
 Script and answers are kept, so that every run can be checked afterwards by replaying the one and comparing the other.
 """
 
-import os
+import contextlib
 import pathlib
 import shlex
 import shutil
-import signal
 import subprocess
 import time
 from dataclasses import dataclass
 
+from . import children, interrupts
 from .faults import ManagerFailed
+
+
+LAST_WAIT = 120.0
+"""Seconds that a manager has to end behind its last line."""
 
 
 @dataclass(frozen=True)
@@ -57,8 +61,8 @@ class Manager:
     """A running `replay`; `head` is the lines of the layout, and `name` that of the files that are kept."""
 
     def __init__(self, command, head, vehicles, folder, name="run"):
-        self._process = subprocess.Popen(
-            words_of(command), stdin=subprocess.PIPE, stdout=subprocess.PIPE, text=True, start_new_session=True)
+        self._process = children.begin(
+            words_of(command), stdin=subprocess.PIPE, stdout=subprocess.PIPE, text=True)
         self._script = open(pathlib.Path(folder) / f"{name}.script", "w", encoding="ascii")
         self._answers = open(pathlib.Path(folder) / f"{name}.answers", "w", encoding="ascii")
         self.vehicles = vehicles
@@ -114,26 +118,21 @@ class Manager:
         self._script.close()
         self._answers.close()
         self._process.stdout.close()
-        status = self._process.wait(10)
+        try:
+            status = self._process.wait(LAST_WAIT)
+        except subprocess.TimeoutExpired:
+            raise ManagerFailed(f"the manager didn't end within {LAST_WAIT:g} s of its last line") from None
+        children.end(self._process)
         if last != f"end {self.entries}\n" or status != 0:
             raise ManagerFailed(f"the manager ended with {last!r} and status {status}")
 
     def abandon(self):
         """Ends the process, and all that it began, without asking for its last line."""
-        for number, patience in ((signal.SIGTERM, 5), (signal.SIGKILL, 10)):
-            try:
-                os.killpg(self._process.pid, number)
-                self._process.wait(patience)
-                break
-            except ProcessLookupError:
-                break
-            except subprocess.TimeoutExpired:
-                pass
-        for stream in (self._process.stdin, self._process.stdout, self._script, self._answers):
-            try:
-                stream.close()
-            except BrokenPipeError:
-                pass
+        with interrupts.held():
+            children.end(self._process)
+            for stream in (self._process.stdin, self._process.stdout, self._script, self._answers):
+                with contextlib.suppress(BrokenPipeError):
+                    stream.close()
 
 
 def _as_printed(event):
@@ -162,7 +161,7 @@ def replays(command, folder):
     folder = pathlib.Path(folder)
     for name in scripts_of(folder):
         with open(folder / f"{name}.script", "rb") as script:
-            done = subprocess.run(words_of(command), stdin=script, capture_output=True, check=False)
+            done = children.call(words_of(command), stdin=script, text=False)
         if done.stdout != (folder / f"{name}.answers").read_bytes():
             return False
     return True

@@ -7,7 +7,7 @@ import pathlib
 import statistics
 from collections import defaultdict
 
-from . import figures
+from . import figures, interrupts
 from .faults import BadWord
 
 ORDER = ("aim", "actuated", "static", "priority", "own")
@@ -85,7 +85,8 @@ def interval(values):
     mean = statistics.fmean(values)
     if len(values) < 2:
         return mean, None
-    from scipy import stats
+    with interrupts.held():
+        from scipy import stats
     quantile = stats.t.ppf((1 + CONFIDENCE) / 2, len(values) - 1)
     return mean, float(quantile * statistics.stdev(values) / math.sqrt(len(values)))
 

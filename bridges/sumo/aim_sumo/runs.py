@@ -13,7 +13,7 @@ import zlib
 from collections import Counter
 from dataclasses import dataclass, field, replace
 
-from . import controls, demand, metrics, rules
+from . import controls, demand, interrupts, metrics, rules
 from .drive import Bridge, Settings
 from .faults import BadWord
 from .fit import Fits, refusals
@@ -94,24 +94,43 @@ class Place:
     A run that fails leaves what was there before as it was.
     """
 
+    parts = set()
+    """The folders that aren't whole yet."""
+
     def __init__(self, folder):
         self.folder = pathlib.Path(folder)
         self.part = self.folder.with_name(f".{self.folder.name}.{os.getpid()}.part")
 
     def __enter__(self):
-        shutil.rmtree(self.part, ignore_errors=True)
-        self.part.mkdir(parents=True)
+        with interrupts.held():
+            self.parts.add(self.part)
+            shutil.rmtree(self.part, ignore_errors=True)
+            self.part.mkdir(parents=True)
         return self.part
 
     def __exit__(self, kind, fault, trace):
-        if kind is None:
-            old = self.part.with_suffix(".old")
-            if self.folder.exists():
-                self.folder.rename(old)
-            self.part.rename(self.folder)
-            shutil.rmtree(old, ignore_errors=True)
-        else:
-            shutil.rmtree(self.part, ignore_errors=True)
+        with interrupts.held():
+            if kind is None:
+                old = self.part.with_suffix(".old")
+                if self.folder.exists():
+                    self.folder.rename(old)
+                self.part.rename(self.folder)
+                shutil.rmtree(old, ignore_errors=True)
+            self._take_away(self.part)
+
+    @classmethod
+    def _take_away(cls, part):
+        shutil.rmtree(part, ignore_errors=True)
+        cls.parts.discard(part)
+
+    @classmethod
+    def take_all_away(cls):
+        """Leaves no part of a run."""
+        for part in list(cls.parts):
+            cls._take_away(part)
+
+
+interrupts.at_end(Place.take_all_away)
 
 
 class Runner:
@@ -229,8 +248,7 @@ class _Run:
             for manager in managers:
                 manager.close()
         except BaseException:
-            for manager in managers:
-                manager.abandon()
+            _abandon(managers)
             raise
         finally:
             progress("")
@@ -253,8 +271,7 @@ class _Run:
                 head = junction.layout.head(settings.policy)
                 managers.append(Manager(self._runner.command, head, count, self._folder, name))
         except BaseException:
-            for manager in managers:
-                manager.abandon()
+            _abandon(managers)
             raise
         return managers
 
@@ -308,6 +325,13 @@ class _Run:
                     car.driver.number if car and car.driver.number is not None else "",
                     car.driver.messages if car else 0, car.entered if car and car.entered is not None else "",
                     arrived, round(self._late[name], 2), trip.stops))
+
+
+def _abandon(managers):
+    """Ends managers before their scripts have ended."""
+    with interrupts.held():
+        for manager in managers:
+            manager.abandon()
 
 
 def _natural(name):

@@ -3,9 +3,9 @@
 import importlib
 import os
 import shutil
-import subprocess
 import sys
 
+from . import children, interrupts
 from .faults import NoSumo
 
 DEBIAN = "/usr/lib/python3/dist-packages"
@@ -25,6 +25,11 @@ NO_LANE_CHANGES = 0
 
 def module(name):
     """One of SUMO's Python modules; a folder of SUMO's tools on the path, which hides some of them, does no harm."""
+    with interrupts.held():
+        return _module(name)
+
+
+def _module(name):
     try:
         return importlib.import_module(name)
     except ImportError:
@@ -43,7 +48,7 @@ def call(words, **how):
     """Runs one of SUMO's programs to its end; gives what `subprocess.run` gives, with texts."""
     if shutil.which(words[0]) is None:
         raise NoSumo(f"SUMO's program {words[0]} isn't there; {INSTALL}")
-    return subprocess.run(words, capture_output=True, text=True, check=False, **how)
+    return children.call(words, **how)
 
 
 def start(words, with_window=False):

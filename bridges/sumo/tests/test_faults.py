@@ -9,16 +9,30 @@ import signal
 import subprocess
 import sys
 import tempfile
-import time
 import unittest
 
 from aim_sumo import commands
 
+from . import signals
 from .places import EXAMPLES, HERE, has_sumo
 
 PROGRAM = HERE.parent / "aim-sumo"
 DEAF = f"{sys.executable} -c pass"
 """A manager that ends at once."""
+SLOW = """
+import pathlib, sys, time
+folder = pathlib.Path(sys.argv[1])
+(folder / "begun").touch()
+entries = 0
+for line in sys.stdin:
+    line = line.rstrip()
+    if line[0].isdigit():
+        (folder / "asked").touch()
+        time.sleep(0.5)
+        print(f"{entries} {line} -> ack 7", flush=True)
+        entries += 1
+"""
+"""A manager that thinks for long, and leaves a sign in a folder when it has begun and when it was asked."""
 
 
 def told(*words):
@@ -116,40 +130,43 @@ class Words(unittest.TestCase):
         self.assertEqual((done.returncode, done.stderr), (0, ""))
 
     def test_an_interrupt_ends_all_that_it_began(self):
-        mark = f"mark-of-{os.getpid()}"
+        """A signal comes when the manager has begun, while SUMO is loaded and starts, and when vehicles are asking."""
         slow = self.folder / "slow.py"
-        slow.write_text("import sys, time\nentries = 0\nfor line in sys.stdin:\n    line = line.rstrip()\n"
-                        "    if line[0].isdigit():\n        time.sleep(0.5)\n"
-                        "        print(f'{entries} {line} -> ack 7', flush=True)\n        entries += 1\n")
-        for number in (signal.SIGINT, signal.SIGTERM):
-            with self.subTest(number):
-                process = subprocess.Popen(
-                    [str(PROGRAM), "run", str(self.folder / "tee"), "--control", "aim", "--seconds", "300",
-                     "--manager", f"{sys.executable} {slow} {mark}"], stderr=subprocess.PIPE, text=True,
-                    preexec_fn=lambda: signal.signal(signal.SIGINT, signal.default_int_handler))
-                self.addCleanup(process.kill)
-                self._wait(lambda: len(self._with(mark)) >= 2)
-                process.send_signal(number)
-                said = process.communicate(timeout=20)[1]
-                self.assertEqual(process.returncode, 130)
-                self.assertIn("interrupted", said)
-                self.assertNotIn("Traceback", said)
-                self._wait(lambda: not self._with(mark))
+        slow.write_text(SLOW, encoding="ascii")
+        for sign in ("begun", "asked"):
+            for number in (signal.SIGINT, signal.SIGTERM):
+                with self.subTest(sign=sign, number=number):
+                    folder = self.folder / f"{sign}-{number}"
+                    folder.mkdir()
+                    process = signals.start(
+                        PROGRAM, "run", self.folder / "tee", "--control", "aim", "--seconds", "300", "--keep",
+                        folder / "runs", "--manager", f"{sys.executable} {slow} {folder}")
+                    self.addCleanup(signals.kill, process)
+                    self.assertTrue(signals.wait(lambda: (folder / sign).exists() or process.poll() is not None))
+                    process.send_signal(number)
+                    said = process.communicate(timeout=signals.LONG)[1]
+                    self.assertEqual(process.returncode, 130, said)
+                    self.assertIn("interrupted", said)
+                    self.assertNotIn("Traceback", said)
+                    self.assertTrue(signals.wait(lambda: not signals.processes_with(str(folder))))
+                    self.assertEqual(list((folder / "runs").iterdir()), [])
 
-    def _with(self, mark):
-        """The processes with a word."""
-        found = []
-        for path in pathlib.Path("/proc").glob("[0-9]*/cmdline"):
-            with contextlib.suppress(OSError):
-                if mark.encode() in path.read_bytes():
-                    found.append(path.parent.name)
-        return found
-
-    def _wait(self, question, seconds=30):
-        begun = time.monotonic()
-        while not question():
-            self.assertLess(time.monotonic() - begun, seconds)
-            time.sleep(0.1)
+    def test_an_interrupt_ends_all_runs_of_an_experiment(self):
+        slow = self.folder / "slow.py"
+        slow.write_text(SLOW, encoding="ascii")
+        folder = self.folder / "interrupted"
+        folder.mkdir()
+        process = signals.start(
+            PROGRAM, "experiment", HERE.parent / "experiments" / "short.toml", folder, "--part", "faults", "--jobs", "2",
+            "--manager", f"{sys.executable} {slow} {folder}")
+        self.addCleanup(signals.kill, process)
+        self.assertTrue(signals.wait(lambda: (folder / "asked").exists() or process.poll() is not None))
+        process.send_signal(signal.SIGINT)
+        said = process.communicate(timeout=signals.LONG)[1]
+        self.assertEqual(process.returncode, 130, said)
+        self.assertNotIn("Traceback", said)
+        self.assertTrue(signals.wait(lambda: not signals.processes_with(str(folder))))
+        self.assertEqual([path for path in folder.glob("runs/*/*/*") if path.is_dir()], [])
 
 
 if __name__ == "__main__":
