@@ -1,4 +1,4 @@
-//! The baseline of `bench_turn`: the same work by four threads, in plain Rust.
+//! The baseline of `bench_turnstile`: the same work by four threads, in plain Rust.
 //!
 //! Arguments: `mutex` for one `std` mutex, or `tickets` for a mutex whose callers come in the order of drawn tickets, and look
 //! and yield until theirs comes; the calls of each thread; the rounds of work in a call; the rounds of work that a thread

@@ -2,7 +2,8 @@
 with a status other than 0 where anything lacks.
 
 A name is a text in backquotes. A word with a point or a slash is a file, or a module and what stands in it; a word of letters,
-digits and underscores that isn't plain English has to stand somewhere in the sources or the tests.
+digits and underscores that isn't plain English has to stand somewhere in the sources or the tests. Of each row of docs/SPEC.md
+the files of definitions and the functions have to stand in the crates that it names, and a contract there has to cite them.
 """
 import pathlib
 import re
@@ -11,7 +12,7 @@ import sys
 
 TOP = pathlib.Path(__file__).resolve().parent.parent
 SOURCES = {".rt", ".antt", ".py", ".sh", ".txt", ".edit", ".js", ".html", ".aim", ".out", ".tsv", ""}
-LINK = re.compile(r"\]\(([^)#\s]+)(?:#[^)]*)?\)")
+LINK = re.compile(r"(?:\]\(|^\[[\w-]+\]: )([^)#\s]+)", re.M)
 QUOTED = re.compile(r"(?<!`)`([^`\n]+)`(?!`)")
 CODE = re.compile(r"^```.*?^```", re.M | re.S)
 CRATE = re.compile(r"(?:aim|bench|tests)_[a-z0-9_]+")
@@ -82,6 +83,53 @@ class Judge:
                 self.ask(page, f"the name {quoted}", not lacking)
 
 
+    def spec(self, page, text):
+        """Whether each row of SPEC names files of definitions and functions that are there, and contracts that cite them."""
+        for row in re.findall(r"^\| ([^|]+) \| \[\w+\]\([^)]*\) \| ([^|]+) \| ([^|]+) \|$", text, re.M):
+            carriers = list(self.parts(row[2]))
+            cited = self.cited("".join(self.source(crate, "*") for crate, _ in carriers))
+            for crate, name in self.parts(row[1]):
+                self.ask(page, f"{row[0]}: {crate}/specs/{name}.antt", f"crates/{crate}/specs/{name}.antt" in self.paths)
+                self.ask(page, f"{row[0]}: a contract that cites {name}", not carriers or (crate, name) in cited)
+            for crate, path in carriers:
+                module, *names = path.split("::")
+                source = self.source(crate, module)
+                for name in names:
+                    kind = "struct|enum|trait|type|impl.* for" if name[0].isupper() else "fn"
+                    where = self.source(crate, "*") if name[0].isupper() else source
+                    self.ask(page, f"{row[0]}: {name} of {crate}/src/{module}.rt", re.search(rf"\b({kind}) {name}\b", where) and source)
+
+    def cited(self, text):
+        """The files of definitions that a text cites, also by other definitions, each with the crate in which it stands."""
+        met, left = set(), re.findall(r"Rattle\.(\w+)\.specs\.([A-Z]\w*)", text)
+        while left:
+            crate, name = left.pop()
+            passed = re.search(rf"pub use Rattle\.(\w+)\.specs\.{name}$", self.spec_text(crate, "Lib"), re.M)
+            at = (passed.group(1) if passed else crate, name)
+            if at not in met:
+                met.add(at)
+                left += [at] if passed else re.findall(r"Rattle\.(\w+)\.specs\.([A-Z]\w*)", self.spec_text(crate, name))
+        return met
+
+    def spec_text(self, crate, name):
+        path = TOP / "crates" / crate / "specs" / f"{name}.antt"
+        return path.read_text() if path.is_file() else ""
+
+    @staticmethod
+    def parts(cell):
+        """Each name of a cell like `crate`: `a::{b, c}`, `d`; `other`: `e`, with its crate and with one end alone."""
+        for part in cell.split("; "):
+            crate, *paths = re.findall(r"`([^`]+)`", part) or [None]
+            for path in paths:
+                start, _, ends = path.partition("{")
+                for end in ends.rstrip("}").split(", "):
+                    yield crate, start + end
+
+    def source(self, crate, module):
+        """The text of a module of a crate, or of all of them."""
+        return "".join(path.read_text() for path in (TOP / "crates" / crate / "src").glob(f"{module}.rt"))
+
+
 def main():
     judge = Judge()
     pages = [name for name in judge.files if name.endswith(".md") and not name.startswith("tests/")]
@@ -89,6 +137,8 @@ def main():
         text = CODE.sub("", (TOP / page).read_text())
         judge.links(page, text)
         judge.names_in(page, text)
+        if page == "docs/SPEC.md":
+            judge.spec(page, text)
     for line in judge.lacking:
         print(f"docs: {line} is not there", file=sys.stderr)
     print(f"docs: {judge.asked - len(judge.lacking)} passed, {len(judge.lacking)} failed")

@@ -63,7 +63,7 @@ judge 'a word that it does not know' 'status 2' "$("$work"/unpacked/aim-*/instal
 
 # The package in a clean tree of Debian.
 install_debootstrap() {
-  timeout 600 apt-get -qq update && timeout 600 env DEBIAN_FRONTEND=noninteractive apt-get -qq install -y --no-install-recommends debootstrap
+  timeout 1800 apt-get -qq update && timeout 1800 env DEBIAN_FRONTEND=noninteractive apt-get -qq install -y --no-install-recommends debootstrap
 }
 if [ "$(id -u)" -ne 0 ]; then
   echo 'release: SKIPPED: the package in a clean tree of Debian, which only root can make'
@@ -71,7 +71,7 @@ if [ "$(id -u)" -ne 0 ]; then
 fi
 command -v debootstrap > /dev/null || one_by_one install_debootstrap > /dev/null 2>&1
 tree=$work/tree
-if ! command -v debootstrap > /dev/null || ! timeout 1800 debootstrap --variant=minbase bookworm "$tree" > "$work/told" 2>&1; then
+if ! command -v debootstrap > /dev/null || ! timeout 3600 debootstrap --variant=minbase bookworm "$tree" > "$work/told" 2>&1; then
   echo 'release: SKIPPED: the package in a clean tree of Debian, since debootstrap made none'
   judged
 fi

@@ -1,8 +1,8 @@
 #!/usr/bin/env python3
 """Which goals are dear: how many steps the search for each answer took, in a crate's last check.
 
-  tools/goals.py aim_turn              prints the forty dearest goals of the crate
-  tools/goals.py aim_turn enter open   prints those of the functions whose names have one of these words
+  tools/goals.py aim_turnstile              prints the forty dearest goals of the crate
+  tools/goals.py aim_turnstile enter open   prints those of the functions whose names have one of these words
 
 It reads what `rt check` kept in the crate's out/, and checks nothing. Steps don't depend on what else runs on the machine: a
 thousand thousand take some half of a second. Behind the steps stand the function, the goal, and `written` where its answer stands in

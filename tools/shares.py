@@ -1,7 +1,7 @@
 #!/usr/bin/env python3
 """Which functions are dear: the share of each in the time of its crate's check.
 
-  tools/shares.py aim_turn aim_book    prints the dearest ten functions of each of these crates
+  tools/shares.py aim_turnstile aim_book    prints the dearest ten functions of each of these crates
   tools/shares.py                      prints each function above a twelfth, of all crates of the program
   tools/shares.py --jobs 4 ..          checks so many crates side by side
 

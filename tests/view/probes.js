@@ -141,6 +141,14 @@ function longestFrame() {
   return Math.round(window.frames_seen.most);
 }
 
+// The milliseconds that a fixed piece of work takes just now: some 70 where nothing else runs.
+function workTime() {
+  const begun = performance.now();
+  let sum = 0;
+  for (let k = 0; k < 4e6; k++) sum = (sum + k * k) % 1000003;
+  return sum < 0 ? 0 : performance.now() - begun;
+}
+
 // All entries of the crossing that is shown, by their numbers: from JSON lines they are those of the words.
 function journalNow() {
   const { journal } = crossingNow();

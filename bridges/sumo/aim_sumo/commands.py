@@ -4,9 +4,9 @@ them; `check` replays runs; `report` tells a table."""
 import json
 import os
 import pathlib
-import shlex
 import shutil
 import sys
+import zlib
 from dataclasses import replace
 
 from . import advice, controls, experiment, importing, net, report, words
@@ -16,11 +16,16 @@ from .manager import replays, scripts_of, words_of
 from .metrics import header, row
 from .runs import Options, Runner, progress
 from .site import open_site
-from .vehicles import NAMED, read_mix, read_types
+from .vehicles import NAMED, mark, read_mix, read_types
 
 ROOT = pathlib.Path(__file__).resolve().parents[3]
 # The manager that is asked where no other is named.
 MANAGER = os.environ.get("AIM_MANAGER") or str(ROOT / "aim")
+
+
+OF_DEMAND = {"flow": [1800], "human": 0.0, "emergency": 0.0, "turns": None, "sides": {}, "types": None, "mix": "car=1",
+             "sigma": 0.0, "headway": 1.0, "gap": 2.5}
+"""The options of a demand that the bridge makes, with what they are where nobody says them."""
 
 
 def main(arguments=None):
@@ -33,7 +38,7 @@ def main(arguments=None):
         print(f"aim-sumo: {' '.join(str(fault).split())}", file=sys.stderr)
         return 2
     except BrokenPipeError:
-        sys.stderr.close()
+        os.dup2(os.open(os.devnull, os.O_WRONLY), sys.stdout.fileno())  # what is left isn't written anywhere
         return 141
     except OSError as fault:
         progress("")
@@ -75,7 +80,7 @@ def _add_net(parser):
     add("--junction", action="append", default=[], metavar="ID", help="of a SUMO net: a junction to be managed")
     add("--routes", type=lambda text: text.split(","), default=[], help="of a SUMO net: its files of routes")
     add("--additional", type=lambda text: text.split(","), default=[], help="of a SUMO net: more files, say of types")
-    add("--sumo", default="", help="of a SUMO net: further options for SUMO, in one word")
+    add("--sumo", type=words.options, default="", help="of a SUMO net: further options for SUMO, in one word")
     parser.set_defaults(command=_net)
 
 
@@ -113,7 +118,7 @@ def _add_run(parser):
     add("--blind", action="store_true", help="ignore the answers: shows that the judges see collisions")
     add("--unmapped", action="store_true", help="take stations for arc length: shows what the mapping is for")
     add("--routes", type=lambda text: text.split(","), default=[], help="in a net of your own: its files of routes")
-    add("--sumo", default="", help="further options for SUMO, in one word")
+    add("--sumo", type=words.options, default="", help="further options for SUMO, in one word")
     add("--gui", action="store_true", help="show the run in SUMO's window")
     add("--keep", help="the folder for runs (runs in the net's folder)")
     add("--results", help="add each result to this file, one a line")
@@ -147,14 +152,13 @@ def _net(options):
     name = pathlib.Path(options.source).name.split(".")[0]
     folder = pathlib.Path(options.folder or name)
     settings = {"name": name, **{key: getattr(options, key) for key in ("step", "approach", "exit", "speed")}}
-    types = [known[each] for each in mix]
     if options.source.endswith((".net.xml", ".net.xml.gz", ".sumocfg")):
         lines = importing.make(options, folder, settings)
         print("\n".join(lines))
         return 0
     if options.junction:
         raise BadWord(f"--junction goes with a SUMO net; {options.source} has to end in .net.xml or .sumocfg")
-    types = [replace(each, road_speed=options.speed) for each in types]
+    types = [replace(known[each], road_speed=options.speed) for each in mix]
     site = net.make(options.source, folder, settings)
     controls.free_times(site, types, site.folder)
     print(f"{folder}: {len(site.links)} paths through the box, nets for {', '.join(site.controls)}")
@@ -178,12 +182,16 @@ def _run(options):
         words_of(options.manager)
     runner = Runner(site, options.manager, known, options.keep, options.gui)
     flows = options.flow if site.is_made else [None]
+    unheard = [f"--{name}" for name in OF_DEMAND if not site.is_made and getattr(options, name) != OF_DEMAND[name]]
+    if unheard:
+        print(f"aim-sumo: {', '.join(unheard)} change nothing here: in a net of your own those come whom its files of "
+              "routes name", file=sys.stderr)
     well = None
     noted = set()
     for flow in flows:
         for seed in options.seed:
             for control in asked:
-                made = _options(options, mix, control, flow, seed)
+                made = _options(options, known, mix, control, flow, seed)
                 _warn(runner, made, noted)
                 result = runner.run(made, options.label)
                 if well is None:
@@ -196,15 +204,15 @@ def _run(options):
     return 0 if well else 1
 
 
-def _options(options, mix, control, flow, seed):
+def _options(options, known, mix, control, flow, seed):
     """What one run is made with."""
     same = ("seconds", "policy", "stop", "human", "emergency", "sides", "sigma", "headway", "gap", "ask", "hold",
             "error", "lost", "late", "repeated", "widen", "swing", "blind", "unmapped")
     turns = {"turns": options.turns} if options.turns else {}
     return Options(
         control, flow, seed, **{key: getattr(options, key) for key in same}, **turns, mix=mix,
-        end=options.end, switch=tuple(options.switch), routes=tuple(options.routes),
-        sumo=tuple(shlex.split(options.sumo)))
+        types=mark(known[name] for name in mix), end=options.end, switch=tuple(options.switch),
+        routes=tuple(options.routes), sumo=options.sumo)
 
 
 def _warn(runner, made, noted):
@@ -255,17 +263,19 @@ def _experiment(options):
             print(f"aim-sumo: {len(made) - len(todo)} of {len(made)} runs are there already", file=sys.stderr)
         failed = runs.make(todo)
     if not options.only:
-        experiment.tell(told, folder, made)
+        faulty = experiment.tell(told, folder, made)
         print(f"{folder}: results.csv, means.csv, and a table of each part")
+        if faulty:
+            print(f"aim-sumo: {faulty} of the runs had faults, which results.csv tells", file=sys.stderr)
     return 2 if failed else 0
 
 
 def _name_of(arguments):
     """The name of the folder of a run by its words."""
     options = _parser().parse_args(arguments)
-    _, mix = _known_types(options)
+    known, mix = _known_types(options)
     flow = options.flow[0] if "--flow" in arguments else None
-    return _options(options, mix, options.control[0], flow, options.seed[0]).name
+    return _options(options, known, mix, options.control[0], flow, options.seed[0]).name
 
 
 def _make_nets(told, folder, layouts):
@@ -273,7 +283,8 @@ def _make_nets(told, folder, layouts):
     for layout in sorted(layouts):
         arguments = told.words_of_net(layout, folder)
         mark = folder / "nets" / layout / "made-by.json"
-        wanted = json.dumps([arguments, pathlib.Path(arguments[1]).read_text(encoding="utf-8", errors="replace")])
+        files = [word for argument in arguments[1:] for word in argument.split(",") if pathlib.Path(word).is_file()]
+        wanted = json.dumps([arguments, *(zlib.crc32(pathlib.Path(file).read_bytes()) for file in files)])
         if not mark.is_file() or mark.read_text(encoding="utf-8") != wanted:
             for runs in folder.glob(f"runs/*/{layout}"):
                 shutil.rmtree(runs)

@@ -12,9 +12,10 @@ import sys
 import xml.etree.ElementTree as ET
 from dataclasses import replace
 
-from . import demand, interrupts, metrics, simulator
-from .faults import NoSumo, Trouble
+from . import demand, metrics, simulator
+from .faults import NoSumo
 from .judge import Judge
+from .vehicles import NAMED, mark
 
 TUNING_SEED = 1000
 TUNING_SECONDS = 600
@@ -26,24 +27,18 @@ LONE_EVERY = 60.0
 def run(site, control, files, seed, end, extra=(), progress=lambda now, arrived: None):
     """One run of SUMO under one of its own controls, looked at by both judges; gives these, and the teleports."""
     words = [*simulator.options(site.net(control), files, site.step, seed), "--no-warnings", "true", *extra]
-    sumo = simulator.start(words)
     teleports = arrived = step = 0
     each_second = max(1, round(1 / site.step))
-    try:
+    with simulator.running(words) as sumo:
         judge = Judge(sumo, site.junctions)
         while sumo.simulation.getMinExpectedNumber() and step * site.step < end:
-            interrupts.look()
-            sumo.simulationStep()
+            simulator.step(sumo, step * site.step)
             step += 1
             teleports += sumo.simulation.getStartingTeleportNumber()
             arrived += sumo.simulation.getArrivedNumber()
             judge.look()
             if step % each_second == 0:
                 progress(step * site.step, arrived)
-    except sumo.TraCIException as fault:
-        raise Trouble(f"SUMO ended at {step * site.step:.0f} s: {' '.join(str(fault).split())}") from fault
-    finally:
-        sumo.close()
     return judge, teleports
 
 
@@ -86,8 +81,15 @@ def tuning_name(control, wanted):
     for what, usual in ((wanted.turns, demand.SHARES), (wanted.sides, {}), (wanted.mix, {"car": 1.0})):
         if what != usual:
             parts.append("_".join(f"{key}{share:.3g}" for key, share in what.items()))
+    parts += filter(None, [mark(_known_but_for_its_body(wanted.types[name]) for name in wanted.mix)])
     parts += [f"gap{car.gap}"] * (car.gap != 2.5) + [f"sigma{car.sigma}"] * (car.sigma != 0)
     return "-".join(parts)
+
+
+def _known_but_for_its_body(vehicle):
+    """The type that the bridge knows by that name, with the measures on which lights depend from another one."""
+    return replace(NAMED.get(vehicle.name, vehicle), length=vehicle.length, accel=vehicle.accel,
+                   hardest_brake=vehicle.hardest_brake)
 
 
 def _tune(site, control, wanted, free, folder, name):
@@ -97,12 +99,19 @@ def _tune(site, control, wanted, free, folder, name):
     files = {key: folder / f"{name}.{os.getpid()}.{key}.xml" for key in ("routes", "trips", "log")}
     demand.write_routes(files["routes"], site, arrivals)
     tried = {}
-    for candidate in ["", *_programs(site, control, files["routes"], wanted.types["car"], folder, name)]:
-        trips = _tuning_trips(site, control, files, folder / candidate if candidate else None)
-        tried[candidate] = metrics.summary(trips, metrics.delays(trips, arrivals, free), TUNING_SECONDS)["delay"]
-    for path in files.values():
-        path.unlink()
+    try:
+        for candidate in ["", *_programs(site, control, files["routes"], wanted.types["car"], folder, name)]:
+            trips = _tuning_trips(site, control, files, folder / candidate if candidate else None)
+            tried[candidate] = metrics.summary(trips, metrics.delays(trips, arrivals, free), TUNING_SECONDS)["delay"]
+    finally:
+        _take_away(files)
     return {"delays": tried, "best": min(tried, key=tried.get)}
+
+
+def _take_away(files):
+    """Removes the files that SUMO read and wrote for a purpose of ours."""
+    for path in files.values():
+        path.unlink(missing_ok=True)
 
 
 def _programs(site, control, routes, vehicle, folder, name):
@@ -156,22 +165,22 @@ def free_times(site, types, folder):
 
 def _measures(vehicle):
     """A type's name and what its lone way depends on."""
-    return f"{vehicle.name}-{vehicle.length}-{vehicle.accel}-{vehicle.headway}-{vehicle.gap}-{vehicle.sigma}"
+    measures = (vehicle.length, vehicle.accel, vehicle.hardest_brake, vehicle.headway, vehicle.gap, vehicle.sigma)
+    return "-".join(map(str, (vehicle.name, *measures)))
 
 
 def _free_times(site, vehicle, folder):
     lone = [demand.Arrival(number, LONE_EVERY * number, name, "car", vehicle) for number, name in enumerate(site.links)]
     files = {key: folder / f"free-{os.getpid()}.{key}" for key in ("routes", "trips", "log")}
     demand.write_routes(files["routes"], site, lone)
-    sumo = simulator.start([*simulator.options(site.net("aim"), files, site.step, 1), "-r", str(files["routes"])])
+    words = [*simulator.options(site.net("aim"), files, site.step, 1), "-r", str(files["routes"])]
     try:
-        while sumo.simulation.getMinExpectedNumber():
-            sumo.simulationStep()
-            for name in sumo.simulation.getDepartedIDList():
-                sumo.vehicle.setSpeedMode(name, simulator.SAFE_BUT_NO_WAY)
+        with simulator.running(words) as sumo:
+            while sumo.simulation.getMinExpectedNumber():
+                simulator.step(sumo, sumo.simulation.getTime())
+                for name in sumo.simulation.getDepartedIDList():
+                    sumo.vehicle.setSpeedMode(name, simulator.SAFE_BUT_NO_WAY)
+        found = metrics.read_trips(files["trips"], 0.0)
     finally:
-        sumo.close()
-    found = metrics.read_trips(files["trips"], 0.0)
-    for path in files.values():
-        path.unlink(missing_ok=True)
+        _take_away(files)
     return {metrics.free_key(arrival): found[arrival.id].seconds for arrival in lone}

@@ -126,10 +126,13 @@ def _name_of(arrival):
 
 
 def _type_line(name, arrival):
-    """A type of vehicle; in SUMO's own check a truck is a whole rectangle, and a passenger car has cut corners."""
-    vehicle = arrival.vehicle
-    more = "" if vehicle == NAMED["car"] or vehicle.name == "car" else (
-        f'accel="{vehicle.accel}" decel="{vehicle.hardest_brake}" ')
+    """A type of vehicle; in SUMO's own check a truck is a whole rectangle, and a passenger car has cut corners.
+
+    The usual car speeds up and brakes as SUMO's does.
+    """
+    vehicle, usual = arrival.vehicle, NAMED["car"]
+    is_usual = (vehicle.name, vehicle.accel, vehicle.hardest_brake) == (usual.name, usual.accel, usual.hardest_brake)
+    more = "" if is_usual else f'accel="{vehicle.accel}" decel="{vehicle.hardest_brake}" '
     return (
         f' <vType id="{name}" guiShape="truck" color="{COLOURS[arrival.kind]}" length="{vehicle.length}" '
         f'width="{vehicle.width}" tau="{vehicle.headway}" minGap="{vehicle.gap}" sigma="{vehicle.sigma}" {more}'

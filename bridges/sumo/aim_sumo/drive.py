@@ -5,7 +5,7 @@ import time
 from collections import Counter
 from dataclasses import dataclass, field
 
-from . import interrupts, simulator
+from . import simulator
 from .faults import Trouble
 from .judge import Judge
 from .junction import JunctionRun
@@ -90,14 +90,11 @@ class Bridge:
         """Runs until all have arrived or the end is there; in a window no faster than real time."""
         words = simulator.options(self.site.net("aim"), self._files, self._step, self.settings.seed)
         words += ["--time-to-teleport", "-1", "--no-warnings", "true", *self._extra]
-        self._sumo = simulator.start(words, self.settings.with_window)
-        try:
+        with simulator.running(words, self.settings.with_window) as self._sumo:
             self._open()
             self._steps_of_run(progress)
             self.left = sorted(self._sumo.vehicle.getIDList())
             self.pending = len(self._sumo.simulation.getPendingVehicles())
-        finally:
-            self._sumo.close()
 
     def _open(self):
         """Makes what looks at SUMO while it runs."""
@@ -118,11 +115,7 @@ class Bridge:
 
     def _one_step(self):
         """One step of SUMO and of all vehicles; gives the number of vehicles that arrived in it."""
-        interrupts.look()
-        try:
-            self._sumo.simulationStep()
-        except Exception as fault:  # SUMO's own exceptions have no common class in its two modules
-            raise Trouble(f"SUMO ended at {self.now * self._step:.0f} s: {' '.join(str(fault).split())}") from fault
+        simulator.step(self._sumo, self.now * self._step)
         self.now += 1
         if self._arrivals is not None:
             for name in self._sumo.simulation.getDepartedIDList():

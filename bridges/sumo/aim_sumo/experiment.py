@@ -24,6 +24,10 @@ OF_LAYOUT = ("source", "replace", "step", "approach", "exit", "speed", "hold", "
              "sumo", "types", "mix")
 
 
+FILES = ("routes", "additional", "types")
+"""Options that name files."""
+
+
 @dataclass(frozen=True)
 class Cell:
     """One run of an experiment; `name` is that of its folder below `runs/`, and `words` are those of `aim-sumo run`."""
@@ -60,9 +64,12 @@ class Experiment:
             source = folder / "nets" / f"{layout}.aim"
             source.parent.mkdir(parents=True, exist_ok=True)
             source.write_text(text, encoding="ascii")
-        files = {key: [str(self.path.parent / name) for name in _list(table.pop(key))]
-                 for key in ("routes", "additional") if key in table}
-        return ["net", str(source), str(folder / "nets" / layout), *_words({**table, **files})]
+        return ["net", str(source), str(folder / "nets" / layout), *_words(self.with_files(table))]
+
+    def with_files(self, table):
+        """A table of options whose files are named from the folder of the experiment's file."""
+        files = {key: [str(self.path.parent / name) for name in _list(table[key])] for key in FILES if key in table}
+        return {**table, **files}
 
 
 def read(path):
@@ -76,41 +83,68 @@ def read(path):
     except (tomllib.TOMLDecodeError, UnicodeDecodeError, OSError) as fault:
         raise BadWord(f"{path} can't be read: {fault}") from None
     layouts, parts = told.pop("layout", {}), told.pop("part", [])
-    if not layouts or not parts:
+    if not (layouts and parts and _is_table_of_tables(layouts) and _is_list_of_tables(parts)):
         raise BadWord(f"{path} needs a table [layout.NAME] with a source, and a table [[part]] with a name")
     for name, table in layouts.items():
-        _check(path, f"layout.{name}", table, OF_LAYOUT, ("source",))
+        _check_layout(path, name, table)
     for part in parts:
-        if "name" not in part:
-            raise BadWord(f"{path}: a [[part]] has no name")
-        for layout in part.get("layouts", told.get("layouts", list(layouts))):
-            if layout not in layouts:
-                raise BadWord(f"{path}: the part {part['name']} has the layout {layout!r}, which isn't one of "
-                              f"{', '.join(layouts)}")
+        _check_part(path, {**told, **part}, layouts)
     return Experiment(path, layouts, parts, told)
 
 
-def _check(path, name, table, known, needed):
+def _is_table_of_tables(value):
+    return isinstance(value, dict) and _is_list_of_tables(list(value.values()))
+
+
+def _is_list_of_tables(value):
+    return isinstance(value, list) and all(isinstance(each, dict) for each in value)
+
+
+def _check_layout(path, name, table):
+    """Refuses a table of a layout that has other keys than it may have, or no source."""
     for key in table:
-        if key not in known:
-            raise BadWord(f"{path}: {name} has no {key!r}; it may have {', '.join(known)}")
-    for key in needed:
-        if key not in table:
-            raise BadWord(f"{path}: {name} needs {key}")
+        if key not in OF_LAYOUT:
+            raise BadWord(f"{path}: layout.{name} has no {key!r}; it may have {', '.join(OF_LAYOUT)}")
+    if not isinstance(table.get("source"), str):
+        raise BadWord(f"{path}: layout.{name} needs source, the file of a head or of a net")
+
+
+def _check_part(path, part, layouts):
+    """Refuses a part, with what the file says for all, that has no name or whose lists aren't such."""
+    name = part.get("name")
+    if not isinstance(name, str) or not name or "/" in name:
+        raise BadWord(f"{path}: a [[part]] has no name, or one that can't be a folder's")
+    for table in (part, *_variants(path, part)):
+        for key in LISTS:
+            if not isinstance(table.get(key, []), list):
+                raise BadWord(f"{path}: {key} of the part {name} must be a list")
+        for layout in table.get("layouts", []):
+            if layout not in layouts:
+                raise BadWord(f"{path}: the part {name} has the layout {layout!r}, which isn't one of "
+                              f"{', '.join(layouts)}")
+    report.columns_of(part.get("columns", report.USUAL))
+
+
+def _variants(path, part):
+    """The variants of a part; one where it says none."""
+    variants = part.get("variant", [{}])
+    if not _is_list_of_tables(variants):
+        raise BadWord(f"{path}: the variants of the part {part['name']} must be tables [[part.variant]]")
+    return variants
 
 
 def cells(experiment, folder, manager, name_of):
     """All runs of an experiment; `name_of` gives the name of the folder of a run by its words."""
     found = {}
     for part in experiment.parts:
-        for variant in part.get("variant", [{}]):
+        for variant in _variants(experiment.path, part):
             options = {**experiment.usual, **{key: value for key, value in part.items() if key != "variant"}, **variant}
             for layout, control, flow, seed in _all_of(options, experiment.layouts):
                 single = {"control": control, "seed": seed, **({} if flow is None else {"flow": flow})}
                 rest = {key: value for key, value in options.items() if key not in (*LISTS, *OF_PART)}
-                site = folder / "nets" / layout
                 keep = folder / "runs" / part["name"] / layout
-                words = ["run", str(site), "--manager", manager, "--keep", str(keep), *_words({**single, **rest}),
+                words = ["run", str(folder / "nets" / layout), "--manager", manager, "--keep", str(keep),
+                         *_words(experiment.with_files({**single, **rest})),
                          *(["--label", options["label"]] if options.get("label") else [])]
                 try:
                     name = f"{part['name']}/{layout}/{name_of(words)}"
@@ -213,7 +247,7 @@ class Runs:
 
 
 def tell(experiment, folder, made):
-    """Writes all results, the means, and a table and a figure of each part."""
+    """Writes all results, the means, and a table and a figure of each part; gives how many runs had faults."""
     rows, all_means = [], []
     for part in experiment.parts:
         names = sorted({cell.name for cell in made if cell.part == part["name"]})
@@ -231,6 +265,7 @@ def tell(experiment, folder, made):
                 whole.replace(folder / f"{part['name']}{kind}")
     _put_rows(folder / "results.csv", rows)
     _put_rows(folder / "means.csv", all_means)
+    return sum(bool(row.get("faults")) for row in rows)
 
 
 def _put(path, text):

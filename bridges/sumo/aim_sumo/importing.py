@@ -61,9 +61,10 @@ def make(options, folder, settings):
         junctions.append(junction)
         lines += told
     _check_roads(junctions)
-    clear(folder)
+    clear(folder, source.net)
     ending = ".net.xml.gz" if source.net.suffix == ".gz" else ".net.xml"
-    shutil.copyfile(source.net, folder / f"own{ending}")
+    if (folder / f"own{ending}").resolve() != source.net.resolve():
+        shutil.copyfile(source.net, folder / f"own{ending}")
     settings = {
         **settings, "controls": OWN_CONTROLS, "net": f"own{ending}", "routes": source.routes,
         "additional": source.additional, "options": source.options, "widest": max(each.width for each in types)}
@@ -86,7 +87,7 @@ class _Source:
         path = pathlib.Path(options.source)
         if not path.is_file():
             raise BadWord(f"there is no file {path}")
-        routes, additional, words = list(options.routes), list(options.additional), options.sumo.split()
+        routes, additional, words = list(options.routes), list(options.additional), list(options.sumo)
         net = path
         if path.suffix == ".sumocfg":
             net, known = None, _configuration(path)
@@ -232,7 +233,7 @@ def _deviation(points, path):
 
 def _apart(points, shape):
     """How far the farthest of some points is from a shape."""
-    track = Track([shape[0]], shape, [shape[-1]]) if len(shape) > 1 else None
+    track = Track([shape[0]], shape, [shape[-1]])
     return max(track.nearest(point, 0.0)[1] for point in points)
 
 

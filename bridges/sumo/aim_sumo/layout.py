@@ -102,12 +102,17 @@ def read_head(text):
             break
         try:
             _take(layout, words)
-        except (ValueError, IndexError) as fault:
+        except (ValueError, IndexError, KeyError) as fault:
             raise BadHead(f"line {number} of the head can't be read: {line!r}") from fault
         if words[0] not in ("policy", "phase"):
             layout.ground.append(line)
     if not (layout.side and layout.moves and layout.policies):
         raise BadHead("a head has the lines aim, grid, times, lanes, move and policy, in this order")
+    if min(layout.side, layout.tiles, layout.spacing, layout.spans) < 1:
+        raise BadHead("the side, the tiles, the spacing and the spans of the line grid must be above 0")
+    for move in layout.moves:
+        if not 0 <= move.lane < layout.lanes or move.parts < 1 or move.points[0] == move.points[-1]:
+            raise BadHead(f"the move {move.name} must be of a lane below {layout.lanes}, have a part, and lead on")
     return layout
 
 

@@ -170,12 +170,14 @@ def _convert(folder, control, words, faces):
         raise BadHead(f"netconvert refused the net of {control}: {' '.join(done.stderr.split())}")
 
 
-def clear(folder):
-    """Makes a folder, or takes out of it what was worked out for earlier nets; runs that are there stay."""
+def clear(folder, source):
+    """Makes a folder, or takes out of it what was made for earlier nets; runs, and whatever isn't ours, stay."""
     folder.mkdir(parents=True, exist_ok=True)
     shutil.rmtree(folder / "tuned", ignore_errors=True)
-    for path in (*folder.glob("free-*.json"), *folder.glob("*.net.xml"), folder / "site.json"):
-        path.unlink(missing_ok=True)
+    nets = [folder / f"{name}.net.xml" for name in CONTROLS] + [folder / "own.net.xml", folder / "own.net.xml.gz"]
+    for path in (*folder.glob("free-*.json"), *nets, folder / "site.json"):
+        if path.resolve() != pathlib.Path(source).resolve():
+            path.unlink(missing_ok=True)
 
 
 def make(head_path, folder, settings):
@@ -188,7 +190,7 @@ def make(head_path, folder, settings):
         raise BadHead(f"{head_path} can't be read as a head: {fault}") from None
     layout = read_head(text)
     folder = pathlib.Path(folder)
-    clear(folder)
+    clear(folder, head_path)
     roads = roads_of(layout)
     ends = ends_of_moves(layout, roads)
     faces = has_facing_lefts(layout)

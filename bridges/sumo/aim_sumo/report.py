@@ -108,6 +108,9 @@ def read_results(paths):
             raise BadWord(f"{path} can't be read as a file of results: {fault}") from None
     if not found:
         raise BadWord(f"there is no result in {', '.join(map(str, paths))}")
+    for result in found:
+        if result.get("control") not in ORDER or "flow" not in result:
+            raise BadWord(f"a result has no flow, or another control than {', '.join(ORDER)}: {str(result)[:100]}")
     return found
 
 

@@ -28,7 +28,10 @@ AFTER = 900.0
 
 @dataclass(frozen=True)
 class Options:
-    """What a run of one control is made with; times are seconds, lengths metres, shares of 1."""
+    """What a run of one control is made with; times are seconds, lengths metres, shares of 1.
+
+    `types` is a mark of the types of the mix that a user changed or added, which only the name of the folder tells.
+    """
 
     control: str
     flow: float = None
@@ -43,6 +46,7 @@ class Options:
     turns: dict = field(default_factory=lambda: dict(demand.SHARES))
     sides: dict = field(default_factory=dict)
     mix: dict = field(default_factory=lambda: {"car": 1.0})
+    types: str = ""
     sigma: float = 0.0
     headway: float = 1.0
     gap: float = 2.5
@@ -84,8 +88,14 @@ def _spell(value):
     if isinstance(value, dict):
         return ",".join(f"{key}{share:.3g}" for key, share in value.items())
     if isinstance(value, tuple):
-        return ",".join(pathlib.Path(str(each)).name for each in value)
+        return ",".join(map(_short, value))
     return f"{value:g}" if isinstance(value, float) else str(value)
+
+
+def _short(text):
+    """A word without the folders that it names, and a mark of these."""
+    name = pathlib.Path(text).name
+    return name if name == text else f"{name}-{zlib.crc32(text.encode()):08x}"
 
 
 class Place:

@@ -5,6 +5,7 @@ classes of vehicles; a car is 4.5 by 1.8 metres.
 """
 
 import tomllib
+import zlib
 from dataclasses import dataclass, fields, replace
 
 from .faults import BadWord
@@ -50,6 +51,12 @@ NAMED = {
 MEASURES = {field.name: field.type for field in fields(Vehicle) if field.name not in ("name", "road_speed")}
 
 
+def mark(types):
+    """A short text that differs where types aren't as the bridge knows them by their names; nothing where they are."""
+    own = sorted(repr(each) for each in types if each != NAMED.get(each.name))
+    return f"{zlib.crc32(' '.join(own).encode()):08x}" if own else ""
+
+
 def read_types(path):
     """The types of a TOML file: a table for each, named by it; what it doesn't say is as in `like`, or in a car."""
     try:
@@ -80,7 +87,7 @@ def _type(path, name, table, known):
         if not isinstance(value, wanted) or (isinstance(value, bool) and wanted is not bool) or value < 0:
             raise BadWord(f"{path}: {key} of {name} is {value!r}; it must be a number from 0 on, or true or false")
     made = replace(known[like], name=name, **table)
-    if not (0 < made.length <= 30 and 0 < made.width <= 30 and made.accel > 0 and made.brake > 0):
+    if not (0 < made.length <= 30 and 0 < made.width <= 30 and min(made.accel, made.brake, made.hardest_brake) > 0):
         raise BadWord(f"{path}: {name} must have a length and a width of up to 30 m, and be able to speed up and brake")
     return made
 

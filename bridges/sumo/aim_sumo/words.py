@@ -2,6 +2,7 @@
 
 import argparse
 import math
+import shlex
 import sys
 
 from .demand import SHARES
@@ -9,7 +10,10 @@ from .vehicles import read_shares
 
 
 class Parser(argparse.ArgumentParser):
-    """A parser that tells a mistake in one line."""
+    """A parser that tells a mistake in one line, and takes no word that is cut short."""
+
+    def __init__(self, **how):
+        super().__init__(allow_abbrev=False, **how)
 
     def error(self, message):
         print(f"{self.prog}: {message} (see {self.prog} --help)", file=sys.stderr)
@@ -72,6 +76,14 @@ def switch(text):
         raise argparse.ArgumentTypeError(f"{text!r} is no switch; write, say, 60=lights")
     natural(seconds)
     return text
+
+
+def options(text):
+    """Further options for SUMO, as a shell reads them."""
+    try:
+        return tuple(shlex.split(text))
+    except ValueError as fault:
+        raise argparse.ArgumentTypeError(f"{text!r} can't be read as options: {fault}") from None
 
 
 def turns(text):

@@ -85,6 +85,15 @@ class Networks(Minutes):
         self.assertEqual(self.command("net", str(configuration), str(self.folder / "turns"), "--junction", "A0"), 0)
         settings = open_site(self.folder / "turns").settings
         self.assertEqual((settings["routes"], settings["options"]), ([str(routes)], ["--lateral-resolution", "0"]))
+        inside = self.folder / "inside" / "inside.net.xml"
+        inside.parent.mkdir()
+        shutil.copyfile(net, inside)
+        for _ in range(2):
+            self.assertEqual(self.command("net", str(inside), str(inside.parent), "--junction", "A0"), 0)
+            self.assertEqual(inside.read_bytes(), net.read_bytes())
+        own = inside.with_name("own.net.xml")
+        self.assertEqual(self.command("net", str(own), str(own.parent), "--junction", "A0"), 0)
+        self.assertEqual(own.read_bytes(), net.read_bytes())
         for words, part in (
             (("--junction", "Z9"), "no junction Z9"), ((), "name the junctions"),
             (("--junction", "A0", "--routes", "nofile"), "no file nofile"),

@@ -62,11 +62,15 @@ class Words(unittest.TestCase):
         site = str(self.folder / "tee")
         bad = self.folder / "bad.aim"
         bad.write_text((EXAMPLES / "tee.aim").read_text().replace("times 3000 100 300 2 2 5", "times 3000 x"))
+        others = self.folder / "others"
+        others.write_text('{"control": "police", "delay": 3}\n')
         for name, part, words in (
             ("no manager", "no manager 'nowhere/aim'", ("run", site, "--manager", "nowhere/aim", "--control", "aim")),
             ("a flow with a letter", "'18OO' isn't a number", ("run", site, "--flow", "18OO")),
             ("no flow", "'0' isn't a number above 0", ("run", site, "--flow", "0")),
             ("no results", "no file nofile", ("report", "nofile")),
+            ("results of others", "a result has no flow", ("report", str(others))),
+            ("a quote without an end", "can't be read as options", ("run", site, "--sumo", "'a")),
             ("an unknown control", "'police' isn't one of the controls", ("run", site, "--control", "police")),
             ("an unknown policy", "no policy nights", ("run", site, "--control", "aim", "--policy", "nights",
                                                        "--manager", DEAF)),
@@ -84,12 +88,37 @@ class Words(unittest.TestCase):
                 "run", site, "--control", "priority", "--seconds", "5", "--sumo=--no-such-option")),
             ("no experiment", "no experiment nofile", ("experiment", "nofile", str(self.folder / "none"))),
             ("no types", "no file nofile", ("run", site, "--types", "nofile")),
+            ("a word that is cut short", "unrecognized arguments: --flo", ("run", site, "--flo", "1800")),
         ):
             with self.subTest(name):
                 status, said = told(*words)
                 self.assertEqual(status, 2)
                 self.assertIn(part, said)
                 self.assertEqual(len(said.splitlines()), 1, said)
+
+    def test_mistakes_of_experiments(self):
+        path = self.folder / "mistaken.toml"
+        layout = f'[layout.a]\nsource = "{EXAMPLES / "tee.aim"}"\n'
+        for name, part, text in (
+            ("no TOML", "can't be read", "a b"),
+            ("no tables", "needs a table", "layout = 3\npart = 4\n"),
+            ("no source", "layout.a needs source", "[layout.a]\nstep = 0.1\n[[part]]\nname = 'x'\n"),
+            ("an unknown key", "has no 'height'", f"{layout}height = 3\n[[part]]\nname = 'x'\n"),
+            ("no name", "has no name", f"{layout}[[part]]\nseeds = [1]\n"),
+            ("a name that leads elsewhere", "can't be a folder's", f"{layout}[[part]]\nname = '../x'\n"),
+            ("no list", "flows of the part x must be a list", f"{layout}[[part]]\nname = 'x'\nflows = 7\n"),
+            ("no list for all", "seeds of the part x", f"seeds = 7\n{layout}[[part]]\nname = 'x'\n"),
+            ("no variants", "must be tables", f"{layout}[[part]]\nname = 'x'\nvariant = 3\n"),
+            ("an unknown layout", "the layout 'b'", f"{layout}[[part]]\nname = 'x'\nlayouts = ['b']\n"),
+            ("an unknown column", "no column 'beauty'", f"{layout}[[part]]\nname = 'x'\ncolumns = 'beauty'\n"),
+            ("an option cut short", "the part x can't be run", f"{layout}[[part]]\nname = 'x'\nflo = [1]\n"),
+        ):
+            with self.subTest(name):
+                path.write_text(text, encoding="utf-8")
+                status, said = told("experiment", str(path), str(self.folder / "none"), "--manager", DEAF)
+                self.assertEqual(status, 2)
+                self.assertIn(part, said)
+                self.assertNotIn("Traceback", said)
 
     def test_a_line_that_the_manager_refuses_is_told_with_its_words(self):
         head = self.folder / "edge.aim"
@@ -157,8 +186,8 @@ class Words(unittest.TestCase):
         folder = self.folder / "interrupted"
         folder.mkdir()
         process = signals.start(
-            PROGRAM, "experiment", HERE.parent / "experiments" / "short.toml", folder, "--part", "faults", "--jobs", "2",
-            "--manager", f"{sys.executable} {slow} {folder}")
+            PROGRAM, "experiment", HERE.parent / "experiments" / "short.toml", folder, "--part", "faults",
+            "--jobs", "2", "--manager", f"{sys.executable} {slow} {folder}")
         self.addCleanup(signals.kill, process)
         self.assertTrue(signals.wait(lambda: (folder / "asked").exists() or process.poll() is not None))
         process.send_signal(signal.SIGINT)

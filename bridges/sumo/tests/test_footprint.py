@@ -135,6 +135,7 @@ class Types(unittest.TestCase):
         for name, text, part in (
             ("no TOML", "[bus", "isn't TOML"), ("an unknown measure", "[a]\nheight = 3", "has no height"),
             ("a text for a number", "[a]\nlength = '3'", "length of a"), ("no length", "[a]\nlength = 0", "must have"),
+            ("no brakes", "[a]\nhardest_brake = 0", "must have"),
             ("too long", "[a]\nlength = 31", "up to 30 m"), ("like nothing", "[a]\nlike = 'b'", "is like b"),
             ("no table", "a = 3", "isn't a table"),
         ):

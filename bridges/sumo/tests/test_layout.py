@@ -42,6 +42,10 @@ class Heads(unittest.TestCase):
             ("no number", good.replace("lanes 3", "lanes three")),
             ("no moves", "\n".join(line for line in good.splitlines() if not line.startswith("move"))),
             ("a curve of two points", good.replace("move 0 straight line", "move 0 straight curve")),
+            ("an unknown shape", good.replace("move 0 straight line", "move 0 straight spline")),
+            ("no tiles", good.replace("grid 12000 24", "grid 12000 0")),
+            ("a lane that isn't there", good.replace("lanes 3", "lanes 2")),
+            ("a path to where it begins", good.replace("line 0 4500 12000 4500", "line 0 4500 0 4500")),
         ):
             with self.subTest(name), self.assertRaises(BadHead):
                 read_head(text)

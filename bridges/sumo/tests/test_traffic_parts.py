@@ -1,9 +1,11 @@
 import pathlib
 import tempfile
 import unittest
+from dataclasses import replace
 
 from aim_sumo import demand, figures, metrics, report
 from aim_sumo.car import Car
+from aim_sumo.controls import tuning_name
 from aim_sumo.curve import Way
 from aim_sumo.demand import Arrival, Demand
 from aim_sumo.faults import BadWord
@@ -14,7 +16,7 @@ from aim_sumo.lights import Signals
 from aim_sumo.planner import Approach, Crossing, Plan
 from aim_sumo.proposal import Proposer
 from aim_sumo.runs import Options, faults_of
-from aim_sumo.vehicles import Vehicle
+from aim_sumo.vehicles import NAMED, Vehicle, mark
 
 from .places import head
 
@@ -289,10 +291,23 @@ class Tellings(unittest.TestCase):
             (Options("aim", 1800.5, 2, policy="siren", emergency=0.05), "aim-1800.5-2_policy-siren_emergency-0.05"),
             (Options("aim", 600, 1, blind=True, switch=("1=lights", "20=plain")),
              "aim-600-1_switch-1=lights-20=plain_blind"),
-            (Options("own", None, 3, routes=("/there/a.rou.xml",)), "own-own-3_routes-a.rou.xml"),
+            (Options("own", None, 3, routes=("a.rou.xml",)), "own-own-3_routes-a.rou.xml"),
+            (Options("own", None, 3, routes=("/there/a.rou.xml",)), "own-own-3_routes-a.rou.xml-9869420e"),
+            (Options("own", None, 3, routes=("/here/a.rou.xml",)), "own-own-3_routes-a.rou.xml-6ab95437"),
+            (Options("aim", 600, 1, mix={"van": 1.0}, types="0badcafe"), "aim-600-1_mix-van1_types-0badcafe"),
         ):
             with self.subTest(name):
                 self.assertEqual(options.name, name)
+
+    def test_types_that_a_user_changed_tell_themselves(self):
+        longer = replace(NAMED["bus"], length=18.0)
+        self.assertEqual(mark([NAMED["car"], NAMED["bus"]]), "")
+        self.assertNotEqual(mark([longer]), "")
+        self.assertNotEqual(mark([longer]), mark([replace(longer, brake=1.0)]))
+        wanted = Demand(600, 1, mix={"bus": 1.0})
+        names = {tuning_name("static", replace(wanted, types={**NAMED, "bus": bus})) for bus in (
+            NAMED["bus"], longer, replace(NAMED["bus"], hardest_brake=3.0))}
+        self.assertEqual(len(names), 3)
 
     def test_percentiles(self):
         for values, share, expected in (([], 0.95, 0.0), ([3.0], 0.95, 3.0), (list(range(100)), 0.95, 95)):
@@ -332,6 +347,16 @@ class Tellings(unittest.TestCase):
                          [(600, "aim", 2), (600, "static", 1), (1800, "aim", 1)])
         self.assertAlmostEqual(rows[0]["delay ±"], 1.27, 2)
         self.assertEqual((rows[0]["misses"], rows[1]["delay"], rows[1]["delay ±"]), (0, 15.0, ""))
+
+    def test_rows_that_somebody_wrote_stand_beside_results(self):
+        with tempfile.TemporaryDirectory() as folder:
+            path = pathlib.Path(folder) / "others.csv"
+            path.write_text("label,flow,control,delay\nothers,1800,aim,1.5\nothers,1800,static,20\n", encoding="ascii")
+            results = [{"flow": 1800, "control": "aim", "delay": 2.0}, *report.read_results([path])]
+        self.assertEqual(report.pivot(results, "delay").splitlines(), [
+            "| run | veh/h | runs | aim | static |", "|---|---|---|---|---|", "|  | 1800 | 1 | 2.0 |  |",
+            "| others | 1800 | 1 | 1.5 | 20.0 |"])
+        self.assertEqual(report.series(results)["aim, others"], [(1800, 1.5, None)])
 
     def test_figures(self):
         lines = {"aim": [(600, 0.02, None), (1800, 2.0, 0.5)], "static": [(600, 15.0, 3.0)]}

@@ -7,8 +7,10 @@ AIM_MANAGER names the manager's command; without it, it is the repository's own 
 
 import json
 import math
+import os
 import subprocess
 import unittest
+from unittest import mock
 
 from aim_sumo import simulator
 from aim_sumo.demand import Arrival, write_routes
@@ -162,6 +164,13 @@ class Traffic(Minutes):
                 done = subprocess.run(words_of(MANAGER), input=text + "\n", capture_output=True, text=True, check=False)
                 with self.subTest(name=name, room=room):
                     self.assertIn(f"-> {word}", done.stdout)
+
+    def test_a_run_in_a_window(self):
+        """SUMO's program without a window stands for the one with it, which needs a display; both are led alike."""
+        with mock.patch.object(simulator, "WINDOW", ("sumo",)), mock.patch.dict(os.environ, {"DISPLAY": "none"}):
+            result = self.traffic("tee", "--gui", "--end", "3", flow=3600, seconds=10)
+        self.assertGreater(result["left"], 0)
+        self.assertEqual([result[key] for key in CLEAN[:-1]], [0, 0, 0, 0])
 
     def test_a_kept_run_is_checked_again(self):
         run = self.folder / "tee" / "runs" / self.traffic("tee", flow=1200)["folder"]

@@ -3,7 +3,7 @@ use Rattle.std.proofs.Common.{◌≡◌, ◌∙◌, ◌⊎◌, inl, inr, ℕ, �
 use Rattle.std.specs.Io.KnownBytes.{Appends, IsAtEnd}
 use Rattle.aim_io.specs.Causes.{Rose}
 use Rattle.aim_script.specs.Spellings.{Spelled}
-use Rattle.aim_plans.specs.Scripts.{TakesAtMost}
+use Rattle.aim_drive_script.specs.Scripts.{TakesAtMost}
 use Rattle.aim.specs.declared.words.Command.{Command}
 use Rattle.aim.specs.Help.{TellsText}
 use Rattle.aim.specs.Commands.{asked_in, is_replay, reads_input, reads_whole, spelled_in}

@@ -1,9 +1,9 @@
 -- The table of the words that the program takes.
 use Rattle.std.specs.Prelude.{ℕ, ◌<◌, ◌≤◌, Bool, true, false, ◌&&◌, ◌||◌, nat_le, List, [], ◌∷◌, Option, Some, None, option_map, codes, bytes_eq, if◌then◌else◌}
-use Rattle.aim_msg.specs.declared.entries.TheConstants.{LATEST_MOMENT}
-use Rattle.aim_words.specs.Faults.{is_number, value_of}
+use Rattle.aim_messages.specs.declared.entries.TheConstants.{LATEST_MOMENT}
+use Rattle.aim_text_words.specs.Faults.{is_number, value_of}
 use Rattle.aim_script.specs.Spellings.{Spelled, by_words}
-use Rattle.aim_json_replay.specs.Spelling.{by_json}
+use Rattle.aim_replay_command.specs.Spelling.{by_json}
 use Rattle.aim.specs.declared.words.Command.{Command}
 use Rattle.aim.specs.declared.words.Command.TheVariants.{Replay, Chart, ReplayJson, Drive, Grid, Generate, Traffic, Shards, Mail, Help, Version}
 use Rattle.aim.specs.declared.help.Topic.{Topic}

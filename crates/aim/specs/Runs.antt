@@ -5,19 +5,19 @@ use Rattle.std.specs.Io.KnownBytes.{Appends, IsAtEnd}
 use Rattle.aim_io.specs.Causes.{Rose}
 use Rattle.aim_io.specs.Known.{AppendsFront}
 use Rattle.aim_script.specs.Spellings.{Spelled}
-use Rattle.aim_replay.specs.Replays.{LastNeededBy, ReplaysBy, StopsShortBy, TakesAtMost, WritesFront}
-use Rattle.aim_replay.specs.Texts.{status_by, text_by}
-use Rattle.aim_plans.specs.Scripts.{TakesAtMost as TakesAtMostOfDrive}
-use Rattle.aim_plans.specs.Short.{StopsShort as StopsShortDrive}
-use Rattle.aim_driving.specs.Commands.{Completes as CompletesDrive, Shows as ShowsDrive, ShowsFront as ShowsFrontOfDrive}
-use Rattle.aim_driving.specs.Generated.{Counts, CountsFront}
-use Rattle.aim_driving.specs.Traffic.{traffic_text}
-use Rattle.aim_routes.specs.Short.{StopsShort as StopsShortGrid}
-use Rattle.aim_routing.specs.Commands.{Completes as CompletesGrid, Shows as ShowsGrid, ShowsFront as ShowsFrontOfGrid}
-use Rattle.aim_claims.specs.Short.{StopsShort as StopsShortClaims}
-use Rattle.aim_callers.specs.Commands.{Completes as CompletesShards, Shows, ShowsFront}
-use Rattle.aim_events.specs.Short.{StopsShort as StopsShortMail}
-use Rattle.aim_mailing.specs.Commands.{Completes as CompletesMail, Shows as ShowsMail, ShowsFront as ShowsFrontOfMail}
+use Rattle.aim_replay_command.specs.Replays.{LastNeededBy, ReplaysBy, StopsShortBy, TakesAtMost, WritesFront}
+use Rattle.aim_replay_command.specs.Texts.{status_by, text_by}
+use Rattle.aim_drive_script.specs.Scripts.{TakesAtMost as TakesAtMostOfDrive}
+use Rattle.aim_drive_script.specs.Short.{StopsShort as StopsShortDrive}
+use Rattle.aim_drive_command.specs.Commands.{Completes as CompletesDrive, Shows as ShowsDrive, ShowsFront as ShowsFrontOfDrive}
+use Rattle.aim_drive_command.specs.Generated.{Counts, CountsFront}
+use Rattle.aim_drive_command.specs.Traffic.{traffic_text}
+use Rattle.aim_grid_script.specs.Short.{StopsShort as StopsShortGrid}
+use Rattle.aim_grid_command.specs.Commands.{Completes as CompletesGrid, Shows as ShowsGrid, ShowsFront as ShowsFrontOfGrid}
+use Rattle.aim_shards_command.specs.Short.{StopsShort as StopsShortClaims}
+use Rattle.aim_shards_command.specs.Commands.{Completes as CompletesShards, Shows, ShowsFront}
+use Rattle.aim_mail_script.specs.Short.{StopsShort as StopsShortMail}
+use Rattle.aim_mail_command.specs.Commands.{Completes as CompletesMail, Shows as ShowsMail, ShowsFront as ShowsFrontOfMail}
 use Rattle.aim.specs.declared.words.Command.{Command}
 use Rattle.aim.specs.declared.words.Command.TheVariants.{Drive, Grid, Generate, Traffic, Shards, Mail, Help, Version}
 use Rattle.aim.specs.Help.{TellsText, text_of, versions}

@@ -5,7 +5,7 @@ mod help;
 mod program;
 mod words;
 
-use aim_agent::Gate;
+use aim_agents::Gate;
 use aim_io::{StdSink, StdSource};
 use std::alloc::Global;
 use std::process::ExitCode;

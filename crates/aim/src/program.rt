@@ -5,34 +5,33 @@ ghost use Rattle.std.specs.String.{string_bytes};
 ghost use Rattle.std.specs.Io.KnownBytes.{Appends, IsAtEnd, Keeps};
 ghost use Rattle.aim_io.specs.Causes.{Rose};
 ghost use Rattle.aim_io.specs.Known.{AppendsFront};
-ghost use Rattle.aim_replay.specs.Replays.{LastNeededBy, ReplaysBy, StopsShortBy, TakesAtMost, WritesFront};
-ghost use Rattle.aim_replay.specs.Texts.{text_by};
+ghost use Rattle.aim_replay_command.specs.Replays.{LastNeededBy, ReplaysBy, StopsShortBy, TakesAtMost, WritesFront};
+ghost use Rattle.aim_replay_command.specs.Texts.{text_by};
 ghost use Rattle.aim.specs.declared.words.Command.{Command};
 ghost use Rattle.aim.specs.Commands.{IsWithin, asked_in, command_of as command_in, is_replay, reads_input, reads_whole, spelled_in};
-ghost use Rattle.aim_plans.specs.Scripts.{TakesAtMost as TakesAtMostOfDrive};
-ghost use Rattle.aim_plans.specs.Short.{StopsShort as StopsShortDrive};
-ghost use Rattle.aim_driving.specs.Commands.{Completes as CompletesDrive, Shows as ShowsDrive, ShowsFront as ShowsFrontOfDrive};
-ghost use Rattle.aim_routes.specs.Short.{StopsShort as StopsShortGrid};
-ghost use Rattle.aim_routing.specs.Commands.{Completes as CompletesGrid, Shows as ShowsGrid, ShowsFront as ShowsFrontOfGrid};
-ghost use Rattle.aim_claims.specs.Short.{StopsShort as StopsShortClaims};
-ghost use Rattle.aim_callers.specs.Commands.{Completes as CompletesShards, Shows, ShowsFront};
-ghost use Rattle.aim_events.specs.Short.{StopsShort as StopsShortMail};
-ghost use Rattle.aim_mailing.specs.Commands.{Completes as CompletesMail, Shows as ShowsMail, ShowsFront as ShowsFrontOfMail};
-ghost use Rattle.aim.specs.Runs.{Answers, Completes, Generates, IsStatus, IsWhole, Obeys, Prints, Reports, Settles, TellsUsage};
+ghost use Rattle.aim_drive_script.specs.Scripts.{TakesAtMost as TakesAtMostOfDrive};
+ghost use Rattle.aim_drive_script.specs.Short.{StopsShort as StopsShortDrive};
+ghost use Rattle.aim_drive_command.specs.Commands.{Completes as CompletesDrive, Shows as ShowsDrive, ShowsFront as ShowsFrontOfDrive};
+ghost use Rattle.aim_grid_script.specs.Short.{StopsShort as StopsShortGrid};
+ghost use Rattle.aim_grid_command.specs.Commands.{Completes as CompletesGrid, Shows as ShowsGrid, ShowsFront as ShowsFrontOfGrid};
+ghost use Rattle.aim_shards_command.specs.Short.{StopsShort as StopsShortClaims};
+ghost use Rattle.aim_shards_command.specs.Commands.{Completes as CompletesShards, Shows, ShowsFront};
+ghost use Rattle.aim_mail_script.specs.Short.{StopsShort as StopsShortMail};
+ghost use Rattle.aim_mail_command.specs.Commands.{Completes as CompletesMail, Shows as ShowsMail, ShowsFront as ShowsFrontOfMail};
+ghost use Rattle.aim.specs.Runs.{Answers, Completes, Generates, IsStatus, IsWhole, Prints, Reports, Settles, TellsUsage};
 ghost use Rattle.aim.specs.declared.help.Topic.{Topic};
 ghost use Rattle.aim.specs.Help.{TellsText, text_of, versions};
 
 use crate::help::VERSIONS;
 use crate::words::{Command, command_of};
-use aim_agent::Gate;
-use aim_callers::shards;
-use aim_driving::{drive, generate, print_traffic};
+use aim_agents::Gate;
+use aim_drive_command::{drive, generate, print_traffic};
+use aim_grid_command::grid;
 use aim_io::{Sink, Source, put_all};
-use aim_json_replay::replay_json;
-use aim_mailing::mail;
-use aim_replay::replay;
-use aim_routing::grid;
+use aim_mail_command::mail;
+use aim_replay_command::{JsonLines, WordLines, replay};
 use aim_shards::Hold;
+use aim_shards_command::shards;
 use std::alloc::Global;
 use std::sync::Wait;
 use std::thread::Threads;
@@ -68,36 +67,8 @@ fn tell<K: Sink>(sink: &mut K, text: &[u8]) -> u8
     }
 }
 
-// Does what the command asks for.
-fn obey<R: Threads + Wait + Sync, S: Source, K: Sink, G: Gate>(
-    rt: &R,
-    alloc: Global,
-    command: Command,
-    source: &mut S,
-    sink: &mut K,
-    gate: &G,
-) -> u8
-    requires within { IsWithin command }
-    ensures { Obeys command (source.new ≡ source.old) (K.kept_back sink.new ≡ []) (S.last_read source.new) (S.left source.old) (S.left source.new)
-        (S.faults source.old) (S.faults source.new) (K.held sink.old) (K.held sink.new) (K.faults sink.old) (K.faults sink.new) result }
-{
-    match command {
-        Command::Replay => replay(alloc, source, sink, None),
-        Command::Chart(step) => replay(alloc, source, sink, Some(step)),
-        Command::ReplayJson => replay_json(alloc, source, sink),
-        Command::Drive(workers) => drive(rt, alloc, workers, source, sink, gate),
-        Command::Grid(workers) => grid(rt, alloc, workers, source, sink, gate),
-        Command::Generate(number, count) => generate(rt, alloc, number, count, sink),
-        Command::Traffic(number, count) => print_traffic(alloc, number, count, sink),
-        Command::Shards(workers) => shards(rt, alloc, workers, source, sink, &NoHold),
-        Command::Mail(workers) => mail(rt, alloc, workers, source, sink),
-        Command::Help(topic) => tell(sink, topic.text()),
-        Command::Version => tell(sink, VERSIONS),
-    }
-}
-
 // Does what the command asks for, if the words name one.
-fn answer<R: Threads + Wait + Sync, S: Source, K: Sink, G: Gate>(
+fn obey<R: Threads + Wait + Sync, S: Source, K: Sink, G: Gate>(
     rt: &R,
     alloc: Global,
     told: Option<Command>,
@@ -109,9 +80,21 @@ fn answer<R: Threads + Wait + Sync, S: Source, K: Sink, G: Gate>(
     ensures { Answers told (source.new ≡ source.old) (K.kept_back sink.new ≡ []) (S.last_read source.new) (S.left source.old) (S.left source.new)
         (S.faults source.old) (S.faults source.new) (K.held sink.old) (K.held sink.new) (K.faults sink.old) (K.faults sink.new) result }
 {
-    match told {
-        None => tell_usage(sink),
-        Some(command) => obey(rt, alloc, command, source, sink, gate),
+    let Some(command) = told else {
+        return tell_usage(sink);
+    };
+    match command {
+        Command::Replay => replay::<WordLines, S, K>(alloc, source, sink, None),
+        Command::Chart(step) => replay::<WordLines, S, K>(alloc, source, sink, Some(step)),
+        Command::ReplayJson => replay::<JsonLines, S, K>(alloc, source, sink, None),
+        Command::Drive(workers) => drive(rt, alloc, workers, source, sink, gate),
+        Command::Grid(workers) => grid(rt, alloc, workers, source, sink, gate),
+        Command::Generate(number, count) => generate(rt, alloc, number, count, sink),
+        Command::Traffic(number, count) => print_traffic(alloc, number, count, sink),
+        Command::Shards(workers) => shards(rt, alloc, workers, source, sink, &NoHold),
+        Command::Mail(workers) => mail(rt, alloc, workers, source, sink),
+        Command::Help(topic) => tell(sink, topic.text()),
+        Command::Version => tell(sink, VERSIONS),
     }
 }
 
@@ -148,7 +131,7 @@ fn conclude<R: Threads + Wait + Sync, S: Source, K: Sink, G: Gate>(
         (S.faults source.old) (S.faults source.new) (K.held sink.old) (K.held sink.new) (K.faults sink.old) (K.faults sink.new) result }
     ensures settled { IsWhole result → K.kept_back sink.new ≡ [] }
 {
-    let status = answer(rt, alloc, told, source, sink, gate);
+    let status = obey(rt, alloc, told, source, sink, gate);
     settle(sink, status)
 }
 

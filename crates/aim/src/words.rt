@@ -5,9 +5,9 @@ ghost use Rattle.std.specs.String.{string_bytes};
 ghost use Rattle.aim.specs.Commands.{IsWithin, asks_help as is_help, command_alone as command_of_one, command_of as command_in, command_of_number as command_with_number, command_with as command_of_two, command_of_numbers as command_of_three, command_to_print as command_of_four, number_in as number_of, topic_of as topic_in};
 
 use crate::help::Topic;
-use aim_claims::number;
-use aim_msg::{LATEST_MOMENT, LineKind};
-use aim_words::tables::look_up;
+use aim_messages::{LATEST_MOMENT, LineKind};
+use aim_shards_command::number;
+use aim_text_words::tables::look_up;
 
 /// What the program can be asked to do.
 pub enum Command {

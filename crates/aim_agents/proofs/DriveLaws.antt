@@ -2,25 +2,25 @@
 use Rattle.std.proofs.Common.{◌≡◌, ℕ, ◌<◌, ◌≤◌, ◌⊎◌, inl, inr, List, [], ◌∷◌, length, get_or, refl, sym, ap, ◌∙◌, subst, arith}
 use Rattle.std.specs.Prelude.{All}
 use Rattle.std.proofs.lemmas.Bool.{cases_lt}
-use Rattle.aim_msg.specs.declared.entries.Entry.{Entry}
+use Rattle.aim_messages.specs.declared.entries.Entry.{Entry}
 use Rattle.aim_driver.specs.Models.{step_of}
-use Rattle.aim_turn.specs.Models.{TurnstileModel, HasPass, IsPassOf, IsSamePass}
-use Rattle.aim_turn.specs.History.{entries_of}
-use Rattle.aim_agent.specs.Seen.{caller_of}
-use Rattle.aim_agent.specs.Setting.{Setting}
-use Rattle.aim_agent.specs.Agents.{AgentModel, AgentPass, IsAgentOf, IsWhole}
-use Rattle.aim_agent.specs.Places.{At, IsCall, IsCallSince, Before, Earlier, SameMoment}
-use Rattle.aim_agent.specs.Went.{ExtendsBy, Sees, Went}
-use Rattle.aim_agent.proofs.Passes.{extends_begins, length_begins}
-use Rattle.aim_agent.proofs.Places.{at_lt, at_less, none_later, split_call, sees_none, only_call}
-use Rattle.aim_agent.proofs.Courses.{went_then, stays_went, no_calls}
+use Rattle.aim_turnstile.specs.Models.{TurnstileModel, HasPass, IsPassOf, IsSamePass}
+use Rattle.aim_turnstile.specs.History.{entries_of}
+use Rattle.aim_agents.specs.Seen.{caller_of}
+use Rattle.aim_agents.specs.BookSetting.{BookSetting}
+use Rattle.aim_agents.specs.Agents.{AgentModel, AgentPass, IsAgentOf, IsWhole}
+use Rattle.aim_agents.specs.Places.{At, IsCall, IsCallSince, Before, Earlier, SameMoment}
+use Rattle.aim_agents.specs.Went.{ExtendsBy, Sees, Went}
+use Rattle.aim_agents.proofs.Passes.{extends_begins, length_begins}
+use Rattle.aim_agents.proofs.Places.{at_lt, at_less, none_later, split_call, sees_none, only_call}
+use Rattle.aim_agents.proofs.Courses.{went_then, stays_went, no_calls}
 use Rattle.aim_agents.specs.Runs.{InRun}
 use Rattle.aim_agents.specs.Rounds.{ToldLast, Rounds}
 use Rattle.aim_agents.proofs.RunLaws.{split_since}
 use Rattle.aim_agents.specs.Driven.{DrivenOf, Driven, IsKnown, JournalInOrder}
 
 -- a pass of the same turnstile as one of this turnstile
-pub pass_of : (t : TurnstileModel Setting) (old new : AgentPass) → IsSamePass old new → IsPassOf t old → IsPassOf t new
+pub pass_of : (t : TurnstileModel BookSetting) (old new : AgentPass) → IsSamePass old new → IsPassOf t old → IsPassOf t new
 pass_of t old new same of = record { table = same.table ∙ of.table; setting = same.setting ∙ of.setting }
 
 pub same_then : (old mid new : AgentPass) → IsSamePass old mid → IsSamePass mid new → IsSamePass old new
@@ -31,11 +31,11 @@ logs_first xs new k a l =
     let first : step_of (get_or xs k a).driver.log ≡ 0 = ap step_of (new k a l) in
     omega arith
 
-module _ (set : Setting) where
+module _ (set : BookSetting) where
   none_in_empty : (p : AgentPass) (since : ℕ) → p.seen ≡ [] → (k : ℕ) (e : Entry) → IsCall p since k e → ⊥
   none_in_empty p since none k e c = let h : At [] k e = subst (λ l. At l k e) none c.stands in absurd h
 
-  pub driven_begin : (t : TurnstileModel Setting) (size : ℕ) (op : AgentPass) (xs : List AgentModel) → op.seen ≡ [] → op.mine ≡ [] → All (IsAgentOf t) xs → Driven set 0 size op xs xs
+  pub driven_begin : (t : TurnstileModel BookSetting) (size : ℕ) (op : AgentPass) (xs : List AgentModel) → op.seen ≡ [] → op.mine ≡ [] → All (IsAgentOf t) xs → Driven set 0 size op xs xs
   driven_begin t size op xs seen mine own =
       let went = λ (k : ℕ) (d : AgentModel) (l : k < length xs). stays_went set 0 (get_or xs k d) in
       record {
@@ -223,14 +223,14 @@ module _ (set : Setting) where
       }
 
   -- an agent of this turnstile stays one
-  agent_went : (t : TurnstileModel Setting) (step : ℕ) (a b : AgentModel) → Went set 0 step a b → IsAgentOf t a → IsAgentOf t b
+  agent_went : (t : TurnstileModel BookSetting) (step : ℕ) (a b : AgentModel) → Went set 0 step a b → IsAgentOf t a → IsAgentOf t b
   agent_went t step a b w of =
       let number : b.pass.number ≡ a.pass.number = w.goes.same.number in
       let vehicle : a.pass.number < t.setting.vehicles = of.vehicle in
       record { pass = pass_of t a.pass b.pass w.goes.same of.pass; vehicle = omega arith; room = w.goes.room ∙ of.room }
 
   -- what the next rounds ask of the agents
-  pub agents_of : (t : TurnstileModel Setting) (step size : ℕ) (op : AgentPass) (xs ys : List AgentModel) → Driven set step size op xs ys → All (IsAgentOf t) xs → All (IsAgentOf t) ys
+  pub agents_of : (t : TurnstileModel BookSetting) (step size : ℕ) (op : AgentPass) (xs ys : List AgentModel) → Driven set step size op xs ys → All (IsAgentOf t) xs → All (IsAgentOf t) ys
   agents_of t step size op xs ys d of k a l =
       let len : length ys ≡ length xs = d.len in
       let lt : k < length xs = omega arith in

@@ -2,9 +2,9 @@
 use Rattle.std.proofs.Common.{◌≡◌, ℕ, ◌+◌, ◌<◌, ◌≤◌, List, [], ◌∷◌, ◌++◌, length, length-take-le, map, take, Option, Some, Result, Ok, Err, sym, ap, ◌∙◌, subst, arith}
 use Rattle.std.specs.Prelude.{OnErr, get_or}
 use Rattle.std.proofs.lemmas.List.{get_or_default, map-append, take_all, take_more, length-map}
-use Rattle.aim_msg.specs.declared.entries.Entry.{Entry}
-use Rattle.aim_paths.specs.Intersection.{Intersection}
-use Rattle.aim_plans.specs.declared.scripts.Ordered.{Ordered}
+use Rattle.aim_messages.specs.declared.entries.Entry.{Entry}
+use Rattle.aim_layout.specs.Intersection.{Intersection}
+use Rattle.aim_driver.specs.declared.orders.Ordered.{Ordered}
 use Rattle.aim_agents.specs.Orders.{AreOrders, CarryOrders, IsReached, order_of}
 
 pub on_err : {T E : Type 0} (P : Type 0) (r : Result T E) → P → OnErr r P

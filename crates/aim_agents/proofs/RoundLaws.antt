@@ -2,22 +2,22 @@
 use Rattle.std.proofs.Common.{◌≡◌, ℕ, ◌+◌, ◌<◌, ◌≤◌, ◌⊎◌, inl, inr, List, length, get_or, refl, sym, ◌∙◌, subst, arith}
 use Rattle.std.specs.Prelude.{All}
 use Rattle.std.proofs.lemmas.Bool.{cases_lt}
-use Rattle.aim_msg.specs.declared.entries.Entry.{Entry}
-use Rattle.aim_turn.specs.Models.{TurnstileModel, IsSamePass}
-use Rattle.aim_turn.specs.History.{Begins}
-use Rattle.aim_agent.specs.Setting.{Setting}
-use Rattle.aim_agent.specs.Agents.{AgentModel, AgentPass, Idles, IsAgentOf, front_of}
-use Rattle.aim_agent.specs.Places.{IsCallSince, Before, Any, Earlier, SameMoment}
-use Rattle.aim_agent.specs.Went.{Went, Met, Sees}
-use Rattle.aim_agent.proofs.Places.{at_lt}
-use Rattle.aim_agent.proofs.Passes.{length_begins, sees_self, sees_trans}
-use Rattle.aim_agent.proofs.Courses.{went_then, met_went, stays_went, no_calls}
-use Rattle.aim_agent.proofs.Rests.{idles_went}
+use Rattle.aim_messages.specs.declared.entries.Entry.{Entry}
+use Rattle.aim_turnstile.specs.Models.{TurnstileModel, IsSamePass}
+use Rattle.aim_turnstile.specs.History.{Begins}
+use Rattle.aim_agents.specs.BookSetting.{BookSetting}
+use Rattle.aim_agents.specs.Agents.{AgentModel, AgentPass, Idles, IsAgentOf, front_of}
+use Rattle.aim_agents.specs.Places.{IsCallSince, Before, Any, Earlier, SameMoment}
+use Rattle.aim_agents.specs.Went.{Went, Met, Sees}
+use Rattle.aim_agents.proofs.Places.{at_lt}
+use Rattle.aim_agents.proofs.Passes.{length_begins, sees_self, sees_trans}
+use Rattle.aim_agents.proofs.Courses.{went_then, met_went, stays_went, no_calls}
+use Rattle.aim_agents.proofs.Rests.{idles_went}
 use Rattle.aim_agents.specs.Runs.{AllIdle, Done, InRun, RunsWent, Gathered}
 use Rattle.aim_agents.specs.Rounds.{StepOf, Stepped, RoundingOf, Rounding, Rounds}
 use Rattle.aim_agents.proofs.RunLaws.{split_since}
 
-module _ (set : Setting) where
+module _ (set : BookSetting) where
   -- meetings afterwards add no call
   pub before_met : (R : Entry → Entry → Type 0) (s t : ℕ) (a b c d e f : AgentModel) → Before R a b d e → Went set s s b c → Went set t t e f → Before R a c d f
   before_met R s t a b c d e f h p q k l x y cx cy r =
@@ -237,7 +237,7 @@ module _ (set : Setting) where
       }
 
   -- before the first step all have met the operator
-  pub rounds_begin : (t : TurnstileModel Setting) (first size : ℕ) (op : AgentPass) (xs ys : List AgentModel) → All (IsAgentOf t) xs → Done (λ a b. Met set a (front_of op) b) (length xs) xs ys → Rounding set first first size op op xs ys
+  pub rounds_begin : (t : TurnstileModel BookSetting) (first size : ℕ) (op : AgentPass) (xs ys : List AgentModel) → All (IsAgentOf t) xs → Done (λ a b. Met set a (front_of op) b) (length xs) xs ys → Rounding set first first size op op xs ys
   rounds_begin t first size op xs ys own m =
       let of = λ (k : ℕ) (d : AgentModel) (l : k < length xs). met_rounding first op (get_or xs k d) (get_or ys k d) (m.each k d l) in
       record {
@@ -267,7 +267,7 @@ module _ (set : Setting) where
       }
 
   -- no step, or no agent
-  pub no_rounds : (t : TurnstileModel Setting) (first last size : ℕ) (op : AgentPass) (xs : List AgentModel) → (first ≡ last) ⊎ (length xs ≡ 0) → All (IsAgentOf t) xs → Rounds set first last size op op xs xs
+  pub no_rounds : (t : TurnstileModel BookSetting) (first last size : ℕ) (op : AgentPass) (xs : List AgentModel) → (first ≡ last) ⊎ (length xs ≡ 0) → All (IsAgentOf t) xs → Rounds set first last size op op xs xs
   no_rounds t first last size op xs none own =
       record {
         operator = sees_self op;

@@ -6,23 +6,23 @@ use Rattle.std.proofs.Math.ListN.{set}
 use Rattle.std.proofs.Math.Nat.{mul_comm}
 use Rattle.std.proofs.lemmas.Bool.{cases_eq}
 use Rattle.std.proofs.lemmas.List.{length-set, get_or-set_same, get_or-set_other, get_or-take, get_or-drop, get_or_read, length-take, length-drop}
-use Rattle.aim_msg.specs.declared.entries.Entry.{Entry}
-use Rattle.aim_turn.specs.Models.{TurnstileModel, IsSamePass}
-use Rattle.aim_turn.specs.History.{Begins}
-use Rattle.aim_turn.proofs.Histories.{begins_trans}
-use Rattle.aim_agent.specs.Setting.{Setting}
-use Rattle.aim_agent.specs.Seen.{Meets}
+use Rattle.aim_messages.specs.declared.entries.Entry.{Entry}
+use Rattle.aim_turnstile.specs.Models.{TurnstileModel, IsSamePass}
+use Rattle.aim_turnstile.specs.History.{Begins}
+use Rattle.aim_turnstile.proofs.Histories.{begins_trans}
+use Rattle.aim_agents.specs.BookSetting.{BookSetting}
+use Rattle.aim_agents.specs.Seen.{Meets}
 use Rattle.aim_driver.specs.Models.{step_of}
-use Rattle.aim_agent.specs.Agents.{AgentFront, AgentModel, AgentPass, IsAgentOf}
-use Rattle.aim_agent.specs.Places.{IsCallSince, Before, Any}
-use Rattle.aim_agent.specs.Went.{Went, Met}
-use Rattle.aim_agent.proofs.Places.{at_lt, split_call}
-use Rattle.aim_agent.proofs.Passes.{length_begins, sees_self, sees_met, sees_trans}
-use Rattle.aim_agent.proofs.Courses.{went_then, went_begins, met_went, stays_went, no_calls}
-use Rattle.aim_agent.proofs.Sheets.{agent_went}
+use Rattle.aim_agents.specs.Agents.{AgentFront, AgentModel, AgentPass, IsAgentOf}
+use Rattle.aim_agents.specs.Places.{IsCallSince, Before, Any}
+use Rattle.aim_agents.specs.Went.{Went, Met}
+use Rattle.aim_agents.proofs.Places.{at_lt, split_call}
+use Rattle.aim_agents.proofs.Passes.{length_begins, sees_self, sees_met, sees_trans}
+use Rattle.aim_agents.proofs.Courses.{went_then, went_begins, met_went, stays_went, no_calls}
+use Rattle.aim_agents.proofs.Sheets.{agent_went}
 use Rattle.aim_agents.specs.Runs.{Done, Followed, Behind, Running, Ran, RunsWent, Gathered}
 
-module _ (s : Setting) where
+module _ (s : BookSetting) where
   -- a call between a and c is one between a and b or one between b and c
   pub split_since : (first last : ℕ) (a b c : AgentModel) → Went s first last b c → (k : ℕ) (e : Entry) → IsCallSince a c k e → IsCallSince a b k e ⊎ IsCallSince b c k e
   split_since first last a b c w k e h = split_call b.pass c.pass (length a.pass.seen) (went_begins s first last b c w) w.goes.same.number k e h
@@ -197,7 +197,7 @@ module _ (s : Setting) where
           apart p u v j k at_u at_v lt = omega (arith, at_u, at_v)
 
   -- the agent at hand is one of the manager
-  pub item_own : (t : TurnstileModel Setting) (R : AgentModel → AgentModel → Type 0) (n : ℕ) (xs ys : List AgentModel) (a : AgentModel) → All (IsAgentOf t) xs → Done R n xs ys → n < length ys → a ≡ get_or ys n a → IsAgentOf t a
+  pub item_own : (t : TurnstileModel BookSetting) (R : AgentModel → AgentModel → Type 0) (n : ℕ) (xs ys : List AgentModel) (a : AgentModel) → All (IsAgentOf t) xs → Done R n xs ys → n < length ys → a ≡ get_or ys n a → IsAgentOf t a
   item_own t R n xs ys a own p lt is =
       subst (λ x. IsAgentOf t x) (sym (item_is R n xs ys a p lt is a)) (own n a (subst (λ m. n < m) p.len lt))
 
@@ -207,7 +207,7 @@ module _ (s : Setting) where
       subst (λ x. step_of x.driver.log ≤ step) (sym (item_is R n xs ys a p lt is a)) (late n a (subst (λ m. n < m) p.len lt))
 
   -- they are still agents of the manager
-  pub agents_stay : (t : TurnstileModel Setting) (first last : ℕ) (xs ys : List AgentModel) → length ys ≡ length xs → ((k : ℕ) (d : AgentModel) → k < length xs → Went s first last (get_or xs k d) (get_or ys k d)) → All (IsAgentOf t) xs → All (IsAgentOf t) ys
+  pub agents_stay : (t : TurnstileModel BookSetting) (first last : ℕ) (xs ys : List AgentModel) → length ys ≡ length xs → ((k : ℕ) (d : AgentModel) → k < length xs → Went s first last (get_or xs k d) (get_or ys k d)) → All (IsAgentOf t) xs → All (IsAgentOf t) ys
   agents_stay t first last xs ys len went own = λ k d l.
       let lt : k < length xs = subst (λ m. k < m) len l in
       agent_went t s first last (get_or xs k d) (get_or ys k d) (went k d lt) (own k d lt)

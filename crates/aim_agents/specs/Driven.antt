@@ -1,12 +1,12 @@
 -- Rounds and orders, one after the other, and what the journal then is.
 use Rattle.std.specs.Prelude.{◌≡◌, ℕ, ◌<◌, ◌≤◌, ◌⊎◌, List, [], length, slice_index_or, All}
-use Rattle.aim_msg.specs.declared.entries.Entry.{Entry}
-use Rattle.aim_turn.specs.Models.{HasPass}
-use Rattle.aim_agent.specs.Seen.{caller_of}
-use Rattle.aim_agent.specs.Setting.{Setting}
-use Rattle.aim_agent.specs.Agents.{AgentModel, AgentPass, IsWhole}
-use Rattle.aim_agent.specs.Places.{At, IsCall, IsCallSince, Before, Earlier, SameMoment}
-use Rattle.aim_agent.specs.Went.{Went}
+use Rattle.aim_messages.specs.declared.entries.Entry.{Entry}
+use Rattle.aim_turnstile.specs.Models.{HasPass}
+use Rattle.aim_agents.specs.Seen.{caller_of}
+use Rattle.aim_agents.specs.BookSetting.{BookSetting}
+use Rattle.aim_agents.specs.Agents.{AgentModel, AgentPass, IsWhole}
+use Rattle.aim_agents.specs.Places.{At, IsCall, IsCallSince, Before, Earlier, SameMoment}
+use Rattle.aim_agents.specs.Went.{Went}
 use Rattle.aim_agents.specs.Runs.{InRun}
 
 -- the caller is the operator, or one of the agents
@@ -25,7 +25,7 @@ pub record Closes (op : AgentPass) (ys : List AgentModel) (h : List Entry) : Typ
   pub agents : All (λ a. HasPass caller_of h a.pass) ys
   pub known : (i : ℕ) (e : Entry) → At h i e → IsKnown op ys e
 
-module _ (s : Setting) where
+module _ (s : BookSetting) where
   -- one agent since it was new, beside the operator's orders: an order stands before the calls of its moment and of later ones, and behind those of earlier ones
   pub record DrivenOf (step : ℕ) (op : AgentPass) (a b : AgentModel) : Type 0 where
     pub went : Went s 0 step a b

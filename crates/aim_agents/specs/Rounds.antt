@@ -1,19 +1,19 @@
 -- What rounds do.
 use Rattle.std.specs.Prelude.{◌≡◌, ℕ, ◌+◌, ◌/◌, ◌%◌, min, ◌<◌, ◌≤◌, List, length, slice_index_or}
-use Rattle.aim_msg.specs.declared.entries.Entry.{Entry}
-use Rattle.aim_turn.specs.Models.{IsSamePass}
-use Rattle.aim_turn.specs.History.{Begins}
-use Rattle.aim_agent.specs.Setting.{Setting}
-use Rattle.aim_agent.specs.Agents.{AgentModel, AgentPass, IsWhole}
-use Rattle.aim_agent.specs.Places.{IsCallSince, Before, Any, Earlier, SameMoment}
-use Rattle.aim_agent.specs.Went.{Sees, Went}
+use Rattle.aim_messages.specs.declared.entries.Entry.{Entry}
+use Rattle.aim_turnstile.specs.Models.{IsSamePass}
+use Rattle.aim_turnstile.specs.History.{Begins}
+use Rattle.aim_agents.specs.BookSetting.{BookSetting}
+use Rattle.aim_agents.specs.Agents.{AgentModel, AgentPass, IsWhole}
+use Rattle.aim_agents.specs.Places.{IsCallSince, Before, Any, Earlier, SameMoment}
+use Rattle.aim_agents.specs.Went.{Sees, Went}
 use Rattle.aim_agents.specs.Runs.{InRun}
 
 -- ceil(count/workers)
 abbrev pub run_size : ℕ → ℕ → ℕ
 run_size count workers = count / workers + min 1 (count % workers)
 
-module _ (s : Setting) where
+module _ (s : BookSetting) where
   -- one agent in one step: its turn, what the operator then saw, and what the agent saw of the operator, which takes no
   -- step and changes its pass alone
   pub record StepOf (step : ℕ) (op : AgentPass) (a b : AgentModel) : Type 0 where

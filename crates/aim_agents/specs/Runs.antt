@@ -1,12 +1,12 @@
 -- What the agents of a run do in one step.
 use Rattle.std.specs.Prelude.{◌≡◌, ℕ, ◌+◌, ◌*◌, ◌<◌, ◌≤◌, List, length, Option, Some, None, slice_index_or, All}
-use Rattle.aim_msg.specs.declared.entries.Entry.{Entry}
-use Rattle.aim_turn.specs.Models.{TurnstileModel}
-use Rattle.aim_turn.specs.History.{Begins}
-use Rattle.aim_agent.specs.Setting.{Setting}
-use Rattle.aim_agent.specs.Agents.{AgentModel, AgentPass, AgentFront, Idles, IsWhole}
-use Rattle.aim_agent.specs.Places.{IsCallSince, Before, Any}
-use Rattle.aim_agent.specs.Went.{Sees, Went}
+use Rattle.aim_messages.specs.declared.entries.Entry.{Entry}
+use Rattle.aim_turnstile.specs.Models.{TurnstileModel}
+use Rattle.aim_turnstile.specs.History.{Begins}
+use Rattle.aim_agents.specs.BookSetting.{BookSetting}
+use Rattle.aim_agents.specs.Agents.{AgentModel, AgentPass, AgentFront, Idles, IsWhole}
+use Rattle.aim_agents.specs.Places.{IsCallSince, Before, Any}
+use Rattle.aim_agents.specs.Went.{Sees, Went}
 
 -- R holds of the first n elements, before and after, and the others are as before
 pub record Done (R : AgentModel → AgentModel → Type 0) (n : ℕ) (xs ys : List AgentModel) : Type 0 where
@@ -22,7 +22,7 @@ abbrev pub shown_by : Option AgentFront → ℕ
 shown_by None = 0
 shown_by (Some f) = length f.seen
 
-abbrev pub IsFrontOf : TurnstileModel Setting → Option AgentFront → Type 0
+abbrev pub IsFrontOf : TurnstileModel BookSetting → Option AgentFront → Type 0
 IsFrontOf t None = Unit {0}
 IsFrontOf t (Some f) = f.table ≡ t.table
 
@@ -40,7 +40,7 @@ pub record Gathered (n : ℕ) (p q : AgentPass) (xs ys : List AgentModel) : Type
   pub same : Done (λ a b. b ≡ a) n xs ys
   pub seen : (k : ℕ) (d : AgentModel) → k < n → Begins (slice_index_or xs k d).pass.seen q.seen
 
-module _ (s : Setting) where
+module _ (s : BookSetting) where
   -- the agent has seen so many entries, and made no call
   pub record Followed (shown : ℕ) (a b : AgentModel) : Type 0 where
     pub went : (step : ℕ) → Went s step step a b

@@ -1,20 +1,20 @@
 //! Rounds and orders, one after the other.
 
 ghost use Rattle.std.specs.Prelude.{◌≡◌, ℕ, ◌<◌, ◌≤◌, ◌++◌, length, map, All, [], Ok, IfOk, OnOk, OnErr};
-ghost use Rattle.aim_msg.specs.declared.entries.Act.{Act};
-ghost use Rattle.aim_msg.specs.declared.entries.TheConstants.{OPERATOR};
+ghost use Rattle.aim_messages.specs.declared.entries.Act.{Act};
+ghost use Rattle.aim_messages.specs.declared.entries.TheConstants.{OPERATOR};
 ghost use Rattle.aim_rules.specs.Legal.{IsOfLayout};
 ghost use Rattle.aim_driver.specs.Models.{step_of};
-ghost use Rattle.aim_turn.specs.Models.{IsPassOf, IsSamePass};
-ghost use Rattle.aim_agent.specs.Agents.{IsAgentOf};
+ghost use Rattle.aim_turnstile.specs.Models.{IsPassOf, IsSamePass};
+ghost use Rattle.aim_agents.specs.Agents.{IsAgentOf};
 ghost use Rattle.aim_agents.specs.Rounds.{run_size};
 ghost use Rattle.aim_agents.specs.Driven.{Driven};
 ghost use Rattle.aim_agents.specs.Orders.{AreOrders, FoundFull, CarryOrders, Given, AllGiven};
 
 use crate::steps::rounds;
-use aim_agent::{Agent, Full, Gate, Manager, ManagerPass};
-use aim_msg::Reply;
-use aim_plans::Ordered;
+use crate::{Agent, Full, Gate, Manager, ManagerPass};
+use aim_driver::Ordered;
+use aim_messages::Reply;
 use std::sync::Wait;
 use std::thread::Threads;
 

@@ -1,14 +1,14 @@
 //! The turns of one run of neighbours, and the meetings of all agents with the operator.
 
 ghost use Rattle.std.specs.Prelude.{◌≡◌, ◌+◌, ◌≤◌, length, All};
-ghost use Rattle.aim_msg.specs.declared.entries.TheConstants.{LATEST_MOMENT};
+ghost use Rattle.aim_messages.specs.declared.entries.TheConstants.{LATEST_MOMENT};
 ghost use Rattle.aim_driver.specs.Models.{step_of};
-ghost use Rattle.aim_turn.specs.Models.{IsPassOf, IsSamePass};
-ghost use Rattle.aim_agent.specs.Agents.{IsAgentOf, front_of};
-ghost use Rattle.aim_agent.specs.Went.{Met};
+ghost use Rattle.aim_turnstile.specs.Models.{IsPassOf, IsSamePass};
+ghost use Rattle.aim_agents.specs.Agents.{IsAgentOf, front_of};
+ghost use Rattle.aim_agents.specs.Went.{Met};
 ghost use Rattle.aim_agents.specs.Runs.{Behind, Done, Followed, Gathered, IsFrontOf, Ran, shown_by};
 
-use aim_agent::{Agent, Gate, Manager, ManagerFront, ManagerPass};
+use crate::{Agent, Gate, Manager, ManagerFront, ManagerPass};
 use std::sync::Wait;
 
 // Lets the agent meet the one before it, if there is one.

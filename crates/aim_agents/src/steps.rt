@@ -1,15 +1,15 @@
 //! The steps one after another, and in each the runs side by side.
 
 ghost use Rattle.std.specs.Prelude.{◌≡◌, ◌<◌, ◌≤◌, length, All};
-ghost use Rattle.aim_msg.specs.declared.entries.TheConstants.{LATEST_MOMENT};
+ghost use Rattle.aim_messages.specs.declared.entries.TheConstants.{LATEST_MOMENT};
 ghost use Rattle.aim_driver.specs.Models.{step_of};
-ghost use Rattle.aim_turn.specs.Models.{IsPassOf};
-ghost use Rattle.aim_agent.specs.Agents.{IsAgentOf};
+ghost use Rattle.aim_turnstile.specs.Models.{IsPassOf};
+ghost use Rattle.aim_agents.specs.Agents.{IsAgentOf};
 ghost use Rattle.aim_agents.specs.Runs.{AllIdle, Ran, RunsWent};
 ghost use Rattle.aim_agents.specs.Rounds.{Rounds, Stepped, run_size};
 
 use crate::runs::{gather, meet_all, run_turns};
-use aim_agent::{Agent, Gate, Manager, ManagerPass};
+use crate::{Agent, Gate, Manager, ManagerPass};
 use std::sync::Wait;
 use std::thread;
 use std::thread::Threads;

@@ -4,23 +4,21 @@ use Rattle.std.proofs.lemmas.Bool.{false_from_ne_true, both_ways, le-ltb}
 use Rattle.aim_geometry.specs.Bounded.{some_below}
 use Rattle.aim_geometry.specs.Cells.{Cell}
 use Rattle.aim_geometry.proofs.BoundedLemmas.{some_below_at, some_below_found}
-use Rattle.aim_msg.specs.declared.entries.Entry.{Entry}
-use Rattle.aim_paths.specs.Intersection.{Intersection}
+use Rattle.aim_messages.specs.declared.entries.Entry.{Entry}
+use Rattle.aim_layout.specs.Intersection.{Intersection}
 use Rattle.aim_rules.specs.History.{Fresh, fresh, now_of}
 use Rattle.aim_rules.specs.Holds.{is_granted, reservations}
-use Rattle.aim_rules.specs.Kept.{has_cell, is_owned, kept, owns}
+use Rattle.aim_rules.specs.Kept.{has_cell, is_owned, kept, owns, policy_in}
 use Rattle.aim_rules.specs.Legal.{IsLegal}
-use Rattle.aim_rules.proofs.Lists.{IsIn-test, some_passes}
+use Rattle.aim_rules.proofs.Lists.{IsIn-test, some_passes, some_below-same}
 use Rattle.aim_rules.proofs.TakenLaws.{are_below-legal, granted-lasts, kept-is, below-in, reservations-have, reservations-kept}
-use Rattle.aim_rules.specs.Kept.{policy_in}
-use Rattle.aim_rules.proofs.Lists.{some_below-same}
-use Rattle.aim_desk.specs.Changes.{is_claimed_for}
-use Rattle.aim_desk.proofs.Histories.{claimed_for_all}
+use Rattle.aim_book.specs.Changes.{is_claimed_for}
+use Rattle.aim_book.proofs.Histories.{claimed_for_all}
 use Rattle.aim_book.specs.Charted.{is_claimed_by_some, is_held}
-use Rattle.aim_desk.specs.Managed.{IsManaged}
-use Rattle.aim_desk.specs.Rows.{is_reserved, row_of}
-use Rattle.aim_desk.specs.declared.desks.Desk.{Desk}
-use Rattle.aim_desk.proofs.ManagedLemmas.{row_has}
+use Rattle.aim_book.specs.Managed.{IsManaged}
+use Rattle.aim_book.specs.Rows.{is_reserved, row_of}
+use Rattle.aim_book.specs.declared.desks.Desk.{Desk}
+use Rattle.aim_book.proofs.ManagedLemmas.{row_has}
 
 -- a cell that is not past is held exactly where some vehicle keeps it
 pub held_is : (i : Intersection) (n : ℕ) (h : List Entry) (c : Cell) → i.times.early ≤ i.times.edge → i.times.late ≤ i.times.edge → IsLegal i n h → now_of h 0 ≤ c.step → is_held i h c ≡ is_owned i n (fresh h) c
@@ -40,7 +38,7 @@ held_is i n h c before after legal l = go (is_owned i n (fresh h) c) refl
         both_ways (is_owned i n (fresh h) c) e (some_below_at n (owns i (fresh h) c) m.0.entry.caller (below-in n (fresh h) m.0 (are_below-legal i n h legal) is.there) here)))
 
 -- the cells of a row, by the rows and by the timeline
-module _ {L : Type 0} (i : Intersection) (n : ℕ) (h : List Entry) (d : Desk L) (calls : List (Option (ℕ × ℕ))) (m : IsManaged i n h (now_of h 0) d calls) (c : Cell) (l : now_of h 0 ≤ c.step) where
+module _ {L : Type 0} (i : Intersection) (n : ℕ) (h : List Entry) (d : Desk L) (m : IsManaged i n h (now_of h 0) d) (c : Cell) (l : now_of h 0 ≤ c.step) where
   pub charted_held : some_below (length d.reservations.rows.items) (λ w. is_reserved d.reservations.rows.items w c) ≡ (not (nat_lt c.step (now_of h 0)) && is_held i h c)
   charted_held =
       ap (λ k. some_below k (λ w. is_reserved d.reservations.rows.items w c)) m.desk.reserved.many

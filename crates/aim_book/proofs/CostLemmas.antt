@@ -1,15 +1,15 @@
 -- How many spans a message lets go of and takes, by the rows.
 use Rattle.std.proofs.Common.{◌≡◌, ℕ, ◌≤◌, List, Option, Some, None, refl, ◌+◌, ◌*◌, [], ◌∷◌, ◌++◌, max, ◌∙◌, subst}
 use Rattle.std.specs.Prelude.{◌-◌, min}
-use Rattle.aim_msg.specs.declared.entries.Entry.{Entry}
-use Rattle.aim_paths.specs.Intersection.{Intersection}
+use Rattle.aim_messages.specs.declared.entries.Entry.{Entry}
+use Rattle.aim_layout.specs.Intersection.{Intersection}
 use Rattle.aim_rules.specs.History.{Fresh, now_of}
-use Rattle.aim_desk.specs.Costs.{exchanged, spans_exchanged}
-use Rattle.aim_desk.specs.Reserved.{IsRowOf, rows_exchanged}
-use Rattle.aim_desk.specs.Reservation.{Reservation}
+use Rattle.aim_book.specs.Costs.{exchanged, spans_exchanged}
+use Rattle.aim_book.specs.Reserved.{IsRowOf, rows_exchanged}
+use Rattle.aim_book.specs.Reservation.{Reservation}
 use Rattle.aim_rules.proofs.HistoryLaws.{now_of-max}
 use Rattle.aim_book.specs.State.{State}
-use Rattle.aim_desk.proofs.SameLemmas.{now_next}
+use Rattle.aim_book.proofs.SameLemmas.{now_next}
 
 -- the rows are what is kept
 pub exchanged_is : (i : Intersection) (o p : Option Fresh) (old new : Option Reservation) → IsRowOf i o old → IsRowOf i p new → rows_exchanged old new ≡ exchanged i o p

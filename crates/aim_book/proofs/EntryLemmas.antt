@@ -1,10 +1,12 @@
 -- What one more entry makes of a book, and that a book is one in any ledger.
-use Rattle.std.proofs.Common.{◌≡◌, ℕ, ◌+◌, ◌≤◌, List, length, Option, ◌∙◌, ap, arith, [], ◌∷◌, ◌++◌, length-append}
-use Rattle.aim_msg.specs.declared.entries.Entry.{Entry}
-use Rattle.aim_paths.specs.Intersection.{Intersection}
+use Rattle.std.proofs.Common.{◌≡◌, ℕ, ◌+◌, ◌≤◌, List, length, refl, sym, ◌∙◌, ap, arith, [], ◌∷◌, ◌++◌, length-append}
+use Rattle.aim_messages.specs.declared.entries.Act.{Act}
+use Rattle.aim_messages.specs.declared.entries.Entry.{Entry}
+use Rattle.aim_messages.specs.declared.replies.Reply.{Reply}
+use Rattle.aim_layout.specs.Intersection.{Intersection}
 use Rattle.aim_book.specs.Books.{IsBook}
-use Rattle.aim_desk.specs.Idle.{joined}
-use Rattle.aim_desk.specs.declared.idle.IdleDesk.{IdleDesk}
+use Rattle.aim_book.specs.Idle.{joined}
+use Rattle.aim_book.specs.declared.idle_desks.IdleDesk.{IdleDesk}
 use Rattle.aim_book.specs.State.{State}
 
 pub two_more : (now before n : ℕ) → now ≡ before + 2 → now + n ≡ before + n + 2
@@ -27,9 +29,20 @@ one_more_fits items h e place room is fits at other =
 pub entry_added : (b s : State) (items : List Entry) (e : Entry) → b ≡ s → items ≡ b.journal ++ e ∷ [] → record b { journal = items } ≡ record s { journal = s.journal ++ e ∷ [] }
 entry_added b s items e same is = ap (λ js. record b { journal = js }) is ∙ ap (λ (t : State). record t { journal = t.journal ++ e ∷ [] }) same
 
+-- an entry, by what was done and what was answered
+pub entry_answered : (v at : ℕ) (did asked : Act) (r a : Reply) → did ≡ asked → r ≡ a → ◌≡◌ {A = Entry} (record { caller = v; moment = at; act = did; reply = r }) (record { caller = v; moment = at; act = asked; reply = a })
+entry_answered v at did asked r a same said = λ j. record { caller = v; moment = at; act = same j; reply = said j }
+
+-- the state with an entry more is that with the entry's own answer
+pub entry_replied : (old new : State) (e : Entry) (v at : ℕ) (did : Act) (a : Reply) → e ≡ record { caller = v; moment = at; act = did; reply = a } → new ≡ record old { journal = old.journal ++ e ∷ [] } →
+    new ≡ record old { journal = old.journal ++ (record { caller = v; moment = at; act = did; reply = e.reply }) ∷ [] }
+entry_replied old new e v at did a is grown =
+    let own : e ≡ record { caller = v; moment = at; act = did; reply = e.reply } = is ∙ entry_answered v at did did a e.reply refl (sym (ap (λ (x : Entry). x.reply) is)) in
+    grown ∙ ap (λ (x : Entry). record old { journal = old.journal ++ x ∷ [] }) own
+
 -- a book is one in any ledger, and in none
-pub in_any : {L M : Type 0} (i : Intersection) (n room : ℕ) (h : List Entry) (capacity : ℕ) (d : IdleDesk) (calls : List (Option (ℕ × ℕ))) → IsBook i n room h capacity (joined {L = L} d) calls → IsBook i n room h capacity (joined {L = M} d) calls
-in_any i n room h capacity d calls b = let m = b.managed in let r = m.desk.reserved in record {
+pub in_any : {L M : Type 0} (i : Intersection) (n room : ℕ) (h : List Entry) (capacity : ℕ) (d : IdleDesk) → IsBook i n room h capacity (joined {L = L} d) → IsBook i n room h capacity (joined {L = M} d)
+in_any i n room h capacity d b = let m = b.managed in let r = m.desk.reserved in record {
   managed = record {
     valid = m.valid;
     legal = m.legal;
@@ -41,11 +54,11 @@ in_any i n room h capacity d calls b = let m = b.managed in let r = m.desk.reser
       changes = m.desk.changes;
       distances = m.desk.distances;
       sixteen = m.desk.sixteen;
+      calls = m.desk.calls;
+      calls_many = m.desk.calls_many;
       lights = m.desk.lights;
       stopped = m.desk.stopped;
     };
-    calls_are = m.calls_are;
-    calls_many = m.calls_many;
   };
   fits = b.fits;
   reserved = b.reserved;

@@ -1,7 +1,7 @@
 -- What an answer says of the numbers that a book is opened with.
 use Rattle.std.proofs.Common.{◌≡◌, ℕ, ◌<◌, ◌≤◌, ◌⊎◌, inl, inr, Bool, true, false, Result, Ok, Err, ap, arith}
 use Rattle.std.specs.Prelude.{◌↔◌}
-use Rattle.aim_msg.specs.declared.entries.TheConstants.{MOST_ENTRIES, MOST_VEHICLES}
+use Rattle.aim_messages.specs.declared.entries.TheConstants.{MOST_ENTRIES, MOST_VEHICLES}
 use Rattle.aim_book.specs.declared.book.OpenFault.{OpenFault}
 use Rattle.aim_book.specs.declared.book.OpenFault.TheVariants as fault
 

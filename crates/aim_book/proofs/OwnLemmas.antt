@@ -6,8 +6,8 @@ use Rattle.std.proofs.lemmas.Bool.{eqb-true, ne_eqb}
 use Rattle.std.proofs.lemmas.List.{append-nil, map-append}
 use Rattle.std.proofs.lemmas.List.Elements.{filter-append}
 use Rattle.aim_geometry.specs.Bounded.{last, since_last}
-use Rattle.aim_msg.specs.declared.entries.Entry.{Entry}
-use Rattle.aim_msg.specs.declared.messages.Message.{Message}
+use Rattle.aim_messages.specs.declared.entries.Entry.{Entry}
+use Rattle.aim_messages.specs.declared.messages.Message.{Message}
 use Rattle.aim_rules.specs.History.{Fresh, fresh, given_up, is_above, is_confirm, is_fresh, is_fresh_message, is_fresh_seq, message_from, message_of, of_vehicle}
 use Rattle.aim_rules.specs.Holds.{is_number, last_confirm}
 use Rattle.aim_rules.proofs.HistoryLaws.{fresh-none, fresh-one}

@@ -1,14 +1,14 @@
 -- How many sheets are kept, by the history.
 use Rattle.std.proofs.Common.{◌≡◌, ℕ, ◌≤◌, Bool, true, false, List, [], ◌∷◌, ◌++◌, length, Option, Some, None, refl, sym, ◌∙◌, ap, arith, subst, inl, inr, length-append}
 use Rattle.std.specs.Prelude.{◌==◌, option_and_then, if◌then◌else◌, filter_map}
-use Rattle.aim_msg.specs.declared.entries.Act.{Act}
-use Rattle.aim_msg.specs.declared.entries.Act.TheVariants as act
-use Rattle.aim_msg.specs.declared.entries.Entry.{Entry}
-use Rattle.aim_msg.specs.declared.messages.Body.{Body}
-use Rattle.aim_msg.specs.declared.messages.Body.TheVariants as body
-use Rattle.aim_msg.specs.declared.messages.Params.{Params}
-use Rattle.aim_msg.specs.declared.replies.Reply.{Reply}
-use Rattle.aim_paths.specs.Intersection.{Intersection}
+use Rattle.aim_messages.specs.declared.entries.Act.{Act}
+use Rattle.aim_messages.specs.declared.entries.Act.TheVariants as act
+use Rattle.aim_messages.specs.declared.entries.Entry.{Entry}
+use Rattle.aim_messages.specs.declared.messages.Body.{Body}
+use Rattle.aim_messages.specs.declared.messages.Body.TheVariants as body
+use Rattle.aim_messages.specs.declared.messages.Params.{Params}
+use Rattle.aim_messages.specs.declared.replies.Reply.{Reply}
+use Rattle.aim_layout.specs.Intersection.{Intersection}
 use Rattle.aim_rules.specs.Answer.{Asked, answer, answer_fresh}
 use Rattle.aim_rules.specs.Cells.{IsIn}
 use Rattle.aim_rules.specs.History.{Fresh, fresh, is_confirm, is_fresh, is_fresh_seq, now_of, of_vehicle, params_of}
@@ -22,10 +22,10 @@ use Rattle.aim_rules.proofs.LegalLemmas.{IsLegal-before}
 use Rattle.aim_rules.proofs.Lists.{from_front, IsIn-filter, IsIn-snoc, last-in, last-test}
 use Rattle.aim_rules.proofs.PolicyLaws.{changes-snoc}
 use Rattle.aim_rules.proofs.TakenLaws.{last_legal}
-use Rattle.aim_desk.specs.Keeping.{row_count}
-use Rattle.aim_desk.specs.Reserved.{IsRowOf}
+use Rattle.aim_book.specs.Keeping.{row_count}
+use Rattle.aim_book.specs.Reserved.{IsRowOf}
 use Rattle.aim_book.specs.Sheets.{id_in, sheets_kept, sheets_with}
-use Rattle.aim_desk.specs.Reservation.{Reservation}
+use Rattle.aim_book.specs.Reservation.{Reservation}
 
 asks : (a : Asked) (b : Body) → is_confirm (answer_fresh a b) ≡ true → (p : Params) × (params_of b ≡ Some p)
 asks a (body.Cancel id) e = absurd (cc)

@@ -1,10 +1,10 @@
 -- The cells that a chart marks.
 use Rattle.std.specs.Prelude.{Bool, List, length}
 use Rattle.std.specs.List.{list_any}
-use Rattle.aim_msg.specs.declared.entries.Entry.{Entry}
+use Rattle.aim_messages.specs.declared.entries.Entry.{Entry}
 use Rattle.aim_geometry.specs.Bounded.{some_below}
 use Rattle.aim_geometry.specs.Cells.{Cell}
-use Rattle.aim_paths.specs.Intersection.{Intersection}
+use Rattle.aim_layout.specs.Intersection.{Intersection}
 use Rattle.aim_rules.specs.Claims.{is_claimed}
 use Rattle.aim_rules.specs.History.{fresh, now_of}
 use Rattle.aim_rules.specs.Holds.{is_granted, reservations}

@@ -1,4 +1,15 @@
-pub use Rattle.aim_desk.specs.Shapes
+pub use Rattle.aim_reservations.specs.Rows
+pub use Rattle.aim_reservations.specs.declared.reservations.Reservation
+pub use Rattle.aim_reservations.specs.Keeping
+pub use Rattle.aim_requests.specs.Requests
+pub use Rattle.aim_requests.specs.Shapes
+pub use Rattle.aim_policies.specs.Changes
+pub mod Costs
+pub mod Reserved
+pub mod Desk
+pub mod Asking
+pub mod Managed
+pub mod Idle
 pub mod State
 pub mod Sheets
 pub mod Books

@@ -1,8 +1,8 @@
 -- How many sheets a book keeps for a vehicle.
 use Rattle.std.specs.Prelude.{ℕ, ◌==◌, List, filter, Option, Some, None, option_and_then, if◌then◌else◌}
-use Rattle.aim_msg.specs.declared.entries.Entry.{Entry}
-use Rattle.aim_msg.specs.declared.replies.Reply.{Reply}
-use Rattle.aim_msg.specs.declared.replies.Reply.TheVariants as reply
+use Rattle.aim_messages.specs.declared.entries.Entry.{Entry}
+use Rattle.aim_messages.specs.declared.replies.Reply.{Reply}
+use Rattle.aim_messages.specs.declared.replies.Reply.TheVariants as reply
 use Rattle.aim_rules.specs.History.{Fresh, fresh}
 use Rattle.aim_rules.specs.Holds.{is_given_up, last_confirm}
 

@@ -1,9 +1,9 @@
 //! The book: a layout and the journal of what was asked and answered over it.
 
-use aim_desk::{Approaches, Desk, Prepared, Shapes};
-use aim_msg::{Act, Entry, MOST_ENTRIES, MOST_VEHICLES, Message, OPERATOR, Order, Reply};
-use aim_paths::Layout;
-use aim_pool::Pool;
+use crate::{Desk, Prepared, Shapes};
+use aim_layout::Layout;
+use aim_messages::{Act, Entry, MOST_ENTRIES, MOST_VEHICLES, Message, OPERATOR, Order, Reply};
+use aim_sheets::Pool;
 use aim_tiles::Steps;
 use std::alloc::{AllocError, Global};
 use std::marker::Model;
@@ -33,7 +33,6 @@ pub struct Book<L: Ledger> {
     pub(crate) room: u32,
     pub(crate) journal: Vec<Entry>,
     pub(crate) desk: Desk<L>,
-    pub(crate) approaches: Approaches,
 }
 
 impl<L: Ledger> Model for Book<L> {
@@ -46,21 +45,22 @@ impl<L: Ledger> Model for Book<L> {
 
     ghost view = { λ b. record { layout = b.layout; vehicles = b.vehicles; room = b.room; journal = b.journal.items } };
 
-    ghost invariant = { λ b. IsBook b.layout b.vehicles b.room b.journal.items (vec_capacity b.journal) b.desk b.approaches };
+    ghost invariant = { λ b. IsBook b.layout b.vehicles b.room b.journal.items (vec_capacity b.journal) b.desk };
 }
 
 impl<L: Ledger> Book<L> {
     ghost use Rattle.std.specs.Prelude.{◌≡◌, ℕ, ◌+◌, ◌*◌, ◌-◌, min, ◌<◌, ◌≤◌, ◌⊎◌, ◌&&◌, not, nat_lt, ◌++◌, ◌∷◌, [], ◌↔◌, length, IfOk, OnErr, IsErr, Err};
     ghost use Rattle.aim_geometry.specs.Cells.{cell_at};
     ghost use Rattle.aim_geometry.specs.Rects.{has_bit};
-    ghost use Rattle.aim_msg.specs.declared.entries.TheConstants.{LATEST_MOMENT, MOST_ENTRIES, MOST_VEHICLES, OPERATOR};
-    ghost use Rattle.aim_desk.specs.Requests.{IsPreparedFor};
-    ghost use Rattle.aim_desk.specs.Shapes.{ArePreparedFor};
+    ghost use Rattle.aim_messages.specs.declared.entries.TheConstants.{LATEST_MOMENT, MOST_ENTRIES, MOST_VEHICLES, OPERATOR};
+    ghost use Rattle.aim_book.specs.Requests.{IsPreparedFor};
+    ghost use Rattle.aim_book.specs.Shapes.{ArePreparedFor};
     ghost use Rattle.aim_rules.specs.Answer.{answer};
     ghost use Rattle.aim_rules.specs.History.{now_of, params_of};
+    ghost use Rattle.aim_rules.specs.Journals.{entry_of};
     ghost use Rattle.aim_rules.specs.Legal.{IsLegal, IsOfLayout};
     ghost use Rattle.aim_book.specs.Charted.{is_claimed_by_some, is_held};
-    ghost use Rattle.aim_desk.specs.Costs.{asked_spans, spans_exchanged};
+    ghost use Rattle.aim_book.specs.Costs.{asked_spans, spans_exchanged};
     ghost use Rattle.aim_book.specs.Sheets.{sheets_kept};
 
     /// A book with an empty journal, for that many vehicles and that many entries. It takes all its memory here.
@@ -76,19 +76,12 @@ impl<L: Ledger> Book<L> {
         ensures room { (result ≡ Err OpenFault.Room) ↔ ((0 < vehicles) × (vehicles ≤ MOST_VEHICLES) × ((room ≡ 0) ⊎ (MOST_ENTRIES < room))) }
     {
         match new_parts(alloc, &layout, vehicles, room) {
-            Ok(
-                Parts {
-                    journal,
-                    desk,
-                    approaches,
-                },
-            ) => Ok(Book {
+            Ok(Parts { journal, desk }) => Ok(Book {
                 layout,
                 vehicles,
                 room,
                 journal,
                 desk,
-                approaches,
             }),
             Err(fault) => Err(fault),
         }
@@ -125,7 +118,7 @@ impl<L: Ledger> Book<L> {
             prepared.give_back(back);
             return Err(Full);
         }
-        Ok(self.answer(vehicle, moment, prepared, back, steps))
+        Ok(self.answer(vehicle, moment, prepared, back, steps).reply)
     }
 
     // Answers a message of a vehicle at a moment, and keeps both in the journal, which has room for them.
@@ -136,16 +129,15 @@ impl<L: Ledger> Book<L> {
         prepared: Prepared,
         back: &mut Pool,
         steps: &mut Steps<L>,
-    ) -> Reply
+    ) -> Entry
         requires vehicle { vehicle < self.old.vehicles }
         requires moment { moment ≤ LATEST_MOMENT }
         requires prepared { IsPreparedFor self.old.layout prepared }
         requires count { back.old.count ≤ 1000000 }
         requires room { back.old.room ≡ self.old.layout.grid.spans }
         requires place { length self.old.journal ≡ self.old.room → ⊥ }
-        ensures reply { result ≡ answer self.old.layout self.old.journal vehicle moment (Act.Message prepared.message) }
-        ensures entry { self.new
-            ≡ record self.old { journal = self.old.journal ++ (record { caller = vehicle; moment = moment; act = Act.Message prepared.message; reply = result }) ∷ [] } }
+        ensures entry { result ≡ entry_of self.old.layout self.old.journal (record { caller = vehicle; moment = moment; act = Act.Message prepared.message }) }
+        ensures journal { self.new ≡ record self.old { journal = self.old.journal ++ result ∷ [] } }
         ensures legal { IsLegal self.new.layout self.new.vehicles self.new.journal }
         ensures sheets { back.new.count + sheets_kept vehicle self.new.journal ≡ back.old.count + sheets_kept vehicle self.old.journal + 2 }
         ensures pool { back.new.room ≡ back.old.room }
@@ -155,28 +147,12 @@ impl<L: Ledger> Book<L> {
     {
         let place = self.journal.len() as u32;
         let message = *prepared.message();
-        let reply = self.desk.serve(
-            &self.layout,
-            &mut self.approaches,
-            vehicle,
-            place,
-            moment,
-            prepared,
-            back,
-            steps,
-        );
-        self.journal.push_reserved(Entry {
-            caller: vehicle,
-            moment,
-            act: Act::Message(message),
-            reply,
-        });
-        reply
+        let reply = self.desk.serve(&self.layout, vehicle, place, moment, prepared, back, steps);
+        let act = Act::Message(message);
+        enter(&mut self.journal, vehicle, moment, act, reply)
     }
 
-    /// Answers a message of a vehicle at a moment, and keeps both in the journal. Only where the answer depends on the cells of
-    /// a crossing they are prepared, in two sheets of the pool, from its shape where that is kept: the sheet of the trial that
-    /// a fresh Confirm grants is kept, and each sheet that isn't kept comes into the pool.
+    /// Answers a message of a vehicle at a moment, and keeps both in the journal, as `enter_message` does.
     pub fn serve_message(
         &mut self,
         vehicle: u32,
@@ -205,13 +181,46 @@ impl<L: Ledger> Book<L> {
             + spans_exchanged self.old.layout vehicle self.old.journal self.new.journal
             + self.old.layout.grid.n * min (now_of self.new.journal 0 - now_of self.old.journal 0) self.old.layout.times.horizon }
     {
+        let entry = self.enter_message(vehicle, moment, message, shapes, pool, steps)?;
+        Ok(entry.reply)
+    }
+
+    /// Answers a message of a vehicle at a moment, keeps both in the journal, and gives this entry. Only where the answer
+    /// depends on the cells of a crossing they are prepared, in two sheets of the pool, from its shape where that is kept: the
+    /// sheet of the trial that a fresh Confirm grants is kept, and each sheet that isn't kept comes into the pool.
+    pub fn enter_message(
+        &mut self,
+        vehicle: u32,
+        moment: u32,
+        message: &Message,
+        shapes: &mut Shapes,
+        pool: &mut Pool,
+        steps: &mut Steps<L>,
+    ) -> Result<Entry, Full>
+        requires vehicle { vehicle < self.old.vehicles }
+        requires moment { moment ≤ LATEST_MOMENT }
+        requires known { ArePreparedFor self.old.layout shapes.old }
+        requires two { 2 ≤ pool.old.count }
+        requires count { pool.old.count ≤ 1000000 }
+        requires room { pool.old.room ≡ self.old.layout.grid.spans }
+        ensures entry { IfOk result (λ e. e ≡ entry_of self.old.layout self.old.journal (record { caller = vehicle; moment = moment; act = Act.Message message.now })) }
+        ensures journal { IfOk result (λ e. self.new ≡ record self.old { journal = self.old.journal ++ e ∷ [] }) }
+        ensures full { IsErr result ↔ (length self.old.journal ≡ self.old.room) }
+        ensures err { OnErr result (self.new ≡ self.old) }
+        ensures legal { IsLegal self.new.layout self.new.vehicles self.new.journal }
+        ensures sheets { pool.new.count + sheets_kept vehicle self.new.journal ≡ pool.old.count + sheets_kept vehicle self.old.journal }
+        ensures known { ArePreparedFor self.old.layout shapes.new }
+        ensures pool { pool.new.room ≡ pool.old.room }
+        ensures cost { steps.new ≤ steps.old + asked_spans self.old.layout (params_of message.now.body)
+            + spans_exchanged self.old.layout vehicle self.old.journal self.new.journal
+            + self.old.layout.grid.n * min (now_of self.new.journal 0 - now_of self.old.journal 0) self.old.layout.times.horizon }
+    {
         let place = self.journal.len();
         if place == self.room as usize {
             return Err(Full);
         }
         let reply = self.desk.serve_message(
             &self.layout,
-            &mut self.approaches,
             vehicle,
             place as u32,
             moment,
@@ -220,13 +229,8 @@ impl<L: Ledger> Book<L> {
             pool,
             steps,
         );
-        self.journal.push_reserved(Entry {
-            caller: vehicle,
-            moment,
-            act: Act::Message(*message),
-            reply,
-        });
-        Ok(reply)
+        let act = Act::Message(*message);
+        Ok(enter(&mut self.journal, vehicle, moment, act, reply))
     }
 
     /// Takes an order of the operator at a moment, and keeps it with its answer in the journal.
@@ -247,17 +251,33 @@ impl<L: Ledger> Book<L> {
         ensures cost { steps.new ≤ steps.old
             + self.old.layout.grid.n * min (now_of self.new.journal 0 - now_of self.old.journal 0) self.old.layout.times.horizon }
     {
+        let entry = self.enter_order(moment, order, steps)?;
+        Ok(entry.reply)
+    }
+
+    /// Takes an order of the operator at a moment, keeps it with its answer in the journal, and gives this entry.
+    pub fn enter_order(
+        &mut self,
+        moment: u32,
+        order: Order,
+        steps: &mut Steps<L>,
+    ) -> Result<Entry, Full>
+        requires moment { moment ≤ LATEST_MOMENT }
+        requires order { IsOfLayout self.old.layout self.old.vehicles OPERATOR (Act.Order order) }
+        ensures entry { IfOk result (λ e. e ≡ entry_of self.old.layout self.old.journal (record { caller = OPERATOR; moment = moment; act = Act.Order order })) }
+        ensures journal { IfOk result (λ e. self.new ≡ record self.old { journal = self.old.journal ++ e ∷ [] }) }
+        ensures full { IsErr result ↔ (length self.old.journal ≡ self.old.room) }
+        ensures err { OnErr result (self.new ≡ self.old) }
+        ensures legal { IsLegal self.new.layout self.new.vehicles self.new.journal }
+        ensures cost { steps.new ≤ steps.old
+            + self.old.layout.grid.n * min (now_of self.new.journal 0 - now_of self.old.journal 0) self.old.layout.times.horizon }
+    {
         if self.journal.len() == self.room as usize {
             return Err(Full);
         }
         let reply = self.desk.operate(&self.layout, moment, order, steps);
-        self.journal.push_reserved(Entry {
-            caller: OPERATOR,
-            moment,
-            act: Act::Order(order),
-            reply,
-        });
-        Ok(reply)
+        let act = Act::Order(order);
+        Ok(enter(&mut self.journal, OPERATOR, moment, act, reply))
     }
 
     /// The columns of a step's row that vehicles hold, and those that lanes claim by their greens, one bit each; none where
@@ -273,8 +293,6 @@ impl<L: Ledger> Book<L> {
         if step < desk.reservations.now() {
             return (0, 0);
         }
-        // This call only tells the range of the grid.
-        let _ground = self.layout.ground();
         let claims = desk.timeline.claims(&self.layout, step, None);
         (desk.reservations.mask(step, row), claims[row as usize])
     }
@@ -310,7 +328,6 @@ impl<L: Ledger> Book<L> {
             room: _,
             journal,
             desk: _,
-            approaches: _,
         } = self;
         journal
     }
@@ -330,15 +347,31 @@ impl<L: Ledger> Book<L> {
     }
 }
 
-ghost use Rattle.std.specs.Prelude.{◌≡◌, ℕ, ◌<◌, ◌≤◌, ◌⊎◌, ◌↔◌, [], None, IfOk, Err, vec_capacity};
-ghost use Rattle.aim_msg.specs.declared.entries.TheConstants.{MOST_ENTRIES, MOST_VEHICLES};
+ghost use Rattle.std.specs.Prelude.{◌≡◌, ℕ, ◌<◌, ◌≤◌, ◌⊎◌, ◌↔◌, ◌++◌, ◌∷◌, [], length, IfOk, Err, vec_capacity};
+ghost use Rattle.aim_messages.specs.declared.entries.TheConstants.{MOST_ENTRIES, MOST_VEHICLES};
 ghost use Rattle.aim_book.specs.Books.{IsBook};
+
+// Enters what a caller did at a moment, and what it was answered, in a journal that has the room for it.
+fn enter(journal: &mut Vec<Entry>, caller: u32, moment: u32, act: Act, reply: Reply) -> Entry
+    requires room { length journal.old.items < vec_capacity journal.old }
+    ensures entry { result ≡ record { caller = caller; moment = moment; act = act; reply = reply } }
+    ensures items { journal.new.items ≡ journal.old.items ++ result ∷ [] }
+    ensures capacity { vec_capacity journal.new ≡ vec_capacity journal.old }
+{
+    let entry = Entry {
+        caller,
+        moment,
+        act,
+        reply,
+    };
+    journal.push_reserved(entry);
+    entry
+}
 
 // What a book has beside its layout and its numbers.
 struct Parts<L: Ledger> {
     journal: Vec<Entry>,
     desk: Desk<L>,
-    approaches: Approaches,
 }
 
 // The parts of a new book of so many vehicles and so many entries.
@@ -350,16 +383,11 @@ fn allocated<L: Ledger>(
 ) -> Result<Parts<L>, AllocError>
     requires vehicles { vehicles ≤ MOST_VEHICLES }
     requires room { room ≤ MOST_ENTRIES }
-    ensures { IfOk result (λ p. (p.journal.items ≡ []) × IsBook layout.now vehicles room p.journal.items (vec_capacity p.journal) p.desk p.approaches) }
+    ensures { IfOk result (λ p. (p.journal.items ≡ []) × IsBook layout.now vehicles room p.journal.items (vec_capacity p.journal) p.desk) }
 {
     let journal = Vec::with_capacity(alloc, room as usize)?;
-    let approaches = Approaches::new(alloc, vehicles)?;
     let desk = Desk::new(alloc, layout, vehicles, room)?;
-    Ok(Parts {
-        journal,
-        desk,
-        approaches,
-    })
+    Ok(Parts { journal, desk })
 }
 
 // The parts of a new book, or why it isn't opened.
@@ -369,7 +397,7 @@ fn new_parts<L: Ledger>(
     vehicles: u32,
     room: u32,
 ) -> Result<Parts<L>, OpenFault>
-    ensures new { IfOk result (λ p. (p.journal.items ≡ []) × IsBook layout.now vehicles room p.journal.items (vec_capacity p.journal) p.desk p.approaches) }
+    ensures new { IfOk result (λ p. (p.journal.items ≡ []) × IsBook layout.now vehicles room p.journal.items (vec_capacity p.journal) p.desk) }
     ensures vehicles { (result ≡ Err OpenFault.Vehicles) ↔ ((vehicles ≡ 0) ⊎ (MOST_VEHICLES < vehicles)) }
     ensures room { (result ≡ Err OpenFault.Room) ↔ ((0 < vehicles) × (vehicles ≤ MOST_VEHICLES) × ((room ≡ 0) ⊎ (MOST_ENTRIES < room))) }
 {

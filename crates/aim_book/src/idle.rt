@@ -1,9 +1,9 @@
 //! A book that belongs to no ledger.
 
+use crate::IdleDesk;
 use crate::book::{Book, OpenFault};
-use aim_desk::{Approaches, IdleDesk};
-use aim_msg::Entry;
-use aim_paths::Layout;
+use aim_layout::Layout;
+use aim_messages::Entry;
 use aim_tiles::Steps;
 use std::alloc::Global;
 use std::marker::{Brand, Model};
@@ -17,7 +17,6 @@ pub struct IdleBook {
     room: u32,
     journal: Vec<Entry>,
     desk: IdleDesk,
-    approaches: Approaches,
 }
 
 impl Model for IdleBook {
@@ -27,15 +26,15 @@ impl Model for IdleBook {
     ghost Value = { State };
 
     ghost use Rattle.aim_book.specs.Books.{IsBook};
-    ghost use Rattle.aim_desk.specs.Idle.{joined};
+    ghost use Rattle.aim_book.specs.Idle.{joined};
 
     ghost view = { λ b. record { layout = b.layout; vehicles = b.vehicles; room = b.room; journal = b.journal.items } };
 
-    ghost invariant = { λ b. IsBook b.layout b.vehicles b.room b.journal.items (vec_capacity b.journal) (joined {L = Unit {0}} b.desk) b.approaches };
+    ghost invariant = { λ b. IsBook b.layout b.vehicles b.room b.journal.items (vec_capacity b.journal) (joined {L = Unit {0}} b.desk) };
 }
 
 ghost use Rattle.std.specs.Prelude.{◌≡◌, ◌<◌, ◌≤◌, ◌⊎◌, ◌↔◌, [], IfOk, Err};
-ghost use Rattle.aim_msg.specs.declared.entries.TheConstants.{MOST_ENTRIES, MOST_VEHICLES};
+ghost use Rattle.aim_messages.specs.declared.entries.TheConstants.{MOST_ENTRIES, MOST_VEHICLES};
 ghost use Rattle.aim_rules.specs.Legal.{IsLegal};
 
 impl<L: Ledger> Book<L> {
@@ -49,7 +48,6 @@ impl<L: Ledger> Book<L> {
             room,
             journal,
             desk,
-            approaches,
         } = self;
         IdleBook {
             layout,
@@ -57,7 +55,6 @@ impl<L: Ledger> Book<L> {
             room,
             journal,
             desk: desk.leave(steps),
-            approaches,
         }
     }
 }
@@ -88,7 +85,6 @@ impl IdleBook {
             room,
             journal,
             desk,
-            approaches,
         } = self;
         Book {
             layout,
@@ -96,7 +92,6 @@ impl IdleBook {
             room,
             journal,
             desk: desk.join(),
-            approaches,
         }
     }
 

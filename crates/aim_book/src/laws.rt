@@ -1,7 +1,7 @@
 //! The law of how many sheets a book keeps: it is a question about the vehicle's own entries alone.
 
 ghost use Rattle.std.specs.Prelude.{◌≡◌, ℕ, List, [], ◌∷◌, ◌++◌};
-ghost use Rattle.aim_msg.specs.declared.entries.Entry.{Entry};
+ghost use Rattle.aim_messages.specs.declared.entries.Entry.{Entry};
 ghost use Rattle.aim_book.specs.Sheets.{own, sheets_kept};
 
 /// How many sheets are kept for a vehicle is told by the entries of that vehicle, over any history: none by the empty one,

@@ -6,17 +6,17 @@ use Rattle.std.proofs.lemmas.Bool.{cases_lt, cases_eq}
 use Rattle.std.proofs.lemmas.List.{get_or_append_left, get_or-append_right, get_or-map, get_or_push, length-map}
 use Rattle.std.proofs.lemmas.List.Sorted.{Contains-permutation, IsPermutation-sym}
 use Rattle.std.proofs.lemmas.List.Sums.{sum_by-le, sum_by-append}
-use Rattle.aim_msg.specs.declared.entries.Entry.{Entry}
+use Rattle.aim_messages.specs.declared.entries.Entry.{Entry}
 use Rattle.aim_driver.specs.declared.logs.LogItem.{LogItem}
 use Rattle.aim_driver.specs.Follows.{Call}
 use Rattle.aim_driver.specs.Fits.{call_of}
 use Rattle.aim_driver.proofs.CountLemmas.{follows_few}
-use Rattle.aim_turn.specs.Models.{HasPass}
-use Rattle.aim_turn.specs.History.{entries_of}
-use Rattle.aim_agents.specs.Setting.{Setting}
+use Rattle.aim_turnstile.specs.Models.{HasPass}
+use Rattle.aim_turnstile.specs.History.{entries_of}
+use Rattle.aim_agents.specs.BookSetting.{BookSetting}
 use Rattle.aim_agents.specs.Seen.{caller_of, callers}
-use Rattle.aim_agents.specs.Trouble.{Trouble}
-use Rattle.aim_agents.specs.Trouble.TheVariants as trouble
+use Rattle.aim_agents.specs.declared.agents.Trouble.{Trouble}
+use Rattle.aim_agents.specs.declared.agents.Trouble.TheVariants as trouble
 use Rattle.aim_agents.specs.Agents.{AgentModel, AgentPass, IsFull}
 use Rattle.aim_agents.specs.Followed.{IsNew}
 use Rattle.aim_agents.specs.Went.{Carry, Went, replies}
@@ -49,7 +49,7 @@ seek (x ∷ xs) n =
 abbrev pub IsAgents : List AgentModel → ℕ → Type 0
 IsAgents ys n = (j : ℕ) × (j < length ys) × ((d : AgentModel) → n ≡ (get_or ys j d).pass.number)
 
-module _ (s : Setting) (rest : List AgentPass) (ys : List AgentModel) (op : AgentPass) (h : List Entry) where
+module _ (s : BookSetting) (rest : List AgentPass) (ys : List AgentModel) (op : AgentPass) (h : List Entry) where
   abbrev ps : List AgentPass
   ps = rest ++ map pass_of ys
 
@@ -156,7 +156,7 @@ length_carry : (es : List Entry) (calls : List Call) → Carry es calls → leng
 length_carry es calls c = sym (length-map es call_of) ∙ ap (λ (l : List (Option Call)). length l) c ∙ length-map calls (λ (x : Call). Some x)
 
 -- a new agent with memory makes few calls
-pub few_calls : (s : Setting) (first last : ℕ) (a b : AgentModel) → IsNew a → Went s first last a b → b.trouble ≢ Some trouble.NoMemory → length b.pass.mine ≤ 128
+pub few_calls : (s : BookSetting) (first last : ℕ) (a b : AgentModel) → IsNew a → Went s first last a b → b.trouble ≢ Some trouble.NoMemory → length b.pass.mine ≤ 128
 few_calls s first last a b new went memory = go b.trouble refl
   where
     go : (t : Option Trouble) → b.trouble ≡ t → length b.pass.mine ≤ 128
@@ -176,13 +176,13 @@ few_calls s first last a b new went memory = go b.trouble refl
         omega arith
 
 -- where the journal has room left, an agent with memory has no trouble
-pub is_calm : (s : Setting) (h : List Entry) (b : AgentModel) → HasPass caller_of h b.pass → b.pass.setting ≡ Some s → length h < s.room → b.trouble ≢ Some trouble.NoMemory → (b.trouble ≡ Some trouble.Full → IsFull b.pass) → b.trouble ≡ None
+pub is_calm : (s : BookSetting) (h : List Entry) (b : AgentModel) → HasPass caller_of h b.pass → b.pass.setting ≡ Some s → length h < s.room → b.trouble ≢ Some trouble.NoMemory → (b.trouble ≡ Some trouble.Full → IsFull b.pass) → b.trouble ≡ None
 is_calm s h b has own room memory full = go b.trouble refl
   where
     go : (t : Option Trouble) → b.trouble ≡ t → b.trouble ≡ None
     go None e = e
     go (Some trouble.NoMemory) e = absurd (memory e)
     go (Some trouble.Full) e =
-        let f : length b.pass.seen ≡ s.room = subst (λ (o : Option Setting). IsSomeAnd o (λ s. length b.pass.seen ≡ s.room)) own (full e) in
+        let f : length b.pass.seen ≡ s.room = subst (λ (o : Option BookSetting). IsSomeAnd o (λ s. length b.pass.seen ≡ s.room)) own (full e) in
         let l : length b.pass.seen ≤ length h = length_begins b.pass.seen h has.0 in
         absurd (omega arith)

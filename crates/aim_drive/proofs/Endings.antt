@@ -4,11 +4,11 @@ use Rattle.std.specs.Prelude.{All, OnOk, OnErr}
 use Rattle.std.proofs.lemmas.List.{length-map, append-nil, drop_all, take_all}
 use Rattle.std.proofs.lemmas.List.Elements.{All-map, All-append}
 use Rattle.std.proofs.lemmas.List.Sorted.{length_permutation}
-use Rattle.aim_msg.specs.declared.entries.Entry.{Entry}
+use Rattle.aim_messages.specs.declared.entries.Entry.{Entry}
 use Rattle.aim_agents.specs.Full.{Full}
-use Rattle.aim_turn.specs.Models.{TurnstileModel}
-use Rattle.aim_agents.specs.Setting.{Setting}
-use Rattle.aim_plans.specs.declared.scripts.Planned.{Planned}
+use Rattle.aim_turnstile.specs.Models.{TurnstileModel}
+use Rattle.aim_agents.specs.BookSetting.{BookSetting}
+use Rattle.aim_drive_script.specs.declared.scripts.Planned.{Planned}
 use Rattle.aim_agents.specs.Agents.{AgentModel, AgentPass}
 use Rattle.aim_agents.proofs.Passes.{length_begins}
 use Rattle.aim_agents.specs.Rounds.{run_size}
@@ -21,25 +21,25 @@ use Rattle.aim_drive.proofs.Seats.{pass_of, left_new, count_all}
 use Rattle.aim_drive.proofs.Closings.{has_agents, has_operator, short, few_calls, is_calm}
 
 -- the agents took their turns of all steps below one
-pub record Rode (s : Setting) (size : ℕ) (xs ys : List AgentModel) : Type 0 where
+pub record Rode (s : BookSetting) (size : ℕ) (xs ys : List AgentModel) : Type 0 where
   pub step : ℕ
   pub before : AgentPass
   pub driven : Driven s step size before xs ys
 
-rode : (s : Setting) (until size : ℕ) (op : AgentPass) (xs ys : List AgentModel) (orders : ℕ) (r : Result (Unit {0}) Full) → OnOk r (Driven s until size op xs ys) → OnErr r (FoundFull s until size op xs ys orders) → Rode s size xs ys
+rode : (s : BookSetting) (until size : ℕ) (op : AgentPass) (xs ys : List AgentModel) (orders : ℕ) (r : Result (Unit {0}) Full) → OnOk r (Driven s until size op xs ys) → OnErr r (FoundFull s until size op xs ys orders) → Rode s size xs ys
 rode s until size op xs ys orders (Ok u) d f = record { step = until; before = op; driven = d }
 rode s until size op xs ys orders (Err e) d f = record { step = f.step; before = f.before; driven = f.driven }
 
 -- the same, of what was lent
-ridden : (s : Setting) (until workers : ℕ) (op : AgentPass) (xs l ys : List AgentModel) (orders : ℕ) (r : Result (Unit {0}) Full) → l ≡ xs → OnOk r (Driven s until (run_size (length l) workers) op l ys)
+ridden : (s : BookSetting) (until workers : ℕ) (op : AgentPass) (xs l ys : List AgentModel) (orders : ℕ) (r : Result (Unit {0}) Full) → l ≡ xs → OnOk r (Driven s until (run_size (length l) workers) op l ys)
     → OnErr r (FoundFull s until (run_size (length l) workers) op l ys orders) → Rode s (run_size (length xs) workers) xs ys
 ridden s until workers op xs l ys orders r e d f = subst (λ (z : List AgentModel). Rode s (run_size (length z) workers) z ys) e (rode s until (run_size (length l) workers) op l ys orders r d f)
 
-pub lent_full : (s : Setting) (until workers : ℕ) (op : AgentPass) (xs l ys : List AgentModel) (n k : ℕ) → l ≡ xs → n ≡ k → FoundFull s until (run_size (length l) workers) op l ys n → FoundFull s until (run_size (length xs) workers) op xs ys k
+pub lent_full : (s : BookSetting) (until workers : ℕ) (op : AgentPass) (xs l ys : List AgentModel) (n k : ℕ) → l ≡ xs → n ≡ k → FoundFull s until (run_size (length l) workers) op l ys n → FoundFull s until (run_size (length xs) workers) op xs ys k
 lent_full s until workers op xs l ys n k e en f =
     subst (λ (z : List AgentModel). FoundFull s until (run_size (length z) workers) op z ys k) e (subst (λ (i : ℕ). FoundFull s until (run_size (length l) workers) op l ys i) en f)
 
-pub lent_driven : (s : Setting) (until workers : ℕ) (op : AgentPass) (xs l ys : List AgentModel) → l ≡ xs → Driven s until (run_size (length l) workers) op l ys → Driven s until (run_size (length xs) workers) op xs ys
+pub lent_driven : (s : BookSetting) (until workers : ℕ) (op : AgentPass) (xs l ys : List AgentModel) → l ≡ xs → Driven s until (run_size (length l) workers) op l ys → Driven s until (run_size (length xs) workers) op xs ys
 lent_driven s until workers op xs l ys e d = subst (λ (z : List AgentModel). Driven s until (run_size (length z) workers) op z ys) e d
 
 -- a list that was lent whole, and came back
@@ -48,11 +48,11 @@ lent_back n ys xs len le =
     ap (λ l. take n (ys ++ l)) (drop_all (length ys) xs le) ∙ ap (λ l. take n l) (append-nil ys) ∙ take_all n ys (omega (arith, len))
 
 -- the agents rode, and came back as t
-pub record CameBack (s : Setting) (size : ℕ) (xs ys t : List AgentModel) : Type 0 where
+pub record CameBack (s : BookSetting) (size : ℕ) (xs ys t : List AgentModel) : Type 0 where
   pub ride : Rode s size xs ys
   pub back : t ≡ ys
 
-pub came_back : (s : Setting) (until workers n : ℕ) (op : AgentPass) (xs l ys : List AgentModel) (orders : ℕ) (r : Result (Unit {0}) Full) → l ≡ xs → length l ≡ n
+pub came_back : (s : BookSetting) (until workers n : ℕ) (op : AgentPass) (xs l ys : List AgentModel) (orders : ℕ) (r : Result (Unit {0}) Full) → l ≡ xs → length l ≡ n
     → OnOk r (Driven s until (run_size (length l) workers) op l ys) → OnErr r (FoundFull s until (run_size (length l) workers) op l ys orders)
     → CameBack s (run_size (length xs) workers) xs ys (take n (ys ++ drop (length ys) xs))
 came_back s until workers n op xs l ys orders r e many d f =
@@ -61,7 +61,7 @@ came_back s until workers n op xs l ys orders r e many d f =
     let all : length xs ≡ n = ap (λ (z : List AgentModel). length z) (sym e) ∙ many in
     record { ride = ride; back = lent_back n ys xs (same ∙ all) (omega arith) }
 
-module _ (m : TurnstileModel Setting) (spans size : ℕ) (plans : List Planned) (xs ys : List AgentModel) (rest : List AgentPass) (made : AreAgentsFor m spans plans xs) (left : AreLeft m xs rest) (ride : Rode m.setting size xs ys) where
+module _ (m : TurnstileModel BookSetting) (spans size : ℕ) (plans : List Planned) (xs ys : List AgentModel) (rest : List AgentPass) (made : AreAgentsFor m spans plans xs) (left : AreLeft m xs rest) (ride : Rode m.setting size xs ys) where
   pub left_idle : All (λ (p : AgentPass). p.mine ≡ []) rest
   left_idle k d l = ap (λ (p : AgentPass). p.mine) (left_new m xs rest left k d l)
 

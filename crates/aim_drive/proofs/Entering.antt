@@ -2,21 +2,21 @@
 use Rattle.std.proofs.Common.{◌≡◌, ℕ, zero, suc, ◌+◌, ◌-◌, ◌≤◌, Bool, true, false, List, [], ◌∷◌, ◌++◌, length, map, get_or, Option, Some, None, if◌then◌else◌, ap, ◌∙◌, sym, subst, arith}
 use Rattle.std.specs.Prelude.{All}
 use Rattle.std.proofs.lemmas.List.{get_or-map, length-map}
-use Rattle.aim_msg.specs.declared.entries.Entry.{Entry}
-use Rattle.aim_msg.specs.declared.messages.Message.{Message}
-use Rattle.aim_msg.specs.declared.replies.Reply.{Reply}
-use Rattle.aim_paths.specs.Intersection.{Intersection}
+use Rattle.aim_messages.specs.declared.entries.Entry.{Entry}
+use Rattle.aim_messages.specs.declared.messages.Message.{Message}
+use Rattle.aim_messages.specs.declared.replies.Reply.{Reply}
+use Rattle.aim_layout.specs.Intersection.{Intersection}
 use Rattle.aim_driver.specs.declared.plans.DrivePlan.{DrivePlan}
 use Rattle.aim_driver.specs.declared.logs.LogItem.{LogItem}
 use Rattle.aim_driver.specs.declared.logs.LogItem.TheVariants as item
-use Rattle.aim_links.specs.declared.links.Fate.{Fate}
+use Rattle.aim_driver.specs.declared.links.Fate.{Fate}
 use Rattle.aim_driver.specs.Fits.{replies_of}
 use Rattle.aim_driver.specs.Models.{acts, enters, with_entered}
-use Rattle.aim_links.specs.Links.{under_way, delivered}
+use Rattle.aim_driver.specs.Links.{under_way, delivered}
 use Rattle.aim_driver.specs.Turns.{State, heard, hears, hears_all, entering, sending, begun}
 use Rattle.aim_driver.specs.Follows.{Call, Course, running, fresh, called, calls_with, one_call, some_calls, calling, turn, turns, follows_from}
-use Rattle.aim_plans.specs.declared.scripts.Ordered.{Ordered}
-use Rattle.aim_plans.specs.Said.{Drive}
+use Rattle.aim_driver.specs.declared.orders.Ordered.{Ordered}
+use Rattle.aim_drive_script.specs.Said.{Drive}
 use Rattle.aim_safety.specs.Tiles.{EntersBy}
 use Rattle.aim_drive.specs.declared.running.Logged.{Logged}
 use Rattle.aim_drive.specs.Headline.{VehicleLog, IsFollowed, Headline}

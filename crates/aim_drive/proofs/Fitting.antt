@@ -1,13 +1,13 @@
 -- What a script that fits gives to the makers of agents and to the drive.
 use Rattle.std.proofs.Common.{◌≡◌, ℕ, ◌≤◌, length, get_or, arith}
-use Rattle.aim_msg.specs.declared.entries.Act.TheVariants as act
-use Rattle.aim_msg.specs.declared.entries.Order.{Order}
-use Rattle.aim_msg.specs.declared.entries.Order.TheVariants as order
-use Rattle.aim_msg.specs.declared.entries.TheConstants.{OPERATOR}
-use Rattle.aim_paths.specs.Intersection.{Intersection}
+use Rattle.aim_messages.specs.declared.entries.Act.TheVariants as act
+use Rattle.aim_messages.specs.declared.entries.Order.{Order}
+use Rattle.aim_messages.specs.declared.entries.Order.TheVariants as order
+use Rattle.aim_messages.specs.declared.entries.TheConstants.{OPERATOR}
+use Rattle.aim_layout.specs.Intersection.{Intersection}
 use Rattle.aim_rules.specs.Legal.{IsOfLayout}
-use Rattle.aim_plans.specs.declared.scripts.DriveScript.{DriveScript}
-use Rattle.aim_plans.specs.Fits.{IsFit, IsOrderOf}
+use Rattle.aim_drive_script.specs.declared.scripts.DriveScript.{DriveScript}
+use Rattle.aim_drive_script.specs.Fits.{IsFit, IsOrderOf}
 use Rattle.aim_agents.specs.Orders.{AreOrders}
 use Rattle.aim_drive.specs.Making.{ArePlans}
 use Rattle.aim_drive.proofs.Lists.{reads_at}

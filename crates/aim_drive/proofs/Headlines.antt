@@ -2,10 +2,10 @@
 use Rattle.std.proofs.Common.{◌≡◌, ◌≢◌, ℕ, ◌<◌, ◌≤◌, inl, inr, List, [], ◌∷◌, ◌++◌, length, map, get_or, Option, Some, None, true, refl, sym, ap, ◌∙◌, subst, arith}
 use Rattle.std.specs.Prelude.{All, slice_get}
 use Rattle.std.proofs.lemmas.List.{length-map}
-use Rattle.aim_msg.specs.declared.entries.Entry.{Entry}
-use Rattle.aim_msg.specs.declared.entries.TheConstants.{OPERATOR}
-use Rattle.aim_paths.specs.Intersection.{Intersection}
-use Rattle.aim_paths.specs.Valid.{IsValid}
+use Rattle.aim_messages.specs.declared.entries.Entry.{Entry}
+use Rattle.aim_messages.specs.declared.entries.TheConstants.{OPERATOR}
+use Rattle.aim_layout.specs.Intersection.{Intersection}
+use Rattle.aim_layout.specs.Valid.{IsValid}
 use Rattle.aim_driver.specs.declared.logs.LogItem.{LogItem}
 use Rattle.aim_driver.specs.Fits as driver_fits
 use Rattle.aim_driver.specs.Fits.{Fits, AreCallsOf, replies_of, call_of, reply_of}
@@ -13,12 +13,12 @@ use Rattle.aim_driver.specs.Follows.{Call, follows_from}
 use Rattle.aim_driver.specs.Keeps.{keeps}
 use Rattle.aim_driver.proofs.FollowLemmas.{follows_fits}
 use Rattle.aim_driver.proofs.TurnLemmas.{follows_keeps}
-use Rattle.aim_turn.specs.Models.{TurnstileModel}
-use Rattle.aim_agents.specs.Setting.{Setting}
-use Rattle.aim_plans.specs.declared.scripts.Ordered.{Ordered}
-use Rattle.aim_plans.specs.declared.scripts.Planned.{Planned}
-use Rattle.aim_plans.specs.Said.{Drive}
-use Rattle.aim_plans.specs.Scripts.{drive_told}
+use Rattle.aim_turnstile.specs.Models.{TurnstileModel}
+use Rattle.aim_agents.specs.BookSetting.{BookSetting}
+use Rattle.aim_driver.specs.declared.orders.Ordered.{Ordered}
+use Rattle.aim_drive_script.specs.declared.scripts.Planned.{Planned}
+use Rattle.aim_drive_script.specs.Said.{Drive}
+use Rattle.aim_drive_script.specs.Scripts.{drive_told}
 use Rattle.aim_safety.proofs.MeetLemmas.{no_two_drivers, no_green}
 use Rattle.aim_agents.specs.Agents.{AgentModel, AgentPass}
 use Rattle.aim_agents.specs.Went.{Went}
@@ -53,7 +53,7 @@ log_is until h d log lead f = record {
       (follows_fits d.plan d.up d.down 0 until h d.vehicle (subst (λ (r : List LogItem × List Call). AreCallsOf r.1 h d.vehicle) (sym f.course) f.carried));
 }
 
-module _ (m : TurnstileModel Setting) (until size spans : ℕ) (plans : List Planned) (orders : List Ordered) (xs ys : List AgentModel) (rest : List AgentPass) (op : AgentPass) (h : List Entry) where
+module _ (m : TurnstileModel BookSetting) (until size spans : ℕ) (plans : List Planned) (orders : List Ordered) (xs ys : List AgentModel) (rest : List AgentPass) (op : AgentPass) (h : List Entry) where
   -- all that is known at the end of a drive
   pub record Ends : Type 0 where
     pub are : ArePlans m.setting.vehicles plans

@@ -2,18 +2,18 @@
 use Prim.Native.Nat.{zero, suc}
 use Rattle.std.proofs.Common.{◌≡◌, ◌≢◌, ℕ, ◌≤◌, List, [], ◌∷◌, Some, refl, ap, arith}
 use Rattle.std.specs.Prelude.{slice_get}
-use Rattle.aim_msg.specs.declared.entries.Act.TheVariants as act
-use Rattle.aim_msg.specs.declared.entries.Entry.{Entry}
-use Rattle.aim_msg.specs.declared.entries.Order.TheVariants as order
-use Rattle.aim_msg.specs.declared.entries.TheConstants.{OPERATOR}
-use Rattle.aim_msg.specs.declared.messages.Body.TheVariants as body
-use Rattle.aim_msg.specs.declared.replies.Reply.TheVariants as reply
-use Rattle.aim_paths.specs.Intersection.{Intersection}
+use Rattle.aim_messages.specs.declared.entries.Act.TheVariants as act
+use Rattle.aim_messages.specs.declared.entries.Entry.{Entry}
+use Rattle.aim_messages.specs.declared.entries.Order.TheVariants as order
+use Rattle.aim_messages.specs.declared.entries.TheConstants.{OPERATOR}
+use Rattle.aim_messages.specs.declared.messages.Body.TheVariants as body
+use Rattle.aim_messages.specs.declared.replies.Reply.TheVariants as reply
+use Rattle.aim_layout.specs.Intersection.{Intersection}
 use Rattle.aim_driver.specs.declared.logs.LogItem.{LogItem}
 use Rattle.aim_driver.specs.Follows.{Call}
 use Rattle.aim_driver.proofs.Rows.{car, plain}
-use Rattle.aim_plans.specs.declared.scripts.Ordered.{Ordered}
-use Rattle.aim_plans.specs.Said.{Drive}
+use Rattle.aim_driver.specs.declared.orders.Ordered.{Ordered}
+use Rattle.aim_drive_script.specs.Said.{Drive}
 use Rattle.aim_agents.specs.Went.{Carry}
 use Rattle.aim_drive.specs.Headline.{VehicleLog, IsFollowed, Headline}
 

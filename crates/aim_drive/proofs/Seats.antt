@@ -6,10 +6,10 @@ use Rattle.std.proofs.lemmas.Bool.{cases_lt}
 use Rattle.std.proofs.lemmas.List.{get_or_append_left, get_or-append_right, get_or-map, get_or_push, get_or_read, get_or-take, length-map, map-append, take_more}
 use Rattle.std.proofs.lemmas.List.FromFn.{length-range_with_len, get_or-map-range_with_len}
 use Rattle.std.proofs.lemmas.List.Sorted.{Contains-permutation, All-permutation, IsPermutation-more}
-use Rattle.aim_msg.specs.declared.entries.Entry.{Entry}
-use Rattle.aim_turn.specs.Models.{TurnstileModel, IsPassOf, new_pass}
-use Rattle.aim_agents.specs.Setting.{Setting}
-use Rattle.aim_plans.specs.declared.scripts.Planned.{Planned}
+use Rattle.aim_messages.specs.declared.entries.Entry.{Entry}
+use Rattle.aim_turnstile.specs.Models.{TurnstileModel, IsPassOf, new_pass}
+use Rattle.aim_agents.specs.BookSetting.{BookSetting}
+use Rattle.aim_drive_script.specs.declared.scripts.Planned.{Planned}
 use Rattle.aim_agents.specs.Agents.{AgentModel, AgentPass, IsAgentOf}
 use Rattle.aim_drive.specs.Making.{ArePlans, IsMadeOf, IsTaken, all_passes, AreAgentsFor, AreLeft}
 use Rattle.aim_drive.proofs.Lists.{element}
@@ -28,7 +28,7 @@ taken_at ps now left v place a p same lt read own was rest = record {
 abbrev pub pass_of : AgentModel → AgentPass
 pass_of a = a.pass
 
-module _ (m : TurnstileModel Setting) where
+module _ (m : TurnstileModel BookSetting) where
   abbrev IsNewPass : AgentPass → Type 0
   IsNewPass p = p ≡ new_pass m p.number
 

@@ -1,17 +1,17 @@
 -- What is ready for a drive, and what closing leaves of it. No public clause cites this file.
 use Rattle.std.specs.Prelude.{◌≡◌, ◌≢◌, ℕ, ◌+◌, ◌*◌, ◌≤◌, List, [], ◌∷◌, ◌++◌, length, map, Some, All, Contains, IsPermutation, sum_by}
-use Rattle.aim_msg.specs.declared.entries.Entry.{Entry}
-use Rattle.aim_msg.specs.declared.entries.TheConstants.{OPERATOR}
-use Rattle.aim_paths.specs.Valid.{IsValid}
+use Rattle.aim_messages.specs.declared.entries.Entry.{Entry}
+use Rattle.aim_messages.specs.declared.entries.TheConstants.{OPERATOR}
+use Rattle.aim_layout.specs.Valid.{IsValid}
 use Rattle.aim_rules.specs.Legal.{IsLegal}
-use Rattle.aim_turn.specs.History.{entries_of}
-use Rattle.aim_turn.specs.Models.{TurnstileModel, HasPass, new_pass}
+use Rattle.aim_turnstile.specs.History.{entries_of}
+use Rattle.aim_turnstile.specs.Models.{TurnstileModel, HasPass, new_pass}
 use Rattle.aim_agents.specs.Seen.{caller_of, callers}
-use Rattle.aim_agents.specs.Setting.{Setting}
-use Rattle.aim_plans.specs.declared.scripts.Ordered.{Ordered}
-use Rattle.aim_plans.specs.declared.scripts.Planned.{Planned}
-use Rattle.aim_plans.specs.Scripts.{drive_told}
-use Rattle.aim_agents.specs.Trouble.TheVariants as trouble
+use Rattle.aim_agents.specs.BookSetting.{BookSetting}
+use Rattle.aim_driver.specs.declared.orders.Ordered.{Ordered}
+use Rattle.aim_drive_script.specs.declared.scripts.Planned.{Planned}
+use Rattle.aim_drive_script.specs.Scripts.{drive_told}
+use Rattle.aim_agents.specs.declared.agents.Trouble.TheVariants as trouble
 use Rattle.aim_agents.specs.Agents.{AgentModel, AgentPass, IsFull}
 use Rattle.aim_agents.specs.Rounds.{run_size}
 use Rattle.aim_drive.specs.declared.running.Drove.{Drove}
@@ -23,7 +23,7 @@ abbrev pub HasMemory : AgentModel → Type 0
 HasMemory a = (a.trouble ≢ Some trouble.NoMemory) × (a.trouble ≡ Some trouble.Full → IsFull a.pass)
 
 -- what closing tells of these passes and the operator's
-pub record IsClosed (s : Setting) (ps : List AgentPass) (op : AgentPass) (h : List Entry) : Type 0 where
+pub record IsClosed (s : BookSetting) (ps : List AgentPass) (op : AgentPass) (h : List Entry) : Type 0 where
   pub legal : IsLegal s.layout s.vehicles h
   pub passes : All (HasPass caller_of h) (ps ++ op ∷ [])
   pub numbers : IsPermutation (map (λ (p : AgentPass). p.number) (ps ++ op ∷ [])) (callers s.vehicles)
@@ -31,13 +31,13 @@ pub record IsClosed (s : Setting) (ps : List AgentPass) (op : AgentPass) (h : Li
   pub count : length h ≡ sum_by (λ (p : AgentPass). length p.mine) (ps ++ op ∷ [])
 
 -- what agents that found memory leave, with the passes of the other vehicles and the operator's
-pub record Leaves (s : Setting) (agents : List AgentModel) (passes : List AgentPass) (op : AgentPass) (d : Drove) : Type 0 where
+pub record Leaves (s : BookSetting) (agents : List AgentModel) (passes : List AgentPass) (op : AgentPass) (d : Drove) : Type 0 where
   pub memory : All HasMemory agents
   pub closed : IsClosed s (passes ++ map (λ (a : AgentModel). a.pass) agents) op d.journal.items
   pub fits : length d.journal.items ≤ s.room
   pub logs : map log_of d.logs.items ≡ map told_by agents
 
-module _ (m : TurnstileModel Setting) where
+module _ (m : TurnstileModel BookSetting) where
   -- A new manager with room for all calls and so many orders, an agent for each of some plans, the passes of the other vehicles and the operator's.
   pub record IsSeated (orders : ℕ) (agents : List AgentModel) (passes : List AgentPass) (op : AgentPass) : Type 0 where
     pub spans : ℕ

@@ -1,16 +1,16 @@
 -- What holds of the journal of a drive and of the logs of its drivers, whatever the threads do and whatever the links lose, repeat or delay.
 use Rattle.std.specs.Prelude.{◌≡◌, ◌≢◌, ℕ, ◌<◌, ◌≤◌, true, false, List, [], map, Some, None, slice_get}
-use Rattle.aim_msg.specs.declared.entries.Entry.{Entry}
-use Rattle.aim_msg.specs.declared.entries.TheConstants.{OPERATOR}
+use Rattle.aim_messages.specs.declared.entries.Entry.{Entry}
+use Rattle.aim_messages.specs.declared.entries.TheConstants.{OPERATOR}
 use Rattle.aim_geometry.specs.Cells.{Cell}
-use Rattle.aim_paths.specs.Intersection.{Intersection}
+use Rattle.aim_layout.specs.Intersection.{Intersection}
 use Rattle.aim_rules.specs.Claims as claims
 use Rattle.aim_rules.specs.Legal.{IsLegal}
 use Rattle.aim_driver.specs.declared.logs.LogItem.{LogItem}
 use Rattle.aim_driver.specs.Fits.{entries_of, replies_of, AreCallsOf}
 use Rattle.aim_driver.specs.Follows.{Call, follows}
-use Rattle.aim_plans.specs.declared.scripts.Ordered.{Ordered}
-use Rattle.aim_plans.specs.Said.{Drive}
+use Rattle.aim_driver.specs.declared.orders.Ordered.{Ordered}
+use Rattle.aim_drive_script.specs.Said.{Drive}
 use Rattle.aim_safety.specs.Occupied.{Passage, passage, is_on, is_occupied}
 use Rattle.aim_agents.specs.Places.{At}
 use Rattle.aim_agents.specs.Runs.{InRun}

@@ -1,9 +1,9 @@
 -- The agents that are made of plans, and what is left of the passes.
 use Rattle.std.specs.Prelude.{◌≡◌, ◌≢◌, ℕ, ◌<◌, ◌≤◌, List, ◌++◌, length, map, slice_index_or, remove, All, AllPairs, IsPermutation}
 use Rattle.std.specs.List.{range_with_len}
-use Rattle.aim_turn.specs.Models.{TurnstileModel, new_pass}
-use Rattle.aim_agents.specs.Setting.{Setting}
-use Rattle.aim_plans.specs.declared.scripts.Planned.{Planned}
+use Rattle.aim_turnstile.specs.Models.{TurnstileModel, new_pass}
+use Rattle.aim_agents.specs.BookSetting.{BookSetting}
+use Rattle.aim_drive_script.specs.declared.scripts.Planned.{Planned}
 use Rattle.aim_agents.specs.Agents.{AgentModel, AgentPass}
 use Rattle.aim_agents.specs.Followed.{IsNew}
 use Rattle.aim_drive.specs.declared.running.Logged.{Logged}
@@ -32,7 +32,7 @@ pub record IsTaken (ps : List AgentPass) (vehicle : ℕ) (p : AgentPass) (left :
   pub was : p ≡ slice_index_or ps place p
   pub rest : left ≡ remove ps place
 
-module _ (m : TurnstileModel Setting) where
+module _ (m : TurnstileModel BookSetting) where
   -- the passes of all vehicles of a new manager
   abbrev pub all_passes : List AgentPass
   all_passes = map (new_pass m) (range_with_len 0 m.setting.vehicles)

@@ -1,15 +1,14 @@
 //! Agents made of plans.
 
 ghost use Rattle.std.specs.Prelude.{◌≡◌, ◌≤◌, [], map, Contains, IfOk};
-ghost use Rattle.aim_turn.specs.Models.{new_pass};
+ghost use Rattle.aim_turnstile.specs.Models.{new_pass};
 ghost use Rattle.aim_drive.specs.Making.{AreAgentsFor, AreLeft, ArePlans, IsMadeOf, IsTaken, all_passes};
 
 use crate::NoMemory;
 use aim_agents::{Agent, Manager, ManagerPass, Memo};
-use aim_driver::Driver;
-use aim_links::Link;
-use aim_plans::Planned;
-use aim_pool::Pool;
+use aim_drive_script::Planned;
+use aim_driver::{Driver, Link};
+use aim_sheets::Pool;
 use std::alloc::Global;
 
 // A new agent that has the plan, the fates and the pass.

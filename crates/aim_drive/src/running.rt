@@ -1,14 +1,14 @@
 //! A whole drive.
 
 ghost use Rattle.std.specs.Prelude.{◌≡◌, [], false, ◌+◌, ◌*◌, ◌<◌, ◌≤◌, ◌++◌, length, map, vec_capacity, All, IfOk, OnOk};
-ghost use Rattle.aim_msg.specs.declared.entries.TheConstants.{OPERATOR};
-ghost use Rattle.aim_turn.specs.Models.{new_pass};
+ghost use Rattle.aim_messages.specs.declared.entries.TheConstants.{OPERATOR};
+ghost use Rattle.aim_turnstile.specs.Models.{new_pass};
 ghost use Rattle.aim_agents.specs.Agents.{AgentModel};
 ghost use Rattle.aim_agents.specs.Rounds.{run_size};
 ghost use Rattle.aim_safety.specs.Tiles.{EntersBy};
 ghost use Rattle.aim_agents.specs.Orders.{AreOrders};
-ghost use Rattle.aim_plans.specs.Fits.{IsFit};
-ghost use Rattle.aim_plans.specs.Scripts.{drive_told};
+ghost use Rattle.aim_drive_script.specs.Fits.{IsFit};
+ghost use Rattle.aim_drive_script.specs.Scripts.{drive_told};
 ghost use Rattle.aim_drive.specs.Closing.{HasMemory, HeadlineOfSeated, IsSeated, Leaves};
 ghost use Rattle.aim_drive.specs.Headline.{Headline};
 ghost use Rattle.aim_drive.specs.Making.{AreAgentsFor, AreLeft, ArePlans, all_passes, told_by, log_of};
@@ -16,10 +16,10 @@ ghost use Rattle.aim_drive.specs.Making.{AreAgentsFor, AreLeft, ArePlans, all_pa
 use crate::NoMemory;
 use crate::making::agents_of;
 use aim_agents::{Agent, Gate, Manager, ManagerPass, OpenFault, Opened, Trouble, drive};
-use aim_driver::Driver;
-use aim_msg::Entry;
-use aim_paths::Layout;
-use aim_plans::{DriveScript, Ordered, Planned};
+use aim_drive_script::{DriveScript, Planned};
+use aim_driver::{Driver, Ordered};
+use aim_layout::Layout;
+use aim_messages::Entry;
 use std::alloc::Global;
 use std::sync::Wait;
 use std::thread::Threads;

@@ -1,12 +1,12 @@
 -- A part of a turn in which no call is made, step by step.
 use Rattle.std.proofs.Common.{◌≡◌, ℕ, List, Option, ap}
-use Rattle.aim_msg.specs.declared.messages.Message.{Message}
-use Rattle.aim_msg.specs.declared.replies.Reply.{Reply}
+use Rattle.aim_messages.specs.declared.messages.Message.{Message}
+use Rattle.aim_messages.specs.declared.replies.Reply.{Reply}
 use Rattle.aim_driver.specs.declared.plans.DrivePlan.{DrivePlan}
 use Rattle.aim_driver.specs.declared.logs.LogItem.{LogItem}
 use Rattle.aim_driver.specs.Models.{acts, enters, with_sent, with_entered}
 use Rattle.aim_driver.specs.Turns.{State, state, hears_all, entering, acting, begun, sent_up}
-use Rattle.aim_links.specs.Links.{LinkModel}
+use Rattle.aim_driver.specs.Links.{LinkModel}
 
 -- It hears, enters and acts, and room is made before each of the last two.
 pub begins : (plan plan1 plan2 : DrivePlan) (step : ℕ) (first : State) (heard log1 entered log2 acted : List LogItem) (m : Option Message)

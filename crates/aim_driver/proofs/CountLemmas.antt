@@ -3,21 +3,21 @@ use Rattle.std.proofs.Common.{◌≡◌, inl, inr, ℕ, zero, suc, ◌+◌, ◌-
 use Rattle.std.proofs.lemmas.Bool.Decides.{nat_tests}
 use Rattle.std.proofs.lemmas.List.{reverse-append, length-set}
 use Rattle.std.proofs.lemmas.List.Sums.{sum_by-append}
-use Rattle.aim_msg.specs.declared.messages.Message.{Message}
-use Rattle.aim_msg.specs.declared.replies.Reply.{Reply}
+use Rattle.aim_messages.specs.declared.messages.Message.{Message}
+use Rattle.aim_messages.specs.declared.replies.Reply.{Reply}
 use Rattle.aim_driver.specs.declared.plans.DrivePlan.{DrivePlan}
 use Rattle.aim_driver.specs.declared.logs.LogItem.{LogItem}
 use Rattle.aim_driver.specs.declared.logs.LogItem.TheVariants as item
-use Rattle.aim_links.specs.declared.links.Fate.{Fate}
-use Rattle.aim_links.specs.declared.links.Sending.{Sending}
+use Rattle.aim_driver.specs.declared.links.Fate.{Fate}
+use Rattle.aim_driver.specs.declared.links.Sending.{Sending}
 use Rattle.aim_driver.specs.declared.known.Known.{Known}
 use Rattle.aim_driver.specs.Rules.{known, act_by, sendings}
 use Rattle.aim_driver.specs.Models.{acts, enters, with_entered}
-use Rattle.aim_links.specs.Links.{LinkModel, fate_at, copies_left, under_way, sent_on, next_place, delivered, came_again, after_coming, after_delivery}
+use Rattle.aim_driver.specs.Links.{LinkModel, fate_at, copies_left, under_way, sent_on, next_place, delivered, came_again, after_coming, after_delivery}
 use Rattle.aim_driver.specs.Turns.{State, heard, hears, hears_all, entering, sending, begun}
 use Rattle.aim_driver.specs.Follows.{Call, Course, running, fresh, call, called, calls_with, one_call, some_calls, calling, turn, turns, follows_from}
 use Rattle.aim_driver.proofs.SmallFacts.{if_some, none_some}
-use Rattle.aim_links.proofs.LinkLemmas.{few_dues, fewer}
+use Rattle.aim_driver.proofs.LinkLemmas.{few_dues, fewer}
 
 pub record IsFew (calls : List Call) (s : State) : Type 0 where
   pub counted : length calls + under_way s.up ≤ 2 * length s.up.sent

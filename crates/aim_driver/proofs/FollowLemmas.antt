@@ -4,23 +4,23 @@ use Rattle.std.specs.List.{All, filter}
 use Rattle.std.proofs.lemmas.Bool.Decides.{nat_tests}
 use Rattle.std.proofs.lemmas.Option.{slice_get_within, get_or_from_slice_get, slice_get-map}
 use Rattle.std.proofs.lemmas.List.Elements.{All-nil, All-get_or, All-push, All-set, All-weaker}
-use Rattle.aim_msg.specs.declared.messages.Message.{Message}
-use Rattle.aim_msg.specs.declared.replies.Reply.{Reply}
-use Rattle.aim_msg.specs.declared.entries.Act.{Act}
-use Rattle.aim_msg.specs.declared.entries.Act.TheVariants as act
-use Rattle.aim_msg.specs.declared.entries.Entry.{Entry}
+use Rattle.aim_messages.specs.declared.messages.Message.{Message}
+use Rattle.aim_messages.specs.declared.replies.Reply.{Reply}
+use Rattle.aim_messages.specs.declared.entries.Act.{Act}
+use Rattle.aim_messages.specs.declared.entries.Act.TheVariants as act
+use Rattle.aim_messages.specs.declared.entries.Entry.{Entry}
 use Rattle.aim_driver.specs.declared.plans.DrivePlan.{DrivePlan}
 use Rattle.aim_driver.specs.declared.logs.LogItem.{LogItem}
 use Rattle.aim_driver.specs.declared.logs.LogItem.TheVariants as item
-use Rattle.aim_links.specs.declared.links.Fate.{Fate}
-use Rattle.aim_links.specs.declared.links.Sending.{Sending}
+use Rattle.aim_driver.specs.declared.links.Fate.{Fate}
+use Rattle.aim_driver.specs.declared.links.Sending.{Sending}
 use Rattle.aim_driver.specs.Models.{acts, enters, with_entered}
-use Rattle.aim_links.specs.Links.{LinkModel, under_way, next_place, delivered, came_again, after_coming, after_delivery, fate_at}
+use Rattle.aim_driver.specs.Links.{LinkModel, under_way, next_place, delivered, came_again, after_coming, after_delivery, fate_at}
 use Rattle.aim_driver.specs.Turns.{State, heard, hears, hears_all, entering, sending, begun}
 use Rattle.aim_driver.specs.Follows.{Call, Course, running, fresh, call, called, calls_with, one_call, some_calls, calling, turn, turns, follows_from}
-use Rattle.aim_driver.specs.Fits.{WasSent, CarriesSent, IsAnswered, EachGot, Fits, entries_of, call_at, call_of, reply_of, replies_of, AreCallsOf}
+use Rattle.aim_driver.specs.Fits.{WasSent, CarriesSent, HasReply, EachGot, Fits, entries_of, call_at, call_of, reply_of, replies_of, AreCallsOf}
 use Rattle.aim_driver.proofs.SmallFacts.{some_is, none_some, never}
-use Rattle.aim_links.proofs.LinkLemmas.{delivered_is, due_later}
+use Rattle.aim_driver.proofs.LinkLemmas.{delivered_is, due_later}
 
 -- lists
 
@@ -303,7 +303,7 @@ entry_in calls h v j x same at = go (slice_get (entries_of h v) j) refl
 sound_fits : (calls : List Call) (h : List Entry) (v : ℕ) (log : List LogItem) → AreCallsOf calls h v → All (CallBy log) calls → EachGot (Replied (replies_of h v) calls) log → Fits h v log
 sound_fits calls h v log same made told = record {
   sent = λ k e at own. sent k e at own;
-  got = EachGot-weaken (Replied (replies_of h v) calls) (IsAnswered h v) log answered told;
+  got = EachGot-weaken (Replied (replies_of h v) calls) (HasReply h v) log answered told;
 }
   where
     sent : (k : ℕ) (e : Entry) → slice_get h k ≡ Some e → e.caller ≡ v → CarriesSent log e
@@ -314,7 +314,7 @@ sound_fits calls h v log same made told = record {
         let its : WasSent x.0.message x.0.moment log = all_at (CallBy log) calls j.0 x.0 made x.1 in
         record { message = x.0.message; carried = parts.0; sent = (let P : ℕ → Type 0 = λ t. WasSent x.0.message t log in subst P (sym parts.1) its) }
 
-    answered : (seq : ℕ) (r : Reply) → Replied (replies_of h v) calls seq r → IsAnswered h v seq r
+    answered : (seq : ℕ) (r : Reply) → Replied (replies_of h v) calls seq r → HasReply h v seq r
     answered seq r p =
         let e = entry_in calls h v p.place p.call same p.made in
         let k = from_filter (λ e. e.caller == v) h p.place e.0 e.1 in

@@ -1,14 +1,14 @@
 -- Hearing one reply after another.
 use Rattle.std.proofs.Common.{◌≡◌, ◌⊎◌, inl, inr, ℕ, zero, suc, ◌+◌, ◌≤◌, Bool, true, false, nat_le, List, [], ◌∷◌, ◌++◌, Some, None, refl, sym, ◌∙◌, ap, subst, add-one, arith}
 use Rattle.std.proofs.lemmas.Bool.Decides.{nat_tests}
-use Rattle.aim_msg.specs.declared.replies.Reply.{Reply}
+use Rattle.aim_messages.specs.declared.replies.Reply.{Reply}
 use Rattle.aim_driver.specs.declared.logs.LogItem.{LogItem}
 use Rattle.aim_driver.specs.declared.logs.LogItem.TheVariants as item
-use Rattle.aim_links.specs.Links.{LinkModel, under_way, delivered, after_delivery}
+use Rattle.aim_driver.specs.Links.{LinkModel, under_way, delivered, after_delivery}
 use Rattle.aim_driver.specs.Turns.{State, state, heard, hears, hears_all}
-use Rattle.aim_msg.specs.declared.messages.Message.{Message}
+use Rattle.aim_messages.specs.declared.messages.Message.{Message}
 use Rattle.aim_driver.proofs.SmallFacts.{true_le}
-use Rattle.aim_links.proofs.LinkLemmas.{fewer}
+use Rattle.aim_driver.proofs.LinkLemmas.{fewer}
 
 -- A log and a link after some replies, whatever is on the other link.
 pub record Hearing (step : ℕ) (log : List LogItem) (down : LinkModel (ℕ × Reply)) (log' : List LogItem) (down' : LinkModel (ℕ × Reply)) : Type 0 where

@@ -8,7 +8,7 @@ use Rattle.aim_driver.specs.declared.logs.Entrance.{Entrance}
 use Rattle.aim_driver.specs.declared.known.Known.{Known}
 use Rattle.aim_driver.specs.Logs.{is_waiting_with}
 use Rattle.aim_driver.specs.Keeps.{is_over}
-use Rattle.aim_links.specs.Replies.{held}
+use Rattle.aim_driver.specs.Replies.{held}
 use Rattle.aim_driver.specs.Rules.{is_shut_out, is_crossing, finish, reserved, is_due, is_cancelling, is_due_change, next_change, is_changing, change, is_too_late, may_request, starts_in, is_open, entered_on, act_by}
 use Rattle.aim_driver.specs.Idle.{by_turn, by_option, by_change, opening, by_window, ending, by_crossing, same_until}
 

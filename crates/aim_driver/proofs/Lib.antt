@@ -1,3 +1,6 @@
+pub mod LinkFacts
+pub mod LinkLemmas
+pub mod LinkRows
 pub mod PlanLemmas
 pub mod FollowLemmas
 pub mod Rows

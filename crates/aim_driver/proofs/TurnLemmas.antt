@@ -2,23 +2,23 @@
 use Rattle.std.proofs.Common.{◌≡◌, ℕ, zero, suc, ◌+◌, ◌-◌, ◌<◌, ◌≤◌, Bool, true, false, nat_le, List, [], ◌∷◌, ◌++◌, reverse, Option, Some, None, if◌then◌else◌, refl, sym, ◌∙◌, ap, subst, arith}
 use Rattle.std.proofs.lemmas.Bool.Decides.{nat_tests}
 use Rattle.std.proofs.lemmas.List.{append-nil, append_assoc}
-use Rattle.aim_msg.specs.declared.messages.Message.{Message}
-use Rattle.aim_msg.specs.declared.replies.Reply.{Reply}
+use Rattle.aim_messages.specs.declared.messages.Message.{Message}
+use Rattle.aim_messages.specs.declared.replies.Reply.{Reply}
 use Rattle.aim_driver.specs.declared.plans.DrivePlan.{DrivePlan}
 use Rattle.aim_driver.specs.declared.logs.LogItem.{LogItem}
 use Rattle.aim_driver.specs.declared.logs.LogItem.TheVariants as item
-use Rattle.aim_links.specs.declared.links.Fate.{Fate}
+use Rattle.aim_driver.specs.declared.links.Fate.{Fate}
 use Rattle.aim_driver.specs.declared.known.Known.{Known}
 use Rattle.aim_driver.specs.Keeps.{keeps}
 use Rattle.aim_driver.specs.Rules.{act_by, entered_on}
 use Rattle.aim_driver.specs.Own.{kept, Stands}
 use Rattle.aim_driver.specs.Steps.{known_got, known_sent, known_entered}
 use Rattle.aim_driver.specs.Models.{step_of, acts, enters, with_sent, with_entered}
-use Rattle.aim_links.specs.Links.{under_way, delivered}
+use Rattle.aim_driver.specs.Links.{under_way, delivered}
 use Rattle.aim_driver.specs.Turns.{State, heard, hears, hears_all, entering, begun}
 use Rattle.aim_driver.specs.Follows.{Call, Course, running, halted, fresh, call, taken, answered, called, calls_with, one_call, some_calls, calling, turn, turns, course, follows_from, follows}
 use Rattle.aim_driver.proofs.SmallFacts.{true_le}
-use Rattle.aim_links.proofs.LinkLemmas.{fewer}
+use Rattle.aim_driver.proofs.LinkLemmas.{fewer}
 use Rattle.aim_driver.proofs.StandLemmas.{exact, stands_first, stands_got, stands_entered, stands_sent, act_is, enter_is, ends_at}
 
 -- some turns and then some more

@@ -1,10 +1,10 @@
 -- How a driver's log belongs to a history, which is a list of the manager's entries.
 use Rattle.std.specs.Prelude.{◌≡◌, ◌⊎◌, ℕ, ◌≤◌, ◌==◌, List, [], ◌∷◌, map, filter, Option, Some, None, slice_get}
-use Rattle.aim_msg.specs.declared.messages.Message.{Message}
-use Rattle.aim_msg.specs.declared.replies.Reply.{Reply}
-use Rattle.aim_msg.specs.declared.entries.Entry.{Entry}
-use Rattle.aim_msg.specs.declared.entries.Act.{Act}
-use Rattle.aim_msg.specs.declared.entries.Act.TheVariants as act
+use Rattle.aim_messages.specs.declared.messages.Message.{Message}
+use Rattle.aim_messages.specs.declared.replies.Reply.{Reply}
+use Rattle.aim_messages.specs.declared.entries.Entry.{Entry}
+use Rattle.aim_messages.specs.declared.entries.Act.{Act}
+use Rattle.aim_messages.specs.declared.entries.Act.TheVariants as act
 use Rattle.aim_driver.specs.declared.logs.LogItem.{LogItem}
 use Rattle.aim_driver.specs.declared.logs.LogItem.TheVariants as item
 use Rattle.aim_driver.specs.Follows.{Call}
@@ -23,7 +23,7 @@ pub record CarriesSent (log : List LogItem) (e : Entry) : Type 0 where
   pub sent : WasSent message e.moment log
 
 -- an entry of the vehicle with a message of that number and with that reply
-pub record IsAnswered (h : List Entry) (v seq : ℕ) (r : Reply) : Type 0 where
+pub record HasReply (h : List Entry) (v seq : ℕ) (r : Reply) : Type 0 where
   pub place : ℕ
   pub entry : Entry
   pub message : Message
@@ -43,7 +43,7 @@ EachGot P (item.Entered step id ∷ xs) = EachGot P xs
 -- The log fits the history as vehicle v's.
 pub record Fits (h : List Entry) (v : ℕ) (log : List LogItem) : Type 0 where
   pub sent : (k : ℕ) (e : Entry) → slice_get h k ≡ Some e → e.caller ≡ v → CarriesSent log e
-  pub got : EachGot (IsAnswered h v) log
+  pub got : EachGot (HasReply h v) log
 
 -- the vehicle's entries, and what each says of a call: its moment and its message, and its reply
 

@@ -1,12 +1,12 @@
 -- What a driver does with its links over some steps, as a function of its plan, the fates and the replies of its calls.
 use Rattle.std.specs.Prelude.{ℕ, zero, suc, ◌+◌, ◌-◌, Bool, true, false, List, [], ◌∷◌, ◌++◌, Option, Some, None, if◌then◌else◌}
-use Rattle.aim_msg.specs.declared.messages.Message.{Message}
-use Rattle.aim_msg.specs.declared.replies.Reply.{Reply}
+use Rattle.aim_messages.specs.declared.messages.Message.{Message}
+use Rattle.aim_messages.specs.declared.replies.Reply.{Reply}
 use Rattle.aim_driver.specs.declared.plans.DrivePlan.{DrivePlan}
 use Rattle.aim_driver.specs.declared.logs.LogItem.{LogItem}
-use Rattle.aim_links.specs.declared.links.Fate.{Fate}
+use Rattle.aim_driver.specs.declared.links.Fate.{Fate}
 use Rattle.aim_driver.specs.Turns.{State, begun}
-use Rattle.aim_links.specs.Links.{under_way, new_link, sent_on, delivered, after_delivery}
+use Rattle.aim_driver.specs.Links.{under_way, new_link, sent_on, delivered, after_delivery}
 
 -- a call of the manager
 pub record Call : Type 0 where

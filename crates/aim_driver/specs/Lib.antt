@@ -1,3 +1,6 @@
+pub mod Links
+pub mod Bodies
+pub mod Replies
 pub mod Plans
 pub mod Logs
 pub mod Keeps

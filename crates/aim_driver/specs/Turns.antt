@@ -1,12 +1,12 @@
 -- The part of an agent's turn in which it makes no call: it hears the replies that come, enters and acts.
 use Rattle.std.specs.Prelude.{ℕ, zero, suc, List, [], ◌∷◌, ◌++◌, Option, Some, None}
-use Rattle.aim_msg.specs.declared.messages.Message.{Message}
-use Rattle.aim_msg.specs.declared.replies.Reply.{Reply}
+use Rattle.aim_messages.specs.declared.messages.Message.{Message}
+use Rattle.aim_messages.specs.declared.replies.Reply.{Reply}
 use Rattle.aim_driver.specs.declared.plans.DrivePlan.{DrivePlan}
 use Rattle.aim_driver.specs.declared.logs.LogItem.{LogItem}
 use Rattle.aim_driver.specs.declared.logs.LogItem.TheVariants as item
 use Rattle.aim_driver.specs.Models.{enters, acts, with_entered, with_sent}
-use Rattle.aim_links.specs.Links.{LinkModel, under_way, sent_on, delivered, after_delivery}
+use Rattle.aim_driver.specs.Links.{LinkModel, under_way, sent_on, delivered, after_delivery}
 
 -- a driver's log, the link on which its messages go up, and the one on which pairs of a number and a reply come down
 pub record State : Type 0 where

@@ -1,7 +1,7 @@
 //! How long a driver does nothing, where it is told nothing.
 
 ghost use Rattle.std.specs.Prelude.{◌≡◌, ℕ, ◌<◌, ◌≤◌, None};
-ghost use Rattle.aim_msg.specs.declared.entries.TheConstants.{LATEST_MOMENT};
+ghost use Rattle.aim_messages.specs.declared.entries.TheConstants.{LATEST_MOMENT};
 ghost use Rattle.aim_driver.specs.Rules.{number, act_by, entered_on, next_change};
 ghost use Rattle.aim_driver.specs.Idle.{by_turn, by_option, by_change, opening, by_window, ending, by_crossing, same_until};
 

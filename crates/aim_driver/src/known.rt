@@ -1,8 +1,8 @@
 //! What a driver keeps of its log, and what it does by that.
 
 ghost use Rattle.std.specs.Prelude.{◌≡◌, ◌+◌, ◌<◌, ◌≤◌, ◌&&◌, ◌||◌, Some, None, [], is_some, if◌then◌else◌, IfSome};
-ghost use Rattle.aim_msg.specs.declared.entries.TheConstants.{LATEST_MOMENT};
-ghost use Rattle.aim_links.specs.Bodies.{is_cancel, is_change};
+ghost use Rattle.aim_messages.specs.declared.entries.TheConstants.{LATEST_MOMENT};
+ghost use Rattle.aim_driver.specs.Bodies.{is_cancel, is_change};
 ghost use Rattle.aim_driver.specs.Logs.{is_above, is_waiting_with, counts_with};
 ghost use Rattle.aim_driver.specs.Keeps.{is_over};
 ghost use Rattle.aim_driver.specs.Rules.{number, message, is_shut_out, is_crossing, finish, reserved, cancel, is_due, is_cancelling, next_change, is_changing, change, again, is_too_late, leave, may_request, request, act_by, entered_on, is_open, params_at};
@@ -11,11 +11,11 @@ ghost use Rattle.aim_driver.specs.Steps.{known_got, known_sent, known_entered};
 
 use crate::logs::{Entrance, Window};
 use crate::plans::DrivePlan;
-use aim_links::{
+use crate::{
     active_after_answer, active_after_sending, changed_by, held_in, is_a_cancel, is_a_change,
     is_a_done, is_stop, lead_after_answer, next_after_answer,
 };
-use aim_msg::{Body, Message, Params, Reply};
+use aim_messages::{Body, Message, Params, Reply};
 
 /// What the rules ask of a log.
 #[derive(Clone, Copy)]

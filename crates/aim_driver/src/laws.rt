@@ -1,17 +1,29 @@
-//! Laws of the definitions, each the contract of a function that does nothing.
+//! Laws of links and of drivers, each the contract of a function that does nothing.
 
-ghost use Rattle.std.specs.Prelude.{◌≡◌, ℕ, ◌-◌, ◌≤◌, true, List, length, reverse, Some};
-ghost use Rattle.aim_msg.specs.declared.entries.Entry.{Entry};
+ghost use Rattle.std.specs.Prelude.{◌≡◌, ◌↔◌, ℕ, Some, None, ◌-◌, ◌≤◌, true, List, length, reverse};
+ghost use Rattle.aim_driver.specs.Links.{LinkModel, next_place, IsNext, NoneComes};
+ghost use Rattle.aim_messages.specs.declared.entries.Entry.{Entry};
 ghost use Rattle.aim_driver.specs.declared.plans.DrivePlan.{DrivePlan};
-ghost use Rattle.aim_links.specs.declared.links.Fate.{Fate};
-ghost use Rattle.aim_msg.specs.declared.replies.Reply.{Reply};
+ghost use Rattle.aim_driver.specs.declared.links.Fate.{Fate};
+ghost use Rattle.aim_messages.specs.declared.replies.Reply.{Reply};
 ghost use Rattle.aim_driver.specs.Follows.{turns, course, follows_from, follows};
 ghost use Rattle.aim_driver.specs.declared.logs.LogItem.{LogItem};
 ghost use Rattle.aim_driver.specs.Logs.{Crossing};
 ghost use Rattle.aim_driver.specs.Keeps.{keeps};
 ghost use Rattle.aim_driver.specs.Rules.{entrance};
-ghost use Rattle.aim_driver.specs.Fits.{AreCallsOf, replies_of, IsAnswered, Fits};
+ghost use Rattle.aim_driver.specs.Fits.{AreCallsOf, replies_of, HasReply, Fits};
 ghost use Rattle.aim_driver.specs.Crossings.{crossing_of, first_entrance, CrossesAsGranted};
+
+/// What a link delivers next is the one thing that comes first, by the step at which it comes and then by the order of
+/// sending.
+pub fn next_comes_first<T>()
+    ensures { (l : LinkModel T) (step place : ℕ) → (next_place l step ≡ Some place ↔ IsNext T l step place) }
+{}
+
+/// A link delivers nothing exactly where nothing comes at that step or before it.
+pub fn nothing_comes<T>()
+    ensures { (l : LinkModel T) (step : ℕ) → (next_place l step ≡ None ↔ NoneComes T l step) }
+{}
 
 /// The log that a driver follows fits every history in which the vehicle's entries carry the calls that it follows,
 /// where the replies of these entries are the replies of its calls.
@@ -32,7 +44,7 @@ pub fn enters_once()
 /// the crossing.
 pub fn crosses_as_granted()
     ensures { (h : List Entry) (v : ℕ) (log : List LogItem) (c : Crossing) →
-        keeps log ≡ true → Fits h v log → crossing_of log ≡ Some c → CrossesAsGranted (IsAnswered h v) log c }
+        keeps log ≡ true → Fits h v log → crossing_of log ≡ Some c → CrossesAsGranted (HasReply h v) log c }
 {}
 
 /// What a driver follows doesn't depend on the step at which its turns begin, as long as that is not past its plan's

@@ -3,7 +3,7 @@
 ghost use Rattle.std.specs.Prelude.{◌≡◌};
 ghost use Rattle.aim_driver.specs.Logs.{item_step};
 
-use aim_msg::{Message, Reply};
+use aim_messages::{Message, Reply};
 
 /// What a driver did or was told.
 #[derive(Clone, Copy, PartialEq, Eq)]

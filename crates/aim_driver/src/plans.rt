@@ -3,7 +3,7 @@
 ghost use Rattle.std.specs.Prelude.{◌≡◌, ◌+◌, ◌<◌, ◌≤◌, ◌∷◌, [], ◌++◌, length, slice_get, IfSome};
 ghost use Rattle.aim_driver.specs.Plans.{last_change};
 
-use aim_msg::Params;
+use aim_messages::Params;
 use std::marker::Model;
 
 /// At a step, ask for another arrival: so many steps later.

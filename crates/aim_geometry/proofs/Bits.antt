@@ -1,13 +1,12 @@
 -- Bits of masks as tests.
 use Rattle.std.proofs.Common.{◌≡◌, ℕ, zero, suc, ◌+◌, ◌-◌, ◌*◌, ◌^◌, ◌%◌, ◌/◌, ◌<◌, ◌≤◌, Bool, true, false, ◌||◌, ◌&&◌, not, min, max, arith, refl, List, length, set, leb, w64, eq-eqb, inl, inr, nat_lt, lt-ltb, le-ltb}
-use Rattle.std.specs.Prelude.{bit_or, bit_and, nat_le, ◌==◌}
+use Rattle.std.specs.Prelude.{bit_or, bit_and, nat_le, ◌==◌, if◌then◌else◌}
 use Rattle.std.specs.Int.{bit_at, bit_not}
 use Rattle.std.proofs.Math.Decide.{dec_lt}
 use Rattle.std.proofs.lemmas.Bool.{cases_eq, le-leb, lt-leb, ne_eqb}
 use Rattle.std.proofs.lemmas.Nat.Bits.{bit_at_or, bit_at_and, bit_at_not, bit_at-lt, bit_at_ones, bit_at_ones_above, bit_at_mask_inside, bit_at_mask_below, ones_shr, ones_shl}
 use Rattle.std.proofs.lemmas.List.{get_or-set_same, get_or-set_other}
 use Rattle.std.proofs.lemmas.Nat.{and_le_l}
-use Rattle.std.specs.Prelude.{if◌then◌else◌}
 use Rattle.aim_geometry.specs.Rects.{has_bit, tile_at}
 
 -- what two bits are, by cases

@@ -1,8 +1,7 @@
 -- Bounds on stations.
 use Rattle.std.proofs.Common.{◌≡◌, ℕ, ◌+◌, ◌-◌, ◌*◌, ◌/◌, ◌^◌, ◌<◌, ◌≤◌, Fits, w64, ap, arith, ◌∙◌}
-use Rattle.std.proofs.Math.Nat.{mul-le-mul, mul-le-mul_left, add-mul-div_left, div-eq_of_eq-mul_left, div-le_of_le-mul}
+use Rattle.std.proofs.Math.Nat.{mul-le-mul, mul-le-mul_left, add-mul-div_left, div-eq_of_eq-mul_left, div-le_of_le-mul, pow-suc, pow-zero}
 use Rattle.std.proofs.Math.Decide.{dec_lt}
-use Rattle.std.proofs.Math.Nat.{pow-suc, pow-zero}
 use Rattle.aim_geometry.specs.Bounded.{ceil_div}
 use Rattle.aim_geometry.specs.Stations.{on_line, on_curve}
 

@@ -1,12 +1,12 @@
 -- The logs of a vehicle are in order.
 use Rattle.std.proofs.Common.{◌≡◌, ℕ, ◌+◌, ◌<◌, ◌≤◌, List, [], ◌∷◌, map, Option, Some, None, refl, subst, arith}
-use Rattle.aim_msg.specs.declared.entries.Entry.{Entry}
+use Rattle.aim_messages.specs.declared.entries.Entry.{Entry}
 use Rattle.aim_driver.specs.declared.logs.LogItem.{LogItem}
 use Rattle.aim_driver.specs.Fits.{replies_of}
 use Rattle.aim_driver.specs.Follows.{Call}
-use Rattle.aim_travel.specs.Acked.{acked, begun_at}
-use Rattle.aim_travel.specs.Route.{EachStep, IsBehind, IsRoute}
-use Rattle.aim_travel.proofs.Logs.{EachStep-weaker, follows_begins}
+use Rattle.aim_grid.specs.Acked.{acked, begun_at}
+use Rattle.aim_grid.specs.Route.{EachStep, IsBehind, IsRoute}
+use Rattle.aim_grid.proofs.Logs.{EachStep-weaker, follows_begins}
 use Rattle.aim_grid.specs.Travelled.{Ride, IsLeg, AreLegs, AreLate, log_of}
 
 above : (until : ℕ) (h : List Entry) (s : ℕ) (r : Ride) → 1 ≤ r.plan.first → IsLeg until h (Some s) r → EachStep (λ t. s < t) r.log

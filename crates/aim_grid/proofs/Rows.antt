@@ -1,17 +1,17 @@
 -- Worked rows: a route over two crossings, and what is refused of one.
 use Rattle.std.proofs.Common.{ℕ, List, [], ◌∷◌, Some, refl, ap, arith}
-use Rattle.aim_msg.specs.declared.entries.Act.TheVariants as act
-use Rattle.aim_msg.specs.declared.entries.Entry.{Entry}
-use Rattle.aim_msg.specs.declared.messages.Body.{Body}
-use Rattle.aim_msg.specs.declared.messages.Body.TheVariants as body
-use Rattle.aim_msg.specs.declared.replies.Reply.{Reply}
-use Rattle.aim_msg.specs.declared.replies.Reply.TheVariants as reply
+use Rattle.aim_messages.specs.declared.entries.Act.TheVariants as act
+use Rattle.aim_messages.specs.declared.entries.Entry.{Entry}
+use Rattle.aim_messages.specs.declared.messages.Body.{Body}
+use Rattle.aim_messages.specs.declared.messages.Body.TheVariants as body
+use Rattle.aim_messages.specs.declared.replies.Reply.{Reply}
+use Rattle.aim_messages.specs.declared.replies.Reply.TheVariants as reply
 use Rattle.aim_driver.specs.declared.logs.LogItem.{LogItem}
 use Rattle.aim_driver.specs.declared.logs.LogItem.TheVariants as item
 use Rattle.aim_driver.specs.Follows.{Call}
 use Rattle.aim_driver.proofs.Rows.{car, sent, granted, plain}
-use Rattle.aim_travel.specs.Route.{IsRoute}
-use Rattle.aim_travel.proofs.Rows.{first_log, second_log}
+use Rattle.aim_grid.specs.Route.{IsRoute}
+use Rattle.aim_grid.proofs.TravelRows.{first_log, second_log}
 use Rattle.aim_grid.specs.Travelled.{Ride, AreLegs, journal_in, log_of}
 
 abbrev ride : ℕ → ℕ → List LogItem → Ride

@@ -2,10 +2,10 @@
 use Rattle.std.proofs.Common.{◌≡◌, ◌≢◌, ℕ, zero, suc, ◌≤◌, ◌==◌, Bool, true, false, List, [], ◌∷◌, Option, Some, None, if◌then◌else◌, refl, sym, ap, ◌∙◌, subst, arith}
 use Rattle.std.specs.Prelude.{slice_get}
 use Rattle.std.proofs.lemmas.Bool.Decides.{nat_tests}
-use Rattle.aim_msg.specs.declared.entries.Entry.{Entry}
+use Rattle.aim_messages.specs.declared.entries.Entry.{Entry}
 use Rattle.aim_geometry.specs.Cells.{Cell}
-use Rattle.aim_paths.specs.Intersection.{Intersection}
-use Rattle.aim_paths.specs.Valid.{IsValid}
+use Rattle.aim_layout.specs.Intersection.{Intersection}
+use Rattle.aim_layout.specs.Valid.{IsValid}
 use Rattle.aim_rules.specs.Claims.{green}
 use Rattle.aim_rules.specs.Legal.{IsLegal}
 use Rattle.aim_driver.specs.declared.logs.LogItem.{LogItem}
@@ -17,7 +17,7 @@ use Rattle.aim_driver.proofs.FollowLemmas.{follows_fits}
 use Rattle.aim_driver.proofs.TurnLemmas.{follows_keeps}
 use Rattle.aim_safety.specs.Occupied.{Passage, passage, is_on, is_occupied}
 use Rattle.aim_safety.proofs.MeetLemmas.{no_two_drivers, no_green}
-use Rattle.aim_travel.specs.Acked.{begun_at}
+use Rattle.aim_grid.specs.Acked.{begun_at}
 use Rattle.aim_grid.specs.Travelled.{Ride, IsLeg}
 
 -- what a log is beside the journal

@@ -1,1 +1,17 @@
+pub use Rattle.aim_agents.specs.BookSetting
+pub use Rattle.aim_agents.specs.Seen
+pub use Rattle.aim_agents.specs.declared.agents.Trouble
+pub use Rattle.aim_agents.specs.Agents
+pub use Rattle.aim_drive.specs.declared.running.Drove
+pub use Rattle.aim_drive.specs.Headline
+pub mod Models
+pub mod Rode
+pub mod Travels
+pub mod Legs
+pub mod Acked
+pub mod Told
+pub mod Route
 pub mod Travelled
+pub mod Runs
+pub mod Making
+pub mod Closing

@@ -1,19 +1,19 @@
 -- What holds of the journals of several crossings and of the logs of the vehicles that go over them, whatever the threads do.
 use Rattle.std.specs.Prelude.{◌≡◌, ◌≢◌, ℕ, ◌≤◌, ◌==◌, true, false, List, [], ◌∷◌, length, map, Option, Some, None, slice_get, slice_index_or}
 use Rattle.std.specs.List.{filter}
-use Rattle.aim_msg.specs.declared.entries.Entry.{Entry}
+use Rattle.aim_messages.specs.declared.entries.Entry.{Entry}
 use Rattle.aim_geometry.specs.Cells.{Cell}
-use Rattle.aim_paths.specs.Intersection.{Intersection}
+use Rattle.aim_layout.specs.Intersection.{Intersection}
 use Rattle.aim_rules.specs.Claims as claims
 use Rattle.aim_rules.specs.Legal.{IsLegal}
 use Rattle.aim_driver.specs.declared.plans.DrivePlan.{DrivePlan}
 use Rattle.aim_driver.specs.declared.logs.LogItem.{LogItem}
 use Rattle.aim_driver.specs.Fits.{entries_of}
-use Rattle.aim_plans.specs.Said.{Drive}
+use Rattle.aim_drive_script.specs.Said.{Drive}
 use Rattle.aim_safety.specs.Occupied.{Passage, passage, is_on, is_occupied}
 use Rattle.aim_drive.specs.Headline.{VehicleLog, IsFollowed}
-use Rattle.aim_travel.specs.Acked.{acked, begun_at}
-use Rattle.aim_travel.specs.Route.{IsRoute}
+use Rattle.aim_grid.specs.Acked.{acked, begun_at}
+use Rattle.aim_grid.specs.Route.{IsRoute}
 
 -- a leg of a vehicle's route: the crossing, what its driver is to do there, and the driver's log
 pub record Ride : Type 0 where

@@ -3,3 +3,10 @@ pub mod Names
 pub mod Values
 pub mod Lists
 pub mod OneLine
+pub mod JsonReadingExamples
+pub mod SameLaws
+pub mod SpellingLaws
+pub mod ReadingLaws
+pub mod EntryValues
+pub mod Sound
+pub mod LineSound

@@ -3,7 +3,7 @@ use Rattle.std.proofs.Common.{◌≡◌, ◌∙◌, sym, ℕ, ◌+◌, ◌-◌, 
 use Rattle.std.proofs.lemmas.Bool.{cases_Bool}
 use Rattle.std.specs.List.{range_with_len}
 use Rattle.serde_json.specs.Data.{Data}
-use Rattle.aim_msg.specs.Lines.{has_lane}
+use Rattle.aim_messages.specs.Lines.{has_lane}
 use Rattle.aim_json.specs.Members.{count}
 
 -- the lanes from one on: that one if it is in the set, and then the lanes from the next on

@@ -6,8 +6,8 @@ use Rattle.std.proofs.lemmas.Bool.{and_parts, cases_Bool, leb-true, eqb-true}
 use Rattle.std.proofs.lemmas.List.Elements.{All-cons, All-nil}
 use Rattle.std.proofs.lemmas.Str.{IsUtf8-from_ascii}
 use Rattle.std.proofs.lemmas.Str.Ascii.{IsAscii-from_all}
-use Rattle.aim_msg.specs.declared.script.Name.{Name}
-use Rattle.aim_msg.specs.Lines.{is_name_byte, IsName}
+use Rattle.aim_messages.specs.declared.script.Name.{Name}
+use Rattle.aim_messages.specs.Lines.{is_name_byte, IsName}
 
 -- no byte of a name is behind `z`
 small : (b : ℕ) → is_name_byte b ≡ true → b < 128

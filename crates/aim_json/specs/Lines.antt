@@ -2,17 +2,17 @@
 use Rattle.std.specs.Prelude.{ℕ, ◌==◌, Bool, List, [], ◌∷◌, ◌++◌, codes, map, filter, take, if◌then◌else◌}
 use Rattle.serde_json.specs.Data.{Data}
 use Rattle.serde_json.specs.Written.{compact_text}
-use Rattle.aim_msg.specs.declared.messages.Params.{Params}
-use Rattle.aim_msg.specs.declared.messages.Body.{Body}
-use Rattle.aim_msg.specs.declared.messages.Body.TheVariants as body
-use Rattle.aim_msg.specs.declared.messages.Message.{Message}
-use Rattle.aim_msg.specs.declared.script.Line.{Line}
-use Rattle.aim_msg.specs.declared.script.Line.TheVariants as line
-use Rattle.aim_msg.specs.declared.script.MoveShape.{MoveShape}
-use Rattle.aim_msg.specs.declared.script.MoveShape.TheVariants as shape
-use Rattle.aim_msg.specs.declared.script.FateList.{FateList}
-use Rattle.aim_msg.specs.Texts.{turn_word, class_word}
-use Rattle.aim_msg.specs.Lines.{name_word, kind_word, window_word, has_lane, all_lanes}
+use Rattle.aim_messages.specs.declared.messages.Params.{Params}
+use Rattle.aim_messages.specs.declared.messages.Body.{Body}
+use Rattle.aim_messages.specs.declared.messages.Body.TheVariants as body
+use Rattle.aim_messages.specs.declared.messages.Message.{Message}
+use Rattle.aim_messages.specs.declared.script.Line.{Line}
+use Rattle.aim_messages.specs.declared.script.Line.TheVariants as line
+use Rattle.aim_messages.specs.declared.script.MoveShape.{MoveShape}
+use Rattle.aim_messages.specs.declared.script.MoveShape.TheVariants as shape
+use Rattle.aim_messages.specs.declared.script.FateList.{FateList}
+use Rattle.aim_messages.specs.Texts.{turn_word, class_word}
+use Rattle.aim_messages.specs.Lines.{name_word, kind_word, window_word, has_lane, all_lanes}
 use Rattle.aim_json.specs.Members.{count, word, list, Member, object_of}
 
 -- an object with its kind and further members

@@ -9,7 +9,7 @@ ghost use Rattle.aim_json.specs.Entries.{act_json, caller_json, entry_json, held
 use crate::lines::{bare_kind, message_value, single_kind};
 use crate::object::Object;
 use crate::words::{field_text, pace_text};
-use aim_msg::{Act, Entry, Order, Reason, Reply};
+use aim_messages::{Act, Entry, Order, Reason, Reply};
 use serde_json::Value;
 use std::alloc::{AllocError, Global};
 

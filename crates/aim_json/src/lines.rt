@@ -3,16 +3,16 @@
 ghost use Rattle.std.specs.Prelude.{◌≡◌, ◌∷◌, ◌++◌, ◌<◌, ◌≤◌, [], codes, map, IfOk, OnOk, if◌then◌else◌};
 ghost use Rattle.serde_json.specs.Data.{Members, no_members};
 ghost use Rattle.serde_json.specs.View.{view};
-ghost use Rattle.aim_msg.specs.declared.script.Line.{Line};
-ghost use Rattle.aim_msg.specs.Texts.{turn_word};
-ghost use Rattle.aim_msg.specs.Lines.{has_lane, KeepsRanges, IsFateList};
+ghost use Rattle.aim_messages.specs.declared.script.Line.{Line};
+ghost use Rattle.aim_messages.specs.Texts.{turn_word};
+ghost use Rattle.aim_messages.specs.Lines.{has_lane, KeepsRanges, IsFateList};
 ghost use Rattle.aim_json.specs.Members.{count, word, with_members};
 ghost use Rattle.aim_json.specs.Objects.{Holds};
 ghost use Rattle.aim_json.specs.Lines.{body_json, fate_json, fates_json, json_of, lanes_json, message_json, of_form, of_kind, params_members, shape_members, vehicle_members, window_members};
 
 use crate::object::Object;
 use crate::words::{class_text, kind_text, name_text, turn_text, window_text};
-use aim_msg::{
+use aim_messages::{
     Body, FateList, Grid6, Line, Message, MoveShape, Name, Params, Times5, Times6, Turn,
 };
 use serde_json::Value;

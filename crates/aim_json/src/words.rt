@@ -1,10 +1,10 @@
 //! The words that are fixed, and names.
 
 ghost use Rattle.std.specs.Prelude.{◌≡◌};
-ghost use Rattle.aim_msg.specs.Texts.{turn_word, class_word, field_word, pace_word};
-ghost use Rattle.aim_msg.specs.Lines.{name_word, kind_word, window_word, IsName};
+ghost use Rattle.aim_messages.specs.Texts.{turn_word, class_word, field_word, pace_word};
+ghost use Rattle.aim_messages.specs.Lines.{name_word, kind_word, window_word, IsName};
 
-use aim_msg::{Field, Name, Turn};
+use aim_messages::{Field, Name, Turn};
 
 pub(crate) fn turn_text(turn: Turn) -> &'static str
     ensures { result.now ≡ turn_word turn }

@@ -2,13 +2,13 @@
 
 ghost use Rattle.std.specs.Prelude.{◌≡◌, ◌++◌, ◌<◌, ◌≤◌, Some, IfOk, OnOk, OnErr, IsUtf8};
 ghost use Rattle.serde_json.specs.Read.{read};
-ghost use Rattle.aim_msg.specs.Lines.{KeepsRanges};
+ghost use Rattle.aim_messages.specs.Lines.{KeepsRanges};
 ghost use Rattle.aim_json.specs.Lines.{json_of, json_text};
 ghost use Rattle.aim_json.specs.Entries.{entry_json, entry_json_text};
 
 use crate::entries::entry_value;
 use crate::lines::line_value;
-use aim_msg::{Entry, Line, NoMemory};
+use aim_messages::{Entry, Line, NoMemory};
 use std::alloc::Global;
 
 // The text of a line.

@@ -5,7 +5,7 @@ use Rattle.std.proofs.Math.Decide.{dec_lt}
 use Rattle.std.proofs.Math.Seq.{get_or-append_seam}
 use Rattle.std.proofs.lemmas.List.{get_or_append_left}
 use Rattle.std.proofs.lemmas.List.FromFn.{length-range_with_len, get_or-range_with_len}
-use Rattle.aim_msg.specs.declared.entries.TheConstants.{MOST_VEHICLES, OPERATOR}
+use Rattle.aim_messages.specs.declared.entries.TheConstants.{MOST_VEHICLES, OPERATOR}
 use Rattle.aim_manager.specs.Seen.{callers}
 
 -- there is one more than the vehicles

@@ -2,20 +2,20 @@
 -- it is shown part by part. What others cite is at the end.
 use denote.Param.Send.{IsSend, IsSync, sendable}
 use Rattle.std.proofs.Crossing.{crosses}
-use Rattle.aim_msg.specs.contracts.entries.Entry as Entry
-use Rattle.aim_paths.proofs.layouts.Layout.TheSendSync as layout
-pub use Rattle.aim_pool.proofs.Crosses.{pool_send}
-pub use Rattle.aim_buffers.proofs.Crosses.{memo_send}
+use Rattle.aim_messages.specs.contracts.entries.Entry as Entry
+use Rattle.aim_layout.proofs.layouts.Layout.TheSendSync as layout
+pub use Rattle.aim_sheets.proofs.Crosses.{pool_send}
+pub use Rattle.aim_requests.proofs.Crosses.{memo_send}
 use Rattle.aim_book.proofs.Crosses.{idle_book_send}
-use Rattle.aim_turn.proofs.pass.Front.TheSendSync as front
-use Rattle.aim_turn.proofs.pass.Pass.TheSendSync as pass
-use Rattle.aim_turn.proofs.turnstile.Turnstile.TheSendSync as turnstile
-use Rattle.aim_turn.specs.contracts.pass.Front as Front
-use Rattle.aim_turn.specs.contracts.pass.Pass as Pass
+use Rattle.aim_turnstile.proofs.pass.Front.TheSendSync as front
+use Rattle.aim_turnstile.proofs.pass.Pass.TheSendSync as pass
+use Rattle.aim_turnstile.proofs.turnstile.Turnstile.TheSendSync as turnstile
+use Rattle.aim_turnstile.specs.contracts.pass.Front as Front
+use Rattle.aim_turnstile.specs.contracts.pass.Pass as Pass
 use Rattle.aim_manager.specs.contracts.keeper.Ask as Ask
 use Rattle.aim_manager.specs.contracts.keeper.Keeper as Keeper
 use Rattle.aim_manager.specs.contracts.keeper.KeeperKept.TheImpl as kept
-use Rattle.aim_manager.specs.contracts.keeper.Setting as Setting
+use Rattle.aim_manager.specs.contracts.keeper.BookSetting as BookSetting
 use Rattle.aim_manager.specs.contracts.keeper.Told as Told
 use Rattle.aim_manager.specs.contracts.manager.Manager as Manager
 
@@ -23,11 +23,11 @@ pub keeper_send : IsSend Keeper.the_row
 keeper_send = search (sendable, crosses, idle_book_send) depth 20
 
 -- a pass may go to another thread
-pub pass_send : IsSend (Pass.the_row Keeper.the_row Setting.the_row Entry.the_row Ask.the_row Told.the_row kept.ghosts)
+pub pass_send : IsSend (Pass.the_row Keeper.the_row BookSetting.the_row Entry.the_row Ask.the_row Told.the_row kept.ghosts)
 pass_send = search (sendable, pass.the_send, keeper_send)
 
 -- and so may what it notes
-pub front_send : IsSend (Front.the_row Keeper.the_row Setting.the_row Entry.the_row Ask.the_row Told.the_row kept.ghosts)
+pub front_send : IsSend (Front.the_row Keeper.the_row BookSetting.the_row Entry.the_row Ask.the_row Told.the_row kept.ghosts)
 front_send = search (sendable, front.the_send, keeper_send)
 
 -- threads may share a manager

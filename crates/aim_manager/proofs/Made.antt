@@ -1,8 +1,8 @@
 -- Entries that calls make.
 use Rattle.std.proofs.Common.{◌≡◌, ◌≢◌, ℕ, ◌+◌, ◌≤◌, [], ◌∷◌, ◌++◌, length, length-append, Result, Ok, Err, ap, arith, subst, sym}
 use Rattle.std.specs.Prelude.{IfOk, OnErr, IsErr, MatchBool, is_ok, ◌↔◌}
-use Rattle.aim_msg.specs.declared.entries.Entry.{Entry}
-use Rattle.aim_msg.specs.declared.replies.Reply.{Reply}
+use Rattle.aim_messages.specs.declared.entries.Entry.{Entry}
+use Rattle.aim_messages.specs.declared.replies.Reply.{Reply}
 use Rattle.aim_book.specs.declared.book.Full.{Full}
 use Rattle.aim_book.specs.State.{State}
 

@@ -1,20 +1,20 @@
 -- What a pass has seen once its call was made.
 use Rattle.std.proofs.Common.{◌≡◌, ℕ, List, [], ◌∷◌, ◌++◌, length, Ok, Err, Result, refl, sym, ap, ◌∙◌}
 use Rattle.std.specs.Prelude.{is_ok}
-use Rattle.aim_msg.specs.declared.entries.Act.{Act}
-use Rattle.aim_msg.specs.declared.entries.Entry.{Entry}
-use Rattle.aim_msg.specs.declared.replies.Reply.{Reply}
+use Rattle.aim_messages.specs.declared.entries.Act.{Act}
+use Rattle.aim_messages.specs.declared.entries.Entry.{Entry}
+use Rattle.aim_messages.specs.declared.replies.Reply.{Reply}
 use Rattle.aim_book.specs.declared.book.Full.{Full}
-use Rattle.aim_turn.specs.Models.{MakesCall, PassModel}
-use Rattle.aim_turn.proofs.Histories.{snoc_last}
-use Rattle.aim_manager.specs.declared.keeper.Setting.{Setting}
+use Rattle.aim_turnstile.specs.Models.{MakesCall, PassModel}
+use Rattle.aim_turnstile.proofs.Histories.{snoc_last}
+use Rattle.aim_manager.specs.declared.keeper.BookSetting.{BookSetting}
 use Rattle.aim_manager.specs.declared.keeper.Ask.{Ask}
 use Rattle.aim_manager.specs.declared.keeper.Told.{Told}
 use Rattle.aim_manager.specs.Asking.{Acts, Does}
 use Rattle.aim_manager.specs.Seen.{caller_of, IsLawful, IsServed}
 
 -- a call that did its act is served
-pub served : (s : Setting) (moment : ℕ) (what : Act) (call : Ask) (told : Told) (result : Result Reply Full) (old new : PassModel Setting Entry)
+pub served : (s : BookSetting) (moment : ℕ) (what : Act) (call : Ask) (told : Told) (result : Result Reply Full) (old new : PassModel BookSetting Entry)
     → (m : MakesCall caller_of IsLawful Does s call told (is_ok result) old new) → Acts s old.number moment what m.before new.seen result → IsServed s moment what result old new
 served s moment what call told (Ok reply) old new m acts =
     let r : Entry = record { caller = old.number; moment = moment; act = what; reply = reply } in

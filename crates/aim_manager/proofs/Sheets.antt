@@ -1,8 +1,8 @@
 -- The sheets that are kept for a vehicle, by its own entries.
 use Rattle.std.proofs.Common.{◌≡◌, ℕ, ◌+◌, List, arith, sym, ap, ◌∙◌}
-use Rattle.aim_msg.specs.declared.entries.Entry.{Entry}
+use Rattle.aim_messages.specs.declared.entries.Entry.{Entry}
 use Rattle.aim_book.specs.Sheets.{own, sheets_kept}
-use Rattle.aim_turn.specs.History.{entries_of}
+use Rattle.aim_turnstile.specs.History.{entries_of}
 use Rattle.aim_manager.specs.Seen.{caller_of}
 
 -- what is said of the sheets by the whole history, said by the pass's own entries

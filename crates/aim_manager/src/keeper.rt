@@ -1,12 +1,12 @@
 //! The book as what stands under the turn.
 
 use aim_book::{Book, Full, IdleBook};
-use aim_buffers::Prepared;
-use aim_msg::{Entry, Order, Reply};
-use aim_paths::Layout;
-use aim_pool::Pool;
+use aim_layout::Layout;
+use aim_messages::{Entry, Order, Reply};
+use aim_requests::Prepared;
+use aim_sheets::Pool;
 use aim_tiles::Steps;
-use aim_turn::Kept;
+use aim_turnstile::Kept;
 use std::marker::{Brand, Model};
 use std::sync::ledger::{Blank, Ledger};
 
@@ -38,7 +38,7 @@ pub enum Told {
 }
 
 /// What no call changes of a book. It stands in contracts alone, and no value of it is made.
-pub struct Setting {
+pub struct BookSetting {
     pub layout: Layout,
     pub vehicles: u32,
     pub room: u32,
@@ -62,7 +62,7 @@ impl Model for Keeper {
 }
 
 ghost use Rattle.std.specs.Prelude.{◌≡◌, ◌<◌, ◌≤◌, [], ◌∷◌, ◌++◌, length, MatchBool};
-ghost use Rattle.aim_msg.specs.declared.entries.Entry.{Entry};
+ghost use Rattle.aim_messages.specs.declared.entries.Entry.{Entry};
 ghost use Rattle.aim_manager.specs.Asking.{MayCall, Does, is_made, setting_of};
 ghost use Rattle.aim_manager.specs.Seen.{IsLawful, caller_of};
 
@@ -120,7 +120,7 @@ impl Kept for Keeper {
     ghost use Rattle.aim_manager.specs.Asking.{MayCall, Does, is_made, setting_of};
     ghost use Rattle.aim_manager.specs.Seen.{IsLawful, caller_of};
 
-    type Setting = Setting;
+    type Setting = BookSetting;
 
     type Entry = Entry;
 

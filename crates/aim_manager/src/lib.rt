@@ -9,6 +9,6 @@ mod manager;
 
 pub use aim_book::laws::sheets_are_those_of_own_entries;
 pub use aim_book::{Full, OpenFault};
-pub use aim_buffers::{Memo, Prepared, prepare_from};
-pub use keeper::{Ask, Keeper, Setting, Told};
+pub use aim_requests::{Memo, Prepared, prepare_from};
+pub use keeper::{Ask, BookSetting, Keeper, Told};
 pub use manager::{Closed, Manager, ManagerFront, ManagerPass, Opened};

@@ -2,23 +2,23 @@
 
 ghost use Rattle.std.specs.Prelude.{◌≡◌, ◌↔◌, ◌⊎◌, ℕ, ◌+◌, ◌<◌, ◌≤◌, [], ◌∷◌, ◌++◌, length, map, sum_by, Contains, IsPermutation, All, IfOk, Err};
 ghost use Rattle.std.specs.List.{range_with_len};
-ghost use Rattle.aim_msg.specs.declared.entries.Act.{Act};
-ghost use Rattle.aim_msg.specs.declared.entries.TheConstants.{LATEST_MOMENT, MOST_ENTRIES, MOST_VEHICLES, OPERATOR};
-ghost use Rattle.aim_buffers.specs.Requests.{IsPreparedFor};
+ghost use Rattle.aim_messages.specs.declared.entries.Act.{Act};
+ghost use Rattle.aim_messages.specs.declared.entries.TheConstants.{LATEST_MOMENT, MOST_ENTRIES, MOST_VEHICLES, OPERATOR};
+ghost use Rattle.aim_requests.specs.Requests.{IsPreparedFor};
 ghost use Rattle.aim_book.specs.Sheets.{sheets_kept};
 ghost use Rattle.aim_rules.specs.Legal.{IsLegal, IsOfLayout};
-ghost use Rattle.aim_turn.specs.History.{entries_of};
-ghost use Rattle.aim_turn.specs.Models.{IsPassOf, IsSamePass, HasPass, new_pass};
+ghost use Rattle.aim_turnstile.specs.History.{entries_of};
+ghost use Rattle.aim_turnstile.specs.Models.{IsPassOf, IsSamePass, HasPass, new_pass};
 ghost use Rattle.aim_manager.specs.Seen.{caller_of, callers, IsServed, Meets};
 
 use crate::keeper::{Ask, Keeper, Told};
 use aim_book::laws::sheets_are_those_of_own_entries;
 use aim_book::{Full, IdleBook, OpenFault};
-use aim_buffers::Prepared;
-use aim_msg::{Entry, OPERATOR, Order, Reply};
-use aim_paths::Layout;
-use aim_pool::Pool;
-use aim_turn::{Front, NoMemory, Pass, Turnstile};
+use aim_layout::Layout;
+use aim_messages::{Entry, OPERATOR, Order, Reply};
+use aim_requests::Prepared;
+use aim_sheets::Pool;
+use aim_turnstile::{Front, NoMemory, Pass, Turnstile};
 use std::alloc::Global;
 use std::marker::Model;
 use std::mem;
@@ -41,11 +41,11 @@ pub struct Manager {
 
 impl Model for Manager {
     ghost use Rattle.std.specs.Prelude.{◌≡◌};
-    ghost use Rattle.aim_turn.specs.Models.{TurnstileModel};
+    ghost use Rattle.aim_turnstile.specs.Models.{TurnstileModel};
     ghost use Rattle.aim_manager.specs.Seen.{callers};
-    ghost use Rattle.aim_manager.specs.declared.keeper.Setting.{Setting};
+    ghost use Rattle.aim_manager.specs.declared.keeper.BookSetting.{BookSetting};
 
-    ghost Value = { TurnstileModel Setting };
+    ghost Value = { TurnstileModel BookSetting };
 
     ghost view = { λ m. m.turnstile };
 

@@ -1,8 +1,3 @@
-pub mod Examples
-pub mod MoreExamples
-pub mod ScriptExamples
-pub mod TextLemmas
-pub mod LineLemmas
-pub mod SessionLemmas
-pub mod EndLemmas
-pub mod StepLemmas
+pub mod SheetLemmas
+pub mod ChartLemmas
+pub mod StageLemmas

@@ -1,4 +1,4 @@
-pub mod Texts
-pub mod Replays
-pub mod Written
-pub mod Sessions
+pub mod Servers
+pub mod Charted
+pub mod Whole
+pub mod Stages

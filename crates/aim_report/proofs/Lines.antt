@@ -2,13 +2,12 @@
 use Rattle.std.proofs.Common.{◌≡◌, ℕ, ◌+◌, ◌-◌, ◌<◌, List, [], ◌∷◌, ◌++◌, length, length-take-le, take, refl, sym, arith, ap, ◌∙◌, append_assoc}
 use Rattle.std.specs.Prelude.{get_or, Result, Ok, Err, OnOk, is_ok, if◌then◌else◌}
 use Rattle.std.proofs.lemmas.List.{append-nil, take_more}
-use Rattle.aim_msg.specs.declared.entries.Entry.{Entry}
-use Rattle.aim_msg.specs.Texts.{entry_text}
+use Rattle.aim_messages.specs.declared.entries.Entry.{Entry}
+use Rattle.aim_messages.specs.Texts.{entry_text, spaced}
 use Rattle.aim_script.specs.Decided.{printed}
 use Rattle.aim_driver.specs.declared.logs.LogItem.{LogItem}
-use Rattle.aim_msg.specs.Texts.{spaced}
-use Rattle.aim_msg.specs.Writing.{added}
-use Rattle.aim_msg.proofs.Words.{spaced_added}
+use Rattle.aim_messages.specs.Writing.{added}
+use Rattle.aim_messages.proofs.Words.{spaced_added}
 use Rattle.aim_report.specs.declared.stays.Stay.{Stay}
 use Rattle.aim_report.specs.Reports.{item_line, journal_lines, log_lines, stay_words}
 

@@ -6,19 +6,19 @@ use Rattle.std.proofs.lemmas.Bool.{or_parts, and_parts, leb-true, eqb-true, ne_e
 use Rattle.std.proofs.lemmas.List.{append-nil}
 use Rattle.std.proofs.lemmas.List.Elements.{All-head, All-tail}
 use Rattle.std.proofs.lemmas.Fmt.{decimal_injective}
-use Rattle.aim_msg.specs.declared.entries.Entry.{Entry}
-use Rattle.aim_msg.specs.Texts.{Words, spaced, entry_words, entry_text, IsOneLine}
-use Rattle.aim_words.specs.Faults.{first, rest, words_of, begins_with_digit}
-use Rattle.aim_words.specs.Ranges.{Is32}
-use Rattle.aim_words.proofs.NumberLaws.{decimal_number, number_begins}
-use Rattle.aim_words.proofs.WordLaws.{AreWords, words_spaced}
-use Rattle.aim_words.proofs.MessageWords.{w32, message_are_words}
-use Rattle.aim_read_entries.proofs.EntryAgain.{reply_are_words, entry_alone, reply_alone}
-use Rattle.aim_read.proofs.LineAgain.{message_one}
-use Rattle.aim_words.proofs.OneLine.{words_end_none}
-use Rattle.aim_read_entries.proofs.OneLine.{entry_is_one_line}
+use Rattle.aim_messages.specs.declared.entries.Entry.{Entry}
+use Rattle.aim_messages.specs.Texts.{Words, spaced, entry_words, entry_text, IsOneLine}
+use Rattle.aim_text_words.specs.Faults.{first, rest, words_of, begins_with_digit}
+use Rattle.aim_text_words.specs.Ranges.{Is32}
+use Rattle.aim_text_words.proofs.NumberLaws.{decimal_number, number_begins}
+use Rattle.aim_text_words.proofs.WordLaws.{AreWords, words_spaced}
+use Rattle.aim_text_words.proofs.MessageWords.{w32, message_are_words}
+use Rattle.aim_text_entries.proofs.EntryAgain.{reply_are_words, entry_alone, reply_alone}
+use Rattle.aim_text_lines.proofs.LineAgain.{message_one}
+use Rattle.aim_text_words.proofs.OneLine.{words_end_none}
+use Rattle.aim_text_entries.proofs.OneLine.{entry_is_one_line}
 use Rattle.aim_script.specs.Decided.{printed}
-use Rattle.aim_paths.specs.Intersection.{Intersection}
+use Rattle.aim_layout.specs.Intersection.{Intersection}
 use Rattle.aim_driver.specs.declared.logs.LogItem.{LogItem}
 use Rattle.aim_driver.specs.declared.logs.LogItem.TheVariants as item
 use Rattle.aim_safety.specs.Tiles.{occupied_cells}

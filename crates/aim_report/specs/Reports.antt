@@ -1,8 +1,8 @@
 -- What is printed of a drive.
 use Rattle.std.specs.Prelude.{ℕ, ◌+◌, List, [], ◌∷◌, ◌++◌, length, codes, decimal}
-use Rattle.aim_msg.specs.declared.entries.Entry.{Entry}
-use Rattle.aim_msg.specs.Texts.{Words, spaced, entry_text, message_words, reply_words}
-use Rattle.aim_paths.specs.Intersection.{Intersection}
+use Rattle.aim_messages.specs.declared.entries.Entry.{Entry}
+use Rattle.aim_messages.specs.Texts.{Words, spaced, entry_text, message_words, reply_words}
+use Rattle.aim_layout.specs.Intersection.{Intersection}
 use Rattle.aim_driver.specs.declared.logs.LogItem.{LogItem}
 use Rattle.aim_driver.specs.declared.logs.LogItem.TheVariants as item
 use Rattle.aim_safety.specs.Tiles.{occupied_cells}

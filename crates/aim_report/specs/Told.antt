@@ -1,9 +1,9 @@
 -- Which journals and logs a report can be of, and what it tells of a vehicle.
 use Rattle.std.specs.Prelude.{◌≢◌, ℕ, ◌≤◌, ◌==◌, List, [], ◌∷◌, length, All, AllPairs, if◌then◌else◌}
-use Rattle.aim_msg.specs.declared.entries.Entry.{Entry}
-use Rattle.aim_msg.specs.Actors.{IsCallerOf}
-use Rattle.aim_words.specs.Ranges.{Is32, IsMessage}
-use Rattle.aim_read_entries.specs.Ranges.{IsReply, IsEntry}
+use Rattle.aim_messages.specs.declared.entries.Entry.{Entry}
+use Rattle.aim_messages.specs.Actors.{IsCallerOf}
+use Rattle.aim_text_words.specs.Ranges.{Is32, IsMessage}
+use Rattle.aim_text_entries.specs.Ranges.{IsReply, IsEntry}
 use Rattle.aim_driver.specs.declared.logs.LogItem.{LogItem}
 use Rattle.aim_driver.specs.declared.logs.LogItem.TheVariants as item
 use Rattle.aim_report.specs.Reports.{Logged}

@@ -2,11 +2,11 @@
 
 ghost use Rattle.std.specs.Prelude.{◌≡◌, ◌++◌, ◌≤◌, length, OnOk};
 ghost use Rattle.aim_script.specs.Decided.{printed};
-ghost use Rattle.aim_msg.specs.Texts.{entry_text as text_of, spaced};
+ghost use Rattle.aim_messages.specs.Texts.{entry_text as text_of, spaced};
 ghost use Rattle.aim_report.specs.Reports.{end_words, journal_lines};
 
 use crate::NoMemory;
-use aim_msg::{Entry, Text, write_entry};
+use aim_messages::{Entry, Text, write_entry};
 
 // Appends the line of an entry.
 fn put_entry(out: &mut Vec<u8>, position: u32, entry: &Entry) -> Result<(), NoMemory>

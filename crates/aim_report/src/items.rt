@@ -1,12 +1,12 @@
 //! The lines of a driver's log.
 
 ghost use Rattle.std.specs.Prelude.{◌≡◌, ◌++◌, ◌∷◌, ◌≤◌, [], length, codes, decimal, OnOk};
-ghost use Rattle.aim_msg.specs.Texts.{message_words, reply_words, spaced};
+ghost use Rattle.aim_messages.specs.Texts.{message_words, reply_words, spaced};
 ghost use Rattle.aim_report.specs.Reports.{item_line, item_words, log_lines};
 
 use crate::NoMemory;
 use aim_driver::LogItem;
-use aim_msg::{Message, Reply, Text, put_number, write_message, write_reply};
+use aim_messages::{Message, Reply, Text, put_number, write_message, write_reply};
 
 // Appends the first words of an item's line.
 fn put_head(out: &mut Vec<u8>, vehicle: u32, what: &[u8], step: u32) -> Result<(), NoMemory>

@@ -1,9 +1,9 @@
 //! What the printed stays mean, and what a report tells, each as the contract of a function that does nothing.
 
 ghost use Rattle.std.specs.Prelude.{◌≡◌, ◌↔◌, ℕ, List};
-ghost use Rattle.aim_msg.specs.declared.entries.Entry.{Entry};
+ghost use Rattle.aim_messages.specs.declared.entries.Entry.{Entry};
 ghost use Rattle.aim_geometry.specs.Cells.{Cell};
-ghost use Rattle.aim_paths.specs.Intersection.{Intersection};
+ghost use Rattle.aim_layout.specs.Intersection.{Intersection};
 ghost use Rattle.aim_rules.specs.Cells.{IsIn};
 ghost use Rattle.aim_safety.specs.Tiles.{IsRising};
 ghost use Rattle.aim_report.specs.declared.stays.Stay.{Stay};

@@ -1,8 +1,8 @@
 //! The lines of the tiles on which a driver was.
 
 ghost use Rattle.std.specs.Prelude.{◌≡◌, ◌++◌, ◌∷◌, [], List, map, OnOk, IfOk};
-ghost use Rattle.aim_msg.specs.Texts.{spaced};
-ghost use Rattle.aim_msg.specs.Writing.{added};
+ghost use Rattle.aim_messages.specs.Texts.{spaced};
+ghost use Rattle.aim_messages.specs.Writing.{added};
 ghost use Rattle.aim_geometry.specs.Cells as rules;
 ghost use Rattle.aim_safety.specs.Tiles.{EntersBy, cell_of};
 ghost use Rattle.aim_report.specs.Stays.{goes_on, stay_of, stays, stays_after, stays_behind};
@@ -10,8 +10,8 @@ ghost use Rattle.aim_report.specs.Reports.{stay_line, stay_lines, stay_words, ti
 
 use crate::NoMemory;
 use aim_driver::LogItem;
-use aim_msg::{Entry, Text};
-use aim_paths::Layout;
+use aim_layout::Layout;
+use aim_messages::{Entry, Text};
 use aim_safety::{Cell, occupied};
 use std::alloc::Global;
 

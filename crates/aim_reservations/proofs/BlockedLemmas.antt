@@ -4,19 +4,19 @@ use Rattle.std.specs.Prelude.{◌%◌, IfNone, IfSome, if◌then◌else◌}
 use Rattle.std.specs.List.{list_any, range_with_len}
 use Rattle.aim_geometry.proofs.BoundedLemmas.{some_below_none}
 use Rattle.aim_geometry.specs.Cells.{Cell, cell_at}
-use Rattle.aim_paths.specs.Intersection.{Intersection, Policy}
-use Rattle.aim_paths.specs.LaneTiles.{in_lane_tiles}
-use Rattle.aim_paths.specs.Policies.{has_lane, has_lights}
-use Rattle.aim_pool.specs.declared.spans.Span.{Span}
-use Rattle.aim_pool.specs.Spans.{in_spans}
+use Rattle.aim_layout.specs.Intersection.{Intersection, Policy}
+use Rattle.aim_layout.specs.LaneTiles.{in_lane_tiles}
+use Rattle.aim_layout.specs.Policies.{has_lane, has_lights}
+use Rattle.aim_sheets.specs.declared.spans.Span.{Span}
+use Rattle.aim_sheets.specs.Spans.{in_spans}
 use Rattle.aim_tiles.specs.Cells.{TakenCells}
 use Rattle.aim_tiles.specs.Searches.{IsFirst, is_taken}
 use Rattle.aim_rules.specs.Kept.{policy_in}
 use Rattle.aim_rules.specs.Known.{is_claimed_by}
 use Rattle.aim_rules.specs.Lights.{green_lanes, lit, round}
 use Rattle.aim_rules.specs.Timeline.{InForce}
-use Rattle.aim_switch.specs.Claimed.{is_other}
-use Rattle.aim_switch.proofs.Rounds.{has_lane-none}
+use Rattle.aim_policies.specs.Claimed.{is_other}
+use Rattle.aim_policies.proofs.Rounds.{has_lane-none}
 use Rattle.aim_reservations.specs.Blocking.{IsLeastOf, is_green, is_held, is_lit}
 use Rattle.aim_reservations.proofs.BeforeLemmas.{first_least, least_same}
 

@@ -3,7 +3,7 @@ use denote.RattleType.{RattleType}
 use denote.Param.Send.{IsSend, sendable}
 use Rattle.std.proofs.Crossing.{crosses}
 use Rattle.std.specs.declared.sync.ledger.Ledger.{Ghosts}
-use Rattle.aim_pool.proofs.Crosses.{sheet_send}
+use Rattle.aim_sheets.proofs.Crosses.{sheet_send}
 use Rattle.aim_tiles.proofs.idle.IdleTable.TheSendSync as idle
 use Rattle.aim_tiles.proofs.tables.Table.TheSendSync as tiles
 use Rattle.aim_reservations.specs.contracts.idle.IdleReservations as IdleReservations

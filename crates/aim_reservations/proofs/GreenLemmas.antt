@@ -1,8 +1,7 @@
 -- The cells of spans that other lanes claim.
-use Rattle.std.proofs.Common.{◌≡◌, ℕ, ◌<◌, ◌≤◌, Bool, true, false, ◌&&◌, List, length, get_or, refl, sym, ◌∙◌, ap, arith, Some, subst, slice_index, inl, inr, ◌+◌}
+use Rattle.std.proofs.Common.{◌≡◌, ℕ, ◌<◌, ◌≤◌, Bool, true, false, ◌&&◌, List, length, get_or, refl, sym, ◌∙◌, ap, arith, Some, subst, slice_index, inl, inr, ◌+◌, w64}
 use Rattle.std.specs.Prelude.{bit_and, ◌==◌, ◌^◌}
 use Rattle.std.specs.Int.{trailing_zeros}
-use Rattle.std.proofs.Common.{w64}
 use Rattle.std.proofs.lemmas.Bool.{cases_lt, and_parts, and_from, both_ways, false_from_ne_true, eq-eqb, eqb-true}
 use Rattle.std.proofs.lemmas.List.{get_or_default}
 use Rattle.std.proofs.lemmas.List.Folds.{list_any_at}
@@ -10,13 +9,13 @@ use Rattle.std.proofs.lemmas.Nat.Bits.{bit_at-trailing_zeros, bit_at-zero}
 use Rattle.aim_geometry.specs.Cells.{Cell, cell_at}
 use Rattle.aim_geometry.specs.Rects.{has_bit, tile_at}
 use Rattle.aim_geometry.proofs.Bits.{has_bit_and}
-use Rattle.aim_paths.specs.Intersection.{Intersection}
-use Rattle.aim_pool.specs.declared.spans.Span.{Span}
-use Rattle.aim_pool.specs.Spans.{in_span, is_at}
+use Rattle.aim_layout.specs.Intersection.{Intersection}
+use Rattle.aim_sheets.specs.declared.spans.Span.{Span}
+use Rattle.aim_sheets.specs.Spans.{in_span, is_at}
 use Rattle.aim_tiles.specs.Searches.{IsClear, IsFirstHit}
 use Rattle.aim_tiles.specs.Sheets.{AreTiles}
 use Rattle.aim_rules.specs.Timeline.{InForce}
-use Rattle.aim_switch.proofs.Windows.{tile_claimed}
+use Rattle.aim_policies.proofs.Windows.{tile_claimed}
 use Rattle.aim_reservations.specs.Blocking.{AreGreens, is_green}
 use Rattle.aim_reservations.specs.declared.greens.Greens.{Greens}
 

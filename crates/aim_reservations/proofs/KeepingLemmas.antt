@@ -1,13 +1,13 @@
 -- What an answer makes of a vehicle's reservation.
 use Rattle.std.proofs.Common.{◌≡◌, ℕ, ◌+◌, ◌≤◌, Bool, true, false, Option, Some, None, refl, arith, ◌&&◌, ◌||◌, not, length}
 use Rattle.std.specs.Prelude.{if◌then◌else◌}
-use Rattle.aim_msg.specs.declared.replies.Reply.{Reply}
+use Rattle.aim_messages.specs.declared.replies.Reply.{Reply}
 use Rattle.aim_rules.specs.History.{given_up, is_confirm}
 use Rattle.aim_rules.specs.Holds.{is_fast}
 use Rattle.aim_geometry.specs.Cells.{Cell}
-use Rattle.aim_pool.specs.Spans.{in_spans}
+use Rattle.aim_sheets.specs.Spans.{in_spans}
 use Rattle.aim_tiles.specs.Cells.{TakenCells, has_cell}
-use Rattle.aim_buffers.specs.Requests.{Request}
+use Rattle.aim_requests.specs.Requests.{Request}
 use Rattle.aim_reservations.specs.Keeping.{granted_sheet, is_changed, is_named, is_taken_then, row_count, row_next, spans_moved}
 use Rattle.aim_reservations.specs.Rows.{spans_in}
 use Rattle.aim_reservations.specs.declared.reservations.Reservation.{Reservation}

@@ -3,7 +3,7 @@ use Rattle.std.proofs.Common.{◌≡◌, ℕ, ◌<◌, ◌≤◌, ◌+◌, Bool,
 use Rattle.std.proofs.lemmas.List.{get_or_default}
 use Rattle.aim_geometry.specs.Bounded.{some_below}
 use Rattle.aim_geometry.specs.Cells.{Cell}
-use Rattle.aim_pool.specs.Spans.{in_spans}
+use Rattle.aim_sheets.specs.Spans.{in_spans}
 use Rattle.aim_tiles.specs.Cells.{TakenCells, has_cell}
 use Rattle.aim_reservations.specs.declared.reservations.Reservation.{Reservation}
 use Rattle.aim_reservations.specs.Rows.{row_of, spans_in}

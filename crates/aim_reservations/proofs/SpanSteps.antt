@@ -7,9 +7,9 @@ use Rattle.std.proofs.lemmas.List.{get_or_default}
 use Rattle.std.proofs.lemmas.Option.{get_or_from_slice_get, slice_get-get_or}
 use Rattle.std.proofs.Math.Decide.{dec_lt}
 use Rattle.aim_geometry.specs.Cells.{Cell, cell_at}
-use Rattle.aim_pool.specs.declared.spans.Span.{Span}
-use Rattle.aim_pool.specs.Spans.{AreMarked, AreRising, in_span, in_spans}
-use Rattle.aim_pool.proofs.Order.{precedes_parts}
+use Rattle.aim_sheets.specs.declared.spans.Span.{Span}
+use Rattle.aim_sheets.specs.Spans.{AreMarked, AreRising, in_span, in_spans}
+use Rattle.aim_sheets.proofs.Order.{precedes_parts}
 use Rattle.aim_tiles.proofs.Writes.{some_column}
 use Rattle.aim_reservations.specs.SpanSteps.{Reaches, IsFirstStep}
 

@@ -3,18 +3,18 @@ use Rattle.std.specs.Prelude.{◌≡◌, ℕ, ◌+◌, ◌-◌, ◌<◌, ◌⊎�
 use Rattle.std.specs.List.{list_any, range_with_len}
 use Rattle.aim_geometry.specs.Cells.{Cell, cell_at}
 use Rattle.aim_geometry.specs.Rects.{tile_at}
-use Rattle.aim_msg.specs.declared.messages.Params.{Params}
-use Rattle.aim_paths.specs.Intersection.{Intersection}
-use Rattle.aim_paths.specs.Policies.{has_lane, has_lights}
-use Rattle.aim_pool.specs.declared.spans.Span.{Span}
-use Rattle.aim_pool.specs.Spans.{in_spans}
+use Rattle.aim_messages.specs.declared.messages.Params.{Params}
+use Rattle.aim_layout.specs.Intersection.{Intersection}
+use Rattle.aim_layout.specs.Policies.{has_lane, has_lights}
+use Rattle.aim_sheets.specs.declared.spans.Span.{Span}
+use Rattle.aim_sheets.specs.Spans.{in_spans}
 use Rattle.aim_tiles.specs.Cells.{TakenCells, has_cell}
-use Rattle.aim_buffers.specs.Cells.{HaveCells}
+use Rattle.aim_requests.specs.Cells.{HaveCells}
 use Rattle.aim_rules.specs.Kept.{policy_in}
 use Rattle.aim_rules.specs.Known.{Known}
 use Rattle.aim_rules.specs.Timeline.{InForce}
-use Rattle.aim_switch.specs.Changes.{green_in, is_claimed_for}
-use Rattle.aim_switch.specs.Claimed.{is_tile_of}
+use Rattle.aim_policies.specs.Changes.{green_in, is_claimed_for}
+use Rattle.aim_policies.specs.Claimed.{is_tile_of}
 use Rattle.aim_reservations.specs.declared.greens.Greens.{Greens}
 
 -- some policy has lights

@@ -1,11 +1,11 @@
 -- What a fresh message and its answer make of the reservation of a vehicle.
 use Rattle.std.specs.Prelude.{ℕ, ◌+◌, Bool, false, ◌&&◌, ◌||◌, not, length, Option, Some, None, if◌then◌else◌}
 use Rattle.aim_geometry.specs.Cells.{Cell}
-use Rattle.aim_msg.specs.declared.replies.Reply.{Reply}
-use Rattle.aim_pool.specs.Sheets.{Spans}
-use Rattle.aim_pool.specs.Spans.{in_spans}
+use Rattle.aim_messages.specs.declared.replies.Reply.{Reply}
+use Rattle.aim_sheets.specs.Sheets.{Spans}
+use Rattle.aim_sheets.specs.Spans.{in_spans}
 use Rattle.aim_tiles.specs.Cells.{TakenCells, has_cell}
-use Rattle.aim_buffers.specs.Requests.{Request}
+use Rattle.aim_requests.specs.Requests.{Request}
 use Rattle.aim_rules.specs.History.{given_up, is_confirm}
 use Rattle.aim_rules.specs.Holds.{is_fast, is_number}
 use Rattle.aim_reservations.specs.Rows.{spans_in}

@@ -1,9 +1,9 @@
 -- The reservations of vehicles, one row each.
 use Rattle.std.specs.Prelude.{◌≡◌, ℕ, Bool, List, [], Option, Some, None, slice_index_or}
 use Rattle.aim_geometry.specs.Cells.{Cell}
-use Rattle.aim_pool.specs.declared.spans.Span.{Span}
-use Rattle.aim_pool.specs.Sheets.{Spans}
-use Rattle.aim_pool.specs.Spans.{in_spans}
+use Rattle.aim_sheets.specs.declared.spans.Span.{Span}
+use Rattle.aim_sheets.specs.Sheets.{Spans}
+use Rattle.aim_sheets.specs.Spans.{in_spans}
 use Rattle.aim_reservations.specs.declared.reservations.Reservation.{Reservation}
 
 -- the vehicle's reservation

@@ -2,8 +2,8 @@
 -- No public clause cites it: only contracts of private functions.
 use Rattle.std.specs.Prelude.{◌≡◌, ℕ, ◌≤◌, true, false, List}
 use Rattle.aim_geometry.specs.Cells.{Cell}
-use Rattle.aim_pool.specs.declared.spans.Span.{Span}
-use Rattle.aim_pool.specs.Spans.{in_spans}
+use Rattle.aim_sheets.specs.declared.spans.Span.{Span}
+use Rattle.aim_sheets.specs.Spans.{in_spans}
 
 -- some cell is of the step or of a later one
 abbrev pub Reaches : List Span → ℕ → Type 0

@@ -2,16 +2,16 @@
 
 ghost use Rattle.std.specs.Prelude.{◌≡◌, ◌+◌, ◌<◌, ◌≤◌, ◌&&◌, ◌||◌, Bool, IsTrue, ◌↔◌, length};
 ghost use Rattle.aim_geometry.specs.Cells.{Cell, cell_at};
-ghost use Rattle.aim_pool.specs.Spans.{in_spans};
+ghost use Rattle.aim_sheets.specs.Spans.{in_spans};
 ghost use Rattle.aim_tiles.specs.Sheets.{AreTiles};
 ghost use Rattle.aim_reservations.specs.Blocking.{Before, IsLeastOf, is_green, is_held, is_lit};
 ghost use Rattle.aim_reservations.specs.Rows.{row_of, spans_in};
 
 use crate::greens::first_green;
 use crate::reservations::Reservations;
-use aim_paths::Layout;
-use aim_pool::Sheet;
-use aim_switch::Timeline;
+use aim_layout::Layout;
+use aim_policies::Timeline;
+use aim_sheets::Sheet;
 use aim_tiles::Steps;
 use std::sync::ledger::Ledger;
 

@@ -3,9 +3,10 @@
 ghost use Rattle.std.specs.Prelude.{◌≡◌, ℕ, ◌<◌, ◌&&◌, true, false, IfNone, IfSome, List, Some, length};
 ghost use Rattle.aim_geometry.specs.Cells.{Cell, cell_at};
 ghost use Rattle.aim_geometry.specs.Rects.{has_bit};
-ghost use Rattle.aim_paths.specs.LaneTiles.{in_lane_tiles};
-ghost use Rattle.aim_paths.specs.Policies.{has_lane};
-ghost use Rattle.aim_pool.specs.Spans.{in_spans};
+ghost use Rattle.aim_layout.specs.LaneTiles.{in_lane_tiles};
+ghost use Rattle.aim_layout.specs.Policies.{has_lane};
+ghost use Rattle.aim_layout.specs.Valid.{IsValid};
+ghost use Rattle.aim_sheets.specs.Spans.{in_spans};
 ghost use Rattle.aim_rules.specs.Kept.{policy_in};
 ghost use Rattle.aim_rules.specs.Known.{green_by};
 ghost use Rattle.aim_rules.specs.Timeline.{InForce};
@@ -13,9 +14,9 @@ ghost use Rattle.aim_tiles.specs.Searches.{IsFirst};
 ghost use Rattle.aim_tiles.specs.Sheets.{AreTiles};
 ghost use Rattle.aim_reservations.specs.Blocking.{AreGreens, is_green};
 
-use aim_paths::{Layout, lane_rows};
-use aim_pool::Sheet;
-use aim_switch::{Timeline, claimed_rows};
+use aim_layout::{Layout, lane_rows};
+use aim_policies::{Timeline, claimed_rows};
+use aim_sheets::Sheet;
 
 /// The lanes that were green shortly before a step, and the tiles of those other than one.
 #[derive(Drop)]
@@ -26,12 +27,11 @@ struct Greens {
 }
 
 impl Greens {
-    // No lane, at no step.
+    // No lane, at no step. The call also tells that the layout is valid.
     fn none(layout: &Layout, lane: u8) -> Greens
-        ensures { (fs : List InForce) → AreGreens layout.now fs lane result }
+        ensures greens { (fs : List InForce) → AreGreens layout.now fs lane result }
+        ensures valid { IsValid layout.now }
     {
-        // This call only tells the ranges of the grid and of the lanes.
-        let _ground = layout.ground();
         Greens {
             step: None,
             lanes: 0,
@@ -79,8 +79,6 @@ pub(crate) fn first_green(
     ensures found { IfSome result (λ r. IsFirst (λ c. in_spans sheet.now.spans c && is_green layout.now timeline.now.pushed lane c) (cell_at r.0 r.1 r.2)) }
     ensures none { IfNone result ((c : Cell) → (in_spans sheet.now.spans c && is_green layout.now timeline.now.pushed lane c) ≡ false) }
 {
-    // This call only tells the ranges of the grid and of the lanes.
-    let _ground = layout.ground();
     let mut greens = Greens::none(layout, lane);
     for span in sheet.spans() {
         greens.go_to(layout, timeline, lane, span.step);
@@ -91,7 +89,8 @@ pub(crate) fn first_green(
     None
 }
 
-/// The least lane, other than one, that claims the cell of a step, a row and a column.
+/// The least lane, other than one, that claims the cell of a step, a row and a column. The call also tells that the
+/// layout is valid.
 pub fn green_lane(
     layout: &Layout,
     timeline: &Timeline,
@@ -102,10 +101,9 @@ pub fn green_lane(
 ) -> Option<u8>
     requires row { row < layout.now.grid.n }
     requires col { col < layout.now.grid.n }
-    ensures { result ≡ green_by layout.now (policy_in timeline.now.pushed) (cell_at step row col) except }
+    ensures lane { result ≡ green_by layout.now (policy_in timeline.now.pushed) (cell_at step row col) except }
+    ensures valid { IsValid layout.now }
 {
-    // This call only tells the ranges of the grid and of the lanes.
-    let _ground = layout.ground();
     let lanes = timeline.claimants(layout, step);
     for lane in 0..layout.lanes() as u8 {
         if lane != except && is_claimed(layout, lanes, lane, row, col) {

@@ -2,7 +2,7 @@
 
 ghost use Rattle.std.specs.Prelude.{◌≡◌, ◌+◌, ◌<◌, ◌≤◌, ◌&&◌, ◌||◌, not, true, length, Some, None, slice_set, option_map, if◌then◌else◌};
 ghost use Rattle.aim_geometry.specs.Cells.{Cell};
-ghost use Rattle.aim_pool.specs.Spans.{in_spans};
+ghost use Rattle.aim_sheets.specs.Spans.{in_spans};
 ghost use Rattle.aim_tiles.specs.Cells.{has_cell};
 ghost use Rattle.aim_tiles.specs.Sheets.{AreAhead, AreTiles};
 ghost use Rattle.aim_rules.specs.History.{given_up as given_up_of, is_confirm};
@@ -11,9 +11,9 @@ ghost use Rattle.aim_reservations.specs.Keeping.{granted_sheet, is_changed, is_n
 ghost use Rattle.aim_reservations.specs.Rows.{HasRoom, row_of, sheet_count, spans_in};
 
 use crate::reservations::{Reservation, Reservations};
-use aim_buffers::Prepared;
-use aim_msg::{Body, Reply};
-use aim_pool::{Pool, Sheet};
+use aim_messages::{Body, Reply};
+use aim_requests::Prepared;
+use aim_sheets::{Pool, Sheet};
 use aim_tiles::Steps;
 use std::sync::ledger::Ledger;
 

@@ -3,7 +3,7 @@
 ghost use Rattle.std.specs.Prelude.{◌≡◌, ◌↔◌, IsTrue};
 ghost use Rattle.aim_reservations.specs.SpanSteps.{IsFirstStep, Reaches};
 
-use aim_pool::Sheet;
+use aim_sheets::Sheet;
 
 /// Whether some cell of the sheet is of the step or of a later one.
 pub fn reaches(sheet: &Sheet, step: u32) -> bool

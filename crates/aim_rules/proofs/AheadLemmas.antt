@@ -1,17 +1,16 @@
 -- Where in time a granted cell lies.
-use Rattle.std.proofs.Common.{◌≡◌, ℕ, ◌+◌, ◌<◌, ◌≤◌, Bool, true, false, ◌&&◌, ◌||◌, nat_le, List, [], ◌∷◌, Some, None, arith, refl}
+use Rattle.std.proofs.Common.{◌≡◌, ℕ, ◌+◌, ◌<◌, ◌≤◌, Bool, true, false, ◌&&◌, ◌||◌, nat_le, List, [], ◌∷◌, Some, None, arith, refl, inl, inr, ◌∙◌, sym}
 use Rattle.std.specs.List.{list_any}
-use Rattle.aim_msg.specs.declared.messages.Params.{Params}
-use Rattle.aim_msg.specs.declared.messages.Message.{Message}
-use Rattle.aim_msg.specs.declared.entries.Entry.{Entry}
-use Rattle.aim_msg.specs.declared.entries.Act.TheVariants as act
-use Rattle.std.proofs.Common.{inl, inr, ◌∙◌, sym}
-use Rattle.aim_paths.specs.Intersection.{Intersection}
+use Rattle.aim_messages.specs.declared.messages.Params.{Params}
+use Rattle.aim_messages.specs.declared.messages.Message.{Message}
+use Rattle.aim_messages.specs.declared.entries.Entry.{Entry}
+use Rattle.aim_messages.specs.declared.entries.Act.TheVariants as act
+use Rattle.aim_layout.specs.Intersection.{Intersection}
 use Rattle.aim_rules.specs.Footprint.{crossing_steps, in_footprint}
 use Rattle.aim_geometry.specs.Cells.{Cell}
 use Rattle.aim_rules.specs.Cells.{IsIn, is_buffered, in_cells, cells}
 use Rattle.aim_rules.specs.Bad.{bad}
-use Rattle.aim_rules.specs.History.{is_fresh_seq, is_confirm, now_of, params_of, fresh}
+use Rattle.aim_rules.specs.History.{is_fresh_seq, is_confirm, now_of, params_of, fresh, Fresh}
 use Rattle.aim_rules.specs.Holds.{is_fast, reservations, is_granted}
 use Rattle.aim_rules.specs.Answer.{answer, answer_fresh}
 use Rattle.aim_geometry.proofs.BoundedLemmas.{some_below_found}
@@ -21,7 +20,6 @@ use Rattle.aim_rules.proofs.GrantLemmas.{IsGranted, fresh_grants}
 use Rattle.aim_rules.proofs.FreeLemmas.{free-disjoint}
 use Rattle.aim_rules.proofs.SlowerLemmas.{slower}
 use Rattle.std.specs.Prelude.{◌==◌}
-use Rattle.aim_rules.specs.History.{Fresh}
 
 -- a needed cell comes after a time that the arrival is later than by more than the edge buffer
 pub needed_after : (i : Intersection) (p : Params) (fast : Bool) (now : ℕ) (c : Cell) → i.times.early ≤ i.times.edge → i.times.late ≤ i.times.edge →

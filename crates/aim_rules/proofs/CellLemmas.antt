@@ -1,18 +1,16 @@
 -- The least cell that can't be had.
 use Rattle.std.proofs.lemmas.Bool.{and_parts}
-use Rattle.aim_geometry.specs.Bounded.{ceil_div}
+use Rattle.aim_geometry.specs.Bounded.{ceil_div, find_map}
 use Rattle.aim_geometry.proofs.TouchLemmas.{any_touched_inside}
-use Rattle.aim_rules.specs.Footprint.{covered}
+use Rattle.aim_rules.specs.Footprint.{covered, crossing_steps, in_footprint}
 use Rattle.std.proofs.Common.{◌≡◌, ℕ, zero, suc, ◌+◌, ◌*◌, ◌-◌, ◌<◌, ◌≤◌, Bool, true, false, cond, ◌&&◌, nat_le, List, [], ◌∷◌, ◌++◌, map, filter, Option, Some, None, arith, refl, sym, ◌∙◌, ◌⊎◌, inl, inr}
 use Rattle.std.specs.Prelude.{flat_map}
 use Rattle.std.proofs.Math.Decide.{dec_lt}
 use Rattle.std.specs.List.{range_with_len}
-use Rattle.aim_geometry.specs.Bounded.{find_map}
 use Rattle.std.proofs.lemmas.Bool.Decides.{nat_tests}
-use Rattle.aim_msg.specs.declared.messages.Params.{Params}
+use Rattle.aim_messages.specs.declared.messages.Params.{Params}
 use Rattle.aim_geometry.specs.Ground.{is_edge}
-use Rattle.aim_paths.specs.Intersection.{Intersection}
-use Rattle.aim_rules.specs.Footprint.{crossing_steps, in_footprint}
+use Rattle.aim_layout.specs.Intersection.{Intersection}
 use Rattle.aim_geometry.specs.Cells.{Cell}
 use Rattle.aim_rules.specs.Cells.{IsIn, block, is_buffered, in_cells, cells, steps_of}
 use Rattle.aim_geometry.proofs.BoundedLemmas.{some_below_found}

@@ -1,11 +1,11 @@
 -- Params of which no field is wrong.
 use Rattle.std.proofs.Common.{◌≡◌, ℕ, ◌<◌, ◌≤◌, Bool, true, false, ◌&&◌, ◌||◌, nat_lt, nat_le, length, Option, Some, None, is_none, arith, refl, if◌then◌else◌}
 use Rattle.std.proofs.lemmas.Bool.Decides.{nat_tests}
-use Rattle.aim_msg.specs.declared.messages.Params.{Params}
-use Rattle.aim_msg.specs.declared.entries.TheConstants.{LATEST_MOMENT}
-use Rattle.aim_msg.specs.declared.replies.Field.TheVariants as field
+use Rattle.aim_messages.specs.declared.messages.Params.{Params}
+use Rattle.aim_messages.specs.declared.entries.TheConstants.{LATEST_MOMENT}
+use Rattle.aim_messages.specs.declared.replies.Field.TheVariants as field
 use Rattle.aim_geometry.specs.Bounded.{is_outside}
-use Rattle.aim_paths.specs.Intersection.{Intersection, path}
+use Rattle.aim_layout.specs.Intersection.{Intersection, path}
 use Rattle.aim_rules.specs.Footprint.{crossing_steps}
 use Rattle.aim_rules.specs.Bad.{bad, needs_too_many_spans, span_count, is_fast_made, IsGood}
 use Rattle.aim_rules.proofs.TestLemmas.{not_less, more_than}

@@ -6,9 +6,9 @@ use Rattle.std.proofs.lemmas.Bool.{eqb-true, eq-eqb, and_parts, ltb-true}
 use Rattle.std.proofs.lemmas.List.{append-nil}
 use Rattle.std.proofs.lemmas.List.Folds.{list_any-append}
 use Rattle.std.proofs.lemmas.List.Elements.{filter-append, filter_map-append}
-use Rattle.aim_msg.specs.declared.messages.Params.{Params}
+use Rattle.aim_messages.specs.declared.messages.Params.{Params}
 use Rattle.aim_geometry.specs.Bounded.{least, since_last, some_below, min_with}
-use Rattle.aim_paths.specs.Intersection.{Intersection}
+use Rattle.aim_layout.specs.Intersection.{Intersection}
 use Rattle.aim_rules.specs.History.{Fresh, params_at, is_confirm, last_of_each}
 use Rattle.aim_rules.specs.Distance.{reservation_distance, in_lane, asked_from, asked_at, is_blocked_reply, is_lane}
 use Rattle.aim_rules.specs.Approach.{is_coming, is_approached}

@@ -1,15 +1,13 @@
 -- The way of a vehicle is the sum of its speeds.
-use Rattle.std.proofs.Common.{◌≡◌, ℕ, zero, suc, ◌+◌, ◌-◌, ◌*◌, ◌/◌, ◌<◌, ◌≤◌, Bool, true, false, min, Option, Some, None, arith, refl, ◌∙◌, leb, eqb, eq-eqb}
+use Rattle.std.proofs.Common.{◌≡◌, ℕ, zero, suc, ◌+◌, ◌-◌, ◌*◌, ◌/◌, ◌<◌, ◌≤◌, Bool, true, false, min, Option, Some, None, arith, refl, ◌∙◌, leb, eqb, eq-eqb, add-one, unwrap_or, nat_lt, lt-ltb}
 use Rattle.std.proofs.Math.Nat.{add-mul-div_left, mul-le-mul_left}
 use Rattle.std.proofs.Math.Decide.{dec_lt}
 use Rattle.std.proofs.lemmas.Bool.{le-leb, lt-leb, ne_eqb}
-use Rattle.aim_msg.specs.declared.messages.Params.{Params}
-use Rattle.aim_geometry.specs.Bounded.{ceil_div}
-use Rattle.aim_paths.specs.Intersection.{Intersection}
+use Rattle.aim_messages.specs.declared.messages.Params.{Params}
+use Rattle.aim_geometry.specs.Bounded.{ceil_div, least_below}
+use Rattle.aim_layout.specs.Intersection.{Intersection}
 use Rattle.aim_rules.specs.Motion.{ramp, way, top_step, front, gain, sum_below, speed_in}
 use Rattle.aim_rules.specs.Footprint.{crossing_steps, path_length}
-use Rattle.std.proofs.Common.{add-one, unwrap_or, nat_lt, lt-ltb}
-use Rattle.aim_geometry.specs.Bounded.{least_below}
 use Rattle.aim_geometry.proofs.BoundedLemmas.{IsLeast, least_below_found}
 
 -- the numbers below k + 1 add up to k more than those below k

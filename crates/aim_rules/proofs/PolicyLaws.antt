@@ -5,15 +5,15 @@ use Rattle.std.proofs.lemmas.Bool.Decides.{nat_tests}
 use Rattle.std.proofs.lemmas.List.{append-nil}
 use Rattle.std.proofs.lemmas.List.Folds.{list_any-append}
 use Rattle.std.proofs.lemmas.List.Elements.{filter_map-append}
-use Rattle.aim_msg.specs.declared.entries.Entry.{Entry}
+use Rattle.aim_messages.specs.declared.entries.Entry.{Entry}
 use Rattle.aim_geometry.specs.Bounded.{last, least_below}
-use Rattle.aim_paths.specs.Intersection.{Intersection}
+use Rattle.aim_layout.specs.Intersection.{Intersection}
 use Rattle.aim_geometry.specs.Cells.{Cell}
 use Rattle.aim_rules.specs.History.{is_stop}
 use Rattle.aim_rules.specs.Timeline.{InForce, change_with, is_from_at, policy_at}
-use Rattle.aim_paths.specs.Policies.{has_lane}
+use Rattle.aim_layout.specs.Policies.{has_lane}
 use Rattle.aim_rules.specs.Lights.{green_lanes}
-use Rattle.aim_paths.specs.LaneTiles.{in_lane_tiles}
+use Rattle.aim_layout.specs.LaneTiles.{in_lane_tiles}
 use Rattle.aim_rules.specs.Claims.{green}
 use Rattle.aim_rules.specs.Answer.{is_stopped}
 use Rattle.aim_rules.proofs.Lists.{from_front, last-snoc, list_any-range_same}

@@ -8,12 +8,12 @@ use Rattle.std.proofs.lemmas.List.{get_or-set_same, get_or-set_other, length-set
 use Rattle.std.specs.List.{list_any}
 use Rattle.aim_geometry.specs.Bounded.{some_below}
 use Rattle.aim_geometry.proofs.BoundedLemmas.{least_below_none, some_below_at, some_below_none}
-use Rattle.aim_msg.specs.declared.entries.Act.{Act}
-use Rattle.aim_msg.specs.declared.entries.Act.TheVariants as act
-use Rattle.aim_msg.specs.declared.entries.Order.TheVariants as order
-use Rattle.aim_msg.specs.declared.entries.Entry.{Entry}
-use Rattle.aim_msg.specs.declared.replies.Reply.TheVariants as reply
-use Rattle.aim_paths.specs.Intersection.{Intersection}
+use Rattle.aim_messages.specs.declared.entries.Act.{Act}
+use Rattle.aim_messages.specs.declared.entries.Act.TheVariants as act
+use Rattle.aim_messages.specs.declared.entries.Order.TheVariants as order
+use Rattle.aim_messages.specs.declared.entries.Entry.{Entry}
+use Rattle.aim_messages.specs.declared.replies.Reply.TheVariants as reply
+use Rattle.aim_layout.specs.Intersection.{Intersection}
 use Rattle.aim_geometry.specs.Cells.{Cell}
 use Rattle.aim_rules.specs.Cells.{IsIn}
 use Rattle.aim_rules.specs.History.{Fresh, fresh, now_of}

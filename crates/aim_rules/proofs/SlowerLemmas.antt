@@ -4,11 +4,11 @@ use Rattle.std.specs.List.{list_any}
 use Rattle.std.proofs.lemmas.Nat.{le-div}
 use Rattle.std.proofs.Math.Nat.{div-mul-le_self, mul-le-mul_right}
 use Rattle.std.proofs.Math.Decide.{dec_lt}
-use Rattle.aim_msg.specs.declared.messages.Params.{Params}
+use Rattle.aim_messages.specs.declared.messages.Params.{Params}
 use Rattle.aim_geometry.specs.Bounded.{ceil_div}
 use Rattle.aim_geometry.specs.declared.stations.Station.{Station}
 use Rattle.aim_geometry.specs.Ground.{is_touched, is_edge}
-use Rattle.aim_paths.specs.Intersection.{Intersection, stations}
+use Rattle.aim_layout.specs.Intersection.{Intersection, stations}
 use Rattle.aim_rules.specs.Motion.{front}
 use Rattle.aim_rules.specs.Footprint.{path_length, crossing_steps, in_footprint}
 use Rattle.aim_geometry.specs.Cells.{Cell}

@@ -2,9 +2,9 @@
 -- message.
 use Rattle.std.specs.Prelude.{ℕ, ◌+◌, Bool, false, ◌&&◌, ◌||◌, ◌==◌, not, nat_le, List, length, Option, Some, None, is_none}
 use Rattle.std.specs.List.{list_any}
-use Rattle.aim_msg.specs.declared.messages.Params.{Params}
+use Rattle.aim_messages.specs.declared.messages.Params.{Params}
 use Rattle.aim_geometry.specs.Bounded.{least_below}
-use Rattle.aim_paths.specs.Intersection.{Intersection}
+use Rattle.aim_layout.specs.Intersection.{Intersection}
 use Rattle.aim_rules.specs.Bad.{bad}
 use Rattle.aim_rules.specs.History.{Fresh, last_of_each, params_at}
 

@@ -1,7 +1,7 @@
 -- When a vehicle may ask again.
 use Rattle.std.specs.Prelude.{ℕ, ◌+◌, ◌-◌, ◌/◌, Bool, true, false, List, Option, Some, None, option_and_then, min, max, unwrap_or}
-use Rattle.aim_msg.specs.declared.replies.Reply.{Reply}
-use Rattle.aim_msg.specs.declared.replies.Reply.TheVariants as reply
+use Rattle.aim_messages.specs.declared.replies.Reply.{Reply}
+use Rattle.aim_messages.specs.declared.replies.Reply.TheVariants as reply
 use Rattle.aim_geometry.specs.Bounded.{last}
 use Rattle.aim_rules.specs.History.{Fresh, of_vehicle}
 

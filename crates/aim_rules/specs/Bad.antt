@@ -1,12 +1,12 @@
 -- Which field of a request is wrong, if any.
 use Rattle.std.specs.Prelude.{◌≡◌, ◌<◌, ◌≤◌, ℕ, Bool, true, false, ◌&&◌, ◌||◌, nat_lt, nat_le, length, filter, flat_map, map, Option, Some, None, is_none, if◌then◌else◌}
 use Rattle.std.specs.List.{range_with_len}
-use Rattle.aim_msg.specs.declared.messages.Params.{Params}
-use Rattle.aim_msg.specs.declared.entries.TheConstants.{LATEST_MOMENT}
-use Rattle.aim_msg.specs.declared.replies.Field.{Field}
-use Rattle.aim_msg.specs.declared.replies.Field.TheVariants as field
+use Rattle.aim_messages.specs.declared.messages.Params.{Params}
+use Rattle.aim_messages.specs.declared.entries.TheConstants.{LATEST_MOMENT}
+use Rattle.aim_messages.specs.declared.replies.Field.{Field}
+use Rattle.aim_messages.specs.declared.replies.Field.TheVariants as field
 use Rattle.aim_geometry.specs.Bounded.{some_below, is_outside}
-use Rattle.aim_paths.specs.Intersection.{Intersection, path}
+use Rattle.aim_layout.specs.Intersection.{Intersection, path}
 use Rattle.aim_rules.specs.Footprint.{crossing_steps}
 use Rattle.aim_rules.specs.Cells.{in_cells, steps_of}
 

@@ -1,11 +1,11 @@
 -- The pairs of a tile of the grid and a step that a crossing needs. Steps count from 0 on.
 use Rattle.std.specs.Prelude.{◌≡◌, ◌⊎◌, ℕ, [], ◌∷◌, ◌+◌, ◌-◌, ◌*◌, Bool, ◌&&◌, nat_le, List, map, filter, flat_map, if◌then◌else◌}
 use Rattle.std.specs.List.{range_with_len}
-use Rattle.aim_msg.specs.declared.messages.Params.{Params}
+use Rattle.aim_messages.specs.declared.messages.Params.{Params}
 use Rattle.aim_geometry.specs.Bounded.{some_below}
 use Rattle.aim_geometry.specs.Cells.{Cell}
 use Rattle.aim_geometry.specs.Ground.{is_edge}
-use Rattle.aim_paths.specs.Intersection.{Intersection}
+use Rattle.aim_layout.specs.Intersection.{Intersection}
 use Rattle.aim_rules.specs.Footprint.{in_footprint, crossing_steps}
 
 -- whether a tile that the vehicle needs at the step `at` is kept in the step s

@@ -1,9 +1,9 @@
 -- The chart of a step.
 use Rattle.std.specs.Prelude.{ℕ, nat_lt, List, [], ◌∷◌, ◌++◌, map, reverse, flat_map, length, if◌then◌else◌}
 use Rattle.std.specs.List.{list_any, range_with_len}
-use Rattle.aim_msg.specs.declared.entries.Entry.{Entry}
+use Rattle.aim_messages.specs.declared.entries.Entry.{Entry}
 use Rattle.aim_geometry.specs.Bounded.{some_below}
-use Rattle.aim_paths.specs.Intersection.{Intersection}
+use Rattle.aim_layout.specs.Intersection.{Intersection}
 use Rattle.aim_geometry.specs.Cells.{Cell}
 use Rattle.aim_rules.specs.History.{Fresh, fresh, now_of}
 use Rattle.aim_rules.specs.Holds.{reservations, is_granted}

@@ -1,11 +1,11 @@
 -- The cells that lanes claim by their greens.
 use Rattle.std.specs.Prelude.{ℕ, ◌+◌, ◌-◌, Bool, ◌&&◌, ◌==◌, not, List, length, Option}
 use Rattle.std.specs.List.{list_any, range_with_len}
-use Rattle.aim_msg.specs.declared.entries.Entry.{Entry}
+use Rattle.aim_messages.specs.declared.entries.Entry.{Entry}
 use Rattle.aim_geometry.specs.Bounded.{least_below}
-use Rattle.aim_paths.specs.Intersection.{Intersection}
-use Rattle.aim_paths.specs.Policies.{has_lane}
-use Rattle.aim_paths.specs.LaneTiles.{in_lane_tiles}
+use Rattle.aim_layout.specs.Intersection.{Intersection}
+use Rattle.aim_layout.specs.Policies.{has_lane}
+use Rattle.aim_layout.specs.LaneTiles.{in_lane_tiles}
 use Rattle.aim_geometry.specs.Cells.{Cell}
 use Rattle.aim_rules.specs.Lights.{green_at}
 

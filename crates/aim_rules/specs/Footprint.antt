@@ -1,11 +1,11 @@
 -- The footprint of a vehicle in a step of its crossing: the tiles of the grid that it covers with its buffers.
 use Rattle.std.specs.Prelude.{ℕ, ◌+◌, ◌-◌, ◌*◌, ◌/◌, Bool, nat_lt, List, length, unwrap_or}
 use Rattle.std.specs.List.{list_any, slice_range}
-use Rattle.aim_msg.specs.declared.messages.Params.{Params}
+use Rattle.aim_messages.specs.declared.messages.Params.{Params}
 use Rattle.aim_geometry.specs.Bounded.{ceil_div, least_below}
 use Rattle.aim_geometry.specs.declared.stations.Station.{Station}
 use Rattle.aim_geometry.specs.Ground.{is_touched}
-use Rattle.aim_paths.specs.Intersection.{Intersection, stations}
+use Rattle.aim_layout.specs.Intersection.{Intersection, stations}
 use Rattle.aim_rules.specs.Motion.{front}
 
 -- the length of the vehicle's path

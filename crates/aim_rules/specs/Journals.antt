@@ -1,10 +1,10 @@
 -- The journal of calls.
 use Rattle.std.specs.Prelude.{ℕ, ◌≤◌, List, [], ◌∷◌, ◌++◌, fold}
 use Rattle.std.specs.List.{AllByRecursion}
-use Rattle.aim_msg.specs.declared.entries.Act.{Act}
-use Rattle.aim_msg.specs.declared.entries.Entry.{Entry}
-use Rattle.aim_msg.specs.declared.entries.TheConstants.{LATEST_MOMENT}
-use Rattle.aim_paths.specs.Intersection.{Intersection}
+use Rattle.aim_messages.specs.declared.entries.Act.{Act}
+use Rattle.aim_messages.specs.declared.entries.Entry.{Entry}
+use Rattle.aim_messages.specs.declared.entries.TheConstants.{LATEST_MOMENT}
+use Rattle.aim_layout.specs.Intersection.{Intersection}
 use Rattle.aim_rules.specs.Answer.{answer}
 use Rattle.aim_rules.specs.Legal.{MayAct}
 

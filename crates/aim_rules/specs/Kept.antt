@@ -2,11 +2,11 @@
 -- of the laws in `growth`, and no other public clause cites them.
 use Rattle.std.specs.Prelude.{◌≡◌, ◌<◌, ◌≤◌, ℕ, Bool, true, false, ◌==◌, ◌&&◌, not, nat_lt, nat_le, List, [], ◌∷◌, filter_map, Option, Some, None, option_map, option_and_then, if◌then◌else◌, unwrap_or}
 use Rattle.std.specs.List.{list_any, list_all}
-use Rattle.aim_msg.specs.declared.messages.Params.{Params}
-use Rattle.aim_msg.specs.declared.entries.Entry.{Entry}
-use Rattle.aim_msg.specs.declared.replies.Reply.{Reply}
+use Rattle.aim_messages.specs.declared.messages.Params.{Params}
+use Rattle.aim_messages.specs.declared.entries.Entry.{Entry}
+use Rattle.aim_messages.specs.declared.replies.Reply.{Reply}
 use Rattle.aim_geometry.specs.Bounded.{last, min_with, least_below, some_below}
-use Rattle.aim_paths.specs.Intersection.{Intersection}
+use Rattle.aim_layout.specs.Intersection.{Intersection}
 use Rattle.aim_geometry.specs.Cells.{Cell}
 use Rattle.aim_rules.specs.History.{Fresh, message_at, params_at, given_up_at, is_confirm}
 use Rattle.aim_rules.specs.Holds.{is_number, granted, is_granted, last_confirm, is_given_up}

@@ -3,18 +3,18 @@
 use Rattle.std.specs.Prelude.{◌≡◌, ◌<◌, ◌≤◌, ℕ, ◌+◌, ◌-◌, Bool, true, false, ◌&&◌, ◌||◌, ◌==◌, not, nat_lt, nat_le, List, [], ◌∷◌, length, Option, Some, None, option_map, option_and_then, is_none, unwrap_or, slice_get, if◌then◌else◌}
 use Rattle.std.specs.List.{list_any, range_with_len}
 use Rattle.std.specs.Option.{option_or}
-use Rattle.aim_msg.specs.declared.messages.Params.{Params}
-use Rattle.aim_msg.specs.declared.messages.Message.{Message}
-use Rattle.aim_msg.specs.declared.messages.Body.{Body}
-use Rattle.aim_msg.specs.declared.messages.Body.TheVariants as body
-use Rattle.aim_msg.specs.declared.replies.Reason.{Reason}
-use Rattle.aim_msg.specs.declared.replies.Reason.TheVariants as reason
-use Rattle.aim_msg.specs.declared.replies.Reply.{Reply}
-use Rattle.aim_msg.specs.declared.replies.Reply.TheVariants as reply
-use Rattle.aim_msg.specs.declared.entries.Entry.{Entry}
-use Rattle.aim_msg.specs.Same.{same_message}
+use Rattle.aim_messages.specs.declared.messages.Params.{Params}
+use Rattle.aim_messages.specs.declared.messages.Message.{Message}
+use Rattle.aim_messages.specs.declared.messages.Body.{Body}
+use Rattle.aim_messages.specs.declared.messages.Body.TheVariants as body
+use Rattle.aim_messages.specs.declared.replies.Reason.{Reason}
+use Rattle.aim_messages.specs.declared.replies.Reason.TheVariants as reason
+use Rattle.aim_messages.specs.declared.replies.Reply.{Reply}
+use Rattle.aim_messages.specs.declared.replies.Reply.TheVariants as reply
+use Rattle.aim_messages.specs.declared.entries.Entry.{Entry}
+use Rattle.aim_messages.specs.Same.{same_message}
 use Rattle.aim_geometry.specs.Bounded.{least_below, find_map}
-use Rattle.aim_paths.specs.Intersection.{Intersection}
+use Rattle.aim_layout.specs.Intersection.{Intersection}
 use Rattle.aim_rules.specs.Footprint.{crossing_steps}
 use Rattle.aim_geometry.specs.Cells.{Cell}
 use Rattle.aim_rules.specs.Cells.{cells}
@@ -22,9 +22,9 @@ use Rattle.aim_rules.specs.Bad.{bad, is_fast_made}
 use Rattle.aim_rules.specs.History.{Fresh, fresh, now_of, message_at}
 use Rattle.aim_rules.specs.Holds.{is_number}
 use Rattle.aim_rules.specs.Timeline.{InForce, policy_at}
-use Rattle.aim_paths.specs.Policies.{has_lane}
+use Rattle.aim_layout.specs.Policies.{has_lane}
 use Rattle.aim_rules.specs.Lights.{green_lanes}
-use Rattle.aim_paths.specs.LaneTiles.{in_lane_tiles}
+use Rattle.aim_layout.specs.LaneTiles.{in_lane_tiles}
 use Rattle.aim_rules.specs.Asking.{next_allowed, standing_next}
 use Rattle.aim_rules.specs.Distance.{asked_from, reservation_distance}
 use Rattle.aim_rules.specs.Approach.{is_coming}

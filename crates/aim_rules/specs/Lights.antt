@@ -1,9 +1,9 @@
 -- The phases of a policy, and the lanes that are green at a step.
 use Rattle.std.specs.Prelude.{ℕ, ◌+◌, ◌-◌, ◌%◌, nat_lt, List, [], ◌∷◌, sum_by, slice_get, Option, Some, None, if◌then◌else◌}
-use Rattle.aim_msg.specs.declared.entries.Entry.{Entry}
-use Rattle.aim_paths.specs.declared.policies.Phase.{Phase}
-use Rattle.aim_paths.specs.Intersection.{Intersection, Policy}
-use Rattle.aim_paths.specs.Policies.{has_lights}
+use Rattle.aim_messages.specs.declared.entries.Entry.{Entry}
+use Rattle.aim_layout.specs.declared.policies.Phase.{Phase}
+use Rattle.aim_layout.specs.Intersection.{Intersection, Policy}
+use Rattle.aim_layout.specs.Policies.{has_lights}
 use Rattle.aim_rules.specs.Timeline.{policy_at}
 
 -- the set of lanes that are green at an offset into one round of the phases, each first red, then green

@@ -1,6 +1,6 @@
 -- How a vehicle moves in its crossing, step by step.
 use Rattle.std.specs.Prelude.{ℕ, zero, suc, ◌+◌, ◌-◌, ◌*◌, ◌/◌, Bool, nat_le, ◌==◌, Option, Some, None, min, if◌then◌else◌}
-use Rattle.aim_msg.specs.declared.messages.Params.{Params}
+use Rattle.aim_messages.specs.declared.messages.Params.{Params}
 use Rattle.aim_geometry.specs.Bounded.{ceil_div}
 
 -- what the speed gains in a step: in the fast trial the vehicle accelerates, in the steady one it does not

@@ -1,17 +1,17 @@
 -- The tables of a manager: what it keeps of a history for all vehicles, and how an entry changes them. No rule is said
 -- here: these are words of the laws in `growth`, and no other public clause cites them.
 use Rattle.std.specs.Prelude.{◌≡◌, ◌<◌, ◌≤◌, ℕ, ◌+◌, Bool, false, ◌&&◌, ◌||◌, ◌==◌, not, List, [], ◌∷◌, ◌++◌, length, max, fold, ◌%◌, filter_map, Option, Some, None, option_and_then, unwrap_or, if◌then◌else◌}
-use Rattle.aim_msg.specs.declared.messages.Params.{Params}
-use Rattle.aim_msg.specs.declared.messages.Message.{Message}
-use Rattle.aim_msg.specs.declared.entries.Entry.{Entry}
-use Rattle.aim_msg.specs.declared.entries.Act.{Act}
-use Rattle.aim_msg.specs.declared.entries.Act.TheVariants as act
-use Rattle.aim_msg.specs.declared.entries.Order.TheVariants as order
-use Rattle.aim_msg.specs.declared.replies.Reply.{Reply}
-use Rattle.aim_msg.specs.declared.replies.Reply.TheVariants as reply
+use Rattle.aim_messages.specs.declared.messages.Params.{Params}
+use Rattle.aim_messages.specs.declared.messages.Message.{Message}
+use Rattle.aim_messages.specs.declared.entries.Entry.{Entry}
+use Rattle.aim_messages.specs.declared.entries.Act.{Act}
+use Rattle.aim_messages.specs.declared.entries.Act.TheVariants as act
+use Rattle.aim_messages.specs.declared.entries.Order.TheVariants as order
+use Rattle.aim_messages.specs.declared.replies.Reply.{Reply}
+use Rattle.aim_messages.specs.declared.replies.Reply.TheVariants as reply
 use Rattle.aim_rules.specs.Journals.{Call}
 use Rattle.aim_geometry.specs.Bounded.{some_below}
-use Rattle.aim_paths.specs.Intersection.{Intersection}
+use Rattle.aim_layout.specs.Intersection.{Intersection}
 use Rattle.aim_geometry.specs.Cells.{Cell}
 use Rattle.aim_rules.specs.History.{Fresh, fresh, now_of, params_of, params_at, message_of, is_stop}
 use Rattle.aim_rules.specs.Timeline.{InForce, change_with, policy_at}

@@ -1,12 +1,12 @@
 //! Laws of the definitions, each the contract of a function that does nothing. They say what the definitions mean in
 //! the subject's words, and make a wrong definition visible.
 
-ghost use Rattle.std.specs.Prelude.{◌≡◌, ◌↔◌, ◌==◌, ℕ, ◌+◌, ◌-◌, ◌<◌, ◌≤◌, Bool, true, false, List, ◌++◌, Some, None};
-ghost use Rattle.aim_msg.specs.declared.messages.Params.{Params};
-ghost use Rattle.aim_msg.specs.declared.messages.Message.{Message};
-ghost use Rattle.aim_msg.specs.declared.entries.Entry.{Entry};
-ghost use Rattle.aim_msg.specs.declared.entries.Act.{Act};
-ghost use Rattle.aim_paths.specs.Intersection.{Intersection};
+ghost use Rattle.std.specs.Prelude.{◌≡◌, ◌↔◌, ◌==◌, ℕ, ◌+◌, ◌-◌, ◌<◌, ◌≤◌, Bool, true, false, List, ◌++◌, Some, None, map};
+ghost use Rattle.aim_messages.specs.declared.messages.Params.{Params};
+ghost use Rattle.aim_messages.specs.declared.messages.Message.{Message};
+ghost use Rattle.aim_messages.specs.declared.entries.Entry.{Entry};
+ghost use Rattle.aim_messages.specs.declared.entries.Act.{Act};
+ghost use Rattle.aim_layout.specs.Intersection.{Intersection};
 ghost use Rattle.aim_rules.specs.Motion.{front, speed_in, sum_below};
 ghost use Rattle.aim_rules.specs.Footprint.{crossing_steps, path_length};
 ghost use Rattle.aim_geometry.specs.Cells.{Cell};
@@ -17,7 +17,6 @@ ghost use Rattle.aim_rules.specs.Holds.{reservations, is_fast, is_granted};
 ghost use Rattle.aim_rules.specs.Answer.{answer};
 ghost use Rattle.aim_rules.specs.Journals.{Call, MayCall, call_of, journal};
 ghost use Rattle.aim_rules.specs.Legal.{IsLegal};
-ghost use Rattle.std.specs.Prelude.{map};
 
 /// A vehicle's way in k steps is the sum of its speeds in them.
 pub fn front_is_the_sum_of_speeds()

@@ -4,19 +4,19 @@ use Rattle.std.specs.Prelude.{◌==◌, if◌then◌else◌, find}
 use Rattle.std.specs.Option.{option_or}
 use Rattle.std.proofs.lemmas.Bool.{eqb-true}
 use Rattle.std.proofs.lemmas.Option.{slice_get_within}
-use Rattle.aim_msg.specs.declared.messages.Params.{Params}
-use Rattle.aim_msg.specs.declared.messages.Message.{Message}
-use Rattle.aim_msg.specs.declared.messages.Body.{Body}
-use Rattle.aim_msg.specs.declared.messages.Body.TheVariants as body
-use Rattle.aim_msg.specs.declared.replies.Reason.{Reason}
-use Rattle.aim_msg.specs.declared.replies.Reason.TheVariants as reason
-use Rattle.aim_msg.specs.declared.replies.Reply.{Reply}
-use Rattle.aim_msg.specs.declared.replies.Reply.TheVariants as reply
-use Rattle.aim_msg.specs.declared.entries.Act.{Act}
-use Rattle.aim_msg.specs.declared.entries.Act.TheVariants as act
-use Rattle.aim_msg.specs.declared.entries.Entry.{Entry}
+use Rattle.aim_messages.specs.declared.messages.Params.{Params}
+use Rattle.aim_messages.specs.declared.messages.Message.{Message}
+use Rattle.aim_messages.specs.declared.messages.Body.{Body}
+use Rattle.aim_messages.specs.declared.messages.Body.TheVariants as body
+use Rattle.aim_messages.specs.declared.replies.Reason.{Reason}
+use Rattle.aim_messages.specs.declared.replies.Reason.TheVariants as reason
+use Rattle.aim_messages.specs.declared.replies.Reply.{Reply}
+use Rattle.aim_messages.specs.declared.replies.Reply.TheVariants as reply
+use Rattle.aim_messages.specs.declared.entries.Act.{Act}
+use Rattle.aim_messages.specs.declared.entries.Act.TheVariants as act
+use Rattle.aim_messages.specs.declared.entries.Entry.{Entry}
 use Rattle.aim_geometry.specs.Bounded.{greatest}
-use Rattle.aim_paths.specs.Intersection.{Intersection}
+use Rattle.aim_layout.specs.Intersection.{Intersection}
 use Rattle.aim_rules.specs.Bad.{is_fast_made}
 use Rattle.aim_rules.specs.History.{Fresh, fresh, is_fresh_seq, is_confirm, message_at, message_of, messages_of, of_vehicle, now_of}
 use Rattle.aim_rules.specs.Holds.{holds}
@@ -116,7 +116,7 @@ found_first h k v seq x r l f told =
     }
 
 -- where a reply in a legal history comes from
-pub origin : (i : Intersection) (vehicles : ℕ) (h : List Entry) (v seq : ℕ) (r : Reply) → IsLegal i vehicles h → fits.IsAnswered h v seq r → First h v seq r ⊎ Again i h v seq r
+pub origin : (i : Intersection) (vehicles : ℕ) (h : List Entry) (v seq : ℕ) (r : Reply) → IsLegal i vehicles h → fits.HasReply h v seq r → First h v seq r ⊎ Again i h v seq r
 origin i vehicles h v seq r legal s = go (is_fresh_seq (take s.place h) v s.message.seq) refl answered
   where
     a : Asked

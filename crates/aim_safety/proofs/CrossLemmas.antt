@@ -1,13 +1,14 @@
 -- What a legal history has of a driver that entered: which entry granted the crossing, and what the vehicle keeps since.
+use Rattle.aim_driver.specs.Crossings.{first_entrance}
 use Rattle.std.proofs.Common.{◌≡◌, ◌⊎◌, inl, inr, ℕ, zero, suc, ◌+◌, ◌-◌, ◌<◌, ◌≤◌, Bool, true, false, List, [], ◌∷◌, length, take, max, Some, arith, refl, sym, subst, ◌∙◌, slice_get}
 use Rattle.std.specs.Prelude.{◌==◌}
 use Rattle.std.proofs.lemmas.Bool.{eqb-true}
 use Rattle.std.proofs.Math.Decide.{dec_lt}
 use Rattle.std.proofs.lemmas.Option.{slice_get_within}
-use Rattle.aim_msg.specs.declared.messages.Message.{Message}
-use Rattle.aim_msg.specs.declared.entries.Entry.{Entry}
-use Rattle.aim_msg.specs.declared.replies.Reply.{Reply}
-use Rattle.aim_paths.specs.Intersection.{Intersection}
+use Rattle.aim_messages.specs.declared.messages.Message.{Message}
+use Rattle.aim_messages.specs.declared.entries.Entry.{Entry}
+use Rattle.aim_messages.specs.declared.replies.Reply.{Reply}
+use Rattle.aim_layout.specs.Intersection.{Intersection}
 use Rattle.aim_rules.specs.History.{Fresh, fresh, is_fresh, is_fresh_seq, now_of}
 use Rattle.aim_rules.specs.Kept.{kept}
 use Rattle.aim_rules.specs.Legal.{IsLegal}
@@ -15,13 +16,12 @@ use Rattle.aim_driver.specs.declared.logs.Entrance.{Entrance}
 use Rattle.aim_driver.specs.declared.logs.Window.{Window}
 use Rattle.aim_driver.specs.declared.logs.LogItem.{LogItem}
 use Rattle.aim_driver.specs.declared.logs.LogItem.TheVariants as item
-use Rattle.aim_links.specs.Bodies.{is_done}
+use Rattle.aim_driver.specs.Bodies.{is_done}
 use Rattle.aim_driver.specs.Logs.{Crossing}
 use Rattle.aim_driver.specs.Keeps.{keeps}
-use Rattle.aim_driver.specs.Fits.{Fits, WasSent, IsAnswered}
+use Rattle.aim_driver.specs.Fits.{Fits, WasSent, HasReply}
 use Rattle.aim_driver.specs.Crossings.{EachSent, CrossesAsGranted}
 use Rattle.aim_driver.proofs.CrossingLemmas.{fitting_ran}
-use Rattle.aim_safety.specs.Occupied.{entrance}
 use Rattle.aim_safety.proofs.PlaceLemmas.{some_same, entry_at, now_next, kept_same, kept_fresh, kept_since, kept_stands, above_earlier}
 use Rattle.aim_safety.proofs.HeldLemmas.{Grants, Held, grants, held}
 use Rattle.aim_safety.proofs.EntranceLemmas.{crosses_there}
@@ -126,11 +126,11 @@ begun_at heard log c step id p q r =
     subst Q q (subst P p r)
 
 -- what the history has of a driver that keeps the rules and entered, if its log fits the history
-pub crosses : (i : Intersection) (vehicles : ℕ) (h : List Entry) (v : ℕ) (log : List LogItem) (t : Entrance) → IsLegal i vehicles h → keeps log ≡ true → Fits h v log → entrance log ≡ Some t → Crosses i h v t
+pub crosses : (i : Intersection) (vehicles : ℕ) (h : List Entry) (v : ℕ) (log : List LogItem) (t : Entrance) → IsLegal i vehicles h → keeps log ≡ true → Fits h v log → first_entrance log ≡ Some t → Crosses i h v t
 crosses i vehicles h v log t legal rules fits at =
     let c = crosses_there log t rules at in
     let r = fitting_ran h v log c.0 rules fits c.1 in
-    let ran = begun_at (IsAnswered h v) log c.0 t.step t.id c.2 c.3 r in
+    let ran = begun_at (HasReply h v) log c.0 t.step t.id c.2 c.3 r in
     let g = grants i vehicles h v t.id ran.window legal ran.granted in
     record {
       window = ran.window;

@@ -8,22 +8,22 @@ use Rattle.std.proofs.Math.Seq.{get_or-append_seam}
 use Rattle.std.proofs.lemmas.Bool.{eqb-true, eq-eqb}
 use Rattle.std.proofs.lemmas.List.{get_or_append_left}
 use Rattle.std.proofs.lemmas.List.FromFn.{filter_of_map_range_with_len_more}
-use Rattle.aim_msg.specs.declared.messages.Params.{Params}
-use Rattle.aim_msg.specs.declared.replies.Field.TheVariants as field
+use Rattle.aim_messages.specs.declared.messages.Params.{Params}
+use Rattle.aim_messages.specs.declared.replies.Field.TheVariants as field
 use Rattle.aim_geometry.specs.Bounded.{some_below}
 use Rattle.aim_geometry.specs.Rects.{tile_at}
 use Rattle.aim_geometry.proofs.BoundedLemmas.{some_below_at, some_below_none}
-use Rattle.aim_paths.specs.Intersection.{Intersection}
+use Rattle.aim_layout.specs.Intersection.{Intersection}
 use Rattle.aim_rules.specs.Footprint.{crossing_steps, in_footprint}
 use Rattle.aim_rules.specs.Bad.{bad, needs_too_many_spans}
 use Rattle.aim_geometry.specs.Cells as rules
 use Rattle.aim_rules.proofs.FreeLemmas.{first_none}
 use Rattle.aim_rules.proofs.TestLemmas.{both}
-use Rattle.aim_simulate.specs.declared.visits.RowRange.{RowRange}
-use Rattle.aim_simulate.specs.Fields.{bad_crossing}
-use Rattle.aim_simulate.specs.Visits.{IsFootprint, Visited}
-use Rattle.aim_simulate.proofs.FieldLemmas.{fields}
-use Rattle.aim_simulate.proofs.GoodLemmas.{good_crossing}
+use Rattle.aim_footprint.specs.declared.visits.RowRange.{RowRange}
+use Rattle.aim_footprint.specs.Fields.{bad_crossing}
+use Rattle.aim_footprint.specs.Visits.{IsFootprint, Visited}
+use Rattle.aim_footprint.proofs.FieldLemmas.{fields}
+use Rattle.aim_footprint.proofs.GoodLemmas.{good_crossing}
 use Rattle.aim_safety.specs.declared.traces.Trace.{Trace}
 use Rattle.aim_safety.specs.Occupied.{is_on}
 use Rattle.aim_safety.specs.Tiles.{of_tile, of_row, of_rows}

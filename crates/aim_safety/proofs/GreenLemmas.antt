@@ -2,10 +2,10 @@
 use Rattle.std.proofs.Common.{◌≡◌, ℕ, zero, suc, ◌+◌, ◌-◌, ◌<◌, ◌≤◌, Bool, List, length, take, Some, None, arith, sym, ap, ◌∙◌, slice_get, take_all}
 use Rattle.std.specs.Prelude.{option_map}
 use Rattle.std.proofs.lemmas.Option.{slice_get_within}
-use Rattle.aim_msg.specs.declared.messages.Params.{Params}
-use Rattle.aim_msg.specs.declared.entries.Entry.{Entry}
-use Rattle.aim_msg.specs.declared.replies.Reason.TheVariants as reason
-use Rattle.aim_paths.specs.Intersection.{Intersection}
+use Rattle.aim_messages.specs.declared.messages.Params.{Params}
+use Rattle.aim_messages.specs.declared.entries.Entry.{Entry}
+use Rattle.aim_messages.specs.declared.replies.Reason.TheVariants as reason
+use Rattle.aim_layout.specs.Intersection.{Intersection}
 use Rattle.aim_geometry.specs.Cells.{Cell}
 use Rattle.aim_rules.specs.Cells.{IsIn, cells}
 use Rattle.aim_rules.specs.Claims.{green}

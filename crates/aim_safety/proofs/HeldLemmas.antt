@@ -3,15 +3,15 @@ use Rattle.std.proofs.Common.{◌≡◌, ◌⊎◌, inl, inr, ℕ, ◌+◌, ◌-
 use Rattle.std.specs.Prelude.{◌==◌, if◌then◌else◌, option_map}
 use Rattle.std.proofs.lemmas.Bool.{eq-eqb}
 use Rattle.std.proofs.lemmas.Option.{slice_get_within}
-use Rattle.aim_msg.specs.declared.messages.Params.{Params}
-use Rattle.aim_msg.specs.declared.messages.Message.{Message}
-use Rattle.aim_msg.specs.declared.messages.Body.{Body}
-use Rattle.aim_msg.specs.declared.messages.Body.TheVariants as body
-use Rattle.aim_msg.specs.declared.replies.Reply.{Reply}
-use Rattle.aim_msg.specs.declared.replies.Reply.TheVariants as reply
-use Rattle.aim_msg.specs.declared.entries.Act.TheVariants as act
-use Rattle.aim_msg.specs.declared.entries.Entry.{Entry}
-use Rattle.aim_paths.specs.Intersection.{Intersection}
+use Rattle.aim_messages.specs.declared.messages.Params.{Params}
+use Rattle.aim_messages.specs.declared.messages.Message.{Message}
+use Rattle.aim_messages.specs.declared.messages.Body.{Body}
+use Rattle.aim_messages.specs.declared.messages.Body.TheVariants as body
+use Rattle.aim_messages.specs.declared.replies.Reply.{Reply}
+use Rattle.aim_messages.specs.declared.replies.Reply.TheVariants as reply
+use Rattle.aim_messages.specs.declared.entries.Act.TheVariants as act
+use Rattle.aim_messages.specs.declared.entries.Entry.{Entry}
+use Rattle.aim_layout.specs.Intersection.{Intersection}
 use Rattle.aim_rules.specs.Footprint.{crossing_steps}
 use Rattle.aim_rules.specs.History.{Fresh, fresh, is_fresh, is_fresh_seq, is_confirm, params_of, given_up, given_up_at, now_of}
 use Rattle.aim_rules.specs.Holds.{holds, is_fast}
@@ -116,7 +116,7 @@ first_grants i vehicles h v seq id w fast legal f = at_place (sym n.same_id)
         grants_at i h v f.place id w f.entry f.message p.0 fast (omega (arith, length-take f.place h)) f.stands f.own f.carried p.1 f.new f.told (subst P (sym f.told) g) n.same_start n.same_early n.same_late n.same_last
 
 -- a Confirm that was heard is one that the history grants
-pub grants : (i : Intersection) (vehicles : ℕ) (h : List Entry) (v id : ℕ) (w : Window) → IsLegal i vehicles h → Granted (fits.IsAnswered h v) id w → Grants i h v id w
+pub grants : (i : Intersection) (vehicles : ℕ) (h : List Entry) (v id : ℕ) (w : Window) → IsLegal i vehicles h → Granted (fits.HasReply h v) id w → Grants i h v id w
 grants i vehicles h v id w legal t = elim (origin i vehicles h v t.seq (reply.Confirm id w.start w.early w.late t.accelerate w.last) legal t.told) [
   | inl f ↦ first_grants i vehicles h v t.seq id w t.accelerate legal f
   | inr g ↦ absurd (let r = g.refuses in cc)
@@ -207,7 +207,7 @@ again_held i h v seq id r tells g = elim (tells_cases (asked i (take g.place h) 
 ]
 
 -- a reply that was heard and tells of a reservation says that the vehicle keeps it then
-pub held : (i : Intersection) (vehicles : ℕ) (h : List Entry) (v seq id : ℕ) → IsLegal i vehicles h → Told (fits.IsAnswered h v) seq id → Held h v seq id
+pub held : (i : Intersection) (vehicles : ℕ) (h : List Entry) (v seq id : ℕ) → IsLegal i vehicles h → Told (fits.HasReply h v) seq id → Held h v seq id
 held i vehicles h v seq id legal t = elim (origin i vehicles h v seq t.reply legal t.told) [
   | inl f ↦ first_held i vehicles h v seq id t.reply legal t.tells f
   | inr g ↦ again_held i h v seq id t.reply t.tells g

@@ -4,12 +4,12 @@ use Rattle.std.specs.Prelude.{◌==◌}
 use Rattle.std.proofs.lemmas.Bool.{eq-eqb}
 use Rattle.std.proofs.lemmas.Option.{slice_get_within}
 use Rattle.std.proofs.Math.Decide.{dec_lt}
-use Rattle.aim_msg.specs.declared.messages.Params.{Params}
-use Rattle.aim_msg.specs.declared.messages.Message.{Message}
-use Rattle.aim_msg.specs.declared.entries.Entry.{Entry}
-use Rattle.aim_msg.specs.declared.entries.Act.TheVariants as act
-use Rattle.aim_paths.specs.Intersection.{Intersection}
-use Rattle.aim_paths.specs.Valid.{IsValid}
+use Rattle.aim_messages.specs.declared.messages.Params.{Params}
+use Rattle.aim_messages.specs.declared.messages.Message.{Message}
+use Rattle.aim_messages.specs.declared.entries.Entry.{Entry}
+use Rattle.aim_messages.specs.declared.entries.Act.TheVariants as act
+use Rattle.aim_layout.specs.Intersection.{Intersection}
+use Rattle.aim_layout.specs.Valid.{IsValid}
 use Rattle.aim_geometry.specs.Cells.{Cell}
 use Rattle.aim_rules.specs.Cells.{in_cells}
 use Rattle.aim_rules.specs.Claims.{green}

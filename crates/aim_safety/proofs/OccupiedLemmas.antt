@@ -1,16 +1,17 @@
 -- The tiles on which a driver is are cells that it was granted.
+use Rattle.aim_driver.specs.Crossings.{first_entrance}
 use Rattle.std.proofs.Common.{◌<◌, ◌≡◌, ℕ, ◌+◌, ◌-◌, ◌*◌, ◌≤◌, Bool, true, false, ◌&&◌, ◌||◌, nat_lt, nat_le, List, [], ◌∷◌, Option, Some, None, is_none, arith, refl, sym, ap, slice_get}
 use Rattle.std.specs.Prelude.{◌==◌, if◌then◌else◌, option_map}
 use Rattle.std.specs.List.{list_any}
-use Rattle.aim_msg.specs.declared.messages.Params.{Params}
-use Rattle.aim_msg.specs.declared.entries.Entry.{Entry}
+use Rattle.aim_messages.specs.declared.messages.Params.{Params}
+use Rattle.aim_messages.specs.declared.entries.Entry.{Entry}
 use Rattle.aim_geometry.specs.declared.ground.Grid.{Grid}
 use Rattle.aim_geometry.specs.declared.stations.Station.{Station}
 use Rattle.aim_geometry.specs.Bounded.{ceil_div}
 use Rattle.aim_geometry.specs.Ground.{tile_of, meets, is_touched, is_edge}
 use Rattle.aim_geometry.proofs.TouchLemmas.{any_touched_inside}
 use Rattle.aim_geometry.proofs.BoundedLemmas.{some_below_at, some_below_found}
-use Rattle.aim_paths.specs.Intersection.{Intersection}
+use Rattle.aim_layout.specs.Intersection.{Intersection}
 use Rattle.aim_rules.specs.Footprint.{crossing_steps, covered, in_footprint}
 use Rattle.aim_geometry.specs.Cells.{Cell}
 use Rattle.aim_rules.specs.Cells.{is_buffered, in_cells}
@@ -20,7 +21,7 @@ use Rattle.aim_rules.specs.Holds.{is_fast}
 use Rattle.aim_rules.proofs.TestLemmas.{and_left, and_right, both, same_number, is_most, le_true}
 use Rattle.aim_driver.specs.declared.logs.Entrance.{Entrance}
 use Rattle.aim_driver.specs.declared.logs.LogItem.{LogItem}
-use Rattle.aim_safety.specs.Occupied.{Grant, Passage, entrance, params_in, grant_of, passage_from, passage, is_on}
+use Rattle.aim_safety.specs.Occupied.{Grant, Passage, params_in, grant_of, passage_from, passage, is_on}
 use Rattle.aim_safety.proofs.PlaceLemmas.{some_same}
 
 any_more : {X : Type 0} (p q : X → Bool) (xs : List X) → ((x : X) → p x ≡ true → q x ≡ true) → list_any p xs ≡ true → list_any q xs ≡ true
@@ -85,8 +86,8 @@ lies i p fast step c before after not_early not_late on =
 
 -- a crossing begins where the driver entered, on what the entry of that id grants
 pub passage_at : (i : Intersection) (h : List Entry) (log : List LogItem) (x : Passage) → passage i h log ≡ Some x →
-    (t : Entrance) × (entrance log ≡ Some t) × (t.step ≡ x.step) × (grant_of i (slice_get h t.id) ≡ Some x.grant)
-passage_at i h log x e = go (entrance log) refl e
+    (t : Entrance) × (first_entrance log ≡ Some t) × (t.step ≡ x.step) × (grant_of i (slice_get h t.id) ≡ Some x.grant)
+passage_at i h log x e = go (first_entrance log) refl e
   where
     granted : (t : Entrance) (o : Option Grant) → option_map (λ g. record { step = t.step; grant = g }) o ≡ Some x → (t.step ≡ x.step) × (o ≡ Some x.grant)
     granted t None e = absurd (cc)
@@ -94,7 +95,7 @@ passage_at i h log x e = go (entrance log) refl e
         let same : record { step = t.step; grant = g } ≡ x = some_same (record { step = t.step; grant = g }) x e in
         (ap (λ x. x.step) same, ap (λ x. Some x.grant) same)
 
-    go : (o : Option Entrance) → entrance log ≡ o → passage_from i h o ≡ Some x → (t : Entrance) × (entrance log ≡ Some t) × (t.step ≡ x.step) × (grant_of i (slice_get h t.id) ≡ Some x.grant)
+    go : (o : Option Entrance) → first_entrance log ≡ o → passage_from i h o ≡ Some x → (t : Entrance) × (first_entrance log ≡ Some t) × (t.step ≡ x.step) × (grant_of i (slice_get h t.id) ≡ Some x.grant)
     go None p e = absurd (cc)
     go (Some t) p e = let g = granted t (grant_of i (slice_get h t.id)) e in (t, p, g.0, g.1)
 

@@ -1,9 +1,10 @@
 -- The crossing that a driver makes, found step by step.
+use Rattle.aim_driver.specs.Crossings.{first_entrance}
 use Rattle.std.proofs.Common.{◌≤◌, arith, ◌≡◌, ℕ, Bool, true, false, List, [], ◌∷◌, Option, Some, None, is_none, refl, sym, ap, subst, ◌∙◌, slice_get}
 use Rattle.std.specs.Prelude.{◌&&◌, if◌then◌else◌, option_map}
-use Rattle.aim_msg.specs.declared.messages.Params.{Params}
-use Rattle.aim_msg.specs.declared.entries.Entry.{Entry}
-use Rattle.aim_paths.specs.Intersection.{Intersection}
+use Rattle.aim_messages.specs.declared.messages.Params.{Params}
+use Rattle.aim_messages.specs.declared.entries.Entry.{Entry}
+use Rattle.aim_layout.specs.Intersection.{Intersection}
 use Rattle.aim_rules.specs.Bad.{bad}
 use Rattle.aim_rules.specs.History.{is_confirm}
 use Rattle.aim_rules.specs.Holds.{is_fast}
@@ -11,14 +12,14 @@ use Rattle.aim_driver.specs.declared.logs.Entrance.{Entrance}
 use Rattle.aim_driver.specs.declared.logs.LogItem.{LogItem}
 use Rattle.aim_driver.specs.declared.logs.LogItem.TheVariants as item
 use Rattle.aim_safety.specs.Tiles.{EntersBy}
-use Rattle.aim_safety.specs.Occupied.{Grant, Passage, entrance, params_in, grant_with, grant_of, passage_from, passage}
+use Rattle.aim_safety.specs.Occupied.{Grant, Passage, params_in, grant_with, grant_of, passage_from, passage}
 use Rattle.aim_safety.specs.Begun.{grant_as}
 use Rattle.aim_safety.specs.declared.grants.Grant.{Grant as Granted}
 use Rattle.aim_safety.proofs.PlaceLemmas.{some_same}
 use Rattle.aim_safety.proofs.OccupiedLemmas.{passage_at}
 
 -- the first step at which the driver entered is one of those
-entrance_by : (most : ℕ) (log : List LogItem) (t : Entrance) → EntersBy most log → entrance log ≡ Some t → t.step ≤ most
+entrance_by : (most : ℕ) (log : List LogItem) (t : Entrance) → EntersBy most log → first_entrance log ≡ Some t → t.step ≤ most
 entrance_by most [] t h e = absurd (cc)
 entrance_by most (item.Sent step m ∷ xs) t h e = entrance_by most xs t h e
 entrance_by most (item.Got step seq r ∷ xs) t h e = entrance_by most xs t h e
@@ -42,14 +43,14 @@ grant_found i e p fast good asks trial same = ap (grant_with i e.reply) asks ∙
     go false good t = absurd (cc)
 
 -- the crossing of a driver that entered, from what the entry of that id grants
-pub passage_on : (i : Intersection) (h : List Entry) (log : List LogItem) (t : Entrance) (e : Entry) (o : Option Granted) → entrance log ≡ Some t → slice_get h t.id ≡ Some e → option_map grant_as o ≡ grant_of i (Some e) →
+pub passage_on : (i : Intersection) (h : List Entry) (log : List LogItem) (t : Entrance) (e : Entry) (o : Option Granted) → first_entrance log ≡ Some t → slice_get h t.id ≡ Some e → option_map grant_as o ≡ grant_of i (Some e) →
     option_map (λ g. record { step = t.step; grant = g }) (option_map grant_as o) ≡ passage i h log
 passage_on i h log t e o entered at granted =
     let begin : Option Grant → Option Passage = option_map (λ g. record { step = t.step; grant = g }) in
     ap begin granted ∙ sym (ap (passage_from i h) entered ∙ ap (λ o. begin (grant_of i o)) at)
 
 -- where the history has no entry of the id on which the driver entered, there is no crossing
-pub no_passage : (i : Intersection) (h : List Entry) (log : List LogItem) (t : Entrance) → entrance log ≡ Some t → slice_get h t.id ≡ None → None ≡ passage i h log
+pub no_passage : (i : Intersection) (h : List Entry) (log : List LogItem) (t : Entrance) → first_entrance log ≡ Some t → slice_get h t.id ≡ None → None ≡ passage i h log
 no_passage i h log t entered at = rw (entered, at) refl
 
 -- a crossing begins at a step at which the driver entered, on good params

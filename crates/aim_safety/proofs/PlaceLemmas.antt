@@ -7,10 +7,10 @@ use Rattle.std.proofs.lemmas.List.{take_more, take-append-le, take-append-drop, 
 use Rattle.std.proofs.lemmas.List.Folds.{list_all_at}
 use Rattle.std.proofs.lemmas.Option.{get_or_from_slice_get, slice_get-get_or, slice_get_within}
 use Rattle.std.proofs.Math.Seq.{take-append_seam, get_or-append_seam}
-use Rattle.aim_msg.specs.declared.messages.Message.{Message}
-use Rattle.aim_msg.specs.declared.entries.Entry.{Entry}
-use Rattle.aim_msg.specs.declared.entries.Act.TheVariants as act
-use Rattle.aim_paths.specs.Intersection.{Intersection}
+use Rattle.aim_messages.specs.declared.messages.Message.{Message}
+use Rattle.aim_messages.specs.declared.entries.Entry.{Entry}
+use Rattle.aim_messages.specs.declared.entries.Act.TheVariants as act
+use Rattle.aim_layout.specs.Intersection.{Intersection}
 use Rattle.aim_rules.specs.Cells.{IsIn}
 use Rattle.aim_rules.specs.History.{Fresh, fresh, is_fresh, is_fresh_seq, is_above, is_confirm, message_from, given_up_at, now_of}
 use Rattle.aim_rules.specs.Holds.{is_number}

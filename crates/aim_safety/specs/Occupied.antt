@@ -1,10 +1,10 @@
 -- The tiles on which a driver is, step by step.
 use Rattle.std.specs.Prelude.{ℕ, ◌+◌, Bool, false, ◌&&◌, ◌==◌, List, [], ◌∷◌, Option, Some, None, is_none, option_and_then, option_map, slice_get, if◌then◌else◌}
-use Rattle.aim_msg.specs.declared.messages.Params.{Params}
-use Rattle.aim_msg.specs.declared.replies.Reply.{Reply}
-use Rattle.aim_msg.specs.declared.entries.Entry.{Entry}
+use Rattle.aim_messages.specs.declared.messages.Params.{Params}
+use Rattle.aim_messages.specs.declared.replies.Reply.{Reply}
+use Rattle.aim_messages.specs.declared.entries.Entry.{Entry}
 use Rattle.aim_geometry.specs.Bounded.{some_below}
-use Rattle.aim_paths.specs.Intersection.{Intersection}
+use Rattle.aim_layout.specs.Intersection.{Intersection}
 use Rattle.aim_rules.specs.Footprint.{crossing_steps, in_footprint}
 use Rattle.aim_geometry.specs.Cells.{Cell}
 use Rattle.aim_rules.specs.Bad.{bad}
@@ -12,14 +12,7 @@ use Rattle.aim_rules.specs.History.{message_of, params_of, is_confirm}
 use Rattle.aim_rules.specs.Holds.{is_fast}
 use Rattle.aim_driver.specs.declared.logs.Entrance.{Entrance}
 use Rattle.aim_driver.specs.declared.logs.LogItem.{LogItem}
-use Rattle.aim_driver.specs.declared.logs.LogItem.TheVariants as item
-
--- where the driver entered first
-abbrev pub entrance : List LogItem → Option Entrance
-entrance [] = None
-entrance (item.Sent step m ∷ xs) = entrance xs
-entrance (item.Got step seq r ∷ xs) = entrance xs
-entrance (item.Entered step id ∷ xs) = Some (record { step = step; id = id })
+use Rattle.aim_driver.specs.Crossings.{first_entrance}
 
 -- the params of a REQUEST or a CHANGE-REQUEST
 abbrev pub params_in : Entry → Option Params
@@ -51,7 +44,7 @@ passage_from i h None = None
 passage_from i h (Some t) = option_map (λ g. record { step = t.step; grant = g }) (grant_of i (slice_get h t.id))
 
 abbrev pub passage : Intersection → List Entry → List LogItem → Option Passage
-passage i h log = passage_from i h (entrance log)
+passage i h log = passage_from i h (first_entrance log)
 
 -- whether the crossing is on the tile in that step: the tile is under the vehicle in the crossing step of that time
 abbrev pub is_on : Intersection → Passage → Cell → Bool

@@ -1,8 +1,8 @@
 -- The list of the tiles on which a driver is.
 use Rattle.std.specs.Prelude.{◌≡◌, ◌⊎◌, ℕ, ◌<◌, ◌≤◌, List, [], ◌∷◌, map, filter, flat_map, Option, Some, None}
 use Rattle.std.specs.List.{range_with_len}
-use Rattle.aim_msg.specs.declared.entries.Entry.{Entry}
-use Rattle.aim_paths.specs.Intersection.{Intersection}
+use Rattle.aim_messages.specs.declared.entries.Entry.{Entry}
+use Rattle.aim_layout.specs.Intersection.{Intersection}
 use Rattle.aim_rules.specs.Footprint.{crossing_steps}
 use Rattle.aim_geometry.specs.Cells as rules
 use Rattle.aim_rules.specs.Cells.{IsIn}

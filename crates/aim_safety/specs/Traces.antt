@@ -1,8 +1,8 @@
 -- The tiles under a vehicle in each step of its crossing, as rows of bits. No public clause cites this.
 use Rattle.std.specs.Prelude.{◌≡◌, ℕ, ◌-◌, ◌<◌, Bool, false, List, [], ◌∷◌, ◌++◌, length, slice_index_or}
-use Rattle.aim_msg.specs.declared.messages.Params.{Params}
+use Rattle.aim_messages.specs.declared.messages.Params.{Params}
 use Rattle.aim_geometry.specs.Rects.{tile_at}
-use Rattle.aim_paths.specs.Intersection.{Intersection}
+use Rattle.aim_layout.specs.Intersection.{Intersection}
 use Rattle.aim_rules.specs.Footprint.{in_footprint}
 use Rattle.aim_geometry.specs.Cells.{Cell}
 use Rattle.aim_safety.specs.declared.traces.Trace.{Trace}

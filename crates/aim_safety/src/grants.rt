@@ -1,18 +1,19 @@
 //! What a driver enters on, and the crossing that begins there.
 
+ghost use Rattle.aim_driver.specs.Crossings.{first_entrance as entrance_of};
 ghost use Rattle.std.specs.Prelude.{◌≡◌, ℕ, [], IfOk, None, Some, if◌then◌else◌, is_none, option_map};
 ghost use Rattle.aim_rules.specs.Bad.{bad as bad_of};
 ghost use Rattle.aim_rules.specs.History.{is_confirm};
 ghost use Rattle.aim_rules.specs.Holds.{is_fast};
-ghost use Rattle.aim_safety.specs.Occupied.{entrance as entrance_of, grant_of, params_in as params_of_entry, passage};
+ghost use Rattle.aim_safety.specs.Occupied.{grant_of, params_in as params_of_entry, passage};
 ghost use Rattle.aim_safety.specs.Begun.{grant_as, passage_as};
 
 use crate::NoMemory;
-use aim_buffers::{NeedsCells, bad_field, prepare};
 use aim_driver::{Entrance, LogItem};
-use aim_msg::{Act, Body, Entry, Message, Params, Reply};
-use aim_paths::Layout;
-use aim_pool::{Pool, Sheet};
+use aim_layout::Layout;
+use aim_messages::{Act, Body, Entry, Message, Params, Reply};
+use aim_requests::{NeedsCells, bad_field, prepare};
+use aim_sheets::{Pool, Sheet};
 use std::alloc::Global;
 
 /// What an entry grants: the params, and which trial.

@@ -1,9 +1,9 @@
 //! The law of safety, and what the list of a driver's tiles has, each the contract of a function that does nothing.
 
 ghost use Rattle.std.specs.Prelude.{◌≡◌, ◌≢◌, ◌↔◌, ℕ, true, false, List, Some, None};
-ghost use Rattle.aim_msg.specs.declared.entries.Entry.{Entry};
-ghost use Rattle.aim_paths.specs.Intersection.{Intersection};
-ghost use Rattle.aim_paths.specs.Valid.{IsValid};
+ghost use Rattle.aim_messages.specs.declared.entries.Entry.{Entry};
+ghost use Rattle.aim_layout.specs.Intersection.{Intersection};
+ghost use Rattle.aim_layout.specs.Valid.{IsValid};
 ghost use Rattle.aim_geometry.specs.Cells.{Cell};
 ghost use Rattle.aim_rules.specs.Cells.{IsIn};
 ghost use Rattle.aim_rules.specs.Claims.{green};

@@ -11,9 +11,9 @@ use crate::cells::Cell;
 use crate::grants::{Grant, begun};
 use crate::traces::{Trace, shown_tiles};
 use aim_driver::LogItem;
-use aim_msg::{Entry, Params};
-use aim_paths::Layout;
-use aim_simulate::simulate;
+use aim_footprint::simulate;
+use aim_layout::Layout;
+use aim_messages::{Entry, Params};
 use std::alloc::{AllocError, Global};
 
 // The tiles under the vehicle in each crossing step.

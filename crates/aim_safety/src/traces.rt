@@ -7,7 +7,7 @@ ghost use Rattle.aim_geometry.specs.Rects.{has_bit};
 
 use crate::NoMemory;
 use crate::cells::Cell;
-use aim_simulate::{RowRange, Visit};
+use aim_footprint::{RowRange, Visit};
 use std::alloc::Global;
 
 // No crossing has more steps.

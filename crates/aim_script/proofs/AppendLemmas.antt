@@ -4,15 +4,15 @@ use Rattle.std.specs.Option.{option_or, unwrap_or, option_to_list}
 use Rattle.std.proofs.lemmas.List.{reverse-append, append-nil}
 use Rattle.std.proofs.lemmas.List.Sums.{fold-append}
 use Rattle.std.proofs.lemmas.List.Elements.{filter_map-append}
-use Rattle.aim_msg.specs.declared.script.Line.{Line}
-use Rattle.aim_msg.specs.declared.script.Line.TheVariants as line
-use Rattle.aim_msg.specs.declared.entries.Entry.{Entry}
+use Rattle.aim_messages.specs.declared.script.Line.{Line}
+use Rattle.aim_messages.specs.declared.script.Line.TheVariants as line
+use Rattle.aim_messages.specs.declared.entries.Entry.{Entry}
 use Rattle.aim_geometry.specs.Bounded.{find_map}
 use Rattle.aim_geometry.specs.Sites.{Site}
-use Rattle.aim_paths.specs.Added.{Added, AreTaken, added, added_fault, policies_of, layout_of as layout_of_lines}
-use Rattle.aim_paths.specs.Building.{bare}
-use Rattle.aim_paths.specs.Intersection.{Intersection}
-use Rattle.aim_paths.proofs.AddedLemmas.{layout_is_its_lines}
+use Rattle.aim_layout.specs.Added.{Added, AreTaken, added, added_fault, policies_of, layout_of as layout_of_lines}
+use Rattle.aim_layout.specs.Building.{bare}
+use Rattle.aim_layout.specs.Intersection.{Intersection}
+use Rattle.aim_layout.proofs.AddedLemmas.{layout_is_its_lines}
 use Rattle.aim_rules.specs.Journals.{Call, journal, entry_of}
 use Rattle.aim_script.specs.Said.{Described, described, site_of, grid_in, times_in, lanes_in, added_in, version_in, version_after, layout_of, name_in, names_of, vehicles_in, vehicles_of, call_in, calls_of, last_of}
 use Rattle.aim_script.specs.Headers.{IsHeader, IsBuilt}

@@ -7,10 +7,10 @@ use Rattle.std.proofs.lemmas.List.{take-append-drop}
 use Rattle.std.proofs.lemmas.List.Elements.{filter_map-append}
 use Rattle.std.proofs.lemmas.Bool.Decides.{nat_tests}
 use Rattle.aim_io.specs.Lines.{Outcome}
-use Rattle.aim_msg.specs.declared.script.Line.{Line}
-use Rattle.aim_msg.specs.declared.script.Line.TheVariants as line
-use Rattle.aim_msg.specs.Lines.{name_word}
-use Rattle.aim_msg.specs.declared.entries.TheConstants.{LATEST_MOMENT, MOST_VEHICLES}
+use Rattle.aim_messages.specs.declared.script.Line.{Line}
+use Rattle.aim_messages.specs.declared.script.Line.TheVariants as line
+use Rattle.aim_messages.specs.Lines.{name_word}
+use Rattle.aim_messages.specs.declared.entries.TheConstants.{LATEST_MOMENT, MOST_VEHICLES}
 use Rattle.aim_geometry.specs.Bounded.{find_map}
 use Rattle.aim_rules.specs.Journals.{Call, MayCall}
 use Rattle.aim_rules.specs.Legal.{IsLegal, MayAct}
@@ -18,9 +18,8 @@ use Rattle.aim_rules.proofs.LegalLemmas.{IsLegal-journal}
 use Rattle.aim_script.specs.declared.decisions.Limit.TheVariants as limit
 use Rattle.aim_script.specs.Said.{layout_of, name_in, names_of, is_named, number_of, vehicles_in, vehicles_of, call_in, calls_of}
 use Rattle.aim_script.specs.Kinds.{vehicles_limit}
-use Rattle.aim_script.specs.Verdicts.{Reads, Verdict}
+use Rattle.aim_script.specs.Verdicts.{Reads, Verdict, journal_of}
 use Rattle.aim_script.specs.First.{IsOfTheFirst}
-use Rattle.aim_script.specs.Verdicts.{journal_of}
 use Rattle.aim_script.proofs.AppendLemmas.{names_are_policies}
 use Rattle.aim_script.proofs.LineLemmas.{GoesOn, goes_on_says, passes}
 

@@ -2,7 +2,7 @@
 use Rattle.std.proofs.Common.{◌≡◌, ◌⊎◌, inl, inr, ℕ, zero, suc, List, [], ◌∷◌, ◌++◌, length, take, slice_get, Some, refl, sym, subst, append-nil}
 use Rattle.std.proofs.Math.Seq.{append_snoc}
 use Rattle.aim_io.specs.Lines.{Outcome}
-use Rattle.aim_msg.specs.declared.script.Line.{Line}
+use Rattle.aim_messages.specs.declared.script.Line.{Line}
 use Rattle.aim_script.specs.declared.decisions.Decision.{Decision}
 use Rattle.aim_script.specs.Verdicts.{Judgement, Reads, Verdict, judge, goes_on, decides, at_end, then_on, verdict_from}
 use Rattle.aim_script.specs.First.{IsOfTheFirst}

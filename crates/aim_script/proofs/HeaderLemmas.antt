@@ -5,34 +5,34 @@ use Rattle.std.specs.List.{list_any}
 use Rattle.std.specs.Bool.{IsTrue}
 use Rattle.std.proofs.lemmas.Bool.{cases_Bool, eqb-false}
 use Rattle.std.proofs.lemmas.List.{append-nil}
-use Rattle.aim_msg.specs.Lines.{name_word}
-use Rattle.aim_msg.specs.declared.messages.Turn.{Turn}
-use Rattle.aim_msg.specs.declared.script.Grid6.{Grid6}
-use Rattle.aim_msg.specs.declared.script.Times5.{Times5}
-use Rattle.aim_msg.specs.declared.script.Times6.{Times6}
-use Rattle.aim_msg.specs.declared.script.MoveShape.{MoveShape}
-use Rattle.aim_msg.specs.declared.script.Name.{Name}
-use Rattle.aim_msg.specs.declared.script.Line.{Line}
-use Rattle.aim_msg.specs.declared.script.Line.TheVariants as line
+use Rattle.aim_messages.specs.Lines.{name_word}
+use Rattle.aim_messages.specs.declared.messages.Turn.{Turn}
+use Rattle.aim_messages.specs.declared.script.Grid6.{Grid6}
+use Rattle.aim_messages.specs.declared.script.Times5.{Times5}
+use Rattle.aim_messages.specs.declared.script.Times6.{Times6}
+use Rattle.aim_messages.specs.declared.script.MoveShape.{MoveShape}
+use Rattle.aim_messages.specs.declared.script.Name.{Name}
+use Rattle.aim_messages.specs.declared.script.Line.{Line}
+use Rattle.aim_messages.specs.declared.script.Line.TheVariants as line
 use Rattle.aim_geometry.specs.declared.ground.Grid.{Grid}
 use Rattle.aim_geometry.specs.declared.ground.Times.{Times}
 use Rattle.aim_geometry.specs.declared.ground.GroundFault.TheVariants as ground_fault_of
 use Rattle.aim_geometry.specs.Sites.{Site, has_bad_numbers, has_bad_buffers, has_bad_times, ground_fault}
 use Rattle.aim_geometry.specs.Bounded.{is_outside}
-use Rattle.aim_paths.specs.Intersection.{Intersection, Policy}
-use Rattle.aim_paths.specs.declared.policies.Phase.{Phase}
-use Rattle.aim_paths.specs.declared.builders.LayoutFault.{LayoutFault}
-use Rattle.aim_paths.specs.declared.builders.LayoutFault.TheVariants as layout_fault
-use Rattle.aim_paths.specs.Shapes.{stations_of, wide_step}
-use Rattle.aim_paths.specs.Added.{AddMove, AddPolicy, AddPhase}
-use Rattle.aim_paths.specs.Building.{bare, is_bad_move, move_fault, with_move, policy_fault, with_policy, phase_fault, with_phase, with_phase_of, last_policy, finish_fault}
+use Rattle.aim_layout.specs.Intersection.{Intersection, Policy}
+use Rattle.aim_layout.specs.declared.policies.Phase.{Phase}
+use Rattle.aim_layout.specs.declared.builders.LayoutFault.{LayoutFault}
+use Rattle.aim_layout.specs.declared.builders.LayoutFault.TheVariants as layout_fault
+use Rattle.aim_layout.specs.Shapes.{stations_of, wide_step}
+use Rattle.aim_layout.specs.Added.{AddMove, AddPolicy, AddPhase}
+use Rattle.aim_layout.specs.Building.{bare, is_bad_move, move_fault, with_move, policy_fault, with_policy, phase_fault, with_phase, with_phase_of, last_policy, finish_fault}
 use Rattle.aim_script.specs.declared.decisions.Kind.TheVariants as why
 use Rattle.aim_script.specs.declared.headers.Place.{Place}
 use Rattle.aim_script.specs.declared.headers.Place.TheVariants as place
 use Rattle.aim_script.specs.declared.headers.Headed.{Headed}
 use Rattle.aim_script.specs.declared.headers.Headed.TheVariants as headed
-use Rattle.aim_script.specs.declared.headers.Refusal.{Refusal}
-use Rattle.aim_script.specs.declared.headers.Refusal.TheVariants as refusal
+use Rattle.aim_script.specs.declared.headers.HeaderRefusal.{HeaderRefusal}
+use Rattle.aim_script.specs.declared.headers.HeaderRefusal.TheVariants as refusal
 use Rattle.aim_script.specs.declared.settings.Setting.{Setting}
 use Rattle.aim_script.specs.declared.versions.ScriptVersion.{ScriptVersion}
 use Rattle.aim_script.specs.Order.{part_after, is_end, in_moves, in_policies}
@@ -175,7 +175,7 @@ builds_policies before p b names at st =
     let st : StandsAt before (place.Policies b names) = subst (StandsAt before) at st in
     record { part = inr st.part; built = st.says }
 
-policy_line : (before : List Line) (i : Intersection) (names : List (List ℕ)) (name : Name) (k : ℕ) (r : Result Place Refusal) → Builds before i names → AddsPolicy i names name k r → Goes before (line.Policy name k) r
+policy_line : (before : List Line) (i : Intersection) (names : List (List ℕ)) (name : Name) (k : ℕ) (r : Result Place HeaderRefusal) → Builds before i names → AddsPolicy i names name k r → Goes before (line.Policy name k) r
 policy_line before i names name k r b adds = go r adds
   where
     l : Line
@@ -184,7 +184,7 @@ policy_line before i names name k r b adds = go r adds
     kind : kind_of_fault before l ≡ (if list_any (bytes_eq (name_word name)) names then Some why.Policy else if is_some (policy_fault i) then Some why.Phase else None)
     kind = policy_kind before name k b.part ∙ rw (b.built.header.named, layout_built before i names b.built) refl
 
-    go : (r : Result Place Refusal) → AddsPolicy i names name k r → Goes before (line.Policy name k) r
+    go : (r : Result Place HeaderRefusal) → AddsPolicy i names name k r → Goes before (line.Policy name k) r
     go (Ok p) (new, fault, same) =
         let next : Place = place.Policies (with_policy i (kind_of k)) (names ++ name_word name ∷ []) in
         let taken : Goes before (line.Policy name k) (Ok next) = (
@@ -198,10 +198,10 @@ policy_line before i names name k r b adds = go r adds
     go (Err (refusal.Bad other)) never = absurd never
     go (Err refusal.NoMemory) free = tt
 
-pub first_policy : (before : List Line) (p : Place) (b : Intersection) (name : Name) (k : ℕ) (r : Result Place Refusal) → p ≡ place.Moves b → AddsPolicy b [] name k r → StandsAt before p → Goes before (line.Policy name k) r
+pub first_policy : (before : List Line) (p : Place) (b : Intersection) (name : Name) (k : ℕ) (r : Result Place HeaderRefusal) → p ≡ place.Moves b → AddsPolicy b [] name k r → StandsAt before p → Goes before (line.Policy name k) r
 first_policy before p b name k r at adds st = policy_line before b [] name k r (builds_moves before p b at st) adds
 
-pub next_policy : (before : List Line) (p : Place) (b : Intersection) (names : List (List ℕ)) (name : Name) (k : ℕ) (r : Result Place Refusal) → p ≡ place.Policies b names → AddsPolicy b names name k r → StandsAt before p → Goes before (line.Policy name k) r
+pub next_policy : (before : List Line) (p : Place) (b : Intersection) (names : List (List ℕ)) (name : Name) (k : ℕ) (r : Result Place HeaderRefusal) → p ≡ place.Policies b names → AddsPolicy b names name k r → StandsAt before p → Goes before (line.Policy name k) r
 next_policy before p b names name k r at adds st = policy_line before b names name k r (builds_policies before p b names at st) adds
 
 pub phase_taken : (before : List Line) (p : Place) (b new : Intersection) (names : List (List ℕ)) (red green lanes : ℕ) → p ≡ place.Policies b names → None ≡ phase_fault b (record { red = red; green = green; lanes = lanes })
@@ -244,12 +244,12 @@ above_zero : (n : ℕ) → (n == 0) ≡ false → 0 < n
 above_zero n some = let apart = eqb-false n 0 some in omega (arith, apart)
 
 -- the vehicles of a header that has one
-pub vehicles_line : (before : List Line) (p : Place) (v : ScriptVersion) (b : Intersection) (names : List (List ℕ)) (n : ℕ) (r : Result Headed Refusal) → p ≡ place.Policies b names → Closes v b names n r
+pub vehicles_line : (before : List Line) (p : Place) (v : ScriptVersion) (b : Intersection) (names : List (List ℕ)) (n : ℕ) (r : Result Headed HeaderRefusal) → p ≡ place.Policies b names → Closes v b names n r
     → version_after before ≡ version_number v → StandsAt before p → Heeds before (line.Vehicles n) r
 vehicles_line before p v b names n r at closes version st =
     go r closes (subst (StandsAt before) at st)
   where
-    go : (r : Result Headed Refusal) → Closes v b names n r → StandsAt before (place.Policies b names) → Heeds before (line.Vehicles n) r
+    go : (r : Result Headed HeaderRefusal) → Closes v b names n r → StandsAt before (place.Policies b names) → Heeds before (line.Vehicles n) r
     go (Ok (headed.Whole s)) (fault, some, same) st =
         let l = line.Vehicles n in
         let next : Setting = record { version = v; layout = b; names = names; vehicles = n } in

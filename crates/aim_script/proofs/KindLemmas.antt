@@ -1,20 +1,20 @@
 -- The kinds that each form of line can have.
 use Rattle.std.proofs.Common.{◌≡◌, ◌⊎◌, inl, inr, ℕ, ◌==◌, false, not, nat_lt, nat_le, is_some, List, [], ◌∷◌, find, Option, Some, None, option_map, refl, ◌∙◌, if◌then◌else◌}
 use Rattle.std.proofs.lemmas.Bool.{cases_Bool}
-use Rattle.aim_msg.specs.Lines.{name_word}
-use Rattle.aim_msg.specs.declared.messages.Message.{Message}
-use Rattle.aim_msg.specs.declared.messages.Turn.{Turn}
-use Rattle.aim_msg.specs.declared.script.Grid6.{Grid6}
-use Rattle.aim_msg.specs.declared.script.Times5.{Times5}
-use Rattle.aim_msg.specs.declared.script.Times6.{Times6}
-use Rattle.aim_msg.specs.declared.script.MoveShape.{MoveShape}
-use Rattle.aim_msg.specs.declared.script.Name.{Name}
-use Rattle.aim_msg.specs.declared.script.Line.{Line}
-use Rattle.aim_msg.specs.declared.script.Line.TheVariants as line
-use Rattle.aim_msg.specs.declared.entries.TheConstants.{LATEST_MOMENT}
+use Rattle.aim_messages.specs.Lines.{name_word}
+use Rattle.aim_messages.specs.declared.messages.Message.{Message}
+use Rattle.aim_messages.specs.declared.messages.Turn.{Turn}
+use Rattle.aim_messages.specs.declared.script.Grid6.{Grid6}
+use Rattle.aim_messages.specs.declared.script.Times5.{Times5}
+use Rattle.aim_messages.specs.declared.script.Times6.{Times6}
+use Rattle.aim_messages.specs.declared.script.MoveShape.{MoveShape}
+use Rattle.aim_messages.specs.declared.script.Name.{Name}
+use Rattle.aim_messages.specs.declared.script.Line.{Line}
+use Rattle.aim_messages.specs.declared.script.Line.TheVariants as line
+use Rattle.aim_messages.specs.declared.entries.TheConstants.{LATEST_MOMENT}
 use Rattle.aim_geometry.specs.Bounded.{is_outside}
 use Rattle.aim_geometry.specs.Sites.{has_bad_numbers, has_bad_buffers, has_bad_times}
-use Rattle.aim_paths.specs.Building.{policy_fault, phase_fault, finish_fault}
+use Rattle.aim_layout.specs.Building.{policy_fault, phase_fault, finish_fault}
 use Rattle.aim_script.specs.declared.decisions.Kind.{Kind}
 use Rattle.aim_script.specs.declared.decisions.Kind.TheVariants as why
 use Rattle.aim_script.specs.Order.{Part, part_after, belongs, to_version, to_ground, to_times, to_lanes, in_moves, in_policies, to_begin, in_body}

@@ -2,7 +2,7 @@
 use Rattle.std.proofs.Common.{◌≡◌, ℕ, zero, suc, Bool, true, false, cond, not, List, [], ◌∷◌, Option, Some, None, Result, Ok, Err, refl, take, slice_get}
 use Rattle.std.specs.Prelude.{find, option_map}
 use Rattle.aim_io.specs.Lines.{Outcome, Line, Stop}
-use Rattle.aim_msg.specs.declared.script.Line.{Line as ScriptLine}
+use Rattle.aim_messages.specs.declared.script.Line.{Line as ScriptLine}
 use Rattle.aim_script.specs.declared.decisions.Kind.{Kind}
 use Rattle.aim_script.specs.declared.decisions.Limit.{Limit}
 use Rattle.aim_script.specs.Order.{may_follow}

@@ -1,7 +1,7 @@
 -- What is printed of a decision, and the status that it has.
 use Rattle.std.specs.Prelude.{ℕ, List, [], ◌∷◌, ◌++◌, codes, decimal}
-use Rattle.aim_msg.specs.declared.script.LineKind.TheVariants as read
-use Rattle.aim_msg.specs.Texts.{Words}
+use Rattle.aim_messages.specs.declared.script.LineKind.TheVariants as read
+use Rattle.aim_messages.specs.Texts.{Words}
 use Rattle.aim_script.specs.declared.decisions.Decision.{Decision}
 use Rattle.aim_script.specs.declared.decisions.Decision.TheVariants as decision
 use Rattle.aim_script.specs.declared.decisions.Kind.{Kind}

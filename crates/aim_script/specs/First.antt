@@ -1,7 +1,7 @@
 -- What it means that a verdict is of the first line that decides.
 use Rattle.std.specs.Prelude.{◌≡◌, ◌⊎◌, ℕ, List, length, take, slice_get, Some}
 use Rattle.aim_io.specs.Lines.{Outcome}
-use Rattle.aim_msg.specs.declared.script.Line.{Line}
+use Rattle.aim_messages.specs.declared.script.Line.{Line}
 use Rattle.aim_script.specs.Verdicts.{Reads, Verdict, judge, goes_on, decides, at_end}
 
 -- Each line of the verdict goes on behind the lines before it, and what stands behind them all decides: the end of the

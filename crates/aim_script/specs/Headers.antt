@@ -1,17 +1,17 @@
 -- What is known of the lines of a header, from what is kept of them, and what a further line comes to.
 use Rattle.std.specs.Prelude.{◌≡◌, ℕ, ◌<◌, ◌==◌, Bool, true, false, List, [], ◌∷◌, ◌++◌, length, filter_map, fold, Some, None, is_some, Result, Ok, Err, bytes_eq}
 use Rattle.std.specs.List.{list_any}
-use Rattle.aim_msg.specs.declared.script.Line.{Line}
-use Rattle.aim_msg.specs.declared.script.Line.TheVariants as line
-use Rattle.aim_msg.specs.declared.script.Name.{Name}
-use Rattle.aim_msg.specs.Lines.{IsName, name_word}
+use Rattle.aim_messages.specs.declared.script.Line.{Line}
+use Rattle.aim_messages.specs.declared.script.Line.TheVariants as line
+use Rattle.aim_messages.specs.declared.script.Name.{Name}
+use Rattle.aim_messages.specs.Lines.{IsName, name_word}
 use Rattle.aim_geometry.specs.Bounded.{find_map}
 use Rattle.aim_geometry.specs.Sites.{has_bad_numbers}
-use Rattle.aim_paths.specs.Added.{Added, AreTaken, added}
-use Rattle.aim_paths.specs.Building.{bare, policy_fault, with_policy, finish_fault}
-use Rattle.aim_paths.specs.Intersection.{Intersection}
-use Rattle.aim_paths.specs.declared.builders.LayoutFault.{LayoutFault}
-use Rattle.aim_paths.specs.declared.builders.LayoutFault.TheVariants as fault
+use Rattle.aim_layout.specs.Added.{Added, AreTaken, added}
+use Rattle.aim_layout.specs.Building.{bare, policy_fault, with_policy, finish_fault}
+use Rattle.aim_layout.specs.Intersection.{Intersection}
+use Rattle.aim_layout.specs.declared.builders.LayoutFault.{LayoutFault}
+use Rattle.aim_layout.specs.declared.builders.LayoutFault.TheVariants as fault
 use Rattle.aim_script.specs.declared.decisions.Kind.{Kind}
 use Rattle.aim_script.specs.declared.decisions.Kind.TheVariants as kind
 use Rattle.aim_script.specs.declared.headers.Place.{Place}
@@ -19,8 +19,8 @@ use Rattle.aim_script.specs.declared.headers.Place.TheVariants as place
 use Rattle.aim_script.specs.declared.headers.Header.{Header}
 use Rattle.aim_script.specs.declared.headers.Headed.{Headed}
 use Rattle.aim_script.specs.declared.headers.Headed.TheVariants as headed
-use Rattle.aim_script.specs.declared.headers.Refusal.{Refusal}
-use Rattle.aim_script.specs.declared.headers.Refusal.TheVariants as refusal
+use Rattle.aim_script.specs.declared.headers.HeaderRefusal.{HeaderRefusal}
+use Rattle.aim_script.specs.declared.headers.HeaderRefusal.TheVariants as refusal
 use Rattle.aim_script.specs.declared.settings.Setting.{Setting}
 use Rattle.aim_script.specs.Order.{Part, part_after, is_end, to_version, to_ground, to_times, to_lanes, in_moves, in_policies, to_begin}
 use Rattle.aim_script.specs.declared.versions.ScriptVersion.{ScriptVersion}
@@ -95,13 +95,13 @@ pub record IsSet (before : List Line) (s : Setting) : Type 0 where
   pub no_calls : (given : List (List ℕ)) → filter_map (call_in given) before ≡ []
 
 -- what a further line comes to, without the version
-abbrev pub Goes : List Line → Line → Result Place Refusal → Type 0
+abbrev pub Goes : List Line → Line → Result Place HeaderRefusal → Type 0
 Goes before l (Ok p) = (kind_of_fault before l ≡ None) × StandsAt (before ++ l ∷ []) p
 Goes before l (Err (refusal.Bad why)) = kind_of_fault before l ≡ Some why
 Goes before l (Err refusal.NoMemory) = Unit {0}
 
 -- what a further line comes to: the header goes on, or the line is that of the vehicles, or it is at fault
-abbrev pub Heeds : List Line → Line → Result Headed Refusal → Type 0
+abbrev pub Heeds : List Line → Line → Result Headed HeaderRefusal → Type 0
 Heeds before l (Ok (headed.More h)) = (kind_of_fault before l ≡ None) × (vehicles_in l ≡ None) × Stands (before ++ l ∷ []) h
 Heeds before l (Ok (headed.Whole s)) = (kind_of_fault before l ≡ None) × (vehicles_in l ≡ Some s.vehicles) × IsSet (before ++ l ∷ []) s
 Heeds before l (Err (refusal.Bad why)) = kind_of_fault before l ≡ Some why
@@ -125,7 +125,7 @@ adds (line.Phase red green lanes) = true
 adds _ = false
 
 -- a policy is added, if its name is new, the layout takes it, and there is memory
-abbrev pub AddsPolicy : Intersection → List (List ℕ) → Name → ℕ → Result Place Refusal → Type 0
+abbrev pub AddsPolicy : Intersection → List (List ℕ) → Name → ℕ → Result Place HeaderRefusal → Type 0
 AddsPolicy i names name k (Ok p) =
     (list_any (bytes_eq (name_word name)) names ≡ false) × (policy_fault i ≡ None) × (p ≡ place.Policies (with_policy i (kind_of k)) (names ++ name_word name ∷ []))
 AddsPolicy i names name k (Err (refusal.Bad kind.Policy)) = list_any (bytes_eq (name_word name)) names ≡ true
@@ -134,7 +134,7 @@ AddsPolicy i names name k (Err (refusal.Bad why)) = ⊥
 AddsPolicy i names name k (Err refusal.NoMemory) = Unit {0}
 
 -- the layout is ended, if it is whole and there is a vehicle
-abbrev pub Closes : ScriptVersion → Intersection → List (List ℕ) → ℕ → Result Headed Refusal → Type 0
+abbrev pub Closes : ScriptVersion → Intersection → List (List ℕ) → ℕ → Result Headed HeaderRefusal → Type 0
 Closes v i names n (Ok (headed.Whole s)) = (finish_fault i ≡ None) × (n == 0 ≡ false) × (s ≡ record { version = v; layout = i; names = names; vehicles = n })
 Closes v i names n (Ok (headed.More h)) = ⊥
 Closes v i names n (Err (refusal.Bad kind.Phase)) = is_some (finish_fault i) ≡ true

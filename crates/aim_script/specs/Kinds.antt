@@ -1,14 +1,14 @@
 -- Why a line that reads may not stand where it stands: the table of the kinds of bad lines, in their order, and the
 -- limits on a script.
 use Rattle.std.specs.Prelude.{ℕ, ◌*◌, ◌==◌, Bool, false, not, nat_lt, nat_le, List, [], ◌∷◌, Option, Some, None, option_map, option_and_then, find, is_some, if◌then◌else◌}
-use Rattle.aim_msg.specs.declared.script.Line.{Line}
-use Rattle.aim_msg.specs.declared.script.Line.TheVariants as line
-use Rattle.aim_msg.specs.Lines.{name_word}
-use Rattle.aim_msg.specs.declared.entries.TheConstants.{LATEST_MOMENT, MOST_VEHICLES}
+use Rattle.aim_messages.specs.declared.script.Line.{Line}
+use Rattle.aim_messages.specs.declared.script.Line.TheVariants as line
+use Rattle.aim_messages.specs.Lines.{name_word}
+use Rattle.aim_messages.specs.declared.entries.TheConstants.{LATEST_MOMENT, MOST_VEHICLES}
 use Rattle.aim_geometry.specs.Bounded.{is_outside}
 use Rattle.aim_geometry.specs.Sites.{has_bad_numbers, has_bad_buffers, has_bad_times}
-use Rattle.aim_paths.specs.Shapes.{stations_of, wide_step}
-use Rattle.aim_paths.specs.Building.{is_bad_move, policy_fault, phase_fault, finish_fault}
+use Rattle.aim_layout.specs.Shapes.{stations_of, wide_step}
+use Rattle.aim_layout.specs.Building.{is_bad_move, policy_fault, phase_fault, finish_fault}
 use Rattle.aim_script.specs.declared.decisions.Kind.{Kind}
 use Rattle.aim_script.specs.declared.decisions.Kind.TheVariants as kind
 use Rattle.aim_script.specs.declared.decisions.Limit.{Limit}

@@ -1,7 +1,7 @@
 -- In which order the lines of a replay script stand.
 use Rattle.std.specs.Prelude.{Bool, true, false, Option, Some, None}
-use Rattle.aim_msg.specs.declared.script.Line.{Line}
-use Rattle.aim_msg.specs.declared.script.Line.TheVariants as line
+use Rattle.aim_messages.specs.declared.script.Line.{Line}
+use Rattle.aim_messages.specs.declared.script.Line.TheVariants as line
 
 -- the parts of a script, each of which the lines before it lead to
 pub data Part : Type 0 where

@@ -1,26 +1,26 @@
 -- What the lines of a script say: questions over the whole list of lines.
 use Rattle.std.specs.Prelude.{ℕ, ◌==◌, Bool, true, List, filter_map, Option, Some, None, position, unwrap_or, bytes_eq, if◌then◌else◌}
 use Rattle.std.specs.List.{list_any}
-use Rattle.aim_msg.specs.declared.entries.Act.TheVariants as act
-use Rattle.aim_msg.specs.declared.entries.Order.TheVariants as order
-use Rattle.aim_msg.specs.declared.entries.TheConstants.{OPERATOR}
-use Rattle.aim_msg.specs.declared.script.Grid6.{Grid6}
-use Rattle.aim_msg.specs.declared.script.Times5.{Times5}
-use Rattle.aim_msg.specs.declared.script.Times6.{Times6}
-use Rattle.aim_msg.specs.declared.script.MoveShape.{MoveShape}
-use Rattle.aim_msg.specs.declared.script.MoveShape.TheVariants as shape
-use Rattle.aim_msg.specs.declared.script.Line.{Line}
-use Rattle.aim_msg.specs.declared.script.Line.TheVariants as line
-use Rattle.aim_msg.specs.Lines.{name_word}
+use Rattle.aim_messages.specs.declared.entries.Act.TheVariants as act
+use Rattle.aim_messages.specs.declared.entries.Order.TheVariants as order
+use Rattle.aim_messages.specs.declared.entries.TheConstants.{OPERATOR}
+use Rattle.aim_messages.specs.declared.script.Grid6.{Grid6}
+use Rattle.aim_messages.specs.declared.script.Times5.{Times5}
+use Rattle.aim_messages.specs.declared.script.Times6.{Times6}
+use Rattle.aim_messages.specs.declared.script.MoveShape.{MoveShape}
+use Rattle.aim_messages.specs.declared.script.MoveShape.TheVariants as shape
+use Rattle.aim_messages.specs.declared.script.Line.{Line}
+use Rattle.aim_messages.specs.declared.script.Line.TheVariants as line
+use Rattle.aim_messages.specs.Lines.{name_word}
 use Rattle.aim_geometry.specs.declared.ground.Grid.{Grid}
 use Rattle.aim_geometry.specs.declared.ground.Times.{Times}
-use Rattle.aim_paths.specs.declared.policies.Kind.{Kind}
-use Rattle.aim_paths.specs.declared.policies.Kind.TheVariants as kind
-use Rattle.aim_paths.specs.Intersection.{Intersection}
-use Rattle.aim_paths.specs.declared.shapes.Shape.{Shape}
-use Rattle.aim_paths.specs.declared.shapes.Shape.TheVariants as path
+use Rattle.aim_layout.specs.declared.policies.PolicyKind.{PolicyKind}
+use Rattle.aim_layout.specs.declared.policies.PolicyKind.TheVariants as kind
+use Rattle.aim_layout.specs.Intersection.{Intersection}
+use Rattle.aim_layout.specs.declared.shapes.Shape.{Shape}
+use Rattle.aim_layout.specs.declared.shapes.Shape.TheVariants as path
 use Rattle.aim_geometry.specs.Sites.{Site}
-use Rattle.aim_paths.specs.Added.{Added, AddMove, AddPolicy, AddPhase, layout_of as layout_of_lines}
+use Rattle.aim_layout.specs.Added.{Added, AddMove, AddPolicy, AddPhase, layout_of as layout_of_lines}
 use Rattle.aim_rules.specs.Journals.{Call}
 use Rattle.aim_geometry.specs.Bounded.{last, find_map}
 
@@ -42,7 +42,7 @@ times_of t = record { horizon = t.horizon; longest = t.longest; clearance = t.cl
 abbrev pub times6_of : Times6 → Times
 times6_of t = record { horizon = t.horizon; longest = t.longest; clearance = t.clearance; early = t.early; late = t.late; edge = t.edge }
 
-abbrev pub kind_of : ℕ → Kind
+abbrev pub kind_of : ℕ → PolicyKind
 kind_of k = if k == 0 then kind.Fcfs else if k == 1 then kind.Emerg else if k == 2 then kind.Light else kind.LightEmerg
 
 abbrev pub shape_of : MoveShape → Shape

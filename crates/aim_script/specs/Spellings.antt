@@ -1,10 +1,10 @@
 -- How the lines of a script are spelled, and what is printed of it.
 use Rattle.std.specs.Prelude.{ℕ, Bool, false, List, Result, Ok, Err}
-use Rattle.aim_msg.specs.declared.entries.Entry.{Entry}
-use Rattle.aim_msg.specs.declared.script.Line.{Line}
-use Rattle.aim_msg.specs.declared.script.LineKind.{LineKind}
-use Rattle.aim_msg.specs.Texts.{entry_text as words_of_entry, spaced}
-use Rattle.aim_read.specs.Reading.{line_at}
+use Rattle.aim_messages.specs.declared.entries.Entry.{Entry}
+use Rattle.aim_messages.specs.declared.script.Line.{Line}
+use Rattle.aim_messages.specs.declared.script.LineKind.{LineKind}
+use Rattle.aim_messages.specs.Texts.{entry_text as words_of_entry, spaced}
+use Rattle.aim_text_lines.specs.Reading.{line_at}
 use Rattle.aim_script.specs.declared.decisions.Decision.{Decision}
 use Rattle.aim_script.specs.declared.decisions.Kind.{Kind}
 use Rattle.aim_script.specs.declared.decisions.Kind.TheVariants as kind

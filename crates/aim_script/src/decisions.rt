@@ -1,13 +1,13 @@
 //! What a script comes to, and the line that says so.
 
 ghost use Rattle.std.specs.Prelude.{◌≡◌, ◌<◌, ◌≤◌, ◌+◌, ◌++◌, ◌∷◌, [], length, take};
-ghost use Rattle.aim_msg.specs.Texts.{spaced};
-ghost use Rattle.aim_msg.specs.Writing.{added};
+ghost use Rattle.aim_messages.specs.Texts.{spaced};
+ghost use Rattle.aim_messages.specs.Writing.{added};
 ghost use Rattle.aim_script.specs.Decided.{decision_words, kind_text, limit_text, printed, status_of};
 ghost use Rattle.aim_script.specs.Refusals.{Refuses};
 
 use aim_io::{Sink, put_all};
-use aim_msg::{LineKind, Text};
+use aim_messages::{LineKind, Text};
 
 /// Why a line of a script is at fault.
 #[derive(Clone, Copy)]

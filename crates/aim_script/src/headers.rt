@@ -1,11 +1,11 @@
 //! How far the header of a script has come, line by line.
 
 ghost use Rattle.std.specs.Prelude.{◌≡◌, ◌==◌, ℕ, false, List, [], None, Ok, Err, OnOk, IfOk, IfErr};
-ghost use Rattle.aim_msg.specs.declared.script.Line.{Line};
-ghost use Rattle.aim_msg.specs.declared.script.Times5.{Times5};
-ghost use Rattle.aim_msg.specs.declared.script.Times6.{Times6};
-ghost use Rattle.aim_msg.specs.Lines.{IsName};
-ghost use Rattle.aim_paths.specs.Building.{finish_fault};
+ghost use Rattle.aim_messages.specs.declared.script.Line.{Line};
+ghost use Rattle.aim_messages.specs.declared.script.Times5.{Times5};
+ghost use Rattle.aim_messages.specs.declared.script.Times6.{Times6};
+ghost use Rattle.aim_messages.specs.Lines.{IsName};
+ghost use Rattle.aim_layout.specs.Building.{finish_fault};
 ghost use Rattle.aim_script.specs.Said.{grid_of as grid_from, kind_of, shape_of as shape_from, times6_of as times_from_six, times_of as times_from, version_after};
 ghost use Rattle.aim_script.specs.Versions.{version_number};
 ghost use Rattle.aim_script.specs.Headers.{AddsPolicy, Closes, Goes, HasName, Heeds, SaysNoMore, Stands, StandsAt, adds, move_kind_of};
@@ -15,9 +15,9 @@ use crate::names::Names;
 use crate::settings::Setting;
 use crate::versions::ScriptVersion;
 use aim_geometry::{Grid, Ground, GroundFault, Times};
-use aim_msg::{Grid6, Line, MoveShape, Name, Times5, Times6, Turn};
-use aim_paths::builders::{Builder, LayoutFault};
-use aim_paths::{Kind as PolicyKind, Layout, Shape};
+use aim_layout::builders::{Builder, LayoutFault};
+use aim_layout::{Layout, PolicyKind, Shape};
+use aim_messages::{Grid6, Line, MoveShape, Name, Times5, Times6, Turn};
 use std::alloc::Global;
 
 /// Where a header stands, and what is kept of the lines so far.
@@ -53,7 +53,7 @@ pub enum Headed {
 }
 
 /// Why a line isn't taken.
-pub enum Refusal {
+pub enum HeaderRefusal {
     /// It is at fault.
     Bad(Kind),
     /// Memory has run out.
@@ -151,7 +151,12 @@ fn move_kind(fault: LayoutFault) -> Kind
 }
 
 // Adds a policy, whose name is new, to those of a layout.
-fn add_named(builder: &mut Builder, names: &mut Names, name: &Name, kind: u8) -> Result<(), Refusal>
+fn add_named(
+    builder: &mut Builder,
+    names: &mut Names,
+    name: &Name,
+    kind: u8,
+) -> Result<(), HeaderRefusal>
     requires { IsName name.now }
     ensures ok { OnOk result (AddsPolicy builder.old names.old name.now kind (Ok (Place.Policies builder.new names.new))) }
     ensures err { IfErr result (λ why. AddsPolicy builder.old names.old name.now kind (Err why)) }
@@ -159,10 +164,10 @@ fn add_named(builder: &mut Builder, names: &mut Names, name: &Name, kind: u8) ->
     match names.declare(name) {
         Ok(true) => match builder.add_policy(policy_kind(kind)) {
             Ok(()) => Ok(()),
-            Err(_) => Err(Refusal::Bad(Kind::Phase)),
+            Err(_) => Err(HeaderRefusal::Bad(Kind::Phase)),
         },
-        Ok(false) => Err(Refusal::Bad(Kind::Policy)),
-        Err(_) => Err(Refusal::NoMemory),
+        Ok(false) => Err(HeaderRefusal::Bad(Kind::Policy)),
+        Err(_) => Err(HeaderRefusal::NoMemory),
     }
 }
 
@@ -172,7 +177,7 @@ fn with_policy(
     mut names: Names,
     name: &Name,
     kind: u8,
-) -> Result<Place, Refusal>
+) -> Result<Place, HeaderRefusal>
     requires { IsName name.now }
     ensures { AddsPolicy builder names name.now kind result }
 {
@@ -189,25 +194,25 @@ fn with_phase(
     red: u32,
     green: u32,
     lanes: u16,
-) -> Result<Place, Refusal>
+) -> Result<Place, HeaderRefusal>
     ensures { (before : List Line) → StandsAt before (Place.Policies builder names) → Goes before (Line.Phase red green lanes) result }
 {
     match builder.add_phase(red, green, lanes) {
         Ok(()) => Ok(Place::Policies(builder, names)),
-        Err(_) => Err(Refusal::Bad(Kind::Phase)),
+        Err(_) => Err(HeaderRefusal::Bad(Kind::Phase)),
     }
 }
 
 // The layout, where it is whole and there is a vehicle.
-fn finished(builder: Builder, vehicles: u32) -> Result<Layout, Refusal>
+fn finished(builder: Builder, vehicles: u32) -> Result<Layout, HeaderRefusal>
     ensures ok { IfOk result (λ layout. (finish_fault builder ≡ None) × (vehicles == 0 ≡ false) × (layout ≡ builder)) }
     ensures err { IfErr result (λ why. (version : ScriptVersion) (names : List (List ℕ)) → Closes version builder names vehicles (Err why)) }
 {
     let Ok(layout) = builder.finish() else {
-        return Err(Refusal::Bad(Kind::Phase));
+        return Err(HeaderRefusal::Bad(Kind::Phase));
     };
     if vehicles == 0 {
-        return Err(Refusal::Bad(Kind::Vehicle));
+        return Err(HeaderRefusal::Bad(Kind::Vehicle));
     }
     Ok(layout)
 }
@@ -218,7 +223,7 @@ fn closed(
     builder: Builder,
     names: Names,
     vehicles: u32,
-) -> Result<Headed, Refusal>
+) -> Result<Headed, HeaderRefusal>
     ensures { Closes version builder names vehicles result }
 {
     match finished(builder, vehicles) {
@@ -234,89 +239,89 @@ fn closed(
 
 impl Place {
     // Takes the line of the grid.
-    fn grid(&self, grid: &Grid6) -> Result<Place, Refusal>
+    fn grid(&self, grid: &Grid6) -> Result<Place, HeaderRefusal>
         ensures { (before : List Line) → StandsAt before self.now → Goes before (Line.Grid grid.now) result }
     {
         match self {
             Place::Grid => {
                 let read = grid_of(grid);
                 if read.is_bad() {
-                    return Err(Refusal::Bad(Kind::Grid));
+                    return Err(HeaderRefusal::Bad(Kind::Grid));
                 }
                 Ok(Place::Times(read))
             }
-            _ => Err(Refusal::Bad(Kind::Order)),
+            _ => Err(HeaderRefusal::Bad(Kind::Order)),
         }
     }
 
     // Takes the line of the times.
-    fn times(&self, times: Times) -> Result<Place, Refusal>
+    fn times(&self, times: Times) -> Result<Place, HeaderRefusal>
         ensures five { (before : List Line) (t : Times5) → times ≡ times_from t → StandsAt before self.now → Goes before (Line.Times t) result }
         ensures six { (before : List Line) (t : Times6) → times ≡ times_from_six t → StandsAt before self.now → Goes before (Line.Times6 t) result }
     {
         match self {
             Place::Times(grid) => match Ground::build(*grid, times) {
                 Ok(ground) => Ok(Place::Lanes(ground)),
-                Err(GroundFault::Grid) => Err(Refusal::Bad(Kind::Grid)),
-                Err(GroundFault::Buffers) => Err(Refusal::Bad(Kind::Buffers)),
-                Err(GroundFault::Times) => Err(Refusal::Bad(Kind::Times)),
+                Err(GroundFault::Grid) => Err(HeaderRefusal::Bad(Kind::Grid)),
+                Err(GroundFault::Buffers) => Err(HeaderRefusal::Bad(Kind::Buffers)),
+                Err(GroundFault::Times) => Err(HeaderRefusal::Bad(Kind::Times)),
             },
-            _ => Err(Refusal::Bad(Kind::Order)),
+            _ => Err(HeaderRefusal::Bad(Kind::Order)),
         }
     }
 
     // Takes the line of the lanes.
-    fn lanes(&self, alloc: Global, lanes: u32) -> Result<Place, Refusal>
+    fn lanes(&self, alloc: Global, lanes: u32) -> Result<Place, HeaderRefusal>
         ensures { (before : List Line) → StandsAt before self.now → Goes before (Line.Lanes lanes) result }
     {
         match self {
             Place::Lanes(ground) => match Builder::new(alloc, *ground, lanes) {
                 Ok(builder) => Ok(Place::Moves(builder)),
-                Err(LayoutFault::NoMemory) => Err(Refusal::NoMemory),
-                Err(_) => Err(Refusal::Bad(Kind::Lane)),
+                Err(LayoutFault::NoMemory) => Err(HeaderRefusal::NoMemory),
+                Err(_) => Err(HeaderRefusal::Bad(Kind::Lane)),
             },
-            _ => Err(Refusal::Bad(Kind::Order)),
+            _ => Err(HeaderRefusal::Bad(Kind::Order)),
         }
     }
 
     // Takes the line of a move.
-    fn turn(self, lane: u8, turn: Turn, shape: &MoveShape) -> Result<Place, Refusal>
+    fn turn(self, lane: u8, turn: Turn, shape: &MoveShape) -> Result<Place, HeaderRefusal>
         ensures { (before : List Line) → StandsAt before self → Goes before (Line.Move lane turn shape.now) result }
     {
         match self {
             Place::Moves(mut builder) => {
                 match builder.add_move(u32::from(lane), turn, shape_of(shape)) {
                     Ok(()) => Ok(Place::Moves(builder)),
-                    Err(fault) => Err(Refusal::Bad(move_kind(fault))),
+                    Err(fault) => Err(HeaderRefusal::Bad(move_kind(fault))),
                 }
             }
-            _other => Err(Refusal::Bad(Kind::Order)),
+            _other => Err(HeaderRefusal::Bad(Kind::Order)),
         }
     }
     // Takes the line of a policy.
-    fn policy(self, alloc: Global, name: &Name, kind: u8) -> Result<Place, Refusal>
+    fn policy(self, alloc: Global, name: &Name, kind: u8) -> Result<Place, HeaderRefusal>
         requires { IsName name.now }
         ensures { (before : List Line) → StandsAt before self → Goes before (Line.Policy name.now kind) result }
     {
         match self {
             Place::Moves(builder) => with_policy(builder, Names::new(alloc), name, kind),
             Place::Policies(builder, names) => with_policy(builder, names, name, kind),
-            _other => Err(Refusal::Bad(Kind::Order)),
+            _other => Err(HeaderRefusal::Bad(Kind::Order)),
         }
     }
 
     // Takes the line of a phase.
-    fn phase(self, red: u32, green: u32, lanes: u16) -> Result<Place, Refusal>
+    fn phase(self, red: u32, green: u32, lanes: u16) -> Result<Place, HeaderRefusal>
         ensures { (before : List Line) → StandsAt before self → Goes before (Line.Phase red green lanes) result }
     {
         match self {
             Place::Policies(builder, names) => with_phase(builder, names, red, green, lanes),
-            _other => Err(Refusal::Bad(Kind::Order)),
+            _other => Err(HeaderRefusal::Bad(Kind::Order)),
         }
     }
 
     // Takes a line of the ground, up to the lanes on it.
-    fn ground(&self, alloc: Global, line: &Line) -> Result<Place, Refusal>
+    fn ground(&self, alloc: Global, line: &Line) -> Result<Place, HeaderRefusal>
         requires line { SaysNoMore line.now }
         requires adds { adds line.now ≡ false }
         ensures { (before : List Line) → StandsAt before self.now → Goes before line.now result }
@@ -326,12 +331,12 @@ impl Place {
             Line::Times(times) => self.times(times_of(times)),
             Line::Times6(times) => self.times(times_of_six(times)),
             Line::Lanes(lanes) => self.lanes(alloc, *lanes),
-            _ => Err(Refusal::Bad(Kind::Order)),
+            _ => Err(HeaderRefusal::Bad(Kind::Order)),
         }
     }
 
     // Takes a line that names neither a version nor the vehicles.
-    fn next(self, alloc: Global, line: &Line) -> Result<Place, Refusal>
+    fn next(self, alloc: Global, line: &Line) -> Result<Place, HeaderRefusal>
         requires name { HasName line.now }
         requires line { SaysNoMore line.now }
         ensures { (before : List Line) → StandsAt before self → Goes before line.now result }
@@ -345,18 +350,18 @@ impl Place {
     }
 
     // Takes the line of the vehicles.
-    fn vehicles(self, version: ScriptVersion, vehicles: u32) -> Result<Headed, Refusal>
+    fn vehicles(self, version: ScriptVersion, vehicles: u32) -> Result<Headed, HeaderRefusal>
         ensures { (before : List Line) → version_after before ≡ version_number version → StandsAt before self → Heeds before (Line.Vehicles vehicles) result }
     {
         match self {
-            Place::Moves(_builder) => Err(Refusal::Bad(Kind::Phase)),
+            Place::Moves(_builder) => Err(HeaderRefusal::Bad(Kind::Phase)),
             Place::Policies(builder, names) => closed(version, builder, names, vehicles),
-            _other => Err(Refusal::Bad(Kind::Order)),
+            _other => Err(HeaderRefusal::Bad(Kind::Order)),
         }
     }
 
     // Takes the line of the version.
-    fn version(&self, number: u32) -> Result<Headed, Refusal>
+    fn version(&self, number: u32) -> Result<Headed, HeaderRefusal>
         ensures { (before : List Line) → StandsAt before self.now → Heeds before (Line.Version number) result }
     {
         match self {
@@ -365,15 +370,18 @@ impl Place {
                     version,
                     place: Place::Grid,
                 })),
-                None => Err(Refusal::Bad(Kind::Version)),
+                None => Err(HeaderRefusal::Bad(Kind::Version)),
             },
-            _ => Err(Refusal::Bad(Kind::Order)),
+            _ => Err(HeaderRefusal::Bad(Kind::Order)),
         }
     }
 }
 
 // The header at the place that a line leads to.
-fn more(version: ScriptVersion, place: Result<Place, Refusal>) -> Result<Headed, Refusal>
+fn more(
+    version: ScriptVersion,
+    place: Result<Place, HeaderRefusal>,
+) -> Result<Headed, HeaderRefusal>
     ensures { (before : List Line) (l : Line) → version_after before ≡ version_number version → SaysNoMore l → Goes before l place → Heeds before l result }
 {
     match place {
@@ -401,7 +409,7 @@ impl Header {
     }
 
     /// Takes the next line of a script.
-    pub fn take(self, alloc: Global, line: &Line) -> Result<Headed, Refusal>
+    pub fn take(self, alloc: Global, line: &Line) -> Result<Headed, HeaderRefusal>
         requires { HasName line.now }
         ensures { (before : List Line) → Stands before self → Heeds before line.now result }
     {

@@ -1,7 +1,7 @@
 //! Laws of the definitions, each the contract of a function that does nothing. They hold however lines are read.
 
 ghost use Rattle.std.specs.Prelude.{◌≡◌, ℕ, List, take, slice_get, Some, true};
-ghost use Rattle.aim_msg.specs.declared.script.Line.{Line};
+ghost use Rattle.aim_messages.specs.declared.script.Line.{Line};
 ghost use Rattle.aim_script.specs.Order.{may_follow};
 ghost use Rattle.aim_rules.specs.Legal.{IsLegal};
 ghost use Rattle.aim_script.specs.Said.{last_of, layout_of, vehicles_of};

@@ -9,7 +9,7 @@ mod settings;
 mod versions;
 
 pub use decisions::{Decision, Kind, Limit, last_line, put_refused};
-pub use headers::{Headed, Header, Refusal};
+pub use headers::{Headed, Header, HeaderRefusal};
 pub use names::Names;
 pub use settings::Setting;
 pub use versions::ScriptVersion;

@@ -1,6 +1,6 @@
 //! The names of policies.
 
-use aim_msg::Name;
+use aim_messages::Name;
 use indexmap::IndexSet;
 use std::alloc::{AllocError as NoMemory, Global};
 use std::marker::Model;
@@ -32,7 +32,7 @@ impl Model for Names {
 impl Names {
     ghost use Rattle.std.specs.Prelude.{◌≡◌, ◌++◌, ◌∷◌, [], not, true, position, bytes_eq, IfOk};
     ghost use Rattle.std.specs.List.{list_any};
-    ghost use Rattle.aim_msg.specs.Lines.{IsName, name_word};
+    ghost use Rattle.aim_messages.specs.Lines.{IsName, name_word};
 
     /// No name yet.
     pub fn new(alloc: Global) -> Names

@@ -2,7 +2,7 @@
 
 use crate::names::Names;
 use crate::versions::ScriptVersion;
-use aim_paths::Layout;
+use aim_layout::Layout;
 
 /// What the lines of a script say up to that of the vehicles.
 #[derive(Drop)]

@@ -9,10 +9,10 @@ use Rattle.std.proofs.lemmas.Nat.{and_le_l}
 use Rattle.std.proofs.lemmas.Nat.Bits.{bit_at_ones, bit_at_ones_above, bit_at_mask_inside, bit_at_mask_below, bit_at_above, ones_shr, ones_shl}
 use Rattle.aim_geometry.specs.Cells.{Cell}
 use Rattle.aim_geometry.specs.Rects.{has_bit}
-use Rattle.aim_pool.specs.declared.spans.Span.{Span}
-use Rattle.aim_pool.specs.Spans.{in_span, in_spans}
+use Rattle.aim_sheets.specs.declared.spans.Span.{Span}
+use Rattle.aim_sheets.specs.Spans.{in_span, in_spans}
 use Rattle.aim_geometry.proofs.Bits.{has_bit_and}
-use Rattle.aim_pool.proofs.Masks.{no_bit}
+use Rattle.aim_sheets.proofs.Masks.{no_bit}
 use Rattle.aim_shards.specs.Rectangles.{is_between}
 use Rattle.aim_shards.proofs.Sharing.{differ}
 

@@ -7,14 +7,14 @@ use Rattle.std.proofs.Math.Decide.{dec_lt}
 use Rattle.std.proofs.Math.Pow.{pow-lt}
 use Rattle.std.proofs.lemmas.Bool.{and_parts, le-leb, lt-leb}
 use Rattle.std.proofs.lemmas.Nat.Bits.{bit_at_ones, bit_at_ones_above, bit_at_mask_inside, bit_at_mask_below, bit_at_above, ones_shl}
-use Rattle.aim_pool.specs.declared.spans.Span.{Span}
+use Rattle.aim_sheets.specs.declared.spans.Span.{Span}
 use Rattle.aim_geometry.specs.Cells.{Cell}
 use Rattle.aim_geometry.specs.Rects.{has_bit}
-use Rattle.aim_pool.specs.Spans.{is_at, in_span, in_spans}
+use Rattle.aim_sheets.specs.Spans.{is_at, in_span, in_spans}
 use Rattle.aim_geometry.proofs.Bits.{has_bit_and}
-use Rattle.aim_pool.proofs.Masks.{no_bit}
-use Rattle.aim_pool.proofs.Order.{is_at_parts}
-use Rattle.aim_pool.specs.Sheets.{Spans}
+use Rattle.aim_sheets.proofs.Masks.{no_bit}
+use Rattle.aim_sheets.proofs.Order.{is_at_parts}
+use Rattle.aim_sheets.specs.Sheets.{Spans}
 use Rattle.aim_shards.specs.Sets.{Quarters, part, set_at}
 use Rattle.aim_shards.specs.Cuts.{one, quadrant_at, lies_at, is_beside, spans_at, AreCut, AreWithin}
 use Rattle.aim_shards.specs.Grid.{AreOnGrid}

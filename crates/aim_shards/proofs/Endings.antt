@@ -8,10 +8,10 @@ use lib.ListN.{get_elem?}
 use Rattle.atomic_table.specs.Table.{State, Me, Final, Seen}
 use Rattle.aim_shards.specs.declared.claims.ClaimEntry.{ClaimEntry}
 use Rattle.aim_shards.specs.declared.quarter.Quarter.{Quarter}
-use Rattle.aim_shards.specs.declared.view.Turn.{Turn}
-use Rattle.aim_shards.specs.declared.view.View.{View}
+use Rattle.aim_shards.specs.declared.view.QuadrantTurn.{QuadrantTurn}
+use Rattle.aim_shards.specs.declared.view.ShardView.{ShardView}
 use Rattle.aim_shards.specs.Claims.{IsLegal, of_quadrant, entries_of}
-use Rattle.aim_pool.specs.Sheets.{Spans}
+use Rattle.aim_sheets.specs.Sheets.{Spans}
 use Rattle.aim_shards.specs.Cuts.{AreCut}
 use Rattle.aim_shards.specs.History.{IsHistory}
 use Rattle.aim_shards.specs.Models.{PassModel, ShardsModel}
@@ -68,8 +68,8 @@ pass_claims : (log : List ClaimEntry) (ps : List PassModel) → Every (λ (c : �
 pass_claims log [] all = All-nil (λ (p : PassModel). entries_of p.number log ≡ p.mine)
 pass_claims log (p ∷ ps) all = All-cons (λ (p : PassModel). entries_of p.number log ≡ p.mine) p ps all.0 (pass_claims log ps all.1)
 
-module _ (sets : List Quarters) (numbers : List ℕ) (calls : ℕ) (x : State (Option Quarter) View) (id : ℕ) (terms : Terms) (ps : List PassModel) where
-  abbrev root : View
+module _ (sets : List Quarters) (numbers : List ℕ) (calls : ℕ) (x : State (Option Quarter) ShardView) (id : ℕ) (terms : Terms) (ps : List PassModel) where
+  abbrev root : ShardView
   root = keeping terms (map (λ (p : PassModel). (p.number, p.mine)) ps)
 
   named_all : (k : ℕ) → length ps ≡ length numbers → named (λ _. k) root ≡ total (λ _. k) numbers
@@ -79,7 +79,7 @@ module _ (sets : List Quarters) (numbers : List ℕ) (calls : ℕ) (x : State (O
   no_turn : (h : Ruled sets numbers calls x) → get_elem? x.views id ≡ some root → length ps ≡ length numbers → (q : ℕ) → total (has q (λ _. 1)) x.views ≡ 0
   no_turn h at' e q = omega (arith, total_rest (has q (λ _. 1)) (named (λ _. 4)) x.views id root at' (λ j u d. omega (arith, (h.each j u d).few, ones u.held)) refl, h.places (λ _. 4), named_all 4 e)
     where
-      ones : (l : List Turn) → total (λ t. at q t.quadrant 1) l ≤ length l
+      ones : (l : List QuadrantTurn) → total (λ t. at q t.quadrant 1) l ≤ length l
       ones [] = omega arith
       ones (y ∷ ys) = omega (arith, at_le q y.quadrant 1, ones ys)
 
@@ -118,19 +118,19 @@ pub popped : {A : Type 0} (all left gone rest : List A) (x : A) → all ≡ left
 popped all left gone rest x e f = e ∙ ap (λ l. l ++ gone) f ∙ append_assoc rest (x ∷ []) gone
 
 -- what is found in the slots
-pub closes : (sets : List Quarters) (numbers : List ℕ) (calls : ℕ) (ws : List ℕ) (xs : List (Option Quarter)) (id : ℕ) (ps : List PassModel) (m : Me (Option Quarter) View) → Gathers ps m → length ps ≡ length numbers → Final (Seen (Ruled sets numbers calls) id m.0) ws xs
+pub closes : (sets : List Quarters) (numbers : List ℕ) (calls : ℕ) (ws : List ℕ) (xs : List (Option Quarter)) (id : ℕ) (ps : List PassModel) (m : Me (Option Quarter) ShardView) → Gathers ps m → length ps ≡ length numbers → Final (Seen (Ruled sets numbers calls) id m.0) ws xs
     → (log : List ClaimEntry) × (IsLegal sets log × AreMade numbers ps log) × ((q : ℕ) → q < 4 → LiesAt q xs (of_quadrant sets q log))
 closes sets numbers calls ws xs id ps m had count f =
-    let seen : get_elem? f.0.views id ≡ some (keeping m.0.terms (map (λ (p : PassModel). (p.number, p.mine)) ps)) = f.1.1 ∙ ap (λ (y : Me (Option Quarter) View). some y.0) had.is in (
+    let seen : get_elem? f.0.views id ≡ some (keeping m.0.terms (map (λ (p : PassModel). (p.number, p.mine)) ps)) = f.1.1 ∙ ap (λ (y : Me (Option Quarter) ShardView). some y.0) had.is in (
       f.1.0.log,
       (f.1.0.lawful, made_all sets numbers calls f.0 id m.0.terms ps f.1.0 seen count),
       λ q lt. let a = at_home sets numbers calls f.0 id m.0.terms ps f.1.0 seen count q lt in record { value = a.0; there = f.4 q (Some a.0) a.1; entries = a.2 },
     )
 
-pub gathers_one : (gone : List PassModel) (p : PassModel) (n : ℕ) (terms : Terms) (mine : List ClaimEntry) (m m' w : Me (Option Quarter) View) → Gathers gone m → w ≡ (working terms n [] mine, []) → m' ≡ (gathered m.0 w.0, m.1) → p.number ≡ n → p.mine ≡ mine → Gathers (p ∷ gone) m'
+pub gathers_one : (gone : List PassModel) (p : PassModel) (n : ℕ) (terms : Terms) (mine : List ClaimEntry) (m m' w : Me (Option Quarter) ShardView) → Gathers gone m → w ≡ (working terms n [] mine, []) → m' ≡ (gathered m.0 w.0, m.1) → p.number ≡ n → p.mine ≡ mine → Gathers (p ∷ gone) m'
 gathers_one gone p n terms mine m m' w had is' joined number own' =
     let e : m' ≡ (keeping terms ((n, mine) ∷ map (λ (q : PassModel). (q.number, q.mine)) gone), []) = joined ∙ (λ i. (gathered (had.is i).0 (is' i).0, (had.is i).1)) in
-    record { is = e ∙ (λ i. (keeping (sym (ap (λ (y : Me (Option Quarter) View). y.0.terms) e) i) ((sym number i, sym own' i) ∷ map (λ (q : PassModel). (q.number, q.mine)) gone), [])) }
+    record { is = e ∙ (λ i. (keeping (sym (ap (λ (y : Me (Option Quarter) ShardView). y.0.terms) e) i) ((sym number i, sym own' i) ∷ map (λ (q : PassModel). (q.number, q.mine)) gone), [])) }
 
 -- it lies there still where another one was taken
 pub still_at : {q : ℕ} {l : List ClaimEntry} {xs ys : List (Option Quarter)} → ys ≡ xs → LiesAt q xs l → LiesAt q ys l

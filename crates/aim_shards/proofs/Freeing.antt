@@ -10,9 +10,9 @@ use Rattle.std.proofs.lemmas.Bool.Decides.{nat_tests}
 use Rattle.aim_shards.specs.declared.claims.ClaimAct.{ClaimAct}
 use Rattle.aim_shards.specs.declared.claims.ClaimAct.TheVariants as act
 use Rattle.aim_shards.specs.declared.claims.ClaimEntry.{ClaimEntry}
-use Rattle.aim_pool.specs.declared.spans.Span.{Span}
+use Rattle.aim_sheets.specs.declared.spans.Span.{Span}
 use Rattle.aim_geometry.specs.Cells.{Cell}
-use Rattle.aim_pool.specs.Spans.{in_spans}
+use Rattle.aim_sheets.specs.Spans.{in_spans}
 use Rattle.aim_shards.specs.Sets.{Quarters, part, SameParts, lies_in, spans_meet, meets_in, meets}
 use Rattle.aim_shards.specs.Claims.{claimed, is_in, covers, after_act, stood, stands, answer, touches, IsLegalFrom, IsLegal, has_ticket, freed, entries_of, of_quadrant, AreApart, changed, Moves, Changes}
 use Rattle.aim_shards.specs.Sums.{total, is}

@@ -7,7 +7,7 @@ use Rattle.std.proofs.lemmas.List.Elements.{filter-append}
 use Rattle.aim_shards.specs.declared.claims.ClaimAct.{ClaimAct}
 use Rattle.aim_shards.specs.declared.claims.ClaimAct.TheVariants as act
 use Rattle.aim_shards.specs.declared.claims.ClaimEntry.{ClaimEntry}
-use Rattle.aim_shards.specs.declared.view.Turn.{Turn}
+use Rattle.aim_shards.specs.declared.view.QuadrantTurn.{QuadrantTurn}
 use Rattle.aim_shards.specs.Sets.{Quarters, set_at, has_cells, is_empty, lies_in, meets_in, touched}
 use Rattle.aim_shards.specs.Claims.{claimed, is_in, is_free_in, after_act, stood, stands, answer, touches, touching, of_quadrant, are_free}
 use Rattle.aim_shards.specs.Sums.{Every}
@@ -103,7 +103,7 @@ module _ (sets : List Quarters) where
   free_over set standing [] = true
   free_over set standing (q ∷ qs) = free_over set standing qs && not (meets_some set standing q)
 
-  free_turns : (set : Quarters) (log : List ClaimEntry) (hs : List Turn) → Every (λ t. t.seen ≡ of_quadrant sets t.quadrant log) hs → are_free sets set hs ≡ free_over set (stands [] log) (map (λ t. t.quadrant) hs)
+  free_turns : (set : Quarters) (log : List ClaimEntry) (hs : List QuadrantTurn) → Every (λ t. t.seen ≡ of_quadrant sets t.quadrant log) hs → are_free sets set hs ≡ free_over set (stands [] log) (map (λ t. t.quadrant) hs)
   free_turns set log [] all = refl
   free_turns set log (t ∷ ts) all = λ i. free_turns set log ts all.1 i && (ap (is_free_in sets set t.quadrant) all.0 ∙ free_by set t.quadrant log) i
 
@@ -124,7 +124,7 @@ module _ (sets : List Quarters) where
       at false h = whole (free_over set standing (touched set q)) ∙ ap (λ c. free_over set standing (touched set q) && not c) (sym (any_none (λ (f : ClaimEntry). meets_in set q (claimed sets f.act)) standing (λ f. unmet_in set q (claimed sets f.act) (left (has_cells set q) (is_empty set && (q == 0)) h))))
 
   -- the turns tell whether the set are free
-  pub answer_of : (k n : ℕ) (log : List ClaimEntry) (hs : List Turn) → map (λ t. t.quadrant) hs ≡ touched (set_at sets k) 4 → Every (λ t. t.seen ≡ of_quadrant sets t.quadrant log) hs → are_free sets (set_at sets k) hs ≡ answer sets (stands [] log) n (act.Claim k)
+  pub answer_of : (k n : ℕ) (log : List ClaimEntry) (hs : List QuadrantTurn) → map (λ t. t.quadrant) hs ≡ touched (set_at sets k) 4 → Every (λ t. t.seen ≡ of_quadrant sets t.quadrant log) hs → are_free sets (set_at sets k) hs ≡ answer sets (stands [] log) n (act.Claim k)
   answer_of k n log hs quadrants all =
       let set : Quarters = set_at sets k in
       let s : List ClaimEntry = stands [] log in

@@ -9,7 +9,7 @@ use Rattle.atomic_table.specs.Table.{Me, Splits, Joins, Enters, opening}
 use Rattle.atomic_table.proofs.Lists.{at_snoc, set_else}
 use Rattle.aim_shards.specs.declared.claims.ClaimEntry.{ClaimEntry}
 use Rattle.aim_shards.specs.declared.quarter.Quarter.{Quarter}
-use Rattle.aim_shards.specs.declared.view.View.{View}
+use Rattle.aim_shards.specs.declared.view.ShardView.{ShardView}
 use Rattle.aim_shards.specs.Claims.{entries_of}
 use Rattle.aim_shards.specs.Closing.{Gathers}
 use Rattle.std.specs.FinSet as set
@@ -23,8 +23,8 @@ use Rattle.aim_shards.specs.Ruled.{no_terms, terms_of, Takes, blank, named, made
 use Rattle.aim_shards.proofs.Totals.{total_set, total-append, is_self, is_none}
 use Rattle.aim_shards.proofs.Steps.{each_set, home_same}
 
-each_snoc : (calls : ℕ) (terms : Terms) (log : List ClaimEntry) (views : List View) (r : View) → ((j : ℕ) (u : View) → get_elem? views j ≡ some u → Fits calls terms log u) → Fits calls terms log r
-    → (j : ℕ) (u : View) → get_elem? (views ++ r ∷ []) j ≡ some u → Fits calls terms log u
+each_snoc : (calls : ℕ) (terms : Terms) (log : List ClaimEntry) (views : List ShardView) (r : ShardView) → ((j : ℕ) (u : ShardView) → get_elem? views j ≡ some u → Fits calls terms log u) → Fits calls terms log r
+    → (j : ℕ) (u : ShardView) → get_elem? (views ++ r ∷ []) j ≡ some u → Fits calls terms log u
 each_snoc calls terms log views r each new j u e = ⊎_elim (λ t. each j u t) (λ t. subst (Fits calls terms log) t new) (at_snoc views r u j e)
 
 -- a new quadrant
@@ -46,7 +46,7 @@ module _ (sets : List Quarters) where
       let views = set x.views id left ++ right ∷ [] in
       let old = h.each id v at' in
       let mine : terms ≡ terms_of sets numbers calls = old.terms_is (omega arith) in
-      let sums : (f : View → ℕ) → total f views + f v ≡ total f x.views + (f left + f right) = λ f. omega (arith, total_set f x.views id v left at', total-append f (set x.views id left) (right ∷ [])) in
+      let sums : (f : ShardView → ℕ) → total f views + f v ≡ total f x.views + (f left + f right) = λ f. omega (arith, total_set f x.views id v left at', total-append f (set x.views id left) (right ∷ [])) in
       record {
         log = h.log;
         serving = h.serving;
@@ -80,7 +80,7 @@ module _ (sets : List Quarters) where
       let theirs : get_elem? x.views other ≡ some w = sym (set_else x.views id other both away) ∙ there in
       let fv = h.each id v at' in
       let fw = h.each other w theirs in
-      let sums : (f : View → ℕ) → total f views + (f v + f w) ≡ total f x.views + (f both + f spent) = λ f. omega (arith, total_set f x.views id v both at', total_set f mid other w spent there) in
+      let sums : (f : ShardView → ℕ) → total f views + (f v + f w) ≡ total f x.views + (f both + f spent) = λ f. omega (arith, total_set f x.views id v both at', total_set f mid other w spent there) in
       record {
         log = h.log;
         serving = h.serving;
@@ -110,7 +110,7 @@ module _ (sets : List Quarters) where
   comes_new numbers calls slots i x h deep small' =
       let r = keeping no_terms [] in
       let views = x.views ++ r ∷ [] in
-      let sums : (f : View → ℕ) → total f views ≡ total f x.views + (f r + 0) = λ f. total-append f x.views (r ∷ []) in (
+      let sums : (f : ShardView → ℕ) → total f views ≡ total f x.views + (f r + 0) = λ f. total-append f x.views (r ∷ []) in (
         r,
         record {
           log = h.log;
@@ -134,7 +134,7 @@ module _ (sets : List Quarters) where
         refl,
       )
 
-  pub arrived : (m : Me (Option Quarter) View) → m.1 ≡ [] → m.0 ≡ keeping no_terms [] → Gathers [] m
+  pub arrived : (m : Me (Option Quarter) ShardView) → m.1 ≡ [] → m.0 ≡ keeping no_terms [] → Gathers [] m
   arrived m a b = subst (Gathers []) {x = (keeping no_terms [], [])} (λ i. (sym b i, sym a i)) record { is = refl }
 
   absent : (n : ℕ) (xs : List ℕ) → ((j : ℕ) → j < length xs → get_or xs j 0 ≢ n) → total (is n) xs ≡ 0
@@ -204,7 +204,7 @@ module _ (sets : List Quarters) where
       homes (suc (suc (suc zero))) lt = inl (d, refl, sd, λ f. refl)
       homes (suc (suc (suc (suc q)))) lt = absurd (omega arith)
 
-      one : (i : ℕ) (v : View) → get_elem? (opening_view sets numbers calls ∷ []) i ≡ some v → Fits calls (terms_of sets numbers calls) [] v
+      one : (i : ℕ) (v : ShardView) → get_elem? (opening_view sets numbers calls ∷ []) i ≡ some v → Fits calls (terms_of sets numbers calls) [] v
       one zero v e = subst (Fits calls (terms_of sets numbers calls) []) (some-injective _ _ e) record { seen = tt; claimed = blank_claimed numbers; few = omega arith; calls_left = blank_calls calls numbers; terms_is = λ _. refl }
       one (suc i) v e = absurd (some-ne-none v (sym e))
 
@@ -232,20 +232,20 @@ module _ (sets : List Quarters) where
       (opens numbers calls a b c d (omega (arith, room_is 4 numbers)) (omega (arith, room_is calls numbers, small_product (length numbers) calls few few')) distinct (suits 0 a (sa 0 (omega arith))) (suits 1 b (sb 1 (omega arith))) (suits 2 c (sc 2 (omega arith))) (suits 3 d (sd 3 (omega arith))))
 
   -- the numbers from the i-th on are still to give, and the i-th is dealt
-  pub front_number : (terms : Terms) (ns : List ℕ) (i : ℕ) (m : Me (Option Quarter) View) → i < length ns → m ≡ (keeping terms (blank (drop i ns)), []) → m ≡ (keeping terms ((get_or ns i 0, []) ∷ blank (drop (i + 1) ns)), [])
+  pub front_number : (terms : Terms) (ns : List ℕ) (i : ℕ) (m : Me (Option Quarter) ShardView) → i < length ns → m ≡ (keeping terms (blank (drop i ns)), []) → m ≡ (keeping terms ((get_or ns i 0, []) ∷ blank (drop (i + 1) ns)), [])
   front_number terms ns i m b is' = is' ∙ ap (λ l. (keeping terms (blank l), [])) (drop-cons ns i 0 b ∙ ap (λ k. get_or ns i 0 ∷ drop k ns) (next i))
     where
       next : (k : ℕ) → suc k ≡ k + 1
       next k = omega arith
 
-  pub deals_as : (numbers : List ℕ) (calls id : ℕ) (terms : Terms) (ns : List ℕ) (i : ℕ) (m : Me (Option Quarter) View) → i < length ns → m ≡ (keeping terms (blank (drop i ns)), []) → Splits (Ruled sets numbers calls) id m.0 (rest_of m.0) (next_of m.0)
-  deals_as numbers calls id terms ns i m b is' = subst (λ (v : View). Splits (Ruled sets numbers calls) id v (rest_of v) (next_of v)) (sym (ap (λ (y : Me (Option Quarter) View). y.0) (front_number terms ns i m b is'))) (deals numbers calls id terms (get_or ns i 0) (blank (drop (i + 1) ns)))
+  pub deals_as : (numbers : List ℕ) (calls id : ℕ) (terms : Terms) (ns : List ℕ) (i : ℕ) (m : Me (Option Quarter) ShardView) → i < length ns → m ≡ (keeping terms (blank (drop i ns)), []) → Splits (Ruled sets numbers calls) id m.0 (rest_of m.0) (next_of m.0)
+  deals_as numbers calls id terms ns i m b is' = subst (λ (v : ShardView). Splits (Ruled sets numbers calls) id v (rest_of v) (next_of v)) (sym (ap (λ (y : Me (Option Quarter) ShardView). y.0) (front_number terms ns i m b is'))) (deals numbers calls id terms (get_or ns i 0) (blank (drop (i + 1) ns)))
 
-  pub root_dealt : (terms : Terms) (ns : List ℕ) (i : ℕ) (m m' : Me (Option Quarter) View) → i < length ns → m ≡ (keeping terms (blank (drop i ns)), []) → m' ≡ (rest_of m.0, m.1) → m' ≡ (keeping terms (blank (drop (i + 1) ns)), [])
-  root_dealt terms ns i m m' b is' e = e ∙ ap (λ (y : Me (Option Quarter) View). (rest_of y.0, y.1)) (front_number terms ns i m b is')
+  pub root_dealt : (terms : Terms) (ns : List ℕ) (i : ℕ) (m m' : Me (Option Quarter) ShardView) → i < length ns → m ≡ (keeping terms (blank (drop i ns)), []) → m' ≡ (rest_of m.0, m.1) → m' ≡ (keeping terms (blank (drop (i + 1) ns)), [])
+  root_dealt terms ns i m m' b is' e = e ∙ ap (λ (y : Me (Option Quarter) ShardView). (rest_of y.0, y.1)) (front_number terms ns i m b is')
 
-  pub seat_dealt : (terms : Terms) (ns : List ℕ) (i : ℕ) (m w : Me (Option Quarter) View) → i < length ns → m ≡ (keeping terms (blank (drop i ns)), []) → w ≡ (next_of m.0, []) → w ≡ (working terms (get_or ns i 0) [] [], [])
-  seat_dealt terms ns i m w b is' e = e ∙ ap (λ (y : Me (Option Quarter) View). (next_of y.0, [])) (front_number terms ns i m b is')
+  pub seat_dealt : (terms : Terms) (ns : List ℕ) (i : ℕ) (m w : Me (Option Quarter) ShardView) → i < length ns → m ≡ (keeping terms (blank (drop i ns)), []) → w ≡ (next_of m.0, []) → w ≡ (working terms (get_or ns i 0) [] [], [])
+  seat_dealt terms ns i m w b is' e = e ∙ ap (λ (y : Me (Option Quarter) ShardView). (next_of y.0, [])) (front_number terms ns i m b is')
 
-  pub gathers_as : (numbers : List ℕ) (calls id other : ℕ) (terms : Terms) (n : ℕ) (cs : List (ℕ × List ClaimEntry)) (mine : List ClaimEntry) (m w : Me (Option Quarter) View) → m ≡ (keeping m.0.terms cs, []) → w ≡ (working terms n [] mine, []) → Joins (Ruled sets numbers calls) id m.0 other w.0 (gathered m.0 w.0) spent
-  gathers_as numbers calls id other terms n cs mine m w is' whose = subst (λ (t : View × View). Joins (Ruled sets numbers calls) id t.0 other t.1 (gathered t.0 t.1) spent) (λ i. (sym (ap (λ (y : Me (Option Quarter) View). y.0) is') i, sym (ap (λ (y : Me (Option Quarter) View). y.0) whose) i)) (gathers numbers calls id m.0.terms other terms n cs mine)
+  pub gathers_as : (numbers : List ℕ) (calls id other : ℕ) (terms : Terms) (n : ℕ) (cs : List (ℕ × List ClaimEntry)) (mine : List ClaimEntry) (m w : Me (Option Quarter) ShardView) → m ≡ (keeping m.0.terms cs, []) → w ≡ (working terms n [] mine, []) → Joins (Ruled sets numbers calls) id m.0 other w.0 (gathered m.0 w.0) spent
+  gathers_as numbers calls id other terms n cs mine m w is' whose = subst (λ (t : ShardView × ShardView). Joins (Ruled sets numbers calls) id t.0 other t.1 (gathered t.0 t.1) spent) (λ i. (sym (ap (λ (y : Me (Option Quarter) ShardView). y.0) is') i, sym (ap (λ (y : Me (Option Quarter) ShardView). y.0) whose) i)) (gathers numbers calls id m.0.terms other terms n cs mine)

@@ -3,13 +3,13 @@ use Rattle.std.proofs.Common.{◌≡◌, ℕ, ◌==◌, Bool, true, false, ◌&&
 use Rattle.std.specs.Prelude.{bit_and}
 use Rattle.std.specs.List.{list_any}
 use Rattle.std.proofs.lemmas.Bool.{eqb-true, eq-eqb, and_parts, and_from}
-use Rattle.aim_pool.specs.declared.spans.Span.{Span}
+use Rattle.aim_sheets.specs.declared.spans.Span.{Span}
 use Rattle.aim_geometry.specs.Cells.{Cell, cell_at}
 use Rattle.aim_geometry.specs.Rects.{has_bit}
-use Rattle.aim_pool.specs.Spans.{is_at, in_span, in_spans}
+use Rattle.aim_sheets.specs.Spans.{is_at, in_span, in_spans}
 use Rattle.aim_geometry.proofs.Bits.{has_bit_and}
-use Rattle.aim_pool.proofs.Masks.{no_bit}
-use Rattle.aim_pool.proofs.Order.{is_at_parts}
+use Rattle.aim_sheets.proofs.Masks.{no_bit}
+use Rattle.aim_sheets.proofs.Order.{is_at_parts}
 use Rattle.aim_tiles.proofs.Writes.{some_column}
 use Rattle.aim_shards.specs.Sets.{Quarters, part, is_some, has_cells, is_empty, lies_in, span_meets, spans_meet, meets_in, meets}
 

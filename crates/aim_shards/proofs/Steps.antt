@@ -12,8 +12,8 @@ use Rattle.atomic_table.specs.Table.Act.{keeps, takes, gives}
 use Rattle.atomic_table.proofs.Lists.{at_set, set_else, set_again, one_turn}
 use Rattle.aim_shards.specs.declared.claims.ClaimEntry.{ClaimEntry}
 use Rattle.aim_shards.specs.declared.quarter.Quarter.{Quarter}
-use Rattle.aim_shards.specs.declared.view.Turn.{Turn}
-use Rattle.aim_shards.specs.declared.view.View.{View}
+use Rattle.aim_shards.specs.declared.view.QuadrantTurn.{QuadrantTurn}
+use Rattle.aim_shards.specs.declared.view.ShardView.{ShardView}
 use Rattle.aim_shards.specs.declared.view.Terms.{Terms}
 use Rattle.aim_shards.specs.Sets.{Quarters}
 use Rattle.aim_shards.specs.Sums.{Every, total, is, at}
@@ -46,20 +46,20 @@ module _ (sets : List Quarters) where
   ticket_of e = ap (λ (y : ℕ × ℕ). y.1) (pair_of e)
 
   -- what the rule says of each view, after one view has changed
-  pub each_set : (calls : ℕ) (terms : Terms) (log log' : List ClaimEntry) (views : List View) (id : ℕ) (w : View)
-      → ((j : ℕ) (u : View) → get_elem? views j ≡ some u → Fits calls terms log u)
-      → ((j : ℕ) (u : View) → j ≢ id → get_elem? views j ≡ some u → Fits calls terms log u → Fits calls terms log' u)
-      → Fits calls terms log' w → (j : ℕ) (u : View) → get_elem? (set views id w) j ≡ some u → Fits calls terms log' u
+  pub each_set : (calls : ℕ) (terms : Terms) (log log' : List ClaimEntry) (views : List ShardView) (id : ℕ) (w : ShardView)
+      → ((j : ℕ) (u : ShardView) → get_elem? views j ≡ some u → Fits calls terms log u)
+      → ((j : ℕ) (u : ShardView) → j ≢ id → get_elem? views j ≡ some u → Fits calls terms log u → Fits calls terms log' u)
+      → Fits calls terms log' w → (j : ℕ) (u : ShardView) → get_elem? (set views id w) j ≡ some u → Fits calls terms log' u
   each_set calls terms log log' views id w each others mine j u e =
       ⊎_elim (λ t. subst (Fits calls terms log') t.1 mine) (λ t. others j u t.0 t.1 (each j u t.1)) (at_set views id j w u e)
 
   -- the slot, where the views have the same turns
-  pub home_same : (terms : Terms) (p : ℕ) (homes : List (maybe.Option (Option Quarter))) (log : List ClaimEntry) (s : ℕ) (views views' : List View) → ((f : ℕ → ℕ) → total (has p f) views' ≡ total (has p f) views) → Home terms p homes views log s → Home terms p homes views' log s
+  pub home_same : (terms : Terms) (p : ℕ) (homes : List (maybe.Option (Option Quarter))) (log : List ClaimEntry) (s : ℕ) (views views' : List ShardView) → ((f : ℕ → ℕ) → total (has p f) views' ≡ total (has p f) views) → Home terms p homes views log s → Home terms p homes views' log s
   home_same terms p homes log s views views' same (inl a) = inl (a.0, a.1, a.2, λ f. same f ∙ a.3 f)
   home_same terms p homes log s views views' same (inr a) = inr (a.0, λ f. same f ∙ a.1 f)
 
   -- a ticket is drawn at the quadrant q
-  pub draws : (numbers : List ℕ) (calls slots id q : ℕ) (terms : Terms) (n : ℕ) (hs : List Turn) (mine : List ClaimEntry) (cs : List (ℕ × Option Quarter)) → q < 4 → length hs ≤ 3
+  pub draws : (numbers : List ℕ) (calls slots id q : ℕ) (terms : Terms) (n : ℕ) (hs : List QuadrantTurn) (mine : List ClaimEntry) (cs : List (ℕ × Option Quarter)) → q < 4 → length hs ≤ 3
       → Allows (Ruled sets numbers calls) slots id (working terms n hs mine, cs) q (λ k. (k + 1) % 2 ^ 64) (Drew q (working terms n hs mine, cs))
   draws numbers calls slots id q terms n hs mine cs lt few x h deep at' small =
       let v = working terms n hs mine in
@@ -92,12 +92,12 @@ module _ (sets : List Quarters) where
       )
 
   -- all tickets of a quadrant are few
-  crowd : (numbers : List ℕ) (calls : ℕ) (x : State (Option Quarter) View) (q : ℕ) → Ruled sets numbers calls x → total (waits q (λ _. 1)) x.views + total (has q (λ _. 1)) x.views < 2 ^ 62
+  crowd : (numbers : List ℕ) (calls : ℕ) (x : State (Option Quarter) ShardView) (q : ℕ) → Ruled sets numbers calls x → total (waits q (λ _. 1)) x.views + total (has q (λ _. 1)) x.views < 2 ^ 62
   crowd numbers calls x q h =
       omega (
         arith,
         total_le (waits q (λ _. 1)) (named (λ _. 4)) x.views (λ j v e. omega (arith, (h.each j v e).few, ones (λ (w : ℕ × ℕ). w.0) v.waiting)),
-        total_le (has q (λ _. 1)) (named (λ _. 4)) x.views (λ j v e. omega (arith, (h.each j v e).few, ones (λ (t : Turn). t.quadrant) v.held)),
+        total_le (has q (λ _. 1)) (named (λ _. 4)) x.views (λ j v e. omega (arith, (h.each j v e).few, ones (λ (t : QuadrantTurn). t.quadrant) v.held)),
         h.places (λ _. 4),
         h.few,
       )
@@ -107,18 +107,18 @@ module _ (sets : List Quarters) where
       ones f (y ∷ ys) = omega (arith, at_le q (f y) 1, ones f ys)
 
   -- the ticket is looked for
-  pub looks : (numbers : List ℕ) (calls slots id q t : ℕ) (terms : Terms) (n : ℕ) (hs : List Turn) (mine : List ClaimEntry) (cs : List (ℕ × Option Quarter)) → q < 4
+  pub looks : (numbers : List ℕ) (calls slots id q t : ℕ) (terms : Terms) (n : ℕ) (hs : List QuadrantTurn) (mine : List ClaimEntry) (cs : List (ℕ × Option Quarter)) → q < 4
       → Allows (Ruled sets numbers calls) slots id (queued terms n q t hs mine, cs) (4 + q) (λ k. k) (Looked (queued terms n q t hs mine, cs))
   looks numbers calls slots id q t terms n hs mine cs lt x h deep at' small = dite (ℕ_discrete (slice_index x.words (4 + q)) (t % 2 ^ 64)) (λ same. came same (h.slot q lt)) (λ other. away other)
     where
-      v : View
+      v : ShardView
       v = queued terms n q t hs mine
 
       kept_words : set x.words (4 + q) (slice_index x.words (4 + q)) ≡ x.words
       kept_words = set-get_or x.words (4 + q) 0
 
       Told : Type 0
-      Told = (w : View) × (a : Act (Option Quarter)) × Valid x.homes cs a × Ruled sets numbers calls (stepped x (4 + q) (slice_index x.words (4 + q)) id cs w a) × Looked (v, cs) (slice_index x.words (4 + q)) (w, carried_after cs a)
+      Told = (w : ShardView) × (a : Act (Option Quarter)) × Valid x.homes cs a × Ruled sets numbers calls (stepped x (4 + q) (slice_index x.words (4 + q)) id cs w a) × Looked (v, cs) (slice_index x.words (4 + q)) (w, carried_after cs a)
 
       away : slice_index x.words (4 + q) ≢ t % 2 ^ 64 → Told
       away other =
@@ -126,7 +126,7 @@ module _ (sets : List Quarters) where
             v,
             keeps,
             tt,
-            subst (λ (y : State (Option Quarter) View). Ruled sets numbers calls y) (λ i. record { words = sym kept_words i; homes = x.homes; views = sym same_views i }) h,
+            subst (λ (y : State (Option Quarter) ShardView). Ruled sets numbers calls y) (λ i. record { words = sym kept_words i; homes = x.homes; views = sym same_views i }) h,
             record { came = λ q' t' e found. absurd (other (found ∙ ap (λ (y : ℕ). y % 2 ^ 64) (sym (ticket_of e)))); waits = λ _ _ _ _. refl },
           )
 
@@ -174,23 +174,23 @@ module _ (sets : List Quarters) where
             },
           )
         where
-          here : (w : View) → w ≡ working terms n (turn q t (of_quadrant sets q h.log) ∷ hs) mine → h.serving q ≡ t
+          here : (w : ShardView) → w ≡ working terms n (turn q t (of_quadrant sets q h.log) ∷ hs) mine → h.serving q ≡ t
               → ((k : Quarter) × (get_elem? x.homes q ≡ some (some (Some k))) × Suits (terms_of sets numbers calls) q (of_quadrant sets q h.log) k × ((f : ℕ → ℕ) → total (has q f) x.views ≡ 0))
               → Home (terms_of sets numbers calls) q (set x.homes q none) (set x.views id w) h.log (h.serving q)
           here w same now home = inr (set_at x.homes q (some (Some home.0)) none home.1, λ f. omega (arith, total_set (has q f) x.views id v w at', home.3 f, ap (has q f) same, at_self q q (f t) refl, ap f now))
 
-          there : (p : ℕ) → p ≢ q → (w : View) → w ≡ working terms n (turn q t (of_quadrant sets q h.log) ∷ hs) mine → Home (terms_of sets numbers calls) p x.homes x.views h.log (h.serving p) → Home (terms_of sets numbers calls) p (set x.homes q none) (set x.views id w) h.log (h.serving p)
+          there : (p : ℕ) → p ≢ q → (w : ShardView) → w ≡ working terms n (turn q t (of_quadrant sets q h.log) ∷ hs) mine → Home (terms_of sets numbers calls) p x.homes x.views h.log (h.serving p) → Home (terms_of sets numbers calls) p (set x.homes q none) (set x.views id w) h.log (h.serving p)
           there p ne w same old = subst (λ (y : maybe.Option (maybe.Option (Option Quarter))). HomeAt y p (set x.views id w)) (sym (set_else x.homes q p none ne)) (home_same (terms_of sets numbers calls) p x.homes h.log (h.serving p) x.views (set x.views id w) (λ f. omega (arith, total_set (has p f) x.views id v w at', ap (has p f) same, at_other p q (f t) (λ e. ne (sym e)))) old)
             where
-              HomeAt : maybe.Option (maybe.Option (Option Quarter)) → ℕ → List View → Type 0
+              HomeAt : maybe.Option (maybe.Option (Option Quarter)) → ℕ → List ShardView → Type 0
               HomeAt y p' views = ((k : Quarter) × (y ≡ some (some (Some k))) × Suits (terms_of sets numbers calls) p' (of_quadrant sets p' h.log) k × ((f : ℕ → ℕ) → total (has p' f) views ≡ 0)) ⊎ ((y ≡ some none) × ((f : ℕ → ℕ) → total (has p' f) views ≡ f (h.serving p')))
 
   -- the slot, as a fact of what is found there
-  abbrev Held : Terms → ℕ → List View → List ClaimEntry → ℕ → maybe.Option (maybe.Option (Option Quarter)) → Type 0
+  abbrev Held : Terms → ℕ → List ShardView → List ClaimEntry → ℕ → maybe.Option (maybe.Option (Option Quarter)) → Type 0
   Held terms p views log s y = ((k : Quarter) × (y ≡ some (some (Some k))) × Suits terms p (of_quadrant sets p log) k × ((f : ℕ → ℕ) → total (has p f) views ≡ 0)) ⊎ ((y ≡ some none) × ((f : ℕ → ℕ) → total (has p f) views ≡ f s))
 
   -- the turn that came last is given up
-  pub serves : (numbers : List ℕ) (calls slots id q t : ℕ) (terms : Terms) (n : ℕ) (seen : List ClaimEntry) (hs : List Turn) (mine : List ClaimEntry) (k : Quarter) (cs : List (ℕ × Option Quarter)) → q < 4 → Suits terms q seen k
+  pub serves : (numbers : List ℕ) (calls slots id q t : ℕ) (terms : Terms) (n : ℕ) (seen : List ClaimEntry) (hs : List QuadrantTurn) (mine : List ClaimEntry) (k : Quarter) (cs : List (ℕ × Option Quarter)) → q < 4 → Suits terms q seen k
       → Allows (Ruled sets numbers calls) slots id (working terms n (turn q t seen ∷ hs) mine, (q, Some k) ∷ cs) (4 + q) (λ c. (c + 1) % 2 ^ 64) (λ _. Passed (working terms n (turn q t seen ∷ hs) mine, (q, Some k) ∷ cs))
   serves numbers calls slots id q t terms n seen hs mine k cs lt suits x h deep at' small =
       let v = working terms n (turn q t seen ∷ hs) mine in
@@ -223,7 +223,7 @@ module _ (sets : List Quarters) where
         record { after = refl },
       )
     where
-      v : View
+      v : ShardView
       v = working terms n (turn q t seen ∷ hs) mine
 
       mine_has : (f : ℕ → ℕ) → f t ≤ total (has q f) x.views
@@ -239,7 +239,7 @@ module _ (sets : List Quarters) where
           (λ e. ap (λ y. slice_index (set x.words (4 + q) ((slice_index x.words (4 + q) + 1) % 2 ^ 64)) (4 + y)) e ∙ (get_or-set_same x.words (4 + q) ((slice_index x.words (4 + q) + 1) % 2 ^ 64) 0 (omega (arith, h.wide, lt)) ∙ (ap (λ c. (c + 1) % 2 ^ 64) (h.served q lt) ∙ (up (h.serving q) ∙ (λ i. (h.serving (sym e i) + sym (is_self q p e) i) % 2 ^ 64)))))
           (λ ne. get_or-set_other x.words (4 + q) (4 + p) ((slice_index x.words (4 + q) + 1) % 2 ^ 64) 0 (λ e. ne (omega arith)) ∙ (h.served p b ∙ (ap (λ c. c % 2 ^ 64) (sym (none_more (h.serving p))) ∙ ap (λ c. (h.serving p + c) % 2 ^ 64) (sym (is_none q p ne)))))
 
-      here : (w : View) → w ≡ working terms n hs mine → h.serving q ≡ t → Home (terms_of sets numbers calls) q x.homes x.views h.log (h.serving q)
+      here : (w : ShardView) → w ≡ working terms n hs mine → h.serving q ≡ t → Home (terms_of sets numbers calls) q x.homes x.views h.log (h.serving q)
           → Home (terms_of sets numbers calls) q (set x.homes q (some (Some k))) (set x.views id w) h.log (h.serving q + is q q)
       here w same now (inl home) = absurd (omega (arith, home.3 (λ _. 1), mine_has (λ _. 1)))
       here w same now (inr out) =
@@ -251,14 +251,14 @@ module _ (sets : List Quarters) where
             λ f. omega (arith, total_set (has q f) x.views id v w at', out.1 f, ap (has q f) same, at_self q q (f t) refl, ap f now),
           )
 
-      there : (p : ℕ) → p ≢ q → (w : View) → w ≡ working terms n hs mine → Home (terms_of sets numbers calls) p x.homes x.views h.log (h.serving p) → Home (terms_of sets numbers calls) p (set x.homes q (some (Some k))) (set x.views id w) h.log (h.serving p + is q p)
+      there : (p : ℕ) → p ≢ q → (w : ShardView) → w ≡ working terms n hs mine → Home (terms_of sets numbers calls) p x.homes x.views h.log (h.serving p) → Home (terms_of sets numbers calls) p (set x.homes q (some (Some k))) (set x.views id w) h.log (h.serving p + is q p)
       there p ne w same old =
           subst (Held (terms_of sets numbers calls) p (set x.views id w) h.log (h.serving p + is q p)) (sym (set_else x.homes q p (some (Some k)) ne))
           (subst (Home (terms_of sets numbers calls) p x.homes (set x.views id w) h.log) (sym (none_more (h.serving p)) ∙ ap (λ c. h.serving p + c) (sym (is_none q p ne)))
           (home_same (terms_of sets numbers calls) p x.homes h.log (h.serving p) x.views (set x.views id w) (λ f. omega (arith, total_set (has p f) x.views id v w at', ap (has p f) same, at_other p q (f t) (λ e. ne (sym e)))) old))
 
   -- lists of turns, where an entry comes that touches none of their quadrants, and one that touches all
-  lists_kept : (log : List ClaimEntry) (e : ClaimEntry) (hs : List Turn) → ((p : ℕ) → touches sets (stands [] log) e.act e.yes p ≡ true → total (λ t. at p t.quadrant 1) hs ≡ 0) → Every (λ t. t.seen ≡ of_quadrant sets t.quadrant log) hs
+  lists_kept : (log : List ClaimEntry) (e : ClaimEntry) (hs : List QuadrantTurn) → ((p : ℕ) → touches sets (stands [] log) e.act e.yes p ≡ true → total (λ t. at p t.quadrant 1) hs ≡ 0) → Every (λ t. t.seen ≡ of_quadrant sets t.quadrant log) hs
       → Every (λ t. t.seen ≡ of_quadrant sets t.quadrant (log ++ e ∷ [])) hs
   lists_kept log e [] none' all = tt
   lists_kept log e (t ∷ ts) none' all = (here (touches sets (stands [] log) e.act e.yes t.quadrant) refl, lists_kept log e ts (λ p is'. omega (arith, none' p is')) all.1)
@@ -267,20 +267,20 @@ module _ (sets : List Quarters) where
       here true is' = absurd (omega (arith, none' t.quadrant is', at_self t.quadrant t.quadrant 1 refl))
       here false is' = all.0 ∙ sym (quadrant_same sets t.quadrant log e is')
 
-  lists_noted : (log : List ClaimEntry) (e : ClaimEntry) (hs : List Turn) → Every (λ t. touches sets (stands [] log) e.act e.yes t.quadrant ≡ true) hs → Every (λ t. t.seen ≡ of_quadrant sets t.quadrant log) hs
+  lists_noted : (log : List ClaimEntry) (e : ClaimEntry) (hs : List QuadrantTurn) → Every (λ t. touches sets (stands [] log) e.act e.yes t.quadrant ≡ true) hs → Every (λ t. t.seen ≡ of_quadrant sets t.quadrant log) hs
       → Every (λ t. t.seen ≡ of_quadrant sets t.quadrant (log ++ e ∷ [])) (noted e hs)
   lists_noted log e [] touch all = tt
   lists_noted log e (t ∷ ts) touch all = (ap (λ l. l ++ e ∷ []) all.0 ∙ sym (quadrant_more sets t.quadrant log e touch.0), lists_noted log e ts touch.1 all.1)
 
-  lists_behind : (log : List ClaimEntry) (hs : List Turn) (n : ℕ) → n ≡ length log → Every (λ t. t.seen ≡ of_quadrant sets t.quadrant log) hs → Every (λ t. length t.seen ≤ n) hs
+  lists_behind : (log : List ClaimEntry) (hs : List QuadrantTurn) (n : ℕ) → n ≡ length log → Every (λ t. t.seen ≡ of_quadrant sets t.quadrant log) hs → Every (λ t. length t.seen ≤ n) hs
   lists_behind log [] n is' all = tt
   lists_behind log (t ∷ ts) n is' all = (omega (arith, is', ap length all.0, quadrant_length sets t.quadrant log), lists_behind log ts n is' all.1)
 
-  noted_total : (f : ℕ → ℕ → ℕ) (e : ClaimEntry) (hs : List Turn) → total (λ t. f t.quadrant t.ticket) (noted e hs) ≡ total (λ t. f t.quadrant t.ticket) hs
+  noted_total : (f : ℕ → ℕ → ℕ) (e : ClaimEntry) (hs : List QuadrantTurn) → total (λ t. f t.quadrant t.ticket) (noted e hs) ≡ total (λ t. f t.quadrant t.ticket) hs
   noted_total f e [] = refl
   noted_total f e (t ∷ ts) = ap (λ k. f t.quadrant t.ticket + k) (noted_total f e ts)
 
-  pub noted_length : (e : ClaimEntry) (hs : List Turn) → length (noted e hs) ≡ length hs
+  pub noted_length : (e : ClaimEntry) (hs : List QuadrantTurn) → length (noted e hs) ≡ length hs
   noted_length e [] = refl
   noted_length e (t ∷ ts) = ap suc (noted_length e ts)
 
@@ -290,7 +290,7 @@ module _ (sets : List Quarters) where
   others_kept log e n whose (c ∷ cs) z all = (entries_of_other c.0 log e (λ by. is_other n c.0 (omega arith) (sym by ∙ whose)) ∙ all.0, others_kept log e n whose cs (omega arith) all.1)
 
   -- the entry that the slot in hand announces is made
-  pub enters : (numbers : List ℕ) (calls slots id q : ℕ) (terms : Terms) (n : ℕ) (hs : List Turn) (mine : List ClaimEntry) (k : Quarter) (cs : List (ℕ × Option Quarter)) → length mine < calls → Decides terms.sets n hs mine k.plan
+  pub enters : (numbers : List ℕ) (calls slots id q : ℕ) (terms : Terms) (n : ℕ) (hs : List QuadrantTurn) (mine : List ClaimEntry) (k : Quarter) (cs : List (ℕ × Option Quarter)) → length mine < calls → Decides terms.sets n hs mine k.plan
       → Allows (Ruled sets numbers calls) slots id (working terms n hs mine, (q, Some k) ∷ cs) 8 (λ c. (c + 1) % 2 ^ 64) (Entered (working terms n hs mine, (q, Some k) ∷ cs))
   enters numbers calls slots id q terms n hs mine k cs few decides x h deep at' small =
       let v = working terms n hs mine in
@@ -303,7 +303,7 @@ module _ (sets : List Quarters) where
       let views = set x.views id w in
       let word : ℕ = (tk + 1) % 2 ^ 64 in
       let places : (f : ℕ → ℕ) → total (named f) views ≡ total f numbers = λ f. total_kept (named f) x.views id v w at' refl ∙ h.places f in
-      let each : (j : ℕ) (u : View) → get_elem? views j ≡ some u → Fits calls (terms_of sets numbers calls) log u = each_set calls (terms_of sets numbers calls) h.log log x.views id w h.each
+      let each : (j : ℕ) (u : ShardView) → get_elem? views j ≡ some u → Fits calls (terms_of sets numbers calls) log u = each_set calls (terms_of sets numbers calls) h.log log x.views id w h.each
       (λ j u apart at'' f. record {
         seen = lists_kept h.log e u.held (λ p is'. let o = decided.only p is' in alone p (h.slot p o.0) (omega (arith, two_le (has p (λ _. 1)) x.views j id u v at'' at' apart, o.1)) o.1) f.seen;
         claimed = others_kept h.log e n refl (claims u) (omega (arith, two_le (named (is n)) x.views j id u v at'' at' apart, h.places (is n), h.distinct n, is_self n n refl)) f.claimed;
@@ -348,7 +348,7 @@ module _ (sets : List Quarters) where
       e0 : ClaimEntry
       e0 = entry_of (slice_index x.words 8) (Some n) k.plan
 
-      w0 : View
+      w0 : ShardView
       w0 = with_entry e0 (working terms n hs mine)
 
       -- another view with the turn of a quadrant that this one has
@@ -363,18 +363,18 @@ module _ (sets : List Quarters) where
       slots_kept p false is' only same (inl home) = inl (home.0, home.1, subst (λ l. Suits (terms_of sets numbers calls) p l home.0) (sym (quadrant_same sets p h.log e0 is')) home.2, λ f. same f ∙ home.3 f)
 
   -- the steps, at a seat that is known by an equation
-  pub draws_as : (numbers : List ℕ) (calls slots id q : ℕ) (terms : Terms) (n : ℕ) (hs : List Turn) (mine : List ClaimEntry) (cs : List (ℕ × Option Quarter)) (m : Me (Option Quarter) View) → q < 4 → length hs ≤ 3 → m ≡ (working terms n hs mine, cs)
+  pub draws_as : (numbers : List ℕ) (calls slots id q : ℕ) (terms : Terms) (n : ℕ) (hs : List QuadrantTurn) (mine : List ClaimEntry) (cs : List (ℕ × Option Quarter)) (m : Me (Option Quarter) ShardView) → q < 4 → length hs ≤ 3 → m ≡ (working terms n hs mine, cs)
       → Allows (Ruled sets numbers calls) slots id m q (λ k. (k + 1) % 2 ^ 64) (Drew q m)
-  draws_as numbers calls slots id q terms n hs mine cs m lt few same = subst (λ (y : Me (Option Quarter) View). Allows (Ruled sets numbers calls) slots id y q (λ k. (k + 1) % 2 ^ 64) (Drew q y)) (sym same) (draws numbers calls slots id q terms n hs mine cs lt few)
+  draws_as numbers calls slots id q terms n hs mine cs m lt few same = subst (λ (y : Me (Option Quarter) ShardView). Allows (Ruled sets numbers calls) slots id y q (λ k. (k + 1) % 2 ^ 64) (Drew q y)) (sym same) (draws numbers calls slots id q terms n hs mine cs lt few)
 
-  pub looks_as : (numbers : List ℕ) (calls slots id q t : ℕ) (terms : Terms) (n : ℕ) (hs : List Turn) (mine : List ClaimEntry) (cs : List (ℕ × Option Quarter)) (m : Me (Option Quarter) View) → q < 4 → m ≡ (queued terms n q t hs mine, cs)
+  pub looks_as : (numbers : List ℕ) (calls slots id q t : ℕ) (terms : Terms) (n : ℕ) (hs : List QuadrantTurn) (mine : List ClaimEntry) (cs : List (ℕ × Option Quarter)) (m : Me (Option Quarter) ShardView) → q < 4 → m ≡ (queued terms n q t hs mine, cs)
       → Allows (Ruled sets numbers calls) slots id m (4 + q) (λ k. k) (Looked m)
-  looks_as numbers calls slots id q t terms n hs mine cs m lt same = subst (λ (y : Me (Option Quarter) View). Allows (Ruled sets numbers calls) slots id y (4 + q) (λ k. k) (Looked y)) (sym same) (looks numbers calls slots id q t terms n hs mine cs lt)
+  looks_as numbers calls slots id q t terms n hs mine cs m lt same = subst (λ (y : Me (Option Quarter) ShardView). Allows (Ruled sets numbers calls) slots id y (4 + q) (λ k. k) (Looked y)) (sym same) (looks numbers calls slots id q t terms n hs mine cs lt)
 
-  pub serves_as : (numbers : List ℕ) (calls slots id q t : ℕ) (terms : Terms) (n : ℕ) (seen : List ClaimEntry) (hs : List Turn) (mine : List ClaimEntry) (k : Quarter) (cs : List (ℕ × Option Quarter)) (m : Me (Option Quarter) View) → q < 4 → Suits terms q seen k → m ≡ (working terms n (turn q t seen ∷ hs) mine, (q, Some k) ∷ cs)
+  pub serves_as : (numbers : List ℕ) (calls slots id q t : ℕ) (terms : Terms) (n : ℕ) (seen : List ClaimEntry) (hs : List QuadrantTurn) (mine : List ClaimEntry) (k : Quarter) (cs : List (ℕ × Option Quarter)) (m : Me (Option Quarter) ShardView) → q < 4 → Suits terms q seen k → m ≡ (working terms n (turn q t seen ∷ hs) mine, (q, Some k) ∷ cs)
       → Allows (Ruled sets numbers calls) slots id m (4 + q) (λ c. (c + 1) % 2 ^ 64) (λ _. Passed m)
-  serves_as numbers calls slots id q t terms n seen hs mine k cs m lt suits same = subst (λ (y : Me (Option Quarter) View). Allows (Ruled sets numbers calls) slots id y (4 + q) (λ c. (c + 1) % 2 ^ 64) (λ _. Passed y)) (sym same) (serves numbers calls slots id q t terms n seen hs mine k cs lt suits)
+  serves_as numbers calls slots id q t terms n seen hs mine k cs m lt suits same = subst (λ (y : Me (Option Quarter) ShardView). Allows (Ruled sets numbers calls) slots id y (4 + q) (λ c. (c + 1) % 2 ^ 64) (λ _. Passed y)) (sym same) (serves numbers calls slots id q t terms n seen hs mine k cs lt suits)
 
-  pub enters_as : (numbers : List ℕ) (calls slots id q : ℕ) (terms : Terms) (n : ℕ) (hs : List Turn) (mine : List ClaimEntry) (k : Quarter) (cs : List (ℕ × Option Quarter)) (m : Me (Option Quarter) View) → length mine < calls → Decides terms.sets n hs mine k.plan → m ≡ (working terms n hs mine, (q, Some k) ∷ cs)
+  pub enters_as : (numbers : List ℕ) (calls slots id q : ℕ) (terms : Terms) (n : ℕ) (hs : List QuadrantTurn) (mine : List ClaimEntry) (k : Quarter) (cs : List (ℕ × Option Quarter)) (m : Me (Option Quarter) ShardView) → length mine < calls → Decides terms.sets n hs mine k.plan → m ≡ (working terms n hs mine, (q, Some k) ∷ cs)
       → Allows (Ruled sets numbers calls) slots id m 8 (λ c. (c + 1) % 2 ^ 64) (Entered m)
-  enters_as numbers calls slots id q terms n hs mine k cs m few decides same = subst (λ (y : Me (Option Quarter) View). Allows (Ruled sets numbers calls) slots id y 8 (λ c. (c + 1) % 2 ^ 64) (Entered y)) (sym same) (enters numbers calls slots id q terms n hs mine k cs few decides)
+  enters_as numbers calls slots id q terms n hs mine k cs m few decides same = subst (λ (y : Me (Option Quarter) ShardView). Allows (Ruled sets numbers calls) slots id y 8 (λ c. (c + 1) % 2 ^ 64) (Entered y)) (sym same) (enters numbers calls slots id q terms n hs mine k cs few decides)

@@ -9,15 +9,15 @@ use Rattle.atomic_table.specs.Table.{Me, rest}
 use Rattle.aim_shards.specs.declared.claims.ClaimAct.TheVariants as act
 use Rattle.aim_shards.specs.declared.claims.ClaimEntry.{ClaimEntry}
 use Rattle.aim_shards.specs.declared.quarter.Quarter.{Quarter}
-use Rattle.aim_shards.specs.declared.quarter.Plan.{Plan}
+use Rattle.aim_shards.specs.declared.quarter.QuadrantPlan.{QuadrantPlan}
 use Rattle.aim_shards.specs.declared.turns.Found.{Found}
 use Rattle.aim_shards.specs.Found.{IsFound}
-use Rattle.aim_shards.specs.declared.view.Turn.{Turn}
-use Rattle.aim_shards.specs.declared.view.View.{View}
+use Rattle.aim_shards.specs.declared.view.QuadrantTurn.{QuadrantTurn}
+use Rattle.aim_shards.specs.declared.view.ShardView.{ShardView}
 use Rattle.aim_shards.specs.declared.view.Terms.{Terms}
-use Rattle.aim_pool.specs.declared.spans.Span.{Span}
+use Rattle.aim_sheets.specs.declared.spans.Span.{Span}
 use Rattle.aim_geometry.specs.Cells.{Cell}
-use Rattle.aim_pool.specs.Spans.{in_spans}
+use Rattle.aim_sheets.specs.Spans.{in_spans}
 use Rattle.aim_tiles.specs.Cells.{TakenCells, has_cell}
 use Rattle.aim_tiles.specs.Sheets.{AreTiles, AreAhead}
 use Rattle.aim_shards.specs.Sums.{Every, total, at}
@@ -35,26 +35,26 @@ use Rattle.aim_shards.proofs.Sharing.{any_shares, any_met, differ}
 use Rattle.aim_shards.proofs.Freeing.{answer_free, touches_free, changes_of}
 
 -- a seat of which only the view is known
-pub whole : {w : View} (m : Me (Option Quarter) View) → m.0 ≡ w → m ≡ (w, m.1)
-whole m e = ap (λ (v : View). (v, m.1)) e
+pub whole : {w : ShardView} (m : Me (Option Quarter) ShardView) → m.0 ≡ w → m ≡ (w, m.1)
+whole m e = ap (λ (v : ShardView). (v, m.1)) e
 
 -- after a draw the seat waits
-pub queued_is : {q found n : ℕ} {m m' : Me (Option Quarter) View} → m.0 ≡ working m.0.terms n m.0.held m.0.mine → (d : Drew q m found m') → m' ≡ (queued m.0.terms n q d.ticket m.0.held m.0.mine, m.1)
-queued_is {q = q} {m = m} same d = d.after ∙ ap (λ (v : View). (record { terms = v.terms; number = v.number; waiting = (q, d.ticket) ∷ []; held = v.held; mine = v.mine; others = v.others }, m.1)) same
+pub queued_is : {q found n : ℕ} {m m' : Me (Option Quarter) ShardView} → m.0 ≡ working m.0.terms n m.0.held m.0.mine → (d : Drew q m found m') → m' ≡ (queued m.0.terms n q d.ticket m.0.held m.0.mine, m.1)
+queued_is {q = q} {m = m} same d = d.after ∙ ap (λ (v : ShardView). (record { terms = v.terms; number = v.number; waiting = (q, d.ticket) ∷ []; held = v.held; mine = v.mine; others = v.others }, m.1)) same
 
-pub turn_came : {q found now : ℕ} {m m' l l' : Me (Option Quarter) View} → (d : Drew q m found m') → l ≡ m' → Looked l now l' → now ≡ found → TurnCame q m l'
+pub turn_came : {q found now : ℕ} {m m' l l' : Me (Option Quarter) ShardView} → (d : Drew q m found m') → l ≡ m' → Looked l now l' → now ≡ found → TurnCame q m l'
 turn_came {q = q} d same told found =
     let e = same ∙ d.after in
-    let c = told.came q d.ticket (ap (λ (y : Me (Option Quarter) View). y.0.waiting) e) (found ∙ d.word) in
+    let c = told.came q d.ticket (ap (λ (y : Me (Option Quarter) ShardView). y.0.waiting) e) (found ∙ d.word) in
     record {
       value = c.value;
       ticket = d.ticket;
       seen = c.seen;
-      suits = subst (λ r. Suits r q c.seen c.value) (ap (λ (y : Me (Option Quarter) View). y.0.terms) e) c.suits;
-      after = c.after ∙ ap (λ (y : Me (Option Quarter) View). (record { terms = y.0.terms; number = y.0.number; waiting = []; held = turn q d.ticket c.seen ∷ y.0.held; mine = y.0.mine; others = y.0.others }, (q, Some c.value) ∷ y.1)) e;
+      suits = subst (λ r. Suits r q c.seen c.value) (ap (λ (y : Me (Option Quarter) ShardView). y.0.terms) e) c.suits;
+      after = c.after ∙ ap (λ (y : Me (Option Quarter) ShardView). (record { terms = y.0.terms; number = y.0.number; waiting = []; held = turn q d.ticket c.seen ∷ y.0.held; mine = y.0.mine; others = y.0.others }, (q, Some c.value) ∷ y.1)) e;
     }
 
-pub in_hand_as : {q : ℕ} {m : Me (Option Quarter) View} → InHand q m → (k : Option Quarter) × (m.1 ≡ (q, k) ∷ rest m.1)
+pub in_hand_as : {q : ℕ} {m : Me (Option Quarter) ShardView} → InHand q m → (k : Option Quarter) × (m.1 ≡ (q, k) ∷ rest m.1)
 in_hand_as {q = q} h = (Some h.value, h.is ∙ ap (λ l. (q, Some h.value) ∷ rest l) (sym h.is))
 
 abbrev head_value : List (ℕ × Option Quarter) → Option Quarter
@@ -62,7 +62,7 @@ head_value [] = None
 head_value (y ∷ ys) = y.1
 
 -- what an exchange found is the value in hand
-pub found_is : {q : ℕ} {m : Me (Option Quarter) View} {r : Option Quarter} → (h : InHand q m) → m.1 ≡ (q, r) ∷ rest m.1 → r ≡ Some h.value
+pub found_is : {q : ℕ} {m : Me (Option Quarter) ShardView} {r : Option Quarter} → (h : InHand q m) → m.1 ≡ (q, r) ∷ rest m.1 → r ≡ Some h.value
 found_is h e = ap head_value (sym e ∙ h.is)
 
 pub not_none : {k : Quarter} {r : Option Quarter} → r ≡ Some k → r ≡ None → ⊥
@@ -72,41 +72,41 @@ not_none a b = differ (sym a ∙ b)
     differ e = cc
 
 -- the slot after a take and a put
-pub put_back_is : {q : ℕ} {k k' : Quarter} {m m1 m2 : Me (Option Quarter) View} → TakesOut q k m m1 → PutsIn q k' m1 m2 → m2 ≡ (m.0, (q, Some k') ∷ rest m.1)
-put_back_is {q = q} {k' = k'} a b = b.after ∙ ap (λ (y : Me (Option Quarter) View). (y.0, (q, Some k') ∷ rest y.1)) a.after
+pub put_back_is : {q : ℕ} {k k' : Quarter} {m m1 m2 : Me (Option Quarter) ShardView} → TakesOut q k m m1 → PutsIn q k' m1 m2 → m2 ≡ (m.0, (q, Some k') ∷ rest m.1)
+put_back_is {q = q} {k' = k'} a b = b.after ∙ ap (λ (y : Me (Option Quarter) ShardView). (y.0, (q, Some k') ∷ rest y.1)) a.after
 
-pub taken_out : {q : ℕ} {k : Quarter} {m m1 : Me (Option Quarter) View} → TakesOut q k m m1 → IsEmptied q m1
-taken_out {q = q} a = record { is = ap (λ (y : Me (Option Quarter) View). y.1) a.after ∙ ap (λ (y : Me (Option Quarter) View). (q, None) ∷ rest y.1) (sym a.after) }
+pub taken_out : {q : ℕ} {k : Quarter} {m m1 : Me (Option Quarter) ShardView} → TakesOut q k m m1 → IsEmptied q m1
+taken_out {q = q} a = record { is = ap (λ (y : Me (Option Quarter) ShardView). y.1) a.after ∙ ap (λ (y : Me (Option Quarter) ShardView). (q, None) ∷ rest y.1) (sym a.after) }
 
-pub as_it_was : {q : ℕ} {k : Quarter} {m m1 m2 : Me (Option Quarter) View} → TakesOut q k m m1 → PutsIn q k m1 m2 → m2 ≡ m
+pub as_it_was : {q : ℕ} {k : Quarter} {m m1 m2 : Me (Option Quarter) ShardView} → TakesOut q k m m1 → PutsIn q k m1 m2 → m2 ≡ m
 as_it_was {m = m} a b = put_back_is a b ∙ (λ i. (m.0, sym a.was i))
 
 -- where the value put in is the one
-pub put_same : {q : ℕ} {k k' : Quarter} {m m' : Me (Option Quarter) View} → k' ≡ k → PutsIn q k' m m' → PutsIn q k m m'
+pub put_same : {q : ℕ} {k k' : Quarter} {m m' : Me (Option Quarter) ShardView} → k' ≡ k → PutsIn q k' m m' → PutsIn q k m m'
 put_same {q = q} {m = m} {m' = m'} e p = subst (λ (k : Quarter). PutsIn q k m m') e p
 
-pub value_is : {q : ℕ} {k : Quarter} {m m' : Me (Option Quarter) View} → (h : InHand q m) → TakesOut q k m m' → k ≡ h.value
+pub value_is : {q : ℕ} {k : Quarter} {m m' : Me (Option Quarter) ShardView} → (h : InHand q m) → TakesOut q k m m' → k ≡ h.value
 value_is h a = in_hand (sym a.was ∙ h.is)
 
-pub with_room : {q : ℕ} {spans : List Span} {m : Me (Option Quarter) View} → HasRoom q spans m → InHand q m
+pub with_room : {q : ℕ} {spans : List Span} {m : Me (Option Quarter) ShardView} → HasRoom q spans m → InHand q m
 with_room h = record { value = h.value; others = h.others; is = h.is }
 
 abbrev FitsOne : List Span → Quarter → Type 0
 FitsOne spans k = (length k.entries.items < vec_capacity k.entries) × AreTiles k.table.size spans × AreAhead k.table.current k.table.horizon spans
 
-pub has_room : {q : ℕ} {spans : List Span} {k : Quarter} {m m' : Me (Option Quarter) View} → (h : HasRoom q spans m) → TakesOut q k m m' → (length k.entries.items < vec_capacity k.entries) × AreTiles k.table.size spans × AreAhead k.table.current k.table.horizon spans
+pub has_room : {q : ℕ} {spans : List Span} {k : Quarter} {m m' : Me (Option Quarter) ShardView} → (h : HasRoom q spans m) → TakesOut q k m m' → (length k.entries.items < vec_capacity k.entries) × AreTiles k.table.size spans × AreAhead k.table.current k.table.horizon spans
 has_room {spans = spans} h a = subst (FitsOne spans) (sym (in_hand (sym a.was ∙ h.is))) (h.room, h.tiles, h.ahead)
 
-pub tiles_in_hand : (spans : List Span) {q : ℕ} {k : Quarter} {m m' : Me (Option Quarter) View} → ((h : InHand q m) → AreTiles h.value.table.size spans) → (h : InHand q m) → TakesOut q k m m' → AreTiles k.table.size spans
+pub tiles_in_hand : (spans : List Span) {q : ℕ} {k : Quarter} {m m' : Me (Option Quarter) ShardView} → ((h : InHand q m) → AreTiles h.value.table.size spans) → (h : InHand q m) → TakesOut q k m m' → AreTiles k.table.size spans
 tiles_in_hand spans f h a = subst (λ (k : Quarter). AreTiles k.table.size spans) (sym (value_is h a)) (f h)
 
-pub clear_in_hand : (spans : List Span) (b : Bool) {q : ℕ} {k : Quarter} {m m' : Me (Option Quarter) View} → (h : InHand q m) → TakesOut q k m m' → IsClear k.table spans b → IsClear h.value.table spans b
+pub clear_in_hand : (spans : List Span) (b : Bool) {q : ℕ} {k : Quarter} {m m' : Me (Option Quarter) ShardView} → (h : InHand q m) → TakesOut q k m m' → IsClear k.table spans b → IsClear h.value.table spans b
 clear_in_hand spans b h a c = subst (λ (k : Quarter). IsClear k.table spans b) (value_is h a) c
 
-pub announces : {q : ℕ} {k k' : Quarter} {m m1 m2 : Me (Option Quarter) View} {plan : Plan} → TakesOut q k m m1 → PutsIn q k' m1 m2 → k'.plan ≡ plan → k'.entries ≡ k.entries → k'.table ≡ k.table → Announces q plan m m2
+pub announces : {q : ℕ} {k k' : Quarter} {m m1 m2 : Me (Option Quarter) ShardView} {plan : QuadrantPlan} → TakesOut q k m m1 → PutsIn q k' m1 m2 → k'.plan ≡ plan → k'.entries ≡ k.entries → k'.table ≡ k.table → Announces q plan m m2
 announces {k = k} {k' = k'} a b plan entries table = record { old = k; new = k'; was = a.was; after = put_back_is a b; plan_is = plan; same = entries; table = table }
 
-pub notes : {q : ℕ} {spans : List Span} {k k' : Quarter} {m m1 m2 : Me (Option Quarter) View} {e : ClaimEntry} → TakesOut q k m m1 → PutsIn q k' m1 m2 → k'.entries.items ≡ k.entries.items ++ e ∷ [] → vec_capacity k'.entries ≡ vec_capacity k.entries
+pub notes : {q : ℕ} {spans : List Span} {k k' : Quarter} {m m1 m2 : Me (Option Quarter) ShardView} {e : ClaimEntry} → TakesOut q k m m1 → PutsIn q k' m1 m2 → k'.entries.items ≡ k.entries.items ++ e ∷ [] → vec_capacity k'.entries ≡ vec_capacity k.entries
     → ((cell : Cell) → has_cell k'.table cell ≡ changed e.act e.yes (has_cell k.table cell) (in_spans spans cell)) → k'.table ≡ record k.table { cells = k'.table.cells } → Notes q spans e m m2
 notes {k = k} {k' = k'} a b more wide cells rest' = record { old = k; new = k'; was = a.was; after = put_back_is a b; more = more; wide = wide; cells = cells; rest_is = rest' }
 
@@ -124,8 +124,8 @@ map_length f [] = refl
 map_length f (x ∷ xs) = ap suc (map_length f xs)
 
 -- terms for one turn more
-pub few_turns : (set : Quarters) (q : ℕ) {n : ℕ} {terms : Terms} {mine : List ClaimEntry} {m : Me (Option Quarter) View} → q < 4 → Works n terms mine (touched set q) m → length m.0.held ≤ 3
-few_turns set q {m = m} lt w = omega (arith, lt, touched_length set q, ap length w.turns, map_length (λ (t : Turn). t.quadrant) m.0.held)
+pub few_turns : (set : Quarters) (q : ℕ) {n : ℕ} {terms : Terms} {mine : List ClaimEntry} {m : Me (Option Quarter) ShardView} → q < 4 → Works n terms mine (touched set q) m → length m.0.held ≤ 3
+few_turns set q {m = m} lt w = omega (arith, lt, touched_length set q, ap length w.turns, map_length (λ (t : QuadrantTurn). t.quadrant) m.0.held)
 
 pub touched_in : (set : Quarters) (q : ℕ) → lies_in set q ≡ true → touched set (suc q) ≡ q ∷ touched set q
 touched_in set q e = ap (λ (b : Bool). if b then q ∷ touched set q else touched set q) e
@@ -141,15 +141,15 @@ untouched set q true e h = absurd (differ h)
 untouched set q false e h = touched_out set q (sym e)
 
 -- the turn of one quadrant more
-pub works_more : (set : Quarters) (q : ℕ) {n : ℕ} {terms : Terms} {mine : List ClaimEntry} {m m' : Me (Option Quarter) View} → lies_in set q ≡ true → Works n terms mine (touched set q) m → TurnCame q m m' → Works n terms mine (touched set (suc q)) m'
+pub works_more : (set : Quarters) (q : ℕ) {n : ℕ} {terms : Terms} {mine : List ClaimEntry} {m m' : Me (Option Quarter) ShardView} → lies_in set q ≡ true → Works n terms mine (touched set q) m → TurnCame q m m' → Works n terms mine (touched set (suc q)) m'
 works_more set q {n = n} {terms = terms} {mine = mine} {m = m} {m' = m'} touch w t =
-    let new : Turn = turn q t.ticket t.seen in
-    let view : m'.0 ≡ working terms n (new ∷ m.0.held) mine = ap (λ (y : Me (Option Quarter) View). y.0) t.after ∙ ap (λ (v : View). record { terms = v.terms; number = v.number; waiting = []; held = new ∷ m.0.held; mine = v.mine; others = v.others }) w.is in
-    let held : m'.0.held ≡ new ∷ m.0.held = ap (λ (v : View). v.held) view in
+    let new : QuadrantTurn = turn q t.ticket t.seen in
+    let view : m'.0 ≡ working terms n (new ∷ m.0.held) mine = ap (λ (y : Me (Option Quarter) ShardView). y.0) t.after ∙ ap (λ (v : ShardView). record { terms = v.terms; number = v.number; waiting = []; held = new ∷ m.0.held; mine = v.mine; others = v.others }) w.is in
+    let held : m'.0.held ≡ new ∷ m.0.held = ap (λ (v : ShardView). v.held) view in
     record {
       is = view ∙ ap (λ l. working terms n l mine) (sym held);
-      turns = ap (map (λ (t : Turn). t.quadrant)) held ∙ (ap (λ l. q ∷ l) w.turns ∙ sym (touched_in set q touch));
-      carries = subst (λ (l : List Turn). Carries terms l m'.1) (sym held) (t.value, m.1, ap (λ (y : Me (Option Quarter) View). y.1) t.after, subst (λ r. Suits r q t.seen t.value) (ap (λ (v : View). v.terms) w.is) t.suits, w.carries);
+      turns = ap (map (λ (t : QuadrantTurn). t.quadrant)) held ∙ (ap (λ l. q ∷ l) w.turns ∙ sym (touched_in set q touch));
+      carries = subst (λ (l : List QuadrantTurn). Carries terms l m'.1) (sym held) (t.value, m.1, ap (λ (y : Me (Option Quarter) ShardView). y.1) t.after, subst (λ r. Suits r q t.seen t.value) (ap (λ (v : ShardView). v.terms) w.is) t.suits, w.carries);
     }
 
 -- what a quadrant's table says of a set's cells
@@ -169,44 +169,44 @@ pub ahead_of : {terms : Terms} {set : Quarters} {q : ℕ} {seen : List ClaimEntr
 ahead_of {q = q} {k = k} o s = subst (AreAhead k.table.current k.table.horizon) (sym (o.same q)) (s.takes.ahead o.number)
 
 -- the slot in hand is that of the turn that came
-pub tiles_came : {set : Quarters} {q : ℕ} {m m' : Me (Option Quarter) View} → IsOf m.0.terms.sets set → TurnCame q m m' → (h : InHand q m') → AreTiles h.value.table.size (part set q)
-tiles_came {set = set} {q = q} {m = m} o t h = subst (λ (k : Quarter). AreTiles k.table.size (part set q)) (in_hand (sym (ap (λ (y : Me (Option Quarter) View). y.1) t.after) ∙ h.is)) (tiles_of o t.suits)
+pub tiles_came : {set : Quarters} {q : ℕ} {m m' : Me (Option Quarter) ShardView} → IsOf m.0.terms.sets set → TurnCame q m m' → (h : InHand q m') → AreTiles h.value.table.size (part set q)
+tiles_came {set = set} {q = q} {m = m} o t h = subst (λ (k : Quarter). AreTiles k.table.size (part set q)) (in_hand (sym (ap (λ (y : Me (Option Quarter) ShardView). y.1) t.after) ∙ h.is)) (tiles_of o t.suits)
 
-pub tiles_at : {set : Quarters} {q : ℕ} {spans : List Span} {m m' : Me (Option Quarter) View} → spans ≡ part set q → IsOf m.0.terms.sets set → TurnCame q m m' → (h : InHand q m') → AreTiles h.value.table.size spans
+pub tiles_at : {set : Quarters} {q : ℕ} {spans : List Span} {m m' : Me (Option Quarter) ShardView} → spans ≡ part set q → IsOf m.0.terms.sets set → TurnCame q m m' → (h : InHand q m') → AreTiles h.value.table.size spans
 tiles_at same o t h = subst (AreTiles h.value.table.size) (sym same) (tiles_came o t h)
 
-pub clear_at : (b : Bool) (set : Quarters) {q : ℕ} {spans : List Span} {m : Me (Option Quarter) View} → spans ≡ part set q → (h : InHand q m) → ((k : InHand q m) → IsClear k.value.table spans b) → IsClear h.value.table (part set q) b
+pub clear_at : (b : Bool) (set : Quarters) {q : ℕ} {spans : List Span} {m : Me (Option Quarter) ShardView} → spans ≡ part set q → (h : InHand q m) → ((k : InHand q m) → IsClear k.value.table spans b) → IsClear h.value.table (part set q) b
 clear_at b set same h f = subst (λ l. IsClear h.value.table l b) same (f h)
 
-pub found_more : (set : Quarters) (q : ℕ) (here : Bool) {m m' m'' : Me (Option Quarter) View} {f f' : Found} → lies_in set q ≡ true → IsFound set q m f → (t : TurnCame q m m') → m'' ≡ m' → ((h : InHand q m') → IsClear h.value.table (part set q) here) → f'.free ≡ (f.free && here) → f'.last ≡ q → IsFound set (suc q) m'' f'
+pub found_more : (set : Quarters) (q : ℕ) (here : Bool) {m m' m'' : Me (Option Quarter) ShardView} {f f' : Found} → lies_in set q ≡ true → IsFound set q m f → (t : TurnCame q m m') → m'' ≡ m' → ((h : InHand q m') → IsClear h.value.table (part set q) here) → f'.free ≡ (f.free && here) → f'.last ≡ q → IsFound set (suc q) m'' f'
 found_more set q here {m = m} {m'' = m''} {f = f} touch old t same free is' last =
-    let held : m''.0.held ≡ turn q t.ticket t.seen ∷ m.0.held = ap (λ (y : Me (Option Quarter) View). y.0.held) (same ∙ t.after) in
-    let terms : m''.0.terms ≡ m.0.terms = ap (λ (y : Me (Option Quarter) View). y.0.terms) (same ∙ t.after) in
-    let clear : here ≡ is_free_in m.0.terms.sets set q t.seen = clear_is m.0.terms set q t.seen t.value here t.suits (free record { value = t.value; others = m.1; is = ap (λ (y : Me (Option Quarter) View). y.1) t.after }) in
+    let held : m''.0.held ≡ turn q t.ticket t.seen ∷ m.0.held = ap (λ (y : Me (Option Quarter) ShardView). y.0.held) (same ∙ t.after) in
+    let terms : m''.0.terms ≡ m.0.terms = ap (λ (y : Me (Option Quarter) ShardView). y.0.terms) (same ∙ t.after) in
+    let clear : here ≡ is_free_in m.0.terms.sets set q t.seen = clear_is m.0.terms set q t.seen t.value here t.suits (free record { value = t.value; others = m.1; is = ap (λ (y : Me (Option Quarter) ShardView). y.1) t.after }) in
     record {
       free = is' ∙ ((λ i. old.free i && clear i) ∙ (λ i. are_free (sym terms i).sets set (sym held i)));
       last = last ∙ ap (λ l. head_or l 0) (sym (touched_in set q touch));
     }
 
 -- behind a quadrant in which a cell is taken
-pub found_off : (set : Quarters) (q : ℕ) {m m' m'' : Me (Option Quarter) View} {f f' : Found} → lies_in set q ≡ true → IsFound set q m f → (t : TurnCame q m m') → m'' ≡ m' → f.free ≡ false → f'.free ≡ false → f'.last ≡ q → IsFound set (suc q) m'' f'
+pub found_off : (set : Quarters) (q : ℕ) {m m' m'' : Me (Option Quarter) ShardView} {f f' : Found} → lies_in set q ≡ true → IsFound set q m f → (t : TurnCame q m m') → m'' ≡ m' → f.free ≡ false → f'.free ≡ false → f'.last ≡ q → IsFound set (suc q) m'' f'
 found_off set q {m = m} {m'' = m''} {f = f} touch old t same off is' last =
-    let held : m''.0.held ≡ turn q t.ticket t.seen ∷ m.0.held = ap (λ (y : Me (Option Quarter) View). y.0.held) (same ∙ t.after) in
-    let terms : m''.0.terms ≡ m.0.terms = ap (λ (y : Me (Option Quarter) View). y.0.terms) (same ∙ t.after) in
+    let held : m''.0.held ≡ turn q t.ticket t.seen ∷ m.0.held = ap (λ (y : Me (Option Quarter) ShardView). y.0.held) (same ∙ t.after) in
+    let terms : m''.0.terms ≡ m.0.terms = ap (λ (y : Me (Option Quarter) ShardView). y.0.terms) (same ∙ t.after) in
     let taken : false ≡ are_free m.0.terms.sets set m.0.held = sym off ∙ old.free in
     record {
       free = is' ∙ ((λ i. taken i && is_free_in m.0.terms.sets set q t.seen) ∙ (λ i. are_free (sym terms i).sets set (sym held i)));
       last = last ∙ ap (λ l. head_or l 0) (sym (touched_in set q touch));
     }
 
-pub works_at : {n : ℕ} {terms : Terms} {qs : List ℕ} {mine : List ClaimEntry} {m m' : Me (Option Quarter) View} → m' ≡ m → Works n terms mine qs m → Works n terms mine qs m'
+pub works_at : {n : ℕ} {terms : Terms} {qs : List ℕ} {mine : List ClaimEntry} {m m' : Me (Option Quarter) ShardView} → m' ≡ m → Works n terms mine qs m → Works n terms mine qs m'
 works_at {n = n} {terms = terms} {qs = qs} {mine = mine} e w = subst (Works n terms mine qs) (sym e) w
 
 pub and_true : (a b : Bool) → a ≡ true → b ≡ (a && b)
 and_true a b p = sym (ap (λ x. x && b) p)
 
-pub in_hand_came : {q : ℕ} {m m' : Me (Option Quarter) View} → TurnCame q m m' → InHand q m'
-in_hand_came {m = m} t = record { value = t.value; others = m.1; is = ap (λ (y : Me (Option Quarter) View). y.1) t.after }
+pub in_hand_came : {q : ℕ} {m m' : Me (Option Quarter) ShardView} → TurnCame q m m' → InHand q m'
+in_hand_came {m = m} t = record { value = t.value; others = m.1; is = ap (λ (y : Me (Option Quarter) ShardView). y.1) t.after }
 
 module _ {A : Type 0} where
   pub heads : {a b : A} {xs ys : List A} → a ∷ xs ≡ b ∷ ys → a ≡ b
@@ -218,11 +218,11 @@ module _ {A : Type 0} where
   pub no_head : {a : A} {xs : List A} → [] ≡ a ∷ xs → ⊥
   no_head e = cc
 
-hand_of : (terms : Terms) (q : ℕ) (qs : List ℕ) (hs : List Turn) (c : List (ℕ × Option Quarter)) → map (λ t. t.quadrant) hs ≡ q ∷ qs → Carries terms hs c → (k : Quarter) × (cs : List (ℕ × Option Quarter)) × (c ≡ (q, Some k) ∷ cs)
+hand_of : (terms : Terms) (q : ℕ) (qs : List ℕ) (hs : List QuadrantTurn) (c : List (ℕ × Option Quarter)) → map (λ t. t.quadrant) hs ≡ q ∷ qs → Carries terms hs c → (k : Quarter) × (cs : List (ℕ × Option Quarter)) × (c ≡ (q, Some k) ∷ cs)
 hand_of terms q qs [] c e h = absurd (no_head e)
 hand_of terms q qs (t ∷ ts) c e h = (h.0, h.1, h.2 ∙ ap (λ p. (p, Some h.0) ∷ h.1) (heads e))
 
-pub in_hand_last : {n : ℕ} {terms : Terms} {q : ℕ} {qs : List ℕ} {mine : List ClaimEntry} {m : Me (Option Quarter) View} → Works n terms mine (q ∷ qs) m → InHand q m
+pub in_hand_last : {n : ℕ} {terms : Terms} {q : ℕ} {qs : List ℕ} {mine : List ClaimEntry} {m : Me (Option Quarter) ShardView} → Works n terms mine (q ∷ qs) m → InHand q m
 in_hand_last {terms = terms} {q = q} {qs = qs} {m = m} w = let h = hand_of terms q qs m.0.held m.1 w.turns w.carries in record { value = h.0; others = h.1; is = h.2 }
 
 abbrev quadrant_of : List (ℕ × Option Quarter) → ℕ
@@ -238,7 +238,7 @@ suits_changed terms q seen old new same table s = record {
   takes = subst (Takes terms.sets q) (sym table) s.takes;
 }
 
-carries_changed : (terms : Terms) (q : ℕ) (hs : List Turn) (c : List (ℕ × Option Quarter)) (old new : Quarter) → c ≡ (q, Some old) ∷ rest c → new.entries ≡ old.entries → new.table ≡ old.table → Carries terms hs c → Carries terms hs ((q, Some new) ∷ rest c)
+carries_changed : (terms : Terms) (q : ℕ) (hs : List QuadrantTurn) (c : List (ℕ × Option Quarter)) (old new : Quarter) → c ≡ (q, Some old) ∷ rest c → new.entries ≡ old.entries → new.table ≡ old.table → Carries terms hs c → Carries terms hs ((q, Some new) ∷ rest c)
 carries_changed terms q [] c old new was same table h = absurd (no_head (sym h ∙ was))
 carries_changed terms q (t ∷ ts) c old new was same table h =
     let first = sym was ∙ h.2 in
@@ -250,51 +250,51 @@ carries_changed terms q (t ∷ ts) c old new was same table h =
       h.4,
     )
 
-lacks_of : (terms : Terms) (set : Quarters) (found : ℕ) (e : ClaimEntry) (hs : List Turn) (c : List (ℕ × Option Quarter)) → Carries terms hs c → Every (λ t. length t.seen ≤ found) hs → Every (λ t. Changes terms.sets set t.quadrant t.seen e) hs → found < terms.room → Lacks terms set e (noted e hs) c
+lacks_of : (terms : Terms) (set : Quarters) (found : ℕ) (e : ClaimEntry) (hs : List QuadrantTurn) (c : List (ℕ × Option Quarter)) → Carries terms hs c → Every (λ t. length t.seen ≤ found) hs → Every (λ t. Changes terms.sets set t.quadrant t.seen e) hs → found < terms.room → Lacks terms set e (noted e hs) c
 lacks_of terms set found e [] c h behind changes lt = h
 lacks_of terms set found e (t ∷ ts) c h behind changes lt = (h.0, h.1, h.2, (t.seen, h.3, refl, omega (arith, behind.0), changes.0), lacks_of terms set found e ts h.1 h.4 behind.1 changes.1 lt)
 
-noted_quadrants : (e : ClaimEntry) (hs : List Turn) → map (λ t. t.quadrant) (noted e hs) ≡ map (λ t. t.quadrant) hs
+noted_quadrants : (e : ClaimEntry) (hs : List QuadrantTurn) → map (λ t. t.quadrant) (noted e hs) ≡ map (λ t. t.quadrant) hs
 noted_quadrants e [] = refl
 noted_quadrants e (t ∷ ts) = ap (λ l. t.quadrant ∷ l) (noted_quadrants e ts)
 
 -- the seat after the announcement
-pub announced : {n : ℕ} {terms : Terms} {q : ℕ} {qs : List ℕ} {mine : List ClaimEntry} {plan : Plan} {m m1 : Me (Option Quarter) View} → Works n terms mine qs m → (a : Announces q plan m m1) → m1 ≡ (working terms n m.0.held mine, (q, Some a.new) ∷ rest m.1)
-announced {q = q} {m = m} w a = a.after ∙ ap (λ (v : View). (v, (q, Some a.new) ∷ rest m.1)) w.is
+pub announced : {n : ℕ} {terms : Terms} {q : ℕ} {qs : List ℕ} {mine : List ClaimEntry} {plan : QuadrantPlan} {m m1 : Me (Option Quarter) ShardView} → Works n terms mine qs m → (a : Announces q plan m m1) → m1 ≡ (working terms n m.0.held mine, (q, Some a.new) ∷ rest m.1)
+announced {q = q} {m = m} w a = a.after ∙ ap (λ (v : ShardView). (v, (q, Some a.new) ∷ rest m.1)) w.is
 
-pub decides_new : {sets : List Quarters} {n q : ℕ} {mine : List ClaimEntry} {hs : List Turn} {plan : Plan} {m m1 : Me (Option Quarter) View} → (a : Announces q plan m m1) → Decides sets n hs mine plan → Decides sets n hs mine a.new.plan
+pub decides_new : {sets : List Quarters} {n q : ℕ} {mine : List ClaimEntry} {hs : List QuadrantTurn} {plan : QuadrantPlan} {m m1 : Me (Option Quarter) ShardView} → (a : Announces q plan m m1) → Decides sets n hs mine plan → Decides sets n hs mine a.new.plan
 decides_new {sets = sets} {n = n} {mine = mine} {hs = hs} a d = subst (Decides sets n hs mine) (sym a.plan_is) d
 
-changes_all : (sets : List Quarters) (set : Quarters) (n : ℕ) (log mine : List ClaimEntry) (e : ClaimEntry) (hs : List Turn) → IsLegal sets log → entries_of n log ≡ mine → e.yes ≡ answer sets (stands [] log) n e.act → Moves sets set mine e.act e.yes → ((q : ℕ) → touches sets (stands [] log) e.act e.yes q ≡ true → q < 4)
+changes_all : (sets : List Quarters) (set : Quarters) (n : ℕ) (log mine : List ClaimEntry) (e : ClaimEntry) (hs : List QuadrantTurn) → IsLegal sets log → entries_of n log ≡ mine → e.yes ≡ answer sets (stands [] log) n e.act → Moves sets set mine e.act e.yes → ((q : ℕ) → touches sets (stands [] log) e.act e.yes q ≡ true → q < 4)
     → Every (λ t. touches sets (stands [] log) e.act e.yes t.quadrant ≡ true) hs → Every (λ t. t.seen ≡ of_quadrant sets t.quadrant log) hs → Every (λ t. Changes sets set t.quadrant t.seen e) hs
 changes_all sets set n log mine e [] l m ans moves within touch seen = tt
 changes_all sets set n log mine e (t ∷ ts) l m ans moves within touch seen = (changes_of sets set t.quadrant n log mine t.seen e l m ans moves (within t.quadrant touch.0) touch.0 seen.0, changes_all sets set n log mine e ts l m ans moves within touch.1 seen.1)
 
-pub gives_after : {n : ℕ} {terms : Terms} {q found : ℕ} {qs : List ℕ} {mine : List ClaimEntry} {plan : Plan} (set : Quarters) {m m1 m2 : Me (Option Quarter) View} → Works n terms mine qs m → (a : Announces q plan m m1) → Entered m1 found m2 → Decides terms.sets n m.0.held mine plan → Moves terms.sets set mine plan.act plan.yes
+pub gives_after : {n : ℕ} {terms : Terms} {q found : ℕ} {qs : List ℕ} {mine : List ClaimEntry} {plan : QuadrantPlan} (set : Quarters) {m m1 m2 : Me (Option Quarter) ShardView} → Works n terms mine qs m → (a : Announces q plan m m1) → Entered m1 found m2 → Decides terms.sets n m.0.held mine plan → Moves terms.sets set mine plan.act plan.yes
     → Gives n terms (mine ++ entry found n plan ∷ []) set (entry found n plan) qs m2
 gives_after {n = n} {terms = terms} {q = q} {found = found} {qs = qs} {mine = mine} {plan = plan} set {m = m} {m1 = m1} {m2 = m2} w a en decides moves =
     let e = entry found n plan in
     let is1 = announced w a in
     let carried : List (ℕ × Option Quarter) = (q, Some a.new) ∷ rest m.1 in
     let is2 : m2 ≡ (working terms n (noted e m.0.held) (mine ++ e ∷ []), carried) =
-    en.after q a.new (rest m.1) (ap (λ (y : Me (Option Quarter) View). y.1) is1) ∙ (λ i. (with_entry (entry_of found (is1 i).0.number (a.plan_is i)) (is1 i).0, (is1 i).1)) in
-    let held : m2.0.held ≡ noted e m.0.held = ap (λ (y : Me (Option Quarter) View). y.0.held) is2 in
-    let lt : found < terms.room = subst (λ (r : Terms). found < r.room) (ap (λ (y : Me (Option Quarter) View). y.0.terms) is1) en.room in
-    let st : Stands (working terms n m.0.held mine) = subst Stands (ap (λ (y : Me (Option Quarter) View). y.0) is1) en.stood in
+    en.after q a.new (rest m.1) (ap (λ (y : Me (Option Quarter) ShardView). y.1) is1) ∙ (λ i. (with_entry (entry_of found (is1 i).0.number (a.plan_is i)) (is1 i).0, (is1 i).1)) in
+    let held : m2.0.held ≡ noted e m.0.held = ap (λ (y : Me (Option Quarter) ShardView). y.0.held) is2 in
+    let lt : found < terms.room = subst (λ (r : Terms). found < r.room) (ap (λ (y : Me (Option Quarter) ShardView). y.0.terms) is1) en.room in
+    let st : Stands (working terms n m.0.held mine) = subst Stands (ap (λ (y : Me (Option Quarter) ShardView). y.0) is1) en.stood in
     let decided = decides.after st.log st.lawful st.seen st.claimed.0 in
     let changes = changes_all terms.sets set n st.log mine e m.0.held st.lawful st.claimed.0 decided.right moves (λ p h. (decided.only p h).0) decided.all st.seen in
     record {
-      is = ap (λ (y : Me (Option Quarter) View). y.0) is2 ∙ ap (λ l. working terms n l (mine ++ e ∷ [])) (sym held);
-      turns = ap (map (λ (t : Turn). t.quadrant)) held ∙ (noted_quadrants e m.0.held ∙ w.turns);
-      lacks = subst (λ (y : List Turn × List (ℕ × Option Quarter)). Lacks terms set e y.0 y.1) (λ i. (sym held i, sym (ap (λ (y : Me (Option Quarter) View). y.1) is2) i))
-          (lacks_of terms set found e m.0.held carried (carries_changed terms q m.0.held m.1 a.old a.new a.was a.same a.table w.carries) (subst (λ l. Every (λ (t : Turn). length t.seen ≤ found) l) (ap (λ (y : Me (Option Quarter) View). y.0.held) is1) en.behind) changes lt);
+      is = ap (λ (y : Me (Option Quarter) ShardView). y.0) is2 ∙ ap (λ l. working terms n l (mine ++ e ∷ [])) (sym held);
+      turns = ap (map (λ (t : QuadrantTurn). t.quadrant)) held ∙ (noted_quadrants e m.0.held ∙ w.turns);
+      lacks = subst (λ (y : List QuadrantTurn × List (ℕ × Option Quarter)). Lacks terms set e y.0 y.1) (λ i. (sym held i, sym (ap (λ (y : Me (Option Quarter) ShardView). y.1) is2) i))
+          (lacks_of terms set found e m.0.held carried (carries_changed terms q m.0.held m.1 a.old a.new a.was a.same a.table w.carries) (subst (λ l. Every (λ (t : QuadrantTurn). length t.seen ≤ found) l) (ap (λ (y : Me (Option Quarter) ShardView). y.0.held) is1) en.behind) changes lt);
     }
 
 -- the turn that is given back next
-pub record Last (n : ℕ) (terms : Terms) (q : ℕ) (mine : List ClaimEntry) (set : Quarters) (e : ClaimEntry) (qs : List ℕ) (m : Me (Option Quarter) View) : Type 0 where
+pub record Last (n : ℕ) (terms : Terms) (q : ℕ) (mine : List ClaimEntry) (set : Quarters) (e : ClaimEntry) (qs : List ℕ) (m : Me (Option Quarter) ShardView) : Type 0 where
   pub ticket : ℕ
   pub seen : List ClaimEntry
-  pub held : List Turn
+  pub held : List QuadrantTurn
   pub value : Quarter
   pub others : List (ℕ × Option Quarter)
   pub before : List ClaimEntry
@@ -307,7 +307,7 @@ pub record Last (n : ℕ) (terms : Terms) (q : ℕ) (mine : List ClaimEntry) (se
   pub changes : Changes terms.sets set q before e
   pub lacks : Lacks terms set e held others
 
-last_of : (n : ℕ) (terms : Terms) (q : ℕ) (mine : List ClaimEntry) (set : Quarters) (e : ClaimEntry) (qs : List ℕ) (hs : List Turn) (m : Me (Option Quarter) View) → m.0 ≡ working terms n hs mine → map (λ t. t.quadrant) hs ≡ q ∷ qs → Lacks terms set e hs m.1 → Last n terms q mine set e qs m
+last_of : (n : ℕ) (terms : Terms) (q : ℕ) (mine : List ClaimEntry) (set : Quarters) (e : ClaimEntry) (qs : List ℕ) (hs : List QuadrantTurn) (m : Me (Option Quarter) ShardView) → m.0 ≡ working terms n hs mine → map (λ t. t.quadrant) hs ≡ q ∷ qs → Lacks terms set e hs m.1 → Last n terms q mine set e qs m
 last_of n terms q mine set e qs [] m is' turns' l = absurd (no_head turns')
 last_of n terms q mine set e qs (t ∷ ts) m is' turns' l =
     let here : t.quadrant ≡ q = heads turns' in
@@ -328,18 +328,18 @@ last_of n terms q mine set e qs (t ∷ ts) m is' turns' l =
       lacks = l.4;
     }
 
-pub last_turn : (set : Quarters) (q : ℕ) {n : ℕ} {terms : Terms} {mine : List ClaimEntry} {e : ClaimEntry} {m : Me (Option Quarter) View} → lies_in set q ≡ true → Gives n terms mine set e (touched set (suc q)) m → Last n terms q mine set e (touched set q) m
+pub last_turn : (set : Quarters) (q : ℕ) {n : ℕ} {terms : Terms} {mine : List ClaimEntry} {e : ClaimEntry} {m : Me (Option Quarter) ShardView} → lies_in set q ≡ true → Gives n terms mine set e (touched set (suc q)) m → Last n terms q mine set e (touched set q) m
 last_turn set q {n = n} {terms = terms} {mine = mine} {e = e} {m = m} touch g = last_of n terms q mine set e (touched set q) m.0.held m g.is (g.turns ∙ touched_in set q touch) g.lacks
 
-pub last_room : {n : ℕ} {terms : Terms} {q : ℕ} {mine : List ClaimEntry} {set : Quarters} {e : ClaimEntry} {qs : List ℕ} {m : Me (Option Quarter) View} {spans : List Span} → IsOf terms.sets set → spans ≡ part set q → Last n terms q mine set e qs m → HasRoom q spans m
+pub last_room : {n : ℕ} {terms : Terms} {q : ℕ} {mine : List ClaimEntry} {set : Quarters} {e : ClaimEntry} {qs : List ℕ} {m : Me (Option Quarter) ShardView} {spans : List Span} → IsOf terms.sets set → spans ≡ part set q → Last n terms q mine set e qs m → HasRoom q spans m
 last_room {q = q} {spans = spans} o same l =
     let s = l.suits in
     record { value = l.value; others = l.others; is = l.carried; room = omega (arith, ap length s.entries, s.wide, l.room_left); tiles = subst (AreTiles l.value.table.size) (sym same) (tiles_of o s); ahead = subst (AreAhead l.value.table.current l.value.table.horizon) (sym same) (ahead_of o s) }
 
-pub last_noted : {n : ℕ} {terms : Terms} {q : ℕ} {mine : List ClaimEntry} {set : Quarters} {e : ClaimEntry} {qs : List ℕ} {spans : List Span} {m m1 : Me (Option Quarter) View} → (l : Last n terms q mine set e qs m) → (a : Notes q spans e m m1) → m1 ≡ (working terms n (turn q l.ticket l.seen ∷ l.held) mine, (q, Some a.new) ∷ l.others)
+pub last_noted : {n : ℕ} {terms : Terms} {q : ℕ} {mine : List ClaimEntry} {set : Quarters} {e : ClaimEntry} {qs : List ℕ} {spans : List Span} {m m1 : Me (Option Quarter) ShardView} → (l : Last n terms q mine set e qs m) → (a : Notes q spans e m m1) → m1 ≡ (working terms n (turn q l.ticket l.seen ∷ l.held) mine, (q, Some a.new) ∷ l.others)
 last_noted {q = q} {m = m} l a = a.after ∙ (λ i. (l.is i, (q, Some a.new) ∷ ap rest l.carried i))
 
-pub last_suits : {n : ℕ} {terms : Terms} {q : ℕ} {mine : List ClaimEntry} {set : Quarters} {e : ClaimEntry} {qs : List ℕ} {spans : List Span} {m m1 : Me (Option Quarter) View} → spans ≡ part set q → (l : Last n terms q mine set e qs m) → (a : Notes q spans e m m1) → Suits terms q l.seen a.new
+pub last_suits : {n : ℕ} {terms : Terms} {q : ℕ} {mine : List ClaimEntry} {set : Quarters} {e : ClaimEntry} {qs : List ℕ} {spans : List Span} {m m1 : Me (Option Quarter) ShardView} → spans ≡ part set q → (l : Last n terms q mine set e qs m) → (a : Notes q spans e m m1) → Suits terms q l.seen a.new
 last_suits {terms = terms} {q = q} {set = set} {e = e} {spans = spans} same l a =
     let s = l.suits in
     let k : a.old ≡ l.value = in_hand (sym a.was ∙ l.carried) in
@@ -354,79 +354,79 @@ last_suits {terms = terms} {q = q} {set = set} {e = e} {spans = spans} same l a 
       takes = subst (Takes terms.sets q) (sym fresh) record { tiles = s.takes.tiles; ahead = s.takes.ahead };
     }
 
-pub last_given : {n : ℕ} {terms : Terms} {q : ℕ} {mine : List ClaimEntry} {set : Quarters} {e : ClaimEntry} {qs : List ℕ} {spans : List Span} {m m1 m2 : Me (Option Quarter) View} → (l : Last n terms q mine set e qs m) → Notes q spans e m m1 → Passed m1 m2 → Gives n terms mine set e qs m2
+pub last_given : {n : ℕ} {terms : Terms} {q : ℕ} {mine : List ClaimEntry} {set : Quarters} {e : ClaimEntry} {qs : List ℕ} {spans : List Span} {m m1 m2 : Me (Option Quarter) ShardView} → (l : Last n terms q mine set e qs m) → Notes q spans e m m1 → Passed m1 m2 → Gives n terms mine set e qs m2
 last_given {n = n} {terms = terms} {mine = mine} {set = set} {e = e} {m2 = m2} l a p =
-    let is2 : m2 ≡ (working terms n l.held mine, l.others) = p.after ∙ ap (λ (y : Me (Option Quarter) View). (record { terms = y.0.terms; number = y.0.number; waiting = y.0.waiting; held = tail_of y.0.held; mine = y.0.mine; others = y.0.others }, rest y.1)) (last_noted l a) in
-    let held : m2.0.held ≡ l.held = ap (λ (y : Me (Option Quarter) View). y.0.held) is2 in
+    let is2 : m2 ≡ (working terms n l.held mine, l.others) = p.after ∙ ap (λ (y : Me (Option Quarter) ShardView). (record { terms = y.0.terms; number = y.0.number; waiting = y.0.waiting; held = tail_of y.0.held; mine = y.0.mine; others = y.0.others }, rest y.1)) (last_noted l a) in
+    let held : m2.0.held ≡ l.held = ap (λ (y : Me (Option Quarter) ShardView). y.0.held) is2 in
     record {
-      is = ap (λ (y : Me (Option Quarter) View). y.0) is2 ∙ ap (λ h. working terms n h mine) (sym held);
-      turns = ap (map (λ (t : Turn). t.quadrant)) held ∙ l.turns;
-      lacks = subst (λ (y : List Turn × List (ℕ × Option Quarter)). Lacks terms set e y.0 y.1) (λ i. (sym held i, sym (ap (λ (y : Me (Option Quarter) View). y.1) is2) i)) l.lacks;
+      is = ap (λ (y : Me (Option Quarter) ShardView). y.0) is2 ∙ ap (λ h. working terms n h mine) (sym held);
+      turns = ap (map (λ (t : QuadrantTurn). t.quadrant)) held ∙ l.turns;
+      lacks = subst (λ (y : List QuadrantTurn × List (ℕ × Option Quarter)). Lacks terms set e y.0 y.1) (λ i. (sym held i, sym (ap (λ (y : Me (Option Quarter) ShardView). y.1) is2) i)) l.lacks;
     }
 
 -- a seat that has given all turns back is at rest
-rests_with : (n : ℕ) (terms : Terms) (mine : List ClaimEntry) (set : Quarters) (e : ClaimEntry) (hs : List Turn) (m : Me (Option Quarter) View) → m.0 ≡ working terms n hs mine → map (λ t. t.quadrant) hs ≡ [] → Lacks terms set e hs m.1 → m ≡ (working terms n [] mine, [])
+rests_with : (n : ℕ) (terms : Terms) (mine : List ClaimEntry) (set : Quarters) (e : ClaimEntry) (hs : List QuadrantTurn) (m : Me (Option Quarter) ShardView) → m.0 ≡ working terms n hs mine → map (λ t. t.quadrant) hs ≡ [] → Lacks terms set e hs m.1 → m ≡ (working terms n [] mine, [])
 rests_with n terms mine set e [] m is' turns' l = λ i. (is' i, l i)
 rests_with n terms mine set e (t ∷ ts) m is' turns' l = absurd (no_head (sym turns'))
 
-pub rests_after : {n : ℕ} {terms : Terms} {mine : List ClaimEntry} {set : Quarters} {e : ClaimEntry} {m : Me (Option Quarter) View} → Gives n terms mine set e [] m → m ≡ (working terms n [] mine, [])
+pub rests_after : {n : ℕ} {terms : Terms} {mine : List ClaimEntry} {set : Quarters} {e : ClaimEntry} {m : Me (Option Quarter) ShardView} → Gives n terms mine set e [] m → m ≡ (working terms n [] mine, [])
 rests_after {n = n} {terms = terms} {mine = mine} {set = set} {e = e} {m = m} g = rests_with n terms mine set e m.0.held m g.is g.turns g.lacks
 
-pub gives_same : (set : Quarters) (q : ℕ) {n : ℕ} {terms : Terms} {mine : List ClaimEntry} {e : ClaimEntry} {m : Me (Option Quarter) View} → touched set (suc q) ≡ touched set q → Gives n terms mine set e (touched set (suc q)) m → Gives n terms mine set e (touched set q) m
+pub gives_same : (set : Quarters) (q : ℕ) {n : ℕ} {terms : Terms} {mine : List ClaimEntry} {e : ClaimEntry} {m : Me (Option Quarter) ShardView} → touched set (suc q) ≡ touched set q → Gives n terms mine set e (touched set (suc q)) m → Gives n terms mine set e (touched set q) m
 gives_same set q {n = n} {terms = terms} {mine = mine} {e = e} {m = m} same g = subst (λ l. Gives n terms mine set e l m) same g
 
-pub works_same : (set : Quarters) (q : ℕ) {n : ℕ} {terms : Terms} {mine : List ClaimEntry} {m : Me (Option Quarter) View} → touched set (suc q) ≡ touched set q → Works n terms mine (touched set q) m → Works n terms mine (touched set (suc q)) m
+pub works_same : (set : Quarters) (q : ℕ) {n : ℕ} {terms : Terms} {mine : List ClaimEntry} {m : Me (Option Quarter) ShardView} → touched set (suc q) ≡ touched set q → Works n terms mine (touched set q) m → Works n terms mine (touched set (suc q)) m
 works_same set q {n = n} {terms = terms} {mine = mine} {m = m} same g = subst (λ l. Works n terms mine l m) (sym same) g
 
-pub found_same : (set : Quarters) (q : ℕ) {m : Me (Option Quarter) View} {f : Found} → touched set (suc q) ≡ touched set q → IsFound set q m f → IsFound set (suc q) m f
+pub found_same : (set : Quarters) (q : ℕ) {m : Me (Option Quarter) ShardView} {f : Found} → touched set (suc q) ≡ touched set q → IsFound set q m f → IsFound set (suc q) m f
 found_same set q same g = record { free = g.free; last = g.last ∙ ap (λ l. head_or l 0) (sym same) }
 
 -- at rest no turn is held
-pub works_from : {n : ℕ} {m : Me (Option Quarter) View} (set : Quarters) → Rests n m → Works n m.0.terms m.0.mine (touched set 0) m
+pub works_from : {n : ℕ} {m : Me (Option Quarter) ShardView} (set : Quarters) → Rests n m → Works n m.0.terms m.0.mine (touched set 0) m
 works_from {n = n} {m = m} set r =
-    let held : m.0.held ≡ [] = ap (λ (y : Me (Option Quarter) View). y.0.held) r.is in
+    let held : m.0.held ≡ [] = ap (λ (y : Me (Option Quarter) ShardView). y.0.held) r.is in
     record {
-      is = ap (λ (y : Me (Option Quarter) View). y.0) r.is ∙ ap (λ l. working m.0.terms n l m.0.mine) (sym held);
-      turns = ap (map (λ (t : Turn). t.quadrant)) held;
-      carries = subst (λ l. Carries m.0.terms l m.1) (sym held) (ap (λ (y : Me (Option Quarter) View). y.1) r.is);
+      is = ap (λ (y : Me (Option Quarter) ShardView). y.0) r.is ∙ ap (λ l. working m.0.terms n l m.0.mine) (sym held);
+      turns = ap (map (λ (t : QuadrantTurn). t.quadrant)) held;
+      carries = subst (λ l. Carries m.0.terms l m.1) (sym held) (ap (λ (y : Me (Option Quarter) ShardView). y.1) r.is);
     }
 
-pub found_from : {n : ℕ} {m : Me (Option Quarter) View} (set : Quarters) → Rests n m → (f : Found) → f.free ≡ true → f.last ≡ 0 → IsFound set 0 m f
-found_from {m = m} set r f free last = record { free = free ∙ (λ i. are_free m.0.terms.sets set (sym (ap (λ (y : Me (Option Quarter) View). y.0.held) r.is) i)); last = last }
+pub found_from : {n : ℕ} {m : Me (Option Quarter) ShardView} (set : Quarters) → Rests n m → (f : Found) → f.free ≡ true → f.last ≡ 0 → IsFound set 0 m f
+found_from {m = m} set r f free last = record { free = free ∙ (λ i. are_free m.0.terms.sets set (sym (ap (λ (y : Me (Option Quarter) ShardView). y.0.held) r.is) i)); last = last }
 
 -- with the terms and the entries as the seat's view has them
-pub works_own : {n : ℕ} {terms : Terms} {qs : List ℕ} {mine : List ClaimEntry} {m : Me (Option Quarter) View} → Works n terms mine qs m → Works n m.0.terms m.0.mine qs m
-works_own {n = n} {qs = qs} {m = m} w = subst (λ (v : View). Works n v.terms v.mine qs m) (sym w.is) w
+pub works_own : {n : ℕ} {terms : Terms} {qs : List ℕ} {mine : List ClaimEntry} {m : Me (Option Quarter) ShardView} → Works n terms mine qs m → Works n m.0.terms m.0.mine qs m
+works_own {n = n} {qs = qs} {m = m} w = subst (λ (v : ShardView). Works n v.terms v.mine qs m) (sym w.is) w
 
-pub of_own : {n : ℕ} {terms : Terms} {qs : List ℕ} {mine : List ClaimEntry} {set : Quarters} {m : Me (Option Quarter) View} → Works n terms mine qs m → IsOf terms.sets set → IsOf m.0.terms.sets set
-of_own {set = set} w o = subst (λ (v : View). IsOf v.terms.sets set) (sym w.is) o
+pub of_own : {n : ℕ} {terms : Terms} {qs : List ℕ} {mine : List ClaimEntry} {set : Quarters} {m : Me (Option Quarter) ShardView} → Works n terms mine qs m → IsOf terms.sets set → IsOf m.0.terms.sets set
+of_own {set = set} w o = subst (λ (v : ShardView). IsOf v.terms.sets set) (sym w.is) o
 
-pub of_works : {n : ℕ} {terms : Terms} {qs : List ℕ} {mine : List ClaimEntry} {set : Quarters} {m : Me (Option Quarter) View} → Works n terms mine qs m → IsOf terms.sets set → IsOf m.0.terms.sets set
+pub of_works : {n : ℕ} {terms : Terms} {qs : List ℕ} {mine : List ClaimEntry} {set : Quarters} {m : Me (Option Quarter) ShardView} → Works n terms mine qs m → IsOf terms.sets set → IsOf m.0.terms.sets set
 of_works w o = of_own w o
 
-pub of_gives : {n : ℕ} {terms : Terms} {qs : List ℕ} {mine : List ClaimEntry} {set : Quarters} {e : ClaimEntry} {m : Me (Option Quarter) View} → Gives n terms mine set e qs m → IsOf terms.sets set → IsOf m.0.terms.sets set
-of_gives {set = set} w o = subst (λ (v : View). IsOf v.terms.sets set) (sym w.is) o
+pub of_gives : {n : ℕ} {terms : Terms} {qs : List ℕ} {mine : List ClaimEntry} {set : Quarters} {e : ClaimEntry} {m : Me (Option Quarter) ShardView} → Gives n terms mine set e qs m → IsOf terms.sets set → IsOf m.0.terms.sets set
+of_gives {set = set} w o = subst (λ (v : ShardView). IsOf v.terms.sets set) (sym w.is) o
 
-pub works_back : {n : ℕ} {terms : Terms} {qs qs' : List ℕ} {mine : List ClaimEntry} {m m' : Me (Option Quarter) View} → Works n terms mine qs m → Works n m.0.terms m.0.mine qs' m' → Works n terms mine qs' m'
-works_back {n = n} {qs' = qs'} {m' = m'} w w' = subst (λ (v : View). Works n v.terms v.mine qs' m') w.is w'
+pub works_back : {n : ℕ} {terms : Terms} {qs qs' : List ℕ} {mine : List ClaimEntry} {m m' : Me (Option Quarter) ShardView} → Works n terms mine qs m → Works n m.0.terms m.0.mine qs' m' → Works n terms mine qs' m'
+works_back {n = n} {qs' = qs'} {m' = m'} w w' = subst (λ (v : ShardView). Works n v.terms v.mine qs' m') w.is w'
 
-pub works_next : (set : Quarters) (q : ℕ) {n : ℕ} {terms : Terms} {mine : List ClaimEntry} {m : Me (Option Quarter) View} → Works n terms mine (touched set (suc q)) m → Works n terms mine (touched set (q + 1)) m
+pub works_next : (set : Quarters) (q : ℕ) {n : ℕ} {terms : Terms} {mine : List ClaimEntry} {m : Me (Option Quarter) ShardView} → Works n terms mine (touched set (suc q)) m → Works n terms mine (touched set (q + 1)) m
 works_next set q {n = n} {terms = terms} {mine = mine} {m = m} w = subst (λ k. Works n terms mine (touched set k) m) (sym (next_of_suc q)) w
 
-pub found_next : (set : Quarters) (q : ℕ) {m : Me (Option Quarter) View} {f : Found} → IsFound set (suc q) m f → IsFound set (q + 1) m f
+pub found_next : (set : Quarters) (q : ℕ) {m : Me (Option Quarter) ShardView} {f : Found} → IsFound set (suc q) m f → IsFound set (q + 1) m f
 found_next set q {m = m} {f = f} w = subst (λ k. IsFound set k m f) (sym (next_of_suc q)) w
 
-pub gives_own : {n : ℕ} {terms : Terms} {qs : List ℕ} {mine : List ClaimEntry} {set : Quarters} {e : ClaimEntry} {m : Me (Option Quarter) View} → Gives n terms mine set e qs m → Gives n m.0.terms m.0.mine set e qs m
-gives_own {n = n} {qs = qs} {set = set} {e = e} {m = m} w = subst (λ (v : View). Gives n v.terms v.mine set e qs m) (sym w.is) w
+pub gives_own : {n : ℕ} {terms : Terms} {qs : List ℕ} {mine : List ClaimEntry} {set : Quarters} {e : ClaimEntry} {m : Me (Option Quarter) ShardView} → Gives n terms mine set e qs m → Gives n m.0.terms m.0.mine set e qs m
+gives_own {n = n} {qs = qs} {set = set} {e = e} {m = m} w = subst (λ (v : ShardView). Gives n v.terms v.mine set e qs m) (sym w.is) w
 
-pub gives_back : {n : ℕ} {terms : Terms} {qs qs' : List ℕ} {mine : List ClaimEntry} {set : Quarters} {e : ClaimEntry} {m m' : Me (Option Quarter) View} → Gives n terms mine set e qs m → Gives n m.0.terms m.0.mine set e qs' m' → Gives n terms mine set e qs' m'
-gives_back {n = n} {qs' = qs'} {set = set} {e = e} {m' = m'} w w' = subst (λ (v : View). Gives n v.terms v.mine set e qs' m') w.is w'
+pub gives_back : {n : ℕ} {terms : Terms} {qs qs' : List ℕ} {mine : List ClaimEntry} {set : Quarters} {e : ClaimEntry} {m m' : Me (Option Quarter) ShardView} → Gives n terms mine set e qs m → Gives n m.0.terms m.0.mine set e qs' m' → Gives n terms mine set e qs' m'
+gives_back {n = n} {qs' = qs'} {set = set} {e = e} {m' = m'} w w' = subst (λ (v : ShardView). Gives n v.terms v.mine set e qs' m') w.is w'
 
 -- the quadrant k is the one below q
-pub gives_step : (set : Quarters) (k q : ℕ) {n : ℕ} {terms : Terms} {mine : List ClaimEntry} {e : ClaimEntry} {m : Me (Option Quarter) View} → suc k ≡ q → Gives n terms mine set e (touched set q) m → Gives n terms mine set e (touched set (suc k)) m
+pub gives_step : (set : Quarters) (k q : ℕ) {n : ℕ} {terms : Terms} {mine : List ClaimEntry} {e : ClaimEntry} {m : Me (Option Quarter) ShardView} → suc k ≡ q → Gives n terms mine set e (touched set q) m → Gives n terms mine set e (touched set (suc k)) m
 gives_step set k q {n = n} {terms = terms} {mine = mine} {e = e} {m = m} same w = subst (λ j. Gives n terms mine set e (touched set j) m) (sym same) w
 
-pub gives_none : (set : Quarters) (q : ℕ) {n : ℕ} {terms : Terms} {mine : List ClaimEntry} {e : ClaimEntry} {m : Me (Option Quarter) View} → q ≡ 0 → Gives n terms mine set e (touched set q) m → Gives n terms mine set e [] m
+pub gives_none : (set : Quarters) (q : ℕ) {n : ℕ} {terms : Terms} {mine : List ClaimEntry} {e : ClaimEntry} {m : Me (Option Quarter) ShardView} → q ≡ 0 → Gives n terms mine set e (touched set q) m → Gives n terms mine set e [] m
 gives_none set q {n = n} {terms = terms} {mine = mine} {e = e} {m = m} same w = subst (λ j. Gives n terms mine set e (touched set j) m) same w
 
 -- a list that has a first
@@ -467,7 +467,7 @@ touched_some set = at3 (lies_in set 3) refl
     at3 true h = some_here set 3 h
     at3 false h = at2 h (lies_in set 2) refl
 
-pub works_some : {n : ℕ} {terms : Terms} {last : ℕ} {mine : List ClaimEntry} (set : Quarters) {m : Me (Option Quarter) View} → last ≡ head_or (touched set 4) 0 → Works n terms mine (touched set 4) m → Works n terms mine (last ∷ tail_of (touched set 4)) m
+pub works_some : {n : ℕ} {terms : Terms} {last : ℕ} {mine : List ClaimEntry} (set : Quarters) {m : Me (Option Quarter) ShardView} → last ≡ head_or (touched set 4) 0 → Works n terms mine (touched set 4) m → Works n terms mine (last ∷ tail_of (touched set 4)) m
 works_some {n = n} {terms = terms} {mine = mine} set {m = m} e w = subst (λ l. Works n terms mine l m) (touched_some set ∙ ap (λ q. q ∷ tail_of (touched set 4)) (sym e)) w
 
 -- the quadrants of a claim
@@ -505,39 +505,39 @@ touched_all set (suc n) = at' (lies_in set n) refl (touched_all set n)
     at' true e all = subst (Every (λ q. lies_in set q ≡ true)) (sym (touched_in set n e)) (e, all)
     at' false e all = subst (Every (λ q. lies_in set q ≡ true)) (sym (touched_out set n e)) all
 
-map_total : (q : ℕ) (hs : List Turn) → total (λ (t : Turn). at q t.quadrant 1) hs ≡ total (λ p. at q p 1) (map (λ t. t.quadrant) hs)
+map_total : (q : ℕ) (hs : List QuadrantTurn) → total (λ (t : QuadrantTurn). at q t.quadrant 1) hs ≡ total (λ p. at q p 1) (map (λ t. t.quadrant) hs)
 map_total q [] = refl
 map_total q (t ∷ ts) = ap (λ k. at q t.quadrant 1 + k) (map_total q ts)
 
-map_every : (P : ℕ → Type 0) (hs : List Turn) → Every P (map (λ t. t.quadrant) hs) → Every (λ t. P t.quadrant) hs
+map_every : (P : ℕ → Type 0) (hs : List QuadrantTurn) → Every P (map (λ t. t.quadrant) hs) → Every (λ t. P t.quadrant) hs
 map_every P [] all = tt
 map_every P (t ∷ ts) all = (all.0, map_every P ts all.1)
 
 -- the quadrants that the call touches are those of the set
-decided_by : (set : Quarters) {n : ℕ} {terms : Terms} {mine : List ClaimEntry} {m : Me (Option Quarter) View} (plan : Plan) (log : List ClaimEntry) → length set ≡ 4 → Works n terms mine (touched set 4) m → plan.yes ≡ answer terms.sets (stands [] log) n plan.act → ((q : ℕ) → touches terms.sets (stands [] log) plan.act plan.yes q ≡ lies_in set q) → Decided terms.sets n m.0.held plan log
+decided_by : (set : Quarters) {n : ℕ} {terms : Terms} {mine : List ClaimEntry} {m : Me (Option Quarter) ShardView} (plan : QuadrantPlan) (log : List ClaimEntry) → length set ≡ 4 → Works n terms mine (touched set 4) m → plan.yes ≡ answer terms.sets (stands [] log) n plan.act → ((q : ℕ) → touches terms.sets (stands [] log) plan.act plan.yes q ≡ lies_in set q) → Decided terms.sets n m.0.held plan log
 decided_by set {terms = terms} {m = m} plan log four w right same = record {
   right = right;
   only = λ q h. let l = sym (same q) ∙ h in let lt = lies_below set q four l in (lt, omega (arith, map_total q m.0.held, ap (total (λ p. at q p 1)) w.turns, touched_has set q 4 lt l));
-  all = map_every (λ q. touches terms.sets (stands [] log) plan.act plan.yes q ≡ true) m.0.held (Every_map (λ q. lies_in set q ≡ true) (λ q. touches terms.sets (stands [] log) plan.act plan.yes q ≡ true) (λ q h. same q ∙ h) (map (λ (t : Turn). t.quadrant) m.0.held) (subst (Every (λ q. lies_in set q ≡ true)) (sym w.turns) (touched_all set 4)));
+  all = map_every (λ q. touches terms.sets (stands [] log) plan.act plan.yes q ≡ true) m.0.held (Every_map (λ q. lies_in set q ≡ true) (λ q. touches terms.sets (stands [] log) plan.act plan.yes q ≡ true) (λ q h. same q ∙ h) (map (λ (t : QuadrantTurn). t.quadrant) m.0.held) (subst (Every (λ q. lies_in set q ≡ true)) (sym w.turns) (touched_all set 4)));
 }
 
 -- a claim's holder knows the answer and the quadrants
-pub decides_claim : (set : Quarters) (k : ℕ) {n : ℕ} {terms : Terms} {mine : List ClaimEntry} {m : Me (Option Quarter) View} {f : Found} → set ≡ set_at terms.sets k → length set ≡ 4 → Works n terms mine (touched set 4) m → IsFound set 4 m f → Decides terms.sets n m.0.held m.0.mine record { act = act.Claim k; yes = f.free }
+pub decides_claim : (set : Quarters) (k : ℕ) {n : ℕ} {terms : Terms} {mine : List ClaimEntry} {m : Me (Option Quarter) ShardView} {f : Found} → set ≡ set_at terms.sets k → length set ≡ 4 → Works n terms mine (touched set 4) m → IsFound set 4 m f → Decides terms.sets n m.0.held m.0.mine record { act = act.Claim k; yes = f.free }
 decides_claim set k {n = n} {terms = terms} {m = m} {f = f} same four w found =
-    let own : m.0.terms ≡ terms = ap (λ (v : View). v.terms) w.is in
+    let own : m.0.terms ≡ terms = ap (λ (v : ShardView). v.terms) w.is in
     record {
       after = λ log lawful seen mine'. decided_by set record { act = act.Claim k; yes = f.free } log four w
           (found.free ∙ ((λ i. are_free (own i).sets (same i) m.0.held) ∙ answer_of terms.sets k n log m.0.held (w.turns ∙ ap (λ (x : Quarters). touched x 4) same) seen)) (λ q. ap (λ (x : Quarters). lies_in x q) (sym same));
     }
 
 -- so does a freeing's
-pub decides_free : (set : Quarters) (t : ℕ) (granted : Bool) {n : ℕ} {terms : Terms} {mine : List ClaimEntry} {m : Me (Option Quarter) View} → length set ≡ 4 → Works n terms mine (touched set 4) m → granted ≡ has_ticket t (stands [] mine) → ((q : ℕ) → lies_in set q ≡ lies_in (freed terms.sets t (stands [] mine)) q) → Decides terms.sets n m.0.held m.0.mine record { act = act.Free t; yes = granted }
+pub decides_free : (set : Quarters) (t : ℕ) (granted : Bool) {n : ℕ} {terms : Terms} {mine : List ClaimEntry} {m : Me (Option Quarter) ShardView} → length set ≡ 4 → Works n terms mine (touched set 4) m → granted ≡ has_ticket t (stands [] mine) → ((q : ℕ) → lies_in set q ≡ lies_in (freed terms.sets t (stands [] mine)) q) → Decides terms.sets n m.0.held m.0.mine record { act = act.Free t; yes = granted }
 decides_free set t granted {n = n} {terms = terms} {mine = mine} {m = m} four w has same =
-    let own : m.0.mine ≡ mine = ap (λ (v : View). v.mine) w.is in
+    let own : m.0.mine ≡ mine = ap (λ (v : ShardView). v.mine) w.is in
     record {
       after = λ log lawful seen ours. decided_by set record { act = act.Free t; yes = granted } log four w (has ∙ answer_free terms.sets t n log mine lawful (ours ∙ own)) (λ q. touches_free terms.sets t n q log mine granted lawful (ours ∙ own) has ∙ sym (same q));
     }
 
 -- with the terms that the seat's view has
-pub decides_own : {n number : ℕ} {terms : Terms} {qs : List ℕ} {hs : List Turn} {mine mine' : List ClaimEntry} {plan : Plan} {m : Me (Option Quarter) View} → Works n terms mine qs m → Decides terms.sets number hs mine' plan → Decides m.0.terms.sets number hs mine' plan
-decides_own {number = number} {hs = hs} {mine' = mine'} {plan = plan} w d = subst (λ (v : View). Decides v.terms.sets number hs mine' plan) (sym w.is) d
+pub decides_own : {n number : ℕ} {terms : Terms} {qs : List ℕ} {hs : List QuadrantTurn} {mine mine' : List ClaimEntry} {plan : QuadrantPlan} {m : Me (Option Quarter) ShardView} → Works n terms mine qs m → Decides terms.sets number hs mine' plan → Decides m.0.terms.sets number hs mine' plan
+decides_own {number = number} {hs = hs} {mine' = mine'} {plan = plan} w d = subst (λ (v : ShardView). Decides v.terms.sets number hs mine' plan) (sym w.is) d

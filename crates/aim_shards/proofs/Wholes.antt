@@ -4,8 +4,8 @@ use Rattle.std.specs.Prelude.{nat_le}
 use Rattle.std.specs.List.{list_any}
 use Rattle.std.proofs.lemmas.Bool.{and_parts, eq-eqb}
 use Rattle.aim_geometry.specs.Cells.{Cell}
-use Rattle.aim_pool.specs.Spans.{in_spans}
-use Rattle.aim_pool.specs.Sheets.{Spans}
+use Rattle.aim_sheets.specs.Spans.{in_spans}
+use Rattle.aim_sheets.specs.Sheets.{Spans}
 use Rattle.aim_shards.specs.declared.claims.ClaimAct.{ClaimAct}
 use Rattle.aim_shards.specs.declared.claims.ClaimAct.TheVariants as act
 use Rattle.aim_shards.specs.declared.claims.ClaimEntry.{ClaimEntry}

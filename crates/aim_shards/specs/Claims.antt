@@ -2,11 +2,11 @@
 use Rattle.std.specs.Prelude.{◌≡◌, ℕ, suc, ◌==◌, Bool, true, false, ◌&&◌, ◌||◌, not, List, [], ◌∷◌, ◌++◌, filter, if◌then◌else◌}
 use Rattle.std.specs.List.{list_any}
 use Rattle.aim_geometry.specs.Cells.{Cell}
-use Rattle.aim_pool.specs.Spans.{in_spans}
+use Rattle.aim_sheets.specs.Spans.{in_spans}
 use Rattle.aim_shards.specs.declared.claims.ClaimAct.{ClaimAct}
 use Rattle.aim_shards.specs.declared.claims.ClaimAct.TheVariants as act
 use Rattle.aim_shards.specs.declared.claims.ClaimEntry.{ClaimEntry}
-use Rattle.aim_shards.specs.declared.view.Turn.{Turn}
+use Rattle.aim_shards.specs.declared.view.QuadrantTurn.{QuadrantTurn}
 use Rattle.aim_shards.specs.Sets.{Quarters, SameParts, part, set_at, lies_in, meets_in, meets}
 
 -- the claims that stand after the act, which was answered so
@@ -93,7 +93,7 @@ changed (act.Free t) true before here = before && not here
 changed a false before here = before
 
 -- whether the set's cells are free in the quadrants of the turns
-abbrev pub are_free : List Quarters → Quarters → List Turn → Bool
+abbrev pub are_free : List Quarters → Quarters → List QuadrantTurn → Bool
 are_free sets set [] = true
 are_free sets set (t ∷ ts) = are_free sets set ts && is_free_in sets set t.quadrant t.seen
 

@@ -5,7 +5,7 @@ use lib.ListN.{get_elem?}
 use Rattle.atomic_table.specs.Table.{Me}
 use Rattle.aim_shards.specs.declared.claims.ClaimEntry.{ClaimEntry}
 use Rattle.aim_shards.specs.declared.quarter.Quarter.{Quarter}
-use Rattle.aim_shards.specs.declared.view.View.{View}
+use Rattle.aim_shards.specs.declared.view.ShardView.{ShardView}
 use Rattle.aim_shards.specs.Sums.{total, is}
 use Rattle.aim_shards.specs.Sets.{Quarters}
 use Rattle.aim_shards.specs.Claims.{of_quadrant, entries_of, IsLegal}
@@ -14,7 +14,7 @@ use Rattle.aim_shards.specs.Models.{PassModel, ShardsModel}
 use Rattle.aim_shards.specs.Ruled.{keeping}
 
 -- the seat that has taken in these passes
-pub record Gathers (ps : List PassModel) (m : Me (Option Quarter) View) : Type 0 where
+pub record Gathers (ps : List PassModel) (m : Me (Option Quarter) ShardView) : Type 0 where
   pub is : m ≡ (keeping m.0.terms (map (λ p. (p.number, p.mine)) ps), [])
 
 -- the passes' entries are those of the history

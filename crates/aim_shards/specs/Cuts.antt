@@ -1,9 +1,9 @@
 -- The four quadrants of a grid, and sets that are cut along their borders.
 use Rattle.std.specs.Prelude.{◌≡◌, ℕ, ◌+◌, ◌*◌, ◌/◌, ◌<◌, ◌==◌, nat_le, Bool, not, ◌&&◌, if◌then◌else◌, List, [], get_or, length}
-use Rattle.aim_pool.specs.declared.spans.Span.{Span}
+use Rattle.aim_sheets.specs.declared.spans.Span.{Span}
 use Rattle.aim_geometry.specs.Cells.{Cell}
-use Rattle.aim_pool.specs.Spans.{in_spans}
-use Rattle.aim_pool.specs.Sheets.{Spans}
+use Rattle.aim_sheets.specs.Spans.{in_spans}
+use Rattle.aim_sheets.specs.Sheets.{Spans}
 use Rattle.aim_tiles.specs.Sheets.{AreTiles, AreAhead}
 use Rattle.aim_shards.specs.Sets.{Quarters, part, set_at}
 

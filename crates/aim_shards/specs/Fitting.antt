@@ -1,8 +1,8 @@
 -- The sets of rectangles.
 use Rattle.std.specs.Prelude.{◌≡◌, ℕ, ◌<◌, List, length, slice_index_or}
 use Rattle.aim_geometry.specs.Cells.{Cell}
-use Rattle.aim_pool.specs.Spans.{in_spans}
-use Rattle.aim_pool.specs.Sheets.{Spans}
+use Rattle.aim_sheets.specs.Spans.{in_spans}
+use Rattle.aim_sheets.specs.Sheets.{Spans}
 use Rattle.aim_shards.specs.declared.rectangles.Rectangle.{Rectangle}
 use Rattle.aim_shards.specs.Cuts.{spans_at}
 use Rattle.aim_shards.specs.Grid.{AreOnGrid}

@@ -1,6 +1,6 @@
 -- Sets on a grid.
 use Rattle.std.specs.Prelude.{ℕ, List, All}
-use Rattle.aim_pool.specs.Sheets.{Spans}
+use Rattle.aim_sheets.specs.Sheets.{Spans}
 use Rattle.aim_tiles.specs.Sheets.{AreTiles, AreAhead}
 
 -- the cells of the sets lie on a grid of n rows and columns, in steps below the horizon

@@ -2,8 +2,8 @@
 use Rattle.std.specs.Prelude.{◌≡◌, ℕ, suc, ◌==◌, Bool, true, false, ◌&&◌, List, [], ◌∷◌}
 use Rattle.std.specs.List.{list_any}
 use Rattle.aim_geometry.specs.Cells.{Cell}
-use Rattle.aim_pool.specs.Spans.{in_spans}
-use Rattle.aim_pool.specs.Sheets.{Spans}
+use Rattle.aim_sheets.specs.Spans.{in_spans}
+use Rattle.aim_sheets.specs.Sheets.{Spans}
 use Rattle.aim_shards.specs.declared.claims.ClaimAct.{ClaimAct}
 use Rattle.aim_shards.specs.declared.claims.ClaimAct.TheVariants as act
 use Rattle.aim_shards.specs.declared.claims.ClaimEntry.{ClaimEntry}

@@ -1,9 +1,9 @@
 -- Sets of cells, cut along the borders of the four quadrants.
 use Rattle.std.specs.Prelude.{ℕ, zero, suc, ◌==◌, if◌then◌else◌, Bool, true, false, ◌&&◌, ◌||◌, not, List, [], ◌∷◌, get_or, bit_and, Option, Some, None, ◌≡◌}
 use Rattle.std.specs.List.{list_any}
-use Rattle.aim_pool.specs.declared.spans.Span.{Span}
+use Rattle.aim_sheets.specs.declared.spans.Span.{Span}
 use Rattle.aim_geometry.specs.Cells.{Cell}
-use Rattle.aim_pool.specs.Spans.{is_at, in_spans}
+use Rattle.aim_sheets.specs.Spans.{is_at, in_spans}
 
 -- the spans of a set in the quadrants 0 to 3
 abbrev pub Quarters : Type 0

@@ -9,8 +9,8 @@ ghost use Rattle.aim_shards.specs.Models.{IsFull, IsPassOf, IsSamePass, Makes};
 use crate::claims::ClaimAct;
 use crate::doors::Doors;
 use crate::pass::ShardPass;
-use crate::quarter::Plan;
-use crate::rule::Desk;
+use crate::quarter::QuadrantPlan;
+use crate::rule::QuadrantTable;
 use crate::sets::{Quartered, choose};
 use crate::standing::{look_up, stand};
 use crate::turns::{make, take_turns};
@@ -26,7 +26,7 @@ pub struct Claimed {
 
 /// The caller has made all its calls.
 #[derive(Clone, Copy)]
-pub struct Full;
+pub struct NoCallLeft;
 
 /// What is called while the turns are held.
 pub trait Hold: Sync {
@@ -36,7 +36,7 @@ pub trait Hold: Sync {
 /// Four quadrants of a grid, each with a turn and a history of its own.
 #[derive(Drop)]
 pub struct Shards {
-    pub(crate) desk: Desk,
+    pub(crate) desk: QuadrantTable,
     pub(crate) doors: Doors,
     pub(crate) quarters: Vec<Quartered>,
     pub(crate) nothing: Quartered,
@@ -67,7 +67,7 @@ impl Shards {
         pass: &mut ShardPass,
         set: u32,
         hold: &H,
-    ) -> Result<Claimed, Full>
+    ) -> Result<Claimed, NoCallLeft>
         requires own { IsPassOf self.now pass.old }
         requires set { set < length self.now.sets }
         ensures same { IsSamePass pass.old pass.new }
@@ -75,13 +75,13 @@ impl Shards {
     {
         let number = pass.number;
         if pass.made == pass.calls {
-            return Err(Full);
+            return Err(NoCallLeft);
         }
         let parts = &self.quarters[set as usize];
         let inside = self.doors.enter(rt, parts);
         let found = take_turns(rt, &self.desk, &mut pass.seat, number, parts);
         hold.holding(number, pass.made);
-        let plan = Plan {
+        let plan = QuadrantPlan {
             act: ClaimAct::Claim(set),
             yes: found.free,
         };
@@ -105,21 +105,21 @@ impl Shards {
         pass: &mut ShardPass,
         ticket: u32,
         hold: &H,
-    ) -> Result<Claimed, Full>
+    ) -> Result<Claimed, NoCallLeft>
         requires own { IsPassOf self.now pass.old }
         ensures same { IsSamePass pass.old pass.new }
         ensures made { MatchResult result (λ r. Makes (Free ticket) r.ticket r.yes pass.old pass.new) (λ _. IsFull pass.old pass.new) }
     {
         let number = pass.number;
         if pass.made == pass.calls {
-            return Err(Full);
+            return Err(NoCallLeft);
         }
         let known = look_up(&pass.standing, ticket);
         let parts = choose(&self.quarters, &self.nothing, known.set);
         let inside = self.doors.enter(rt, parts);
         let found = take_turns(rt, &self.desk, &mut pass.seat, number, parts);
         hold.holding(number, pass.made);
-        let plan = Plan {
+        let plan = QuadrantPlan {
             act: ClaimAct::Free(ticket),
             yes: known.own,
         };

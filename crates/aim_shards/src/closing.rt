@@ -10,7 +10,7 @@ use crate::calls::Shards;
 use crate::claims::ClaimEntry;
 use crate::pass::ShardPass;
 use crate::quarter::Quarter;
-use crate::rule::{Arrive, Chair, Desk, Gather};
+use crate::rule::{Arrive, Chair, Gather, QuadrantTable};
 use atomic_table::Closed;
 use std::alloc::Global;
 
@@ -27,7 +27,7 @@ pub struct ClosedShards {
 }
 
 // Takes all passes into one seat.
-fn gather(desk: &Desk, root: &mut Chair, mut passes: Vec<ShardPass>)
+fn gather(desk: &QuadrantTable, root: &mut Chair, mut passes: Vec<ShardPass>)
     requires desk { (root.old.table_id ≡ desk.now.shared.table_id) × (desk.now.shared.table_id.words ≡ 9) }
     requires root { Gathers [] root.old.me }
     requires own { All (λ p. p.table ≡ desk.now.shared.table_id) passes.items }
@@ -73,7 +73,7 @@ fn take_entries(closed: &mut Closed<Option<Quarter>, Global>, quadrant: usize) -
 }
 
 // Ends the turns, where one seat has taken in the passes of all numbers.
-fn finish(desk: Desk, root: Chair) -> ClosedShards
+fn finish(desk: QuadrantTable, root: Chair) -> ClosedShards
     requires desk { (root.table_id ≡ desk.shared.table_id) × (desk.shared.table_id.slots ≡ 4) }
     requires root { (ps : List PassModel) × Gathers ps root.me × (length ps ≡ length desk.shared.key.numbers.value.items) }
     ensures { (ps : List PassModel) → Gathers ps root.me → length ps ≡ length desk.shared.key.numbers.value.items

@@ -3,12 +3,12 @@
 ghost use Rattle.std.specs.Prelude.{◌≡◌, ◌<◌, ◌≤◌, ◌+◌, ◌*◌, ◌==◌, ◌&&◌, ◌||◌, true, false, not, nat_le, if◌then◌else◌, ℕ, filter, length, IfOk};
 ghost use Rattle.aim_geometry.specs.Cells.{Cell};
 ghost use Rattle.aim_geometry.specs.Rects.{has_bit};
-ghost use Rattle.aim_pool.specs.Spans.{in_span, in_spans};
+ghost use Rattle.aim_sheets.specs.Spans.{in_span, in_spans};
 ghost use Rattle.aim_shards.specs.Cuts.{AreCut, half_of, is_beside, lies_at, one, quadrant_at};
 ghost use Rattle.aim_shards.specs.Sets.{part};
 
 use crate::sets::Quartered;
-use aim_pool::{Pool, Sheet, Span};
+use aim_sheets::{Pool, Sheet, Span};
 use std::alloc::{AllocError, Global};
 
 // A quadrant: whether its rows are those of the second half, and whether its columns are.

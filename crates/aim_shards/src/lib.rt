@@ -17,7 +17,7 @@ mod standing;
 mod turns;
 mod view;
 
-pub use calls::{Claimed, Full, Hold, Shards};
+pub use calls::{Claimed, Hold, NoCallLeft, Shards};
 pub use claims::{ClaimAct, ClaimEntry};
 pub use closing::ClosedShards;
 pub use merging::{history, merge};

@@ -15,10 +15,10 @@ use crate::claims::{ClaimAct, ClaimEntry};
 use crate::cuts::quarter_all;
 use crate::doors::Doors;
 use crate::pass::ShardPass;
-use crate::quarter::{Plan, Quarter};
-use crate::rule::{Chair, Deal, Desk, Opening};
+use crate::quarter::{QuadrantPlan, Quarter};
+use crate::rule::{Chair, Deal, Opening, QuadrantTable};
 use crate::sets::{Quartered, no_cells};
-use aim_pool::Sheet;
+use aim_sheets::Sheet;
 use aim_tiles::IdleTable;
 use atomic_table::Table;
 use std::alloc::{AllocError, Global};
@@ -79,7 +79,7 @@ fn new_quarter(alloc: Global, room: usize, n: u32, horizon: u32) -> Result<Quart
     Ok(Quarter {
         entries: Vec::with_capacity(alloc, room)?,
         table: IdleTable::new(alloc, n, horizon)?,
-        plan: Plan {
+        plan: QuadrantPlan {
             act: ClaimAct::Free(0),
             yes: false,
         },
@@ -113,7 +113,7 @@ fn laid(
     sets: &Vec<Quartered>,
     numbers: &Vec<u32>,
     calls: u32,
-) -> Result<(Desk, Chair), AllocError>
+) -> Result<(QuadrantTable, Chair), AllocError>
     requires n { (1 ≤ n) × (n ≤ 64) }
     requires horizon { (1 ≤ horizon) × (horizon ≤ 8192) }
     requires within { AreWithin n horizon sets.now.items }
@@ -153,7 +153,7 @@ fn rooms(alloc: Global, callers: usize, calls: usize) -> Result<Vec<Vec<ClaimEnt
 
 // Adds a pass for each number, with a seat of its own and one of the rooms.
 fn seat_all(
-    desk: &Desk,
+    desk: &QuadrantTable,
     mut root: Chair,
     numbers: &Vec<u32>,
     calls: u32,
@@ -191,7 +191,7 @@ fn seated(
     sets: &Vec<Quartered>,
     numbers: &Vec<u32>,
     calls: u32,
-) -> Result<(Desk, Vec<ShardPass>), AllocError>
+) -> Result<(QuadrantTable, Vec<ShardPass>), AllocError>
     requires n { (1 ≤ n) × (n ≤ 64) }
     requires horizon { (1 ≤ horizon) × (horizon ≤ 8192) }
     requires within { AreWithin n horizon sets.now.items }

@@ -2,21 +2,21 @@
 
 ghost use Rattle.std.specs.Prelude.{◌≡◌, [], ◌∷◌, ◌++◌, ◌+◌, ◌<◌, ◌≤◌, ℕ, filter, length, not, ◌==◌, true, vec_capacity};
 ghost use Rattle.aim_geometry.specs.Cells.{Cell};
-ghost use Rattle.aim_pool.specs.Spans.{in_spans};
+ghost use Rattle.aim_sheets.specs.Spans.{in_spans};
 ghost use Rattle.aim_tiles.specs.Cells.{has_cell};
 ghost use Rattle.aim_tiles.specs.Sheets.{AreAhead, AreTiles};
 ghost use Rattle.aim_shards.specs.Clear.{IsClear};
 ghost use Rattle.aim_shards.specs.Claims.{changed};
 
 use crate::claims::{ClaimAct, ClaimEntry};
-use aim_pool::Sheet;
+use aim_sheets::Sheet;
 use aim_tiles::{IdleTable, Steps};
 use std::marker::Brand;
 use std::sync::ledger::{Blank, Ledger};
 
 /// What the holder of the turn is about to enter.
 #[derive(Clone, Copy)]
-pub struct Plan {
+pub struct QuadrantPlan {
     pub act: ClaimAct,
     pub yes: bool,
 }
@@ -26,7 +26,7 @@ pub struct Plan {
 pub struct Quarter {
     pub entries: Vec<ClaimEntry>,
     pub table: IdleTable,
-    pub plan: Plan,
+    pub plan: QuadrantPlan,
 }
 
 // The table, and whether no cell of the sheet is taken there.

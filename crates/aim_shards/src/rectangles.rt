@@ -3,11 +3,11 @@
 ghost use Rattle.std.specs.Prelude.{◌≡◌, ◌≢◌, ◌+◌, ◌-◌, ◌*◌, ◌<◌, ◌≤◌, ◌==◌, ◌&&◌, ◌||◌, ◌↔◌, IsTrue, ℕ, length, All, IfOk};
 ghost use Rattle.aim_geometry.specs.Cells.{Cell};
 ghost use Rattle.aim_geometry.specs.Rects.{has_bit};
-ghost use Rattle.aim_pool.specs.Spans.{in_spans};
+ghost use Rattle.aim_sheets.specs.Spans.{in_spans};
 ghost use Rattle.aim_shards.specs.Fitting.{AreSheets};
 ghost use Rattle.aim_shards.specs.Rectangles.{FitsGrid, in_rectangle, is_between};
 
-use aim_pool::{Pool, Sheet, Span};
+use aim_sheets::{Pool, Sheet, Span};
 use std::alloc::{AllocError, Global};
 
 /// The tiles of some neighbouring rows and columns in some steps, the last ones of each included.

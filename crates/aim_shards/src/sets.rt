@@ -3,7 +3,7 @@
 ghost use Rattle.std.specs.Prelude.{◌≡◌, ◌<◌, ◌+◌, [], length, IfOk};
 ghost use Rattle.aim_shards.specs.Sets.{is_empty, lies_in, part, is_some, chosen, SameParts, IsOf};
 
-use aim_pool::{Pool, Sheet};
+use aim_sheets::{Pool, Sheet};
 use std::alloc::{AllocError, Global};
 use std::marker::Model;
 

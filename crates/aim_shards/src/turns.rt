@@ -11,10 +11,10 @@ ghost use Rattle.aim_shards.specs.Found.{IsFound};
 ghost use Rattle.aim_shards.specs.Working.{head_or, entry, Rests, Works, Gives, TurnCame, InHand, TakesOut, IsEmptied, PutsIn, HasRoom, Announces, Notes};
 
 use crate::claims::ClaimEntry;
-use crate::quarter::{Plan, Quarter};
-use crate::rule::{Chair, Desk, Draw, Enter, Look, ServeNext};
+use crate::quarter::{QuadrantPlan, Quarter};
+use crate::rule::{Chair, Draw, Enter, Look, QuadrantTable, ServeNext};
 use crate::sets::Quartered;
-use aim_pool::Sheet;
+use aim_sheets::Sheet;
 use std::hint;
 use std::sync::Wait;
 
@@ -25,7 +25,7 @@ const TICKET: usize = 8;
 const SERVING: usize = 4;
 
 // Waits for the quadrant's turn. Its caller went through the quadrant's door, so the ticket is served at once.
-fn enter<R: Wait>(rt: &R, desk: &Desk, seat: &mut Chair, quadrant: usize)
+fn enter<R: Wait>(rt: &R, desk: &QuadrantTable, seat: &mut Chair, quadrant: usize)
     requires desk { (seat.old.table_id ≡ desk.now.shared.table_id) × (desk.now.shared.table_id.words ≡ 9) }
     requires quadrant { quadrant < 4 }
     requires works { ((n : ℕ) × (seat.old.me.0 ≡ working seat.old.me.0.terms n seat.old.me.0.held seat.old.me.0.mine)) × (length seat.old.me.0.held ≤ 3) }
@@ -44,7 +44,7 @@ fn enter<R: Wait>(rt: &R, desk: &Desk, seat: &mut Chair, quadrant: usize)
 }
 
 // Takes the value out of the slot that the seat has in hand.
-fn take(desk: &Desk, seat: &mut Chair, quadrant: usize) -> Quarter
+fn take(desk: &QuadrantTable, seat: &mut Chair, quadrant: usize) -> Quarter
     requires desk { seat.old.table_id ≡ desk.now.shared.table_id }
     requires held { InHand quadrant seat.old.me }
     ensures seat { (seat.new.table_id ≡ seat.old.table_id) × (seat.new.id ≡ seat.old.id) }
@@ -57,7 +57,7 @@ fn take(desk: &Desk, seat: &mut Chair, quadrant: usize) -> Quarter
 }
 
 // Puts the value back.
-fn put(desk: &Desk, seat: &mut Chair, quadrant: usize, quarter: Quarter)
+fn put(desk: &QuadrantTable, seat: &mut Chair, quadrant: usize, quarter: Quarter)
     requires desk { seat.old.table_id ≡ desk.now.shared.table_id }
     requires held { IsEmptied quadrant seat.old.me }
     ensures seat { (seat.new.table_id ≡ seat.old.table_id) × (seat.new.id ≡ seat.old.id) }
@@ -69,7 +69,7 @@ fn put(desk: &Desk, seat: &mut Chair, quadrant: usize, quarter: Quarter)
 }
 
 // Whether the sheet's cells are free in the quadrant whose slot the seat has in hand.
-fn is_free(desk: &Desk, seat: &mut Chair, quadrant: usize, sheet: &Sheet) -> bool
+fn is_free(desk: &QuadrantTable, seat: &mut Chair, quadrant: usize, sheet: &Sheet) -> bool
     requires desk { seat.old.table_id ≡ desk.now.shared.table_id }
     requires held { InHand quadrant seat.old.me }
     requires tiles { (h : InHand quadrant seat.old.me) → AreTiles h.value.table.size sheet.now.spans }
@@ -83,7 +83,7 @@ fn is_free(desk: &Desk, seat: &mut Chair, quadrant: usize, sheet: &Sheet) -> boo
 }
 
 // Announces in the slot in hand what is about to be entered.
-fn announce(desk: &Desk, seat: &mut Chair, quadrant: usize, plan: Plan)
+fn announce(desk: &QuadrantTable, seat: &mut Chair, quadrant: usize, plan: QuadrantPlan)
     requires desk { seat.old.table_id ≡ desk.now.shared.table_id }
     requires held { InHand quadrant seat.old.me }
     ensures seat { (seat.new.table_id ≡ seat.old.table_id) × (seat.new.id ≡ seat.old.id) }
@@ -95,7 +95,7 @@ fn announce(desk: &Desk, seat: &mut Chair, quadrant: usize, plan: Plan)
 }
 
 // Adds the entry to the list of the quadrant whose slot the seat has in hand. It claims or frees the sheet's cells.
-fn note(desk: &Desk, seat: &mut Chair, quadrant: usize, entry: ClaimEntry, sheet: &Sheet)
+fn note(desk: &QuadrantTable, seat: &mut Chair, quadrant: usize, entry: ClaimEntry, sheet: &Sheet)
     requires desk { seat.old.table_id ≡ desk.now.shared.table_id }
     requires held { HasRoom quadrant sheet.now.spans seat.old.me }
     ensures seat { (seat.new.table_id ≡ seat.old.table_id) × (seat.new.id ≡ seat.old.id) }
@@ -115,7 +115,7 @@ pub(crate) struct Found {
 // Takes the quadrant's turn, where the set touches it.
 fn take_turn<R: Wait>(
     rt: &R,
-    desk: &Desk,
+    desk: &QuadrantTable,
     seat: &mut Chair,
     number: u32,
     set: &Quartered,
@@ -146,7 +146,7 @@ fn take_turn<R: Wait>(
 // Takes the turns of the quadrants that the set touches, in rising order.
 pub(crate) fn take_turns<R: Wait>(
     rt: &R,
-    desk: &Desk,
+    desk: &QuadrantTable,
     seat: &mut Chair,
     number: u32,
     set: &Quartered,
@@ -170,7 +170,14 @@ pub(crate) fn take_turns<R: Wait>(
 }
 
 // Draws the ticket of the entry that the plan announces.
-fn draw(desk: &Desk, seat: &mut Chair, number: u32, set: &Quartered, last: usize, plan: Plan) -> u32
+fn draw(
+    desk: &QuadrantTable,
+    seat: &mut Chair,
+    number: u32,
+    set: &Quartered,
+    last: usize,
+    plan: QuadrantPlan,
+) -> u32
     requires desk { (seat.old.table_id ≡ desk.now.shared.table_id) × (desk.now.shared.table_id.words ≡ 9) }
     requires works { (qs : List ℕ) × Works number seat.old.me.0.terms seat.old.me.0.mine (last ∷ qs) seat.old.me }
     requires calls { length seat.old.me.0.mine < desk.now.shared.key.calls }
@@ -187,7 +194,7 @@ fn draw(desk: &Desk, seat: &mut Chair, number: u32, set: &Quartered, last: usize
 
 // Enters the entry and gives the quadrant's turn back, where the set touches it.
 fn give_turn(
-    desk: &Desk,
+    desk: &QuadrantTable,
     seat: &mut Chair,
     number: u32,
     set: &Quartered,
@@ -210,7 +217,13 @@ fn give_turn(
 }
 
 // Enters the entry and gives all turns back, the last one first.
-fn give_turns(desk: &Desk, seat: &mut Chair, number: u32, set: &Quartered, entry: ClaimEntry)
+fn give_turns(
+    desk: &QuadrantTable,
+    seat: &mut Chair,
+    number: u32,
+    set: &Quartered,
+    entry: ClaimEntry,
+)
     requires desk { (seat.old.table_id ≡ desk.now.shared.table_id) × (desk.now.shared.table_id.words ≡ 9) }
     requires gives { Gives number seat.old.me.0.terms seat.old.me.0.mine set.now entry (touched set.now 4) seat.old.me }
     requires of { IsOf seat.old.me.0.terms.sets set.now }
@@ -226,12 +239,12 @@ fn give_turns(desk: &Desk, seat: &mut Chair, number: u32, set: &Quartered, entry
 
 // Makes the entry that the plan announces, and gives the turns back.
 pub(crate) fn make(
-    desk: &Desk,
+    desk: &QuadrantTable,
     seat: &mut Chair,
     number: u32,
     set: &Quartered,
     last: usize,
-    plan: Plan,
+    plan: QuadrantPlan,
 ) -> ClaimEntry
     requires desk { (seat.old.table_id ≡ desk.now.shared.table_id) × (desk.now.shared.table_id.words ≡ 9) }
     requires works { Works number seat.old.me.0.terms seat.old.me.0.mine (touched set.now 4) seat.old.me }

@@ -1,11 +1,11 @@
 //! What a seat knows.
 
 use crate::claims::ClaimEntry;
-use aim_pool::Span;
+use aim_sheets::Span;
 use std::collections::LinkedList;
 
 /// A quadrant's turn: the ticket that it came with, and the quadrant's entries.
-pub struct Turn {
+pub struct QuadrantTurn {
     pub quadrant: u64,
     pub ticket: u64,
     pub seen: LinkedList<ClaimEntry>,
@@ -20,7 +20,7 @@ pub struct Terms {
 }
 
 /// What a seat at the table knows. It stands in contracts alone, and no value of it is made.
-pub struct View {
+pub struct ShardView {
     /// What was fixed at the opening.
     pub terms: Terms,
     /// The caller's number. The seat of the opening and of the closing has none.
@@ -28,7 +28,7 @@ pub struct View {
     /// The quadrant and the ticket that it waits with: none or one.
     pub waiting: LinkedList<(u64, u64)>,
     /// The turns that it has, the last one first.
-    pub held: LinkedList<Turn>,
+    pub held: LinkedList<QuadrantTurn>,
     /// The caller's entries.
     pub mine: LinkedList<ClaimEntry>,
     /// The numbers that it has to give or took over, each with its entries.

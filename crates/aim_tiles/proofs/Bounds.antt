@@ -7,10 +7,10 @@ use Rattle.std.proofs.lemmas.Nat.{leading_top, pow_pos, div-add-mod', mod_below,
 use Rattle.std.proofs.lemmas.Nat.Bits.{bit_at_above}
 use Rattle.std.proofs.lemmas.List.{get_or_default}
 use Rattle.std.proofs.lemmas.List.Folds.{list_any_at, Any-from_list_any}
-use Rattle.aim_pool.specs.declared.spans.Span.{Span}
+use Rattle.aim_sheets.specs.declared.spans.Span.{Span}
 use Rattle.aim_geometry.specs.Cells.{Cell, cell_at}
 use Rattle.aim_geometry.specs.Rects.{has_bit}
-use Rattle.aim_pool.specs.Spans.{is_at, in_span, in_spans, AreMarked}
+use Rattle.aim_sheets.specs.Spans.{is_at, in_span, in_spans, AreMarked}
 use Rattle.aim_tiles.specs.Cells.{TakenCells, in_range, has_cell, in_box}
 use Rattle.aim_tiles.specs.Sheets.{AreTiles, AreAhead}
 use Rattle.aim_tiles.proofs.Writes.{row_of_span, step_of_span, below_power, one_bit}

@@ -6,7 +6,7 @@ use Rattle.std.specs.Cmp.{both_ways as same_tests}
 use Rattle.std.proofs.lemmas.Nat.{same_from_place}
 use Rattle.aim_geometry.specs.Cells.{Cell}
 use Rattle.aim_geometry.specs.Rects.{has_bit}
-use Rattle.aim_pool.proofs.Masks.{no_bit}
+use Rattle.aim_sheets.proofs.Masks.{no_bit}
 use Rattle.aim_tiles.specs.Cells.{in_box}
 use Rattle.aim_tiles.specs.Pages.{place_of, has_mark}
 use Rattle.aim_tiles.proofs.Sets.{InBox, box_parts}

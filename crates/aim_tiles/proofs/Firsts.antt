@@ -6,11 +6,11 @@ use Rattle.std.specs.Ordering.{is_le, nat_cmp}
 use Rattle.std.proofs.lemmas.Bool.{and_parts, and_from, both_ways, false_from_ne_true, cases_lt, cases_order, cases_eq, eq-eqb, lt-ltb, le-ltb}
 use Rattle.std.proofs.lemmas.List.{get_or_default, get_or-drop, get_or-take, length-take, length-drop}
 use Rattle.std.proofs.lemmas.List.Folds.{list_any_at, Any-from_list_any}
-use Rattle.aim_pool.specs.declared.spans.Span.{Span}
+use Rattle.aim_sheets.specs.declared.spans.Span.{Span}
 use Rattle.aim_geometry.specs.Cells.{Cell, cell_at}
 use Rattle.aim_geometry.specs.Rects.{has_bit}
-use Rattle.aim_pool.specs.Spans.{is_at, in_span, in_spans, AreRising, AreMarked}
-use Rattle.aim_pool.proofs.Order.{Precedes, precedes_parts, is_at_parts}
+use Rattle.aim_sheets.specs.Spans.{is_at, in_span, in_spans, AreRising, AreMarked}
+use Rattle.aim_sheets.proofs.Order.{Precedes, precedes_parts, is_at_parts}
 use Rattle.aim_tiles.specs.Cells.{TakenCells, cell_cmp, has_cell}
 use Rattle.aim_tiles.specs.Pages.{is_marked}
 use Rattle.aim_tiles.specs.Searches.{is_hit, is_taken, IsClear, IsFirst, IsFirstHit, IsRun}

@@ -7,12 +7,12 @@ use Rattle.std.proofs.lemmas.Nat.{and_le_l}
 use Rattle.std.proofs.lemmas.Nat.Bits.{bit_at_not, bit_at-lt, bit_at-trailing_zeros}
 use Rattle.std.proofs.lemmas.List.{get_or_default, get_or-drop, get_or-take}
 use Rattle.std.proofs.lemmas.List.Folds.{list_any_at}
-use Rattle.aim_pool.specs.declared.spans.Span.{Span}
+use Rattle.aim_sheets.specs.declared.spans.Span.{Span}
 use Rattle.aim_geometry.specs.Cells.{Cell, cell_at}
 use Rattle.aim_geometry.specs.Rects.{has_bit}
-use Rattle.aim_pool.specs.Spans.{is_at, in_span, in_spans, AreMarked}
+use Rattle.aim_sheets.specs.Spans.{is_at, in_span, in_spans, AreMarked}
 use Rattle.aim_geometry.proofs.Bits.{has_bit_and}
-use Rattle.aim_pool.proofs.Masks.{no_bit}
+use Rattle.aim_sheets.proofs.Masks.{no_bit}
 use Rattle.aim_tiles.specs.Cells.{in_box, in_range}
 use Rattle.aim_tiles.specs.Pages.{place_of, has_mark, is_marked}
 use Rattle.aim_tiles.specs.Searches.{is_hit, IsClear, IsFirstHit, IsRun}

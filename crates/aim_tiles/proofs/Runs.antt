@@ -5,8 +5,8 @@ use Rattle.std.proofs.Math.Nat.{mul-add, zero-mul}
 use Rattle.std.proofs.lemmas.Bool.{cases_eq, le-leb}
 use Rattle.std.proofs.lemmas.List.{get_or-set_same, get_or-set_other, get_or_default, take_all}
 use Rattle.aim_geometry.specs.Cells.{Cell}
-use Rattle.aim_pool.specs.declared.spans.Span.{Span}
-use Rattle.aim_pool.specs.Spans.{in_span, in_spans, AreMarked}
+use Rattle.aim_sheets.specs.declared.spans.Span.{Span}
+use Rattle.aim_sheets.specs.Spans.{in_span, in_spans, AreMarked}
 use Rattle.aim_tiles.specs.Cells.{in_box}
 use Rattle.aim_tiles.specs.Pages.{place_of, has_mark}
 use Rattle.aim_tiles.specs.Searches.{IsRun, IsClear}

@@ -7,11 +7,11 @@ use Rattle.std.proofs.Math.Nat.{add-mod-mod, add-mod_left, mod-eq_of_lt}
 use Rattle.std.proofs.lemmas.Bool.{and_parts, and_from, and_right, cases_lt, le-leb, leb-true, lt-ltb}
 use Rattle.std.proofs.lemmas.Nat.{mod_below}
 use Rattle.std.proofs.lemmas.List.{get_or-replicate, get_or_past, length-replicate}
-use Rattle.aim_pool.specs.declared.spans.Span.{Span}
+use Rattle.aim_sheets.specs.declared.spans.Span.{Span}
 use Rattle.aim_geometry.specs.Cells.{Cell, cell_at}
 use Rattle.aim_geometry.specs.Rects.{has_bit}
-use Rattle.aim_pool.specs.Spans.{in_spans}
-use Rattle.aim_pool.proofs.Masks.{no_bit}
+use Rattle.aim_sheets.specs.Spans.{in_spans}
+use Rattle.aim_sheets.proofs.Masks.{no_bit}
 use Rattle.aim_tiles.specs.Cells.{TakenCells, cell_cmp, has_cell, in_box, in_range}
 use Rattle.aim_tiles.specs.Pages.{has_mark, is_marked, marked_cells, place_of}
 use Rattle.aim_tiles.specs.Sheets.{AreTiles, AreAhead}

@@ -7,10 +7,10 @@ use Rattle.std.proofs.lemmas.Bool.{and_parts, and_from, cases_eq, cases_order, l
 use Rattle.std.proofs.lemmas.Nat.{leading_top, le-div, div_below, pow_pos, same_from_place, div-add-mod'}
 use Rattle.std.proofs.lemmas.Nat.Bits.{bit_at_not, bit_at-lt}
 use Rattle.std.proofs.lemmas.List.{get_or-set_same, get_or-set_other}
-use Rattle.aim_pool.specs.declared.spans.Span.{Span}
+use Rattle.aim_sheets.specs.declared.spans.Span.{Span}
 use Rattle.aim_geometry.specs.Cells.{Cell, cell_at}
 use Rattle.aim_geometry.specs.Rects.{has_bit}
-use Rattle.aim_pool.specs.Spans.{is_at, in_span, in_spans, AreMarked}
+use Rattle.aim_sheets.specs.Spans.{is_at, in_span, in_spans, AreMarked}
 use Rattle.aim_geometry.proofs.Bits.{has_bit_or, has_bit_and}
 use Rattle.aim_tiles.specs.Cells.{in_box, in_range}
 use Rattle.aim_tiles.specs.Pages.{place_of, has_mark}

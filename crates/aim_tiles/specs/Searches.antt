@@ -1,10 +1,10 @@
 -- The first of some cells.
 use Rattle.std.specs.Prelude.{◌≡◌, ℕ, ◌+◌, ◌<◌, Bool, true, false, not, ◌&&◌, List, [], length, slice_index, slice_index_or, Option, None, Some}
 use Rattle.std.specs.Ordering.{is_le}
-use Rattle.aim_pool.specs.declared.spans.Span.{Span}
-use Rattle.aim_pool.specs.Sheets.{Spans}
+use Rattle.aim_sheets.specs.declared.spans.Span.{Span}
+use Rattle.aim_sheets.specs.Sheets.{Spans}
 use Rattle.aim_geometry.specs.Cells.{Cell, cell_at}
-use Rattle.aim_pool.specs.Spans.{in_span, in_spans}
+use Rattle.aim_sheets.specs.Spans.{in_span, in_spans}
 use Rattle.aim_tiles.specs.Cells.{TakenCells, cell_cmp, has_cell}
 use Rattle.aim_tiles.specs.Pages.{is_marked}
 

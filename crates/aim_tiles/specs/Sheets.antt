@@ -1,8 +1,8 @@
 -- Where the cells of spans lie.
 use Rattle.std.specs.Prelude.{◌≡◌, ℕ, ◌<◌, true, List}
-use Rattle.aim_pool.specs.declared.spans.Span.{Span}
+use Rattle.aim_sheets.specs.declared.spans.Span.{Span}
 use Rattle.aim_geometry.specs.Cells.{Cell}
-use Rattle.aim_pool.specs.Spans.{in_spans}
+use Rattle.aim_sheets.specs.Spans.{in_spans}
 use Rattle.aim_tiles.specs.Cells.{in_range}
 
 -- the rows and columns of the spans' cells are below the size

@@ -3,7 +3,7 @@
 ghost use Rattle.std.specs.Prelude.{◌≡◌, ◌↔◌, ◌+◌, ◌<◌, ◌≤◌, ◌^◌, All, IsTrue};
 ghost use Rattle.aim_tiles.specs.Cells.{in_range};
 
-use aim_pool::Span;
+use aim_sheets::Span;
 
 // Whether the mask has no column from this one on.
 fn is_below(mask: u64, size: usize) -> bool

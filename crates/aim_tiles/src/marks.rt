@@ -2,14 +2,14 @@
 
 ghost use Rattle.std.specs.Prelude.{◌≡◌, ℕ, ◌+◌, ◌*◌, ◌<◌, ◌≤◌, ◌&&◌, ◌||◌, not, nat_le, true, length};
 ghost use Rattle.aim_geometry.specs.Cells.{Cell};
-ghost use Rattle.aim_pool.specs.Spans.{AreMarked, in_span, in_spans};
+ghost use Rattle.aim_sheets.specs.Spans.{AreMarked, in_span, in_spans};
 ghost use Rattle.aim_tiles.specs.Cells.{in_box};
 ghost use Rattle.aim_tiles.specs.Pages.{has_mark};
 ghost use Rattle.aim_tiles.specs.Sheets.{AreAhead, AreTiles};
 
 use crate::counters::Steps;
 use crate::pages::Pages;
-use aim_pool::Span;
+use aim_sheets::Span;
 use std::sync::ledger::Ledger;
 
 /// Marks the cells of the spans.

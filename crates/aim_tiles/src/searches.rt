@@ -4,14 +4,14 @@ ghost use Rattle.std.specs.Prelude.{◌≡◌, ℕ, ◌+◌, ◌<◌, ◌≤◌,
 ghost use Rattle.std.specs.Option.{option_copied};
 ghost use Rattle.aim_geometry.specs.Rects.{has_bit};
 ghost use Rattle.aim_geometry.specs.Cells.{cell_at};
-ghost use Rattle.aim_pool.specs.Spans.{AreMarked, in_spans};
+ghost use Rattle.aim_sheets.specs.Spans.{AreMarked, in_spans};
 ghost use Rattle.aim_tiles.specs.Searches.{is_hit, IsClear, IsFirstHit, IsRun, spans_of};
 ghost use Rattle.aim_tiles.specs.Sheets.{AreTiles};
 
 use crate::counters::Steps;
 use crate::lanes::meeting_from;
 use crate::pages::Pages;
-use aim_pool::{Sheet, Span};
+use aim_sheets::{Sheet, Span};
 use std::sync::ledger::Ledger;
 
 // Gathers the masks of the first spans, as far as they are of one step and of neighbouring rows, and

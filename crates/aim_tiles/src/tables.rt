@@ -3,7 +3,7 @@
 ghost use Rattle.std.specs.Prelude.{◌≡◌, ℕ, ◌+◌, ◌-◌, ◌*◌, ◌<◌, ◌≤◌, ◌&&◌, ◌||◌, not, nat_le, min, true, false, ◌↔◌, IsTrue, length, IfOk, IfNone, IfSome};
 ghost use Rattle.std.specs.FinSet as set;
 ghost use Rattle.aim_geometry.specs.Cells.{Cell, cell_at};
-ghost use Rattle.aim_pool.specs.Spans.{in_spans};
+ghost use Rattle.aim_sheets.specs.Spans.{in_spans};
 ghost use Rattle.aim_tiles.specs.Cells.{has_cell, in_box};
 ghost use Rattle.aim_tiles.specs.Searches.{is_taken, IsFirst, spans_of};
 ghost use Rattle.aim_tiles.specs.Sheets.{AreTiles, AreAhead};
@@ -15,7 +15,7 @@ use crate::counters::Steps;
 use crate::marks::{clear_pages, mark_spans, unmark_spans};
 use crate::pages::Pages;
 use crate::searches::first_in_spans;
-use aim_pool::Sheet;
+use aim_sheets::Sheet;
 use std::alloc::Global;
 use std::marker::{Brand, Model};
 use std::sync::ledger::Ledger;

@@ -1,6 +1,6 @@
 //! The calls of a day: vehicles come up in turn, each asks to cross, and some change their minds.
 
-use aim_msg::{Body, Message, Params, Reply, Turn};
+use aim_messages::{Body, Message, Params, Reply, Turn};
 
 /// How many calls a turn has at most.
 pub const CALLS: u32 = 4;

@@ -2,8 +2,8 @@
 //! the second goes straight and the third turns right.
 
 use aim_geometry::{Grid, Ground, Times};
-use aim_msg::Turn;
-use aim_paths::{Builder, Kind, Layout, Shape};
+use aim_layout::{Builder, Layout, PolicyKind, Shape};
+use aim_messages::Turn;
 use anyhow::{Result, bail};
 use std::alloc::Global;
 
@@ -93,7 +93,7 @@ fn add_paths(builder: &mut Builder) -> Result<()> {
 const SIDES: [u16; 4] = [0b111, 0b111_000, 0b111_000_000, 0b111_000_000_000];
 
 // Adds the policy, and the phases of lights where it has them.
-fn add_policy(builder: &mut Builder, kind: Kind) -> Result<()> {
+fn add_policy(builder: &mut Builder, kind: PolicyKind) -> Result<()> {
     if builder.add_policy(kind).is_err() {
         bail!("the policy has a fault");
     }
@@ -108,13 +108,13 @@ fn add_policy(builder: &mut Builder, kind: Kind) -> Result<()> {
 }
 
 // Adds the lanes' paths and the policy.
-fn fill(builder: &mut Builder, kind: Kind) -> Result<()> {
+fn fill(builder: &mut Builder, kind: PolicyKind) -> Result<()> {
     add_paths(builder)?;
     add_policy(builder, kind)
 }
 
 /// The layout with one policy. Where that has lights, the lanes of each side are green in turn.
-pub fn twelve_lanes(alloc: Global, kind: Kind) -> Result<Layout> {
+pub fn twelve_lanes(alloc: Global, kind: PolicyKind) -> Result<Layout> {
     let Ok(mut builder) = Builder::new(alloc, ground()?, 12) else {
         bail!("the layout finds no memory");
     };

@@ -1,7 +1,7 @@
 //! The turns of a day, which callers take together, and what came of them.
 
 use crate::day::{CALLS, held_after, message, moment};
-use aim_msg::{Entry, Message, Reply};
+use aim_messages::{Entry, Message, Reply};
 use anyhow::{Result, anyhow};
 use std::sync::atomic::{AtomicU32, Ordering};
 use std::time::Instant;

@@ -6,11 +6,12 @@
 //! with the server on one thread more. With no words a few turns are taken each way, and no time is printed.
 #![tactic(auto)]
 
+mod mailbox;
 mod turns;
 
 use anyhow::Result;
 use bench_day::{Taken, Turns};
-use bench_mailbox::over_mailbox;
+use mailbox::over_mailbox;
 use std::alloc::Global;
 use std::env;
 use std::marker::Brand;

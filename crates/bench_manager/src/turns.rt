@@ -2,14 +2,14 @@
 
 ghost use Rattle.std.specs.Prelude.{◌≡◌, ◌<◌, All, map, IfOk};
 ghost use Rattle.std.specs.List.{range_with_len};
-ghost use Rattle.aim_msg.specs.declared.entries.TheConstants.{OPERATOR};
-ghost use Rattle.aim_turn.specs.Models.{IsPassOf, IsSamePass, new_pass};
+ghost use Rattle.aim_messages.specs.declared.entries.TheConstants.{OPERATOR};
+ghost use Rattle.aim_turnstile.specs.Models.{IsPassOf, IsSamePass, new_pass};
 
-use aim_buffers::prepare_from;
+use aim_layout::PolicyKind;
 use aim_manager::{Manager, ManagerPass, Opened};
-use aim_msg::{LATEST_MOMENT, Message, Reply};
-use aim_paths::Kind;
-use aim_pool::Pool;
+use aim_messages::{LATEST_MOMENT, Message, Reply};
+use aim_requests::prepare_from;
+use aim_sheets::Pool;
 use anyhow::{Result, anyhow};
 use bench_day::{Caller, ROOM, SHEETS, SPANS, Taken, Turns, twelve_lanes};
 use std::alloc::Global;
@@ -108,7 +108,7 @@ fn open(alloc: Global, callers: u32) -> Result<Opened>
     ensures passes { IfOk result (λ o. o.passes.items ≡ map (new_pass o.manager) (range_with_len 0 callers)) }
     ensures operator { IfOk result (λ o. o.operator ≡ new_pass o.manager OPERATOR) }
 {
-    let layout = twelve_lanes(alloc, Kind::Fcfs)?;
+    let layout = twelve_lanes(alloc, PolicyKind::Fcfs)?;
     match Manager::open(alloc, layout, callers, ROOM) {
         Ok(opened) => Ok(opened),
         Err(_) => Err(anyhow!("the manager isn't opened")),

@@ -1,6 +1,6 @@
 -- Sheets that a table can claim. No public clause cites it: only the program's own functions.
 use Rattle.std.specs.Prelude.{List, All}
-use Rattle.aim_pool.specs.Sheets.{Spans}
+use Rattle.aim_sheets.specs.Sheets.{Spans}
 use Rattle.aim_tiles.specs.Cells.{TakenCells}
 use Rattle.aim_tiles.specs.Sheets.{AreTiles, AreAhead}
 

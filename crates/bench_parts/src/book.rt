@@ -4,10 +4,10 @@
 ghost use Rattle.std.specs.Prelude.{◌≡◌, ◌<◌};
 
 use aim_book::Book;
-use aim_buffers::prepare;
-use aim_msg::{LATEST_MOMENT, Message, Reply};
-use aim_paths::Kind;
-use aim_pool::Pool;
+use aim_layout::PolicyKind;
+use aim_messages::{LATEST_MOMENT, Message, Reply};
+use aim_requests::prepare;
+use aim_sheets::Pool;
 use aim_tiles::Steps;
 use anyhow::{Context, Result, anyhow};
 use bench_day::{CALLS, SPANS, held_after, message, moment, nanoseconds, twelve_lanes};
@@ -18,10 +18,10 @@ use std::sync::ledger::{Blank, Ledger};
 use std::time::{Clock, Instant};
 
 // The days, by their policies.
-const DAYS: [(&str, Kind); 3] = [
-    ("plain", Kind::Fcfs),
-    ("lights", Kind::Light),
-    ("emergencies", Kind::Emerg),
+const DAYS: [(&str, PolicyKind); 3] = [
+    ("plain", PolicyKind::Fcfs),
+    ("lights", PolicyKind::Light),
+    ("emergencies", PolicyKind::Emerg),
 ];
 
 /// What a day has had, and what it took, in nanoseconds.
@@ -126,7 +126,7 @@ fn make_turns<L: Ledger>(
 }
 
 // A book over the twelve lanes, under one policy.
-fn open<L: Ledger>(alloc: Global, kind: Kind, vehicles: u32) -> Result<Book<L>> {
+fn open<L: Ledger>(alloc: Global, kind: PolicyKind, vehicles: u32) -> Result<Book<L>> {
     let layout = twelve_lanes(alloc, kind)?;
     match Book::<L>::open(alloc, layout, vehicles, 262_144) {
         Ok(book) => Ok(book),
@@ -139,7 +139,7 @@ fn pass_day<L: Ledger>(
     rt: &impl Clock,
     alloc: Global,
     blank: Blank,
-    kind: Kind,
+    kind: PolicyKind,
     vehicles: u32,
     turns: u32,
 ) -> Result<Tally>

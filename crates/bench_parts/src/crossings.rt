@@ -1,12 +1,12 @@
 //! How long it takes to prepare requests: a mix of vehicles on the twelve lanes of a realistic layout, with its buffers.
 
 ghost use Rattle.std.specs.Prelude.{◌≡◌, ◌<◌, ◌≤◌};
-ghost use Rattle.aim_buffers.specs.Shapes.{ArePreparedFor};
+ghost use Rattle.aim_requests.specs.Shapes.{ArePreparedFor};
 
-use aim_buffers::{Prepared, Shapes, prepare};
-use aim_msg::{Body, Message, Params, Turn};
-use aim_paths::{Kind, Layout};
-use aim_pool::Pool;
+use aim_layout::{Layout, PolicyKind};
+use aim_messages::{Body, Message, Params, Turn};
+use aim_requests::{Prepared, Shapes, prepare};
+use aim_sheets::Pool;
 use anyhow::{Context, Result};
 use bench_day::{nanoseconds, twelve_lanes};
 use std::alloc::Global;
@@ -165,7 +165,7 @@ fn measure_known(
 /// they have. Where a number was asked for, it prints the times of one too.
 pub fn run(rt: &HostRuntime, asked: Option<u32>) -> Result<()> {
     let rounds = u64::from(asked.unwrap_or(0)).max(12);
-    let layout = twelve_lanes(rt.alloc(), Kind::Fcfs)?;
+    let layout = twelve_lanes(rt.alloc(), PolicyKind::Fcfs)?;
     let (spans, alone) = measure(rt, rt.alloc(), &layout, rounds)?;
     let (same, known) = measure_known(rt, rt.alloc(), &layout, rounds)?;
     println!(rt; "spans: {spans} by themselves, {same} from shapes")?;

@@ -7,19 +7,21 @@
 
 mod book;
 mod crossings;
+mod entries;
+mod json;
+mod text;
 mod tiles;
 mod words;
 
 use anyhow::Result;
-use bench_texts::{measure_json, measure_text};
 use std::env;
 use words::{PARTS, Part, number, numbers, part_of};
 
 // Measures one part, with the numbers that the words ask for.
 fn measure(rt: &HostRuntime, part: Part, words: &[String]) -> Result<()> {
     match part {
-        Part::Text => measure_text(rt, number(words)?),
-        Part::Json => measure_json(rt, rt.alloc(), number(words)?),
+        Part::Text => text::measure_text(rt, number(words)?),
+        Part::Json => json::measure_json(rt, rt.alloc(), number(words)?),
         Part::Tiles => tiles::run(rt, number(words)?),
         Part::Crossings => crossings::run(rt, number(words)?),
         Part::Book => book::run(rt, numbers(words)?),

@@ -5,7 +5,7 @@ ghost use Rattle.std.specs.Prelude.{◌≡◌, ◌^◌, ◌<◌, length};
 ghost use Rattle.std.specs.Bool.{OnTrue};
 ghost use Rattle.bench_parts.specs.Ready.{AreReady};
 
-use aim_pool::{Pool, Sheet, Span};
+use aim_sheets::{Pool, Sheet, Span};
 use aim_tiles::{Steps, Table};
 use anyhow::{Context, Result};
 use bench_day::nanoseconds;

@@ -2,17 +2,16 @@
 
 ghost use Rattle.std.specs.Prelude.{◌≡◌, ◌<◌, ◌≤◌, []};
 ghost use Rattle.aim_driver.specs.Models.{step_of};
-ghost use Rattle.aim_turn.specs.Models.{IsPassOf};
-ghost use Rattle.aim_agent.specs.Agents.{IsAgentOf};
+ghost use Rattle.aim_turnstile.specs.Models.{IsPassOf};
+ghost use Rattle.aim_agents.specs.Agents.{IsAgentOf};
 
 use crate::watch::Watch;
-use aim_agent::{Agent, Trouble};
-use aim_driver::{Changes, DrivePlan, Driver, LogItem};
-use aim_links::{Fate, Link};
+use aim_agents::{Agent, Trouble};
+use aim_driver::{Changes, DrivePlan, Driver, Fate, Link, LogItem};
+use aim_grid::acked_at;
 use aim_manager::{Manager, ManagerPass, Opened};
-use aim_msg::{Body, Entry, Message, Params, Reason, Reply};
-use aim_pool::Pool;
-use aim_travel::acked_at;
+use aim_messages::{Body, Entry, Message, Params, Reason, Reply};
+use aim_sheets::Pool;
 use std::alloc::Global;
 use std::process::Abort;
 use std::sync::Wait;

@@ -1,8 +1,7 @@
 //! Lines and scripts of claims, and what is printed.
 
-use aim_callers::shards;
-use aim_claims::{ShardLine, read_shard_line};
-use aim_msg::LineKind;
+use aim_messages::LineKind;
+use aim_shards_command::{ShardLine, read_shard_line, shards};
 use std::alloc::Global;
 use std::process::Abort;
 use std::sync::Wait;

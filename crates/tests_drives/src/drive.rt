@@ -1,15 +1,17 @@
 //! A whole drive of two vehicles, of whose messages some are lost, repeated and delayed.
 
 ghost use Rattle.std.specs.Prelude.{◌≡◌, ◌<◌, ◌≤◌};
-ghost use Rattle.aim_plans.specs.Fits.{IsFit};
+ghost use Rattle.aim_drive_script.specs.Fits.{IsFit};
 
 use crate::watch::Watch;
 use aim_drive::{Drove, run_script};
-use aim_msg::Order;
-use aim_plans::{DriveScript, Ordered, read_drive};
+use aim_drive_script::{DriveScript, read_drive};
+use aim_driver::Ordered;
+use aim_messages::Order;
 use aim_report::{put_entries, put_log};
 use std::alloc::Global;
 use std::process::Abort;
+use std::sync::atomic::Ordering;
 use tests_samples::source_of;
 
 const SCRIPT: &[u8] =
@@ -60,4 +62,7 @@ fn messages_are_lost_repeated_and_delayed(rt: HostRuntime) {
     put_left(&rt, &mut text, &drove);
     drop(drove);
     assert!(rt; &text[..] == TEXT);
+    // The gate was told of each call of a vehicle, and of its step.
+    assert!(rt; gate.calls.load(Ordering::SeqCst) == 11);
+    assert!(rt; gate.steps.load(Ordering::SeqCst) == 137);
 }

@@ -1,8 +1,7 @@
 //! A driver and a link, call by call.
 
-use aim_driver::{Changes, DrivePlan, Driver};
-use aim_links::{Fate, Link};
-use aim_msg::{Body, LATEST_MOMENT, Message, Params, Reply};
+use aim_driver::{Changes, DrivePlan, Driver, Fate, Link};
+use aim_messages::{Body, LATEST_MOMENT, Message, Params, Reply};
 use std::alloc::Global;
 use std::process::Abort;
 use tests_samples::CAR;

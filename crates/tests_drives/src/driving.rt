@@ -1,7 +1,7 @@
 //! The command of drives, in two runs side by side.
 
-use aim_agent::Gate;
-use aim_driving::drive;
+use aim_agents::Gate;
+use aim_drive_command::drive;
 use std::sync::atomic::{AtomicU64, Ordering};
 use std::thread::yield_now;
 use tests_samples::{sink_of, source_of};
@@ -67,5 +67,8 @@ fn two_drivers_call_at_once(rt: HostRuntime) {
         gate.missed.load(Ordering::SeqCst) == 0,
         "the runs didn't go side by side"
     );
+    // The gate was told of each call.
+    assert!(rt; gate.first.load(Ordering::SeqCst) == 1);
+    assert!(rt; gate.second.load(Ordering::SeqCst) == 2);
     assert!(rt; sink.bytes().ends_with(b"end 3\n"));
 }

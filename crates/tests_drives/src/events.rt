@@ -1,7 +1,7 @@
 //! A script of events.
 
-use aim_events::{Event, EventScript, read_events};
-use aim_msg::{Body, Message};
+use aim_mail_script::{Event, EventScript, read_events};
+use aim_messages::{Body, Message};
 use tests_samples::{CAR, source_of};
 
 // Three events of two vehicles.

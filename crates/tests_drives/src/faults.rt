@@ -1,6 +1,6 @@
 //! A replay whose source or sink fails at one of its calls.
 
-use aim_replay::replay;
+use aim_replay_command::{WordLines, replay};
 use std::alloc::Global;
 use std::process::Abort;
 use tests_samples::{sink_of, source_of};
@@ -31,7 +31,7 @@ fn ends_so(rt: &impl Abort, alloc: Global, fault: (&[u64], &[u64], u8, usize)) -
     let (reads, writes, status, written) = fault;
     let mut source = source_of(alloc, SCRIPT, reads).expect(rt, "memory for a script");
     let mut sink = sink_of(alloc, 4096, writes).expect(rt, "memory for a sink");
-    let ended = replay(alloc, &mut source, &mut sink, Some(15));
+    let ended = replay::<WordLines, _, _>(alloc, &mut source, &mut sink, Some(15));
     let bytes = sink.bytes();
     ended == status && bytes.len() == written && TEXT.starts_with(bytes)
 }

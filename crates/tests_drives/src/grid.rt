@@ -1,13 +1,13 @@
 //! Scripts of several crossings, and routes over two of them.
 
 ghost use Rattle.std.specs.Prelude.{◌<◌, ◌≤◌};
-ghost use Rattle.aim_routes.specs.Fits.{AreWithin};
+ghost use Rattle.aim_grid_script.specs.Fits.{AreWithin};
 
 use crate::drive::put_left;
 use crate::watch::Watch;
-use aim_crossings::run_routes;
 use aim_driver::DrivePlan;
-use aim_routes::{GridLine, PlannedLeg, Routes, read_grid, read_grid_line};
+use aim_grid::run_routes;
+use aim_grid_script::{GridLine, PlannedLeg, Routes, read_grid, read_grid_line};
 use std::alloc::Global;
 use std::process::Abort;
 use std::sync::Wait;
@@ -106,6 +106,9 @@ fn travels(rt: &(impl Threads + Wait + Sync + Abort), alloc: Global, workers: u3
         gate.missed.load(Ordering::SeqCst) == 0,
         "the runs didn't go side by side"
     );
+    // The gate was told of each call, and of its step.
+    assert!(rt; gate.calls.load(Ordering::SeqCst) == 6);
+    assert!(rt; gate.steps.load(Ordering::SeqCst) == 123);
     drop(crossings);
 }
 

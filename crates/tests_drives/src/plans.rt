@@ -1,10 +1,10 @@
 //! Generated traffic, and the last lines of scripts.
 
 use crate::grid::numbers_of;
-use aim_driving::{print_traffic, traffic};
-use aim_msg::{LineKind, Turn};
-use aim_paths::{Layout, Path};
-use aim_plans::DriveScript;
+use aim_drive_command::{print_traffic, traffic};
+use aim_drive_script::DriveScript;
+use aim_layout::{Layout, Path};
+use aim_messages::{LineKind, Turn};
 use aim_script::{Decision, Kind, Limit, last_line, put_refused};
 use tests_samples::sink_of;
 

@@ -1,7 +1,6 @@
 //! Replays of scripts in both spellings, from bytes to bytes.
 
-use aim_json_replay::replay_json;
-use aim_replay::replay;
+use aim_replay_command::{JsonLines, WordLines, replay};
 use tests_samples::{sink_of, source_of};
 
 const SCRIPT: &[u8] =
@@ -19,8 +18,8 @@ fn confirmed_refused_and_switched(rt: HostRuntime) {
     let alloc = rt.alloc();
     let mut sink = sink_of(alloc, 8192, &[]).expect(&rt, "memory for the sink");
     let mut source = source_of(alloc, SCRIPT, &[]).expect(&rt, "memory for a script");
-    assert!(rt; replay(alloc, &mut source, &mut sink, Some(15)) == 0);
+    assert!(rt; replay::<WordLines, _, _>(alloc, &mut source, &mut sink, Some(15)) == 0);
     let mut json = source_of(alloc, JSON_SCRIPT, &[]).expect(&rt, "memory for a script");
-    assert!(rt; replay_json(alloc, &mut json, &mut sink) == 0);
+    assert!(rt; replay::<JsonLines, _, _>(alloc, &mut json, &mut sink, None) == 0);
     assert!(rt; sink.bytes() == TEXT);
 }

@@ -1,10 +1,10 @@
 //! What messages and replies say to a driver.
 
-use aim_links::{
+use aim_driver::{
     active_after_answer, active_after_sending, changed_by, held_in, is_a_cancel, is_a_change,
     is_a_done, is_stop, lead_after_answer, next_after_answer,
 };
-use aim_msg::{Body, Message, Reason, Reply};
+use aim_messages::{Body, Message, Reason, Reply};
 use tests_samples::CAR;
 
 /// What a message says to its sender, which is active on the reservation 4.

@@ -1,7 +1,7 @@
 //! What is printed of a drive, and the tiles on which its driver is.
 
 use aim_driver::LogItem;
-use aim_msg::{Act, Body, Entry, Message, Reply};
+use aim_messages::{Act, Body, Entry, Message, Reply};
 use aim_report::{put_end, put_entries, put_log, put_tiles};
 use aim_safety::occupied;
 use tests_samples::{CAR, PLAIN, WINDOWS, built};

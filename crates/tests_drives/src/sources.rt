@@ -1,9 +1,9 @@
 //! A source that fails.
 
-use aim_events::{EventEnding, read_events};
+use aim_drive_script::{Ending, read_drive};
+use aim_grid_script::{GridEnding, read_grid};
 use aim_io::MemSource;
-use aim_plans::{Ending, read_drive};
-use aim_routes::{GridEnding, read_grid};
+use aim_mail_script::{EventEnding, read_events};
 use std::alloc::Global;
 use tests_samples::source_of;
 

@@ -1,9 +1,9 @@
 //! A small register under the turn.
 ghost use Rattle.std.specs.Prelude.{◌≡◌};
-ghost use Rattle.aim_turn.specs.History.{Begins};
-ghost use Rattle.aim_turn.specs.Models.{IsPassOf, IsSamePass};
+ghost use Rattle.aim_turnstile.specs.History.{Begins};
+ghost use Rattle.aim_turnstile.specs.Models.{IsPassOf, IsSamePass};
 
-use aim_turn::{Pass, Turnstile};
+use aim_turnstile::{Pass, Turnstile};
 use std::process::Abort;
 use std::sync::Wait;
 use tests_samples::{Mark, Register, empty_register};

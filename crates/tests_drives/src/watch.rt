@@ -1,6 +1,6 @@
 //! A gate at which calls are counted, and at which vehicles may wait for each other.
 
-use aim_agent::Gate;
+use aim_agents::Gate;
 use std::sync::atomic::{AtomicU64, Ordering};
 use std::thread::yield_now;
 

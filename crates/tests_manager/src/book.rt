@@ -1,7 +1,7 @@
 //! A book that serves journals.
 
 ghost use Rattle.std.specs.Prelude.{◌≡◌, ◌<◌, ◌≤◌};
-ghost use Rattle.aim_msg.specs.declared.entries.TheConstants.{LATEST_MOMENT};
+ghost use Rattle.aim_messages.specs.declared.entries.TheConstants.{LATEST_MOMENT};
 
 use crate::asked::{
     GRANTED_OR_TAKEN, NUMBERS_AND_RESERVATIONS, OVER_A_CURVE, TAKEN_BY_BUFFERS, TAKEN_BY_WINDOWS,
@@ -9,9 +9,9 @@ use crate::asked::{
 use crate::policies::{GIVING_WAY, LIGHTS_AND_SIREN, SIREN};
 use aim_book::{Book, Full, Shapes};
 use aim_geometry::Times;
-use aim_msg::{Act, Entry, LATEST_MOMENT, Message, Order, Reply};
-use aim_pool::Pool;
-use aim_read_entries::read_entry;
+use aim_messages::{Act, Entry, LATEST_MOMENT, Message, Order, Reply};
+use aim_sheets::Pool;
+use aim_text_entries::read_entry;
 use aim_tiles::Steps;
 use std::alloc::Global;
 use std::marker::{Brand, Model};

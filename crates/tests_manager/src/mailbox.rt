@@ -2,12 +2,12 @@
 
 ghost use Rattle.std.specs.Prelude.{◌≡◌, ◌<◌, ◌≤◌, ◌∷◌, [], IfSome};
 ghost use Rattle.std.specs.Thread.{IsSync};
-ghost use Rattle.aim_mailbox.specs.Calls.{IsOfMail, IsSameClient};
+ghost use Rattle.aim_mail.specs.Calls.{IsOfMail, IsSameClient};
 
-use aim_mailbox::{Client, Ended, Full, Mailbox, OpenedMail, Served, Server, settle};
-use aim_msg::{Entry, Message, Reply};
-use aim_paths::Layout;
-use aim_pool::Pool;
+use aim_layout::Layout;
+use aim_mail::{Client, Ended, Full, Mailbox, OpenedMail, Served, Server, settle};
+use aim_messages::{Entry, Message, Reply};
+use aim_sheets::Pool;
 use std::alloc::Global;
 use std::marker::Brand;
 use std::process::Abort;

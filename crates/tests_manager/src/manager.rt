@@ -2,12 +2,12 @@
 
 ghost use Rattle.std.specs.Prelude.{◌≡◌, ◌<◌, ◌≤◌, map};
 ghost use Rattle.std.specs.List.{range_with_len};
-ghost use Rattle.aim_msg.specs.declared.entries.TheConstants.{OPERATOR};
-ghost use Rattle.aim_turn.specs.Models.{IsPassOf, IsSamePass, new_pass};
+ghost use Rattle.aim_messages.specs.declared.entries.TheConstants.{OPERATOR};
+ghost use Rattle.aim_turnstile.specs.Models.{IsPassOf, IsSamePass, new_pass};
 
 use aim_manager::{Full, Manager, ManagerPass, Opened};
-use aim_msg::{Entry, Message, OPERATOR, Order, Reason, Reply};
-use aim_pool::Pool;
+use aim_messages::{Entry, Message, OPERATOR, Order, Reason, Reply};
+use aim_sheets::Pool;
 use std::alloc::Global;
 use std::process::Abort;
 use std::sync::Wait;

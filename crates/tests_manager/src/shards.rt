@@ -5,7 +5,7 @@ ghost use Rattle.std.specs.Thread.{IsSync};
 ghost use Rattle.aim_shards.specs.Models.{IsPassOf, IsSamePass, count_up, new_pass};
 
 use aim_shards::{
-    ClaimAct, ClaimEntry, Claimed, Full, Hold, OpenedShards, Rectangle, ShardPass, Shards,
+    ClaimAct, ClaimEntry, Claimed, Hold, NoCallLeft, OpenedShards, Rectangle, ShardPass, Shards,
     are_fitting, history, sheets,
 };
 use std::alloc::Global;
@@ -61,7 +61,7 @@ const CALLS: [Call; 12] = [
 ];
 
 // The ticket and the answer.
-fn parts(answer: Result<Claimed, Full>) -> Option<(u32, bool)> {
+fn parts(answer: Result<Claimed, NoCallLeft>) -> Option<(u32, bool)> {
     match answer {
         Ok(claimed) => Some((claimed.ticket, claimed.yes)),
         Err(_) => None,
@@ -74,7 +74,7 @@ fn made<R: Wait + Abort>(
     shards: &Shards,
     pass: &mut ShardPass,
     act: ClaimAct,
-) -> Result<Claimed, Full>
+) -> Result<Claimed, NoCallLeft>
     requires own { IsPassOf shards.now pass.old }
     requires sets { length shards.now.sets ≡ 3 }
     ensures { IsSamePass pass.old pass.new }
@@ -128,29 +128,31 @@ fn in_turn<R: Wait + Abort>(
 }
 
 // How often one looks whether the other has come so far.
-const LOOKS: u32 = 1_000_000;
+const LOOKS: u32 = 100_000_000;
 
-// Waits until the flag is set, for a while.
-fn wait_for(flag: &AtomicBool) {
+// Waits until the flag is set, for a while, and says whether it is.
+fn wait_for(flag: &AtomicBool) -> bool {
     for _ in 0..LOOKS {
         if flag.load(Ordering::SeqCst) {
-            return;
+            return true;
         }
         yield_now();
     }
+    false
 }
 
-// A hold that says that it holds, and waits until the gate is open.
+// A hold that says that it holds, and waits until the gate is open. It notes whether the gate was opened meanwhile.
 #[derive(Drop)]
 struct Waits<'a> {
     held: &'a AtomicBool,
     open: &'a AtomicBool,
+    opened: &'a AtomicBool,
 }
 
 impl Hold for Waits<'_> {
     fn holding(&self, _caller: u32, _call: u32) {
         self.held.store(true, Ordering::SeqCst);
-        wait_for(self.open);
+        self.opened.store(wait_for(self.open), Ordering::SeqCst);
     }
 }
 
@@ -183,6 +185,7 @@ fn side_by_side<R: Threads + Wait + Abort + Sync>(
     second: ShardPass,
     held: &AtomicBool,
     open: &AtomicBool,
+    opened: &AtomicBool,
 ) -> (ShardPass, ShardPass)
     requires own { IsPassOf shards.now first × IsPassOf shards.now second }
     requires sets { length shards.now.sets ≡ 3 }
@@ -193,12 +196,12 @@ fn side_by_side<R: Threads + Wait + Abort + Sync>(
         move || -> ShardPass
             requires { IsSync R.row × IsPassOf shards.now first × (length shards.now.sets ≡ 3) }
             ensures { IsSamePass first result }
-        { claimed(rt, shards, first, 0, 1, &Waits { held, open }) },
+        { claimed(rt, shards, first, 0, 1, &Waits { held, open, opened }) },
         move || -> ShardPass
             requires { IsSync R.row × IsPassOf shards.now second × (length shards.now.sets ≡ 3) }
             ensures { IsSamePass second result }
         {
-            wait_for(held);
+            assert!(rt; wait_for(held), "the first claim wasn't held");
             let pass = claimed(rt, shards, second, 1, 0, &NoHold);
             open.store(true, Ordering::SeqCst);
             pass
@@ -221,7 +224,13 @@ fn called<R: Threads + Wait + Abort + Sync>(
     if threads {
         let held = AtomicBool::new(false);
         let open = AtomicBool::new(false);
-        side_by_side(rt, shards, first, second, &held, &open)
+        let opened = AtomicBool::new(false);
+        let passes = side_by_side(rt, shards, first, second, &held, &open, &opened);
+        assert!(rt;
+            opened.load(Ordering::SeqCst),
+            "the first claim was held no longer when the second one was answered"
+        );
+        passes
     } else {
         in_turn(rt, shards, first, second)
     }

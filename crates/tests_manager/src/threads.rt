@@ -1,13 +1,13 @@
 //! Callers of the manager on threads of their own.
 
 ghost use Rattle.std.specs.Prelude.{◌≡◌, ◌<◌, ◌≤◌, All};
-ghost use Rattle.aim_turn.specs.Models.{IsPassOf, IsSamePass};
+ghost use Rattle.aim_turnstile.specs.Models.{IsPassOf, IsSamePass};
 
 use crate::book::serve_again;
 use crate::manager::{opened, served};
 use aim_manager::{Full, Manager, ManagerPass, Opened};
-use aim_msg::{Entry, Reply};
-use aim_pool::Pool;
+use aim_messages::{Entry, Reply};
+use aim_sheets::Pool;
 use std::alloc::Global;
 use std::marker::Brand;
 use std::process::Abort;

@@ -1,13 +1,13 @@
 //! What callers ask for over the crossing, and what journals of their calls have.
 
 ghost use Rattle.std.specs.Prelude.{◌≡◌, ◌<◌, ◌≤◌, IfSome};
-ghost use Rattle.aim_buffers.specs.Requests.{IsPreparedFor};
+ghost use Rattle.aim_requests.specs.Requests.{IsPreparedFor};
 
 use crate::sites::CAR;
-use aim_buffers::{Prepared, prepare_from};
-use aim_msg::{Act, Body, Entry, Message, Params, Reply};
-use aim_paths::Layout;
-use aim_pool::Pool;
+use aim_layout::Layout;
+use aim_messages::{Act, Body, Entry, Message, Params, Reply};
+use aim_requests::{Prepared, prepare_from};
+use aim_sheets::Pool;
 
 // A crossing of 11 steps.
 fn params(lane: u8, arrive: u32) -> Params {

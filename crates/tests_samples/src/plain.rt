@@ -4,7 +4,7 @@
 ghost use Rattle.std.specs.Prelude.{◌<◌, ◌≤◌};
 
 use crate::sheets::is_put;
-use aim_pool::{Sheet, Span};
+use aim_sheets::{Sheet, Span};
 use std::alloc::{AllocError, Global};
 
 /// A tile's number is one more than the step in which it is taken. An older number is of a step that is over.

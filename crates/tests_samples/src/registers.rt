@@ -2,7 +2,7 @@
 
 ghost use Rattle.std.specs.Prelude.{◌≡◌, ◌≤◌, [], ◌∷◌, ◌++◌, length, IfOk, MatchBool, vec_capacity, is_some, nat_lt, Some, None};
 
-use aim_turn::{Kept, NoMemory};
+use aim_turnstile::{Kept, NoMemory};
 use std::alloc::Global;
 
 /// One entry: the caller, and what it wrote.

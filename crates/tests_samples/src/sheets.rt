@@ -1,6 +1,6 @@
 //! Sheets with their rows, and tables that take them.
 
-use aim_pool::{Pool, Sheet, Span};
+use aim_sheets::{Pool, Sheet, Span};
 use aim_tiles::{Steps, Table};
 use std::alloc::Global;
 use std::sync::ledger::Ledger;

@@ -2,8 +2,8 @@
 //! west on row 1, lane 1 from the south on column 2.
 
 use aim_geometry::{Grid, Ground, Times};
-use aim_msg::{Params, Turn};
-use aim_paths::{Builder, Kind, Layout, Shape};
+use aim_layout::{Builder, Layout, PolicyKind, Shape};
+use aim_messages::{Params, Turn};
 use std::alloc::Global;
 
 /// The lane of a move, its turn, the points of its line or curve, an x and a y each in millimetres, and in how many parts
@@ -14,7 +14,7 @@ pub type Move = (u32, Turn, [u32; 6], u32);
 pub type Phase = (u32, u32, u16);
 
 /// A policy and its phases.
-pub type Policy = (Kind, &'static [Phase]);
+pub type Policy = (PolicyKind, &'static [Phase]);
 
 /// What a layout is built of, but for its times. The first policy is in force at the start.
 pub struct Site {
@@ -109,7 +109,11 @@ pub static PLAIN: Site = Site {
     grid: GRID,
     lanes: 2,
     moves: &[EAST, NORTH],
-    policies: &[(Kind::Fcfs, &[]), (Kind::Light, &TURNS), (Kind::Emerg, &[])],
+    policies: &[
+        (PolicyKind::Fcfs, &[]),
+        (PolicyKind::Light, &TURNS),
+        (PolicyKind::Emerg, &[]),
+    ],
 };
 
 /// Vehicles give way to emergencies first.
@@ -117,7 +121,11 @@ pub static SIREN_FIRST: Site = Site {
     grid: GRID,
     lanes: 2,
     moves: &[EAST, NORTH],
-    policies: &[(Kind::Emerg, &[]), (Kind::Fcfs, &[]), (Kind::Light, &TURNS)],
+    policies: &[
+        (PolicyKind::Emerg, &[]),
+        (PolicyKind::Fcfs, &[]),
+        (PolicyKind::Light, &TURNS),
+    ],
 };
 
 /// The first policy has lights and gives way.
@@ -126,9 +134,9 @@ pub static YIELDING: Site = Site {
     lanes: 2,
     moves: &[EAST, NORTH],
     policies: &[
-        (Kind::LightEmerg, &TURNS),
-        (Kind::Fcfs, &[]),
-        (Kind::Light, &TURNS),
+        (PolicyKind::LightEmerg, &TURNS),
+        (PolicyKind::Fcfs, &[]),
+        (PolicyKind::Light, &TURNS),
     ],
 };
 
@@ -137,7 +145,11 @@ pub static BEND: Site = Site {
     grid: GRID,
     lanes: 2,
     moves: &[EAST, NORTH, SOUTH],
-    policies: &[(Kind::Fcfs, &[]), (Kind::Light, &TURNS), (Kind::Emerg, &[])],
+    policies: &[
+        (PolicyKind::Fcfs, &[]),
+        (PolicyKind::Light, &TURNS),
+        (PolicyKind::Emerg, &[]),
+    ],
 };
 
 /// Lane 0 goes east, to the south, or there and back; and the last policy has sixteen phases.
@@ -146,9 +158,9 @@ pub static SMALL: Site = Site {
     lanes: 2,
     moves: &[EAST, SOUTH, BACK, NORTH],
     policies: &[
-        (Kind::Fcfs, &[]),
-        (Kind::Light, &TURNS),
-        (Kind::LightEmerg, &LONGER),
+        (PolicyKind::Fcfs, &[]),
+        (PolicyKind::Light, &TURNS),
+        (PolicyKind::LightEmerg, &LONGER),
     ],
 };
 
@@ -181,7 +193,7 @@ fn adds_moves(builder: &mut Builder, moves: &[Move]) -> bool {
 }
 
 // Adds a policy with its phases, where each is taken.
-fn adds_policy(builder: &mut Builder, kind: Kind, phases: &[Phase]) -> bool {
+fn adds_policy(builder: &mut Builder, kind: PolicyKind, phases: &[Phase]) -> bool {
     if builder.add_policy(kind).is_err() {
         return false;
     }

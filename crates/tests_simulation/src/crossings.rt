@@ -1,11 +1,11 @@
 //! Prepared requests, and crossings step by step.
 
-use aim_buffers::{NeedsCells, bad_field, may_reach, params_in, prepare};
+use aim_footprint::{RowRange, Visit, bad_crossing, simulate, steady_steps};
 use aim_geometry::Times;
-use aim_msg::{Body, Field, Message, Params, Turn};
-use aim_paths::Layout;
-use aim_pool::{Pool, Sheet};
-use aim_simulate::{RowRange, Visit, bad_crossing, simulate, steady_steps};
+use aim_layout::Layout;
+use aim_messages::{Body, Field, Message, Params, Turn};
+use aim_requests::{NeedsCells, bad_field, may_reach, params_in, prepare};
+use aim_sheets::{Pool, Sheet};
 use std::process::Abort;
 use tests_samples::{CAR, SMALL, TIMES, built};
 

@@ -1,8 +1,8 @@
 //! Entries of journals that come back, as text, and their JSON texts.
 
 use aim_json::write_json_entry;
-use aim_msg::{LineKind, write_entry};
-use aim_read_entries::read_entry;
+use aim_messages::{LineKind, write_entry};
+use aim_text_entries::read_entry;
 use std::alloc::Global;
 use std::process::Abort;
 

@@ -1,7 +1,7 @@
 //! JSON texts in other layouts than the one that is written, and those that are no lines.
 
 use crate::lines::check_read;
-use aim_json_read::{JsonFault, read_json_line};
+use aim_json::{JsonFault, read_json_line};
 
 // Members in another order, white space, an escape, and two members of one name.
 static LOOSE: [(&[u8], &[u8]); 5] = [

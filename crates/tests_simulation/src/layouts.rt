@@ -5,8 +5,8 @@ use aim_geometry::{
     Grid, Ground, Station, TileRect, Times, columns, curve_station, is_edge, is_outside, join,
     line_station, tile_rect,
 };
-use aim_msg::Turn;
-use aim_paths::{Kind, Layout, Path, lane_rows};
+use aim_layout::{Layout, Path, PolicyKind, lane_rows};
+use aim_messages::Turn;
 use std::process::Abort;
 use tests_samples::{GRID, Move, SMALL, Site, TIMES, built};
 
@@ -56,7 +56,7 @@ fn check_policies(rt: &impl Abort, layout: &Layout) {
     assert!(rt; layout.policies() == 3 && layout.ground().grid().spans == 4096);
     assert!(rt; layout.phases(0) == 0 && layout.phases(1) == 2);
     assert!(rt; layout.phase(1, 1) == (20, 80, 2));
-    assert!(rt; matches!(layout.kind(2), Kind::LightEmerg) && layout.kind(2).has_lights());
+    assert!(rt; matches!(layout.kind(2), PolicyKind::LightEmerg) && layout.kind(2).has_lights());
 }
 
 // Asserts what the small layout's lanes are.
@@ -122,7 +122,7 @@ static REALISTIC: Site = Site {
     },
     lanes: 12,
     moves: &TWELVE,
-    policies: &[(Kind::Fcfs, &[])],
+    policies: &[(PolicyKind::Fcfs, &[])],
 };
 
 const LONG: Times = Times {

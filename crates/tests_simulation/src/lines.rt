@@ -1,11 +1,10 @@
 //! Lines of scripts that come back, as text and as JSON text, and the first fault of texts that are none.
 ghost use Rattle.std.specs.Prelude.{◌<◌, ◌≤◌};
 
-use aim_json::write_json_line;
-use aim_json_read::read_json_line;
-use aim_msg::{LineKind, write_line};
-use aim_read::laws::line_is_spelled_so;
-use aim_read::read_line;
+use aim_json::{read_json_line, write_json_line};
+use aim_messages::{LineKind, write_line};
+use aim_text_lines::laws::line_is_spelled_so;
+use aim_text_lines::read_line;
 use std::alloc::Global;
 use std::process::Abort;
 

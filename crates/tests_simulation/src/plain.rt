@@ -2,7 +2,7 @@
 
 ghost use Rattle.std.specs.Prelude.{◌≡◌, ◌<◌};
 
-use aim_pool::Sheet;
+use aim_sheets::Sheet;
 use aim_tiles::{Steps, Table};
 use std::alloc::Global;
 use std::marker::Brand;

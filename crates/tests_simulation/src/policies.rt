@@ -1,8 +1,8 @@
 //! Policies, greens and claims.
 
-use aim_paths::Layout;
+use aim_layout::Layout;
+use aim_policies::{Plan, Timeline, green_at, green_within, has_lane, least_lane};
 use aim_reservations::has_lights;
-use aim_switch::{Plan, Timeline, green_at, green_within, has_lane, least_lane};
 use std::process::Abort;
 use tests_samples::{SMALL, TIMES, built};
 

@@ -2,9 +2,9 @@
 
 ghost use Rattle.std.specs.Prelude.{◌≡◌, ◌<◌, ◌≤◌};
 
-use aim_msg::MOST_VEHICLES;
-use aim_pool::Sheet;
+use aim_messages::MOST_VEHICLES;
 use aim_reservations::{Reservation, Reservations};
+use aim_sheets::Sheet;
 use aim_tiles::Steps;
 use std::alloc::Global;
 use std::marker::Brand;

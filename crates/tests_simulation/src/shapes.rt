@@ -1,13 +1,13 @@
 //! Sheets that take over spans, and requests that are prepared from those before them.
 
 ghost use Rattle.std.specs.Prelude.{◌≡◌, ◌<◌, ◌≤◌, []};
-ghost use Rattle.aim_buffers.specs.Shapes.{ArePreparedFor};
+ghost use Rattle.aim_requests.specs.Shapes.{ArePreparedFor};
 
-use aim_buffers::{Memo, NeedsCells, Prepared, Shapes, bad_field, prepare_from};
 use aim_geometry::Grid;
-use aim_msg::{Body, Field, Message, Params, Turn};
-use aim_paths::{Kind, Layout};
-use aim_pool::{Pool, Sheet, Span};
+use aim_layout::{Layout, PolicyKind};
+use aim_messages::{Body, Field, Message, Params, Turn};
+use aim_requests::{Memo, NeedsCells, Prepared, Shapes, bad_field, prepare_from};
+use aim_sheets::{Pool, Sheet, Span};
 use std::process::Abort;
 use tests_samples::{BEND, BUFFERED, CAR, GRID, SMALL, Site, TIMES, built};
 
@@ -211,7 +211,7 @@ static TIGHT: Site = Site {
     grid: Grid { spans: 40, ..GRID },
     lanes: 1,
     moves: &[(0, Turn::Straight, [0, 1500, 4000, 1500, 0, 0], 40)],
-    policies: &[(Kind::Fcfs, &[])],
+    policies: &[(PolicyKind::Fcfs, &[])],
 };
 
 // The field, where it is known without cells.

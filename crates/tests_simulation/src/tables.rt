@@ -2,7 +2,7 @@
 
 ghost use Rattle.std.specs.Prelude.{◌≡◌, ◌<◌};
 
-use aim_pool::{Pool, Sheet, Span};
+use aim_sheets::{Pool, Sheet, Span};
 use aim_tiles::{IdleTable, Steps, Table, first_meeting};
 use std::alloc::Global;
 use std::marker::Brand;

@@ -1,6 +1,6 @@
 //! Texts that are appended to what stands there.
 
-use aim_msg::{
+use aim_messages::{
     Act, Body, Entry, Line, Message, Name, NoMemory, OPERATOR, Order, Params, Reason, Reply, Turn,
     entry_text, put_number, write_entry, write_line, write_message, write_reply,
 };

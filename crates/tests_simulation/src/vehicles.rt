@@ -2,8 +2,8 @@
 
 ghost use Rattle.std.specs.Prelude.{◌≡◌, ◌<◌, length};
 
-use aim_msg::{Body, Message, Reason, Reply};
-use aim_session::{Approaches, Distances, Look, Sessions, asked_from, next_allowed};
+use aim_messages::{Body, Message, Reason, Reply};
+use aim_sessions::{Approaches, Distances, Look, Sessions, asked_from, next_allowed};
 use std::process::Abort;
 use tests_samples::{CAR, confirmed, request};
 

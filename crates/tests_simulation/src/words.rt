@@ -1,11 +1,11 @@
 //! The words of texts: numbers, tables and fields, read as the readers of lines and entries do.
 
-use aim_msg::{LineKind, Message, Turn, write_message};
-use aim_words::fields::{choice, message, number8, numbers, turn};
-use aim_words::forms::{OrderForm, message_form, order_form};
-use aim_words::numbers::{begins_with_digit, number};
-use aim_words::tables::look_up;
-use aim_words::words::Words;
+use aim_messages::{LineKind, Message, Turn, write_message};
+use aim_text_words::fields::{choice, message, number8, numbers, turn};
+use aim_text_words::forms::{OrderForm, message_form, order_form};
+use aim_text_words::numbers::{begins_with_digit, number};
+use aim_text_words::tables::look_up;
+use aim_text_words::words::Words;
 
 // Words, whether they begin with a digit, and the number from 1 to 255 that they spell.
 static NUMBERS: [(&[u8], bool, Result<u64, LineKind>); 7] = [

@@ -1,15 +1,15 @@
 -- Worked rows: the journal of a drive of two vehicles with lost, repeated and delayed messages, and an order in between.
 use Rattle.std.proofs.Common.{ℕ, List, [], ◌∷◌, Some, None, refl}
-use Rattle.aim_msg.specs.declared.messages.Body.{Body}
-use Rattle.aim_msg.specs.declared.messages.Body.TheVariants as body
-use Rattle.aim_msg.specs.declared.replies.Reason.TheVariants as reason
-use Rattle.aim_msg.specs.declared.replies.Reply.{Reply}
-use Rattle.aim_msg.specs.declared.replies.Reply.TheVariants as reply
-use Rattle.aim_msg.specs.declared.entries.Order.TheVariants as order
-use Rattle.aim_msg.specs.declared.entries.Act.TheVariants as act
-use Rattle.aim_msg.specs.declared.entries.Entry.{Entry}
+use Rattle.aim_messages.specs.declared.messages.Body.{Body}
+use Rattle.aim_messages.specs.declared.messages.Body.TheVariants as body
+use Rattle.aim_messages.specs.declared.replies.Reason.TheVariants as reason
+use Rattle.aim_messages.specs.declared.replies.Reply.{Reply}
+use Rattle.aim_messages.specs.declared.replies.Reply.TheVariants as reply
+use Rattle.aim_messages.specs.declared.entries.Order.TheVariants as order
+use Rattle.aim_messages.specs.declared.entries.Act.TheVariants as act
+use Rattle.aim_messages.specs.declared.entries.Entry.{Entry}
 use Rattle.aim_driver.specs.declared.plans.DrivePlan.{DrivePlan}
-use Rattle.aim_links.specs.declared.links.Fate.TheVariants as fate
+use Rattle.aim_driver.specs.declared.links.Fate.TheVariants as fate
 use Rattle.aim_driver.specs.Follows.{follows}
 use Rattle.aim_driver.specs.Fits.{Fits, AreCallsOf, replies_of}
 use Rattle.aim_driver.proofs.FollowLemmas.{follows_fits}

@@ -1,12 +1,12 @@
 -- Who may act, and up to which moment.
 use Rattle.std.proofs.Common.{◌≡◌, ℕ, ◌<◌, ◌≤◌, arith}
-use Rattle.aim_msg.specs.declared.messages.Body.TheVariants.{Cancel}
-use Rattle.aim_msg.specs.declared.entries.Act.{Act}
-use Rattle.aim_msg.specs.declared.entries.Act.TheVariants as act
-use Rattle.aim_msg.specs.declared.entries.Order.TheVariants as order
-use Rattle.aim_msg.specs.declared.entries.Entry.{Entry}
-use Rattle.aim_msg.specs.declared.entries.TheConstants.{OPERATOR}
-use Rattle.aim_msg.specs.declared.replies.Reply.TheVariants.{Ack}
+use Rattle.aim_messages.specs.declared.messages.Body.TheVariants.{Cancel}
+use Rattle.aim_messages.specs.declared.entries.Act.{Act}
+use Rattle.aim_messages.specs.declared.entries.Act.TheVariants as act
+use Rattle.aim_messages.specs.declared.entries.Order.TheVariants as order
+use Rattle.aim_messages.specs.declared.entries.Entry.{Entry}
+use Rattle.aim_messages.specs.declared.entries.TheConstants.{OPERATOR}
+use Rattle.aim_messages.specs.declared.replies.Reply.TheVariants.{Ack}
 use Rattle.aim_rules.specs.Legal.{MayAct, IsWellFormed}
 use Rattle.aim_rules.proofs.Rows.{small}
 

@@ -1,19 +1,19 @@
 -- At the bounds of numbers, and what decides between neighbouring lines of the answer table.
 use Rattle.std.proofs.Common.{◌≡◌, ℕ, [], ◌∷◌, List, Some, None, refl, true, false}
 use Rattle.std.specs.Prelude.{map, if◌then◌else◌}
-use Rattle.aim_msg.specs.declared.messages.Params.{Params}
-use Rattle.aim_msg.specs.declared.messages.Body.TheVariants.{Request}
-use Rattle.aim_msg.specs.declared.messages.Turn.TheVariants.{Straight, Right}
-use Rattle.aim_msg.specs.declared.replies.Field.TheVariants as field
-use Rattle.aim_msg.specs.declared.replies.Reason.TheVariants.{Late, Taken, Holds, TooSoon, Distance, NoReservation, Emergency}
-use Rattle.aim_msg.specs.declared.replies.Reply.TheVariants.{Stale, Ack}
+use Rattle.aim_messages.specs.declared.messages.Params.{Params}
+use Rattle.aim_messages.specs.declared.messages.Body.TheVariants.{Request}
+use Rattle.aim_messages.specs.declared.messages.Turn.TheVariants.{Straight, Right}
+use Rattle.aim_messages.specs.declared.replies.Field.TheVariants as field
+use Rattle.aim_messages.specs.declared.replies.Reason.TheVariants.{Late, Taken, Holds, TooSoon, Distance, NoReservation, Emergency}
+use Rattle.aim_messages.specs.declared.replies.Reply.TheVariants.{Stale, Ack}
 use Rattle.aim_geometry.specs.Stations.{line, curve, on_line, on_curve}
 use Rattle.aim_geometry.specs.Ground.{is_edge, meets}
-use Rattle.aim_paths.specs.Intersection.{Intersection}
+use Rattle.aim_layout.specs.Intersection.{Intersection}
 use Rattle.aim_rules.specs.Motion.{front}
 use Rattle.aim_rules.specs.Footprint.{crossing_steps}
 use Rattle.aim_rules.specs.Bad.{bad, span_count}
-use Rattle.aim_paths.specs.LaneTiles.{in_lane_tiles}
+use Rattle.aim_layout.specs.LaneTiles.{in_lane_tiles}
 use Rattle.aim_rules.specs.Lights.{lit}
 use Rattle.aim_rules.specs.Asking.{next_allowed}
 use Rattle.aim_rules.proofs.Rows.{small, siren_small, send, ask, change, cancel, steady, reject, replies, car, ambulance}

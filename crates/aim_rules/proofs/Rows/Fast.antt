@@ -1,9 +1,9 @@
 -- A vehicle that accelerates, and time buffers.
 use Rattle.std.proofs.Common.{◌≡◌, ℕ, [], ◌∷◌, None, refl, true, false}
-use Rattle.aim_msg.specs.declared.messages.Body.TheVariants.{Request}
-use Rattle.aim_msg.specs.declared.replies.Reason.TheVariants.{Taken, Distance}
-use Rattle.aim_msg.specs.declared.replies.Reply.{Reply}
-use Rattle.aim_msg.specs.declared.replies.Reply.TheVariants.{Confirm}
+use Rattle.aim_messages.specs.declared.messages.Body.TheVariants.{Request}
+use Rattle.aim_messages.specs.declared.replies.Reason.TheVariants.{Taken, Distance}
+use Rattle.aim_messages.specs.declared.replies.Reply.{Reply}
+use Rattle.aim_messages.specs.declared.replies.Reply.TheVariants.{Confirm}
 use Rattle.aim_rules.specs.Journals.{Call}
 use Rattle.aim_rules.proofs.Rows.{small, buffered_small, send, ask, steady, reject, replies, car}
 

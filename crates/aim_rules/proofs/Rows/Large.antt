@@ -1,10 +1,10 @@
 -- One path of a realistic layout.
 use Rattle.std.proofs.Common.{◌≡◌, [], ◌∷◌, Some, None, refl, true, false}
-use Rattle.aim_msg.specs.declared.messages.Params.{Params}
-use Rattle.aim_msg.specs.declared.messages.Turn.TheVariants.{Left}
-use Rattle.aim_paths.specs.declared.policies.Kind.TheVariants.{Fcfs}
+use Rattle.aim_messages.specs.declared.messages.Params.{Params}
+use Rattle.aim_messages.specs.declared.messages.Turn.TheVariants.{Left}
+use Rattle.aim_layout.specs.declared.policies.PolicyKind.TheVariants.{Fcfs}
 use Rattle.aim_geometry.specs.Stations.{curve}
-use Rattle.aim_paths.specs.Intersection.{Intersection}
+use Rattle.aim_layout.specs.Intersection.{Intersection}
 use Rattle.aim_rules.specs.Footprint.{crossing_steps}
 use Rattle.aim_rules.specs.Cells.{in_cells}
 

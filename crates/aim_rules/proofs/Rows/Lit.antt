@@ -1,8 +1,8 @@
 -- Lights and emergencies.
 use Rattle.std.proofs.Common.{◌≡◌, [], ◌∷◌, None, refl}
-use Rattle.aim_msg.specs.declared.messages.Body.TheVariants.{Request}
-use Rattle.aim_msg.specs.declared.replies.Reason.TheVariants.{Taken, Far, Green, Emergency}
-use Rattle.aim_msg.specs.declared.replies.Reply.TheVariants.{Switched, Ack}
+use Rattle.aim_messages.specs.declared.messages.Body.TheVariants.{Request}
+use Rattle.aim_messages.specs.declared.replies.Reason.TheVariants.{Taken, Far, Green, Emergency}
+use Rattle.aim_messages.specs.declared.replies.Reply.TheVariants.{Switched, Ack}
 use Rattle.aim_rules.proofs.Rows.{small, siren_small, send, ask, switch, finish, steady, reject, replies, ambulance}
 
 pub switch_to_lights : replies small (switch 5 1 ∷ ask 0 5 1 1 1494 ∷ ask 1 5 1 1 1520 ∷ ask 1 100 2 1 1530 ∷ ask 2 100 1 0 1530 ∷ []) ≡ Switched 1505 ∷ steady 1 1494 1504 ∷ reject (Far 1505) 30 None ∷ reject (Green 1 2 1531 0) 125 None ∷ steady 4 1530 1540 ∷ []

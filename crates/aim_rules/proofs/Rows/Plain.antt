@@ -1,10 +1,10 @@
 -- Under the plain policy.
 use Rattle.std.proofs.Common.{◌≡◌, [], ◌∷◌, Some, None, refl}
-use Rattle.aim_msg.specs.declared.messages.Turn.TheVariants.{Left}
-use Rattle.aim_msg.specs.declared.messages.Body.TheVariants.{Request}
-use Rattle.aim_msg.specs.declared.replies.Field.TheVariants as field
-use Rattle.aim_msg.specs.declared.replies.Reason.TheVariants.{Late, Far, Taken, Holds, Reused, NoReservation, Begun, Bad, TooSoon}
-use Rattle.aim_msg.specs.declared.replies.Reply.TheVariants.{Stale, EmergencyStop, Stopped, Ack}
+use Rattle.aim_messages.specs.declared.messages.Turn.TheVariants.{Left}
+use Rattle.aim_messages.specs.declared.messages.Body.TheVariants.{Request}
+use Rattle.aim_messages.specs.declared.replies.Field.TheVariants as field
+use Rattle.aim_messages.specs.declared.replies.Reason.TheVariants.{Late, Far, Taken, Holds, Reused, NoReservation, Begun, Bad, TooSoon}
+use Rattle.aim_messages.specs.declared.replies.Reply.TheVariants.{Stale, EmergencyStop, Stopped, Ack}
 use Rattle.aim_rules.proofs.Rows.{small, send, ask, change, cancel, stop, steady, reject, replies, car}
 
 pub first_confirm : replies small (ask 0 0 1 0 10 ∷ []) ≡ steady 0 10 20 ∷ []

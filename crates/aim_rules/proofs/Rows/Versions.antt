@@ -1,11 +1,11 @@
 -- Early and late windows apart, and lights that give way.
 use Rattle.std.proofs.Common.{◌≡◌, ℕ, [], ◌∷◌, None, refl, false}
-use Rattle.aim_msg.specs.declared.replies.Reason.TheVariants.{Taken, Emergency, Green}
-use Rattle.aim_msg.specs.declared.messages.Body.TheVariants.{Request}
-use Rattle.aim_msg.specs.declared.replies.Reply.{Reply}
-use Rattle.aim_msg.specs.declared.replies.Reply.TheVariants.{Confirm, Ack}
-use Rattle.aim_paths.specs.declared.policies.Kind.TheVariants.{LightEmerg}
-use Rattle.aim_paths.specs.Intersection.{Intersection}
+use Rattle.aim_messages.specs.declared.replies.Reason.TheVariants.{Taken, Emergency, Green}
+use Rattle.aim_messages.specs.declared.messages.Body.TheVariants.{Request}
+use Rattle.aim_messages.specs.declared.replies.Reply.{Reply}
+use Rattle.aim_messages.specs.declared.replies.Reply.TheVariants.{Confirm, Ack}
+use Rattle.aim_layout.specs.declared.policies.PolicyKind.TheVariants.{LightEmerg}
+use Rattle.aim_layout.specs.Intersection.{Intersection}
 use Rattle.aim_rules.proofs.Rows.{crossing, plain, lights, siren, ask, send, finish, ambulance, reject, replies, steady}
 
 abbrev v2 : Intersection

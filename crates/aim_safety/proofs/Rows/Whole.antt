@@ -1,10 +1,10 @@
 -- Logs that fit the history of the drive, and logs that fit none.
 use Rattle.std.proofs.Common.{◌≡◌, inl, inr, ◌≤◌, true, false, List, [], ◌∷◌, Some, None, refl, arith}
-use Rattle.aim_msg.specs.declared.messages.Body.TheVariants as body
-use Rattle.aim_msg.specs.declared.entries.Entry.{Entry}
+use Rattle.aim_messages.specs.declared.messages.Body.TheVariants as body
+use Rattle.aim_messages.specs.declared.entries.Entry.{Entry}
 use Rattle.aim_rules.specs.Journals.{journal}
 use Rattle.aim_rules.proofs.Rows.{small, car, ask, steady}
-use Rattle.aim_links.specs.declared.links.Fate.TheVariants as fate
+use Rattle.aim_driver.specs.declared.links.Fate.TheVariants as fate
 use Rattle.aim_driver.specs.declared.plans.DrivePlan.{DrivePlan}
 use Rattle.aim_driver.specs.declared.logs.LogItem.TheVariants as item
 use Rattle.aim_driver.specs.Fits.{Fits}

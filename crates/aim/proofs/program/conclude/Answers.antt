@@ -4,7 +4,7 @@ use Rattle.aim.proofs.program.conclude.Goals as goal
 
 pub returns-clause-answers : goal.returns-clause-answers
 returns-clause-answers g c =
-    concluded _ _ _ _ _ _ _ _ _ _ _ _ c.settle.ensures.bytes c.settle.ensures.sink (λ four is. ap g.K.Sink.kept_back (c.settle.ensures.read four) ∙ is) c.settle.ensures.settles c.answer-status.ensures
+    concluded _ _ _ _ _ _ _ _ _ _ _ _ c.settle.ensures.bytes c.settle.ensures.sink (λ four is. ap g.K.Sink.kept_back (c.settle.ensures.read four) ∙ is) c.settle.ensures.settles c.obey-status.ensures
 
 pub returns-clause-settled : goal.returns-clause-settled
 returns-clause-settled g c = handed_on _ _ _ _ c.settle.ensures.settles

@@ -1,12 +1,12 @@
 use Rattle.std.proofs.Common.{◌≡◌, ◌<◌, ◌≤◌, ◌∷◌, ◌++◌, [], length, map, get_or, refl, ap, ◌∙◌, arith}
-use Rattle.aim_msg.specs.declared.entries.Act.TheVariants as act
-use Rattle.aim_msg.specs.declared.entries.Order.TheVariants as order
-use Rattle.aim_msg.specs.declared.entries.Entry.{Entry}
-use Rattle.aim_agent.proofs.Passes.{extends_by, mine_is}
-use Rattle.aim_turn.specs.Models.{IsSamePass}
+use Rattle.aim_messages.specs.declared.entries.Act.TheVariants as act
+use Rattle.aim_messages.specs.declared.entries.Order.TheVariants as order
+use Rattle.aim_messages.specs.declared.entries.Entry.{Entry}
+use Rattle.aim_agents.proofs.Passes.{extends_by, mine_is}
+use Rattle.aim_turnstile.specs.Models.{IsSamePass}
 use Rattle.aim_agents.specs.Rounds.{run_size}
 use Rattle.aim_agents.specs.Driven.{Driven}
-use Rattle.aim_plans.specs.declared.scripts.Ordered.{Ordered}
+use Rattle.aim_driver.specs.declared.orders.Ordered.{Ordered}
 use Rattle.aim_agents.specs.Orders.{order_of}
 use Rattle.aim_agents.proofs.DriveLaws.{agents_of, driven_begin, driven_order, driven_rounds, logs_first, logs_of, pass_of, same_then}
 use Rattle.aim_agents.proofs.OrderLaws.{given_all, given_count, given_more, on_err, reached_first, reached_next}

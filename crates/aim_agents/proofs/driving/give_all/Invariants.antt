@@ -1,8 +1,8 @@
 use Rattle.std.proofs.Common.{ℕ, ◌≤◌, length, take}
 use Rattle.std.specs.Prelude.{All}
 use Rattle.aim_driver.specs.Models.{step_of}
-use Rattle.aim_turn.specs.Models.{IsPassOf, IsSamePass}
-use Rattle.aim_agent.specs.Agents.{IsAgentOf}
+use Rattle.aim_turnstile.specs.Models.{IsPassOf, IsSamePass}
+use Rattle.aim_agents.specs.Agents.{IsAgentOf}
 use Rattle.aim_agents.specs.Rounds.{run_size}
 use Rattle.aim_agents.specs.Driven.{Driven}
 use Rattle.aim_agents.specs.Orders.{AreOrders, CarryOrders, IsReached}

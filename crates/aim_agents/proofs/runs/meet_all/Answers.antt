@@ -1,6 +1,6 @@
 use Rattle.std.proofs.Common.{◌<◌, get_or, length, ap, sym, subst, ◌∙◌, arith}
-use Rattle.aim_agent.specs.Agents.{front_of}
-use Rattle.aim_agent.specs.Went.{Met}
+use Rattle.aim_agents.specs.Agents.{front_of}
+use Rattle.aim_agents.specs.Went.{Met}
 use Rattle.aim_agents.proofs.RunLaws.{done_more}
 use Rattle.aim_agents.proofs.runs.meet_all.Goals as goal
 

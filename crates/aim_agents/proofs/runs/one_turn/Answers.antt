@@ -1,5 +1,5 @@
 use Rattle.std.proofs.Common.{◌+◌, ap, subst, sym, ◌∙◌}
-use Rattle.aim_agent.proofs.Sheets.{agent_went}
+use Rattle.aim_agents.proofs.Sheets.{agent_went}
 use Rattle.aim_agents.specs.Runs.{Behind, shown_by}
 use Rattle.aim_agents.proofs.RunLaws.{behind_is}
 use Rattle.aim_agents.proofs.runs.one_turn.Goals as goal

@@ -4,8 +4,8 @@ use Rattle.aim_agents.specs.Runs.{Ran}
 use Rattle.aim_agents.proofs.RunLaws.{chunks_went, whole_went}
 use denote.Param.Send.{sendable}
 use Rattle.std.proofs.Crossing.{crosses}
-use Rattle.aim_agent.proofs.Crosses.{manager_sync}
-use Rattle.aim_agents.proofs.Crosses.{agent_send}
+use Rattle.aim_agents.proofs.Crosses.{manager_sync}
+use Rattle.aim_agents.proofs.RunsCross.{agent_send}
 use Rattle.aim_agents.proofs.steps.turns.Goals as goal
 
 pub returns : goal.returns

@@ -1,7 +1,7 @@
 use Rattle.std.proofs.Common.{◌<◌, inl, inr, get_or, length, sym, subst, arith}
 use Rattle.std.proofs.lemmas.Bool.{cases_eq}
 use Rattle.std.proofs.lemmas.List.{get_or_read}
-use Rattle.aim_agent.specs.Agents.{Idles}
+use Rattle.aim_agents.specs.Agents.{Idles}
 use Rattle.aim_agents.proofs.steps.wakes_at.Goals as goal
 
 pub loop-agent-preserved : goal.loop-agent-preserved

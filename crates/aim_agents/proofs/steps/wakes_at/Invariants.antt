@@ -1,5 +1,5 @@
 use Rattle.std.proofs.Common.{ℕ, ◌<◌, ◌≤◌, get_or}
-use Rattle.aim_agent.specs.Agents.{AgentModel, Idles}
+use Rattle.aim_agents.specs.Agents.{AgentModel, Idles}
 use Rattle.aim_agents.proofs.steps.wakes_at.Given as goal
 
 abbrev pub invariant-loop-agent : goal.invariant-loop-agent

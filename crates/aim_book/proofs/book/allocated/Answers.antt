@@ -5,7 +5,7 @@ pub returns : goal.returns
 returns g c = (
   c.in_ok-journal.ensures.items,
   record {
-    managed = rw c.in_ok-journal.ensures.items (c.in_ok-desk.ensures.managed c.in_ok-approaches.approaches c.in_ok-approaches.ensures);
+    managed = rw c.in_ok-journal.ensures.items c.in_ok-desk.ensures.managed;
     fits = rw c.in_ok-journal.ensures.items (omega arith);
     reserved = c.in_ok-journal.ensures.capacity;
     most = c.requires.room;

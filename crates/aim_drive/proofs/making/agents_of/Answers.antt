@@ -2,7 +2,7 @@ use Rattle.std.proofs.Common.{◌≡◌, ℕ, ◌+◌, ◌++◌, ◌∷◌, [], 
 use Rattle.std.proofs.lemmas.Iterator.Adapters.{YieldsList-from_vec}
 use Rattle.std.proofs.lemmas.Iterator.Consumers.{YieldsList-turn, YieldsList-end}
 use Rattle.std.proofs.lemmas.List.{length_push, take_all}
-use Rattle.aim_plans.specs.declared.scripts.Planned.{Planned}
+use Rattle.aim_drive_script.specs.declared.scripts.Planned.{Planned}
 use Rattle.aim_agents.specs.Agents.{AgentModel, AgentPass}
 use Rattle.aim_drive.specs.Making.{AreAgentsFor, AreLeft, IsMadeOf}
 use Rattle.aim_drive.proofs.Seats.{contains_pass, taken_new, made_next, left_more}

@@ -1,6 +1,6 @@
 use Rattle.std.proofs.Common.{◌≡◌, ◌+◌, ◌++◌, List, [], length, map, refl, sym, ap, ◌∙◌, subst, arith}
 use Rattle.std.specs.Prelude.{All}
-use Rattle.aim_plans.specs.Scripts.{drive_told}
+use Rattle.aim_drive_script.specs.Scripts.{drive_told}
 use Rattle.aim_agents.specs.Agents.{AgentModel, AgentPass, IsAgentOf}
 use Rattle.aim_agents.specs.Rounds.{run_size}
 use Rattle.aim_drive.specs.Closing.{Leaves}

@@ -1,5 +1,5 @@
 use Rattle.std.proofs.Common.{◌≡◌, ◌≢◌, ℕ, ◌<◌, get_or, Some}
-use Rattle.aim_agents.specs.Trouble.TheVariants as trouble
+use Rattle.aim_agents.specs.declared.agents.Trouble.TheVariants as trouble
 use Rattle.aim_agents.specs.Agents.{AgentModel, IsFull}
 use Rattle.aim_drive.proofs.running.lack_memory.Given as goal
 

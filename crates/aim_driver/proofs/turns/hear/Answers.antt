@@ -1,8 +1,8 @@
 use Rattle.std.proofs.Common.{◌≡◌, ◌+◌, ◌<◌, ◌≤◌, ℕ, ◌∷◌, [], ◌++◌, Some, sym, ◌∙◌, ap, subst, arith}
-use Rattle.aim_msg.specs.declared.replies.Reply.{Reply}
+use Rattle.aim_messages.specs.declared.replies.Reply.{Reply}
 use Rattle.aim_driver.specs.declared.logs.LogItem.TheVariants as item
-use Rattle.aim_links.specs.Links.{LinkModel, delivered, under_way, after_delivery}
-use Rattle.aim_links.proofs.LinkLemmas.{fewer}
+use Rattle.aim_driver.specs.Links.{LinkModel, delivered, under_way, after_delivery}
+use Rattle.aim_driver.proofs.LinkLemmas.{fewer}
 use Rattle.aim_driver.proofs.HearLemmas.{Hearing, one_more, all_heard}
 use Rattle.aim_driver.proofs.turns.hear.Goals as goal
 

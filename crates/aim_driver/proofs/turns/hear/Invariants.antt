@@ -1,8 +1,8 @@
 use Rattle.std.proofs.Common.{◌≡◌, ◌≤◌, ℕ, List}
 use Rattle.aim_driver.specs.declared.plans.DrivePlan.{DrivePlan}
-use Rattle.aim_msg.specs.declared.replies.Reply.{Reply}
+use Rattle.aim_messages.specs.declared.replies.Reply.{Reply}
 use Rattle.aim_driver.specs.declared.logs.LogItem.{LogItem}
-use Rattle.aim_links.specs.Links.{LinkModel, under_way}
+use Rattle.aim_driver.specs.Links.{LinkModel, under_way}
 use Rattle.aim_driver.specs.Models.{step_of}
 use Rattle.aim_driver.proofs.HearLemmas.{Hearing}
 use Rattle.aim_driver.proofs.turns.hear.Given as goal

@@ -2,7 +2,7 @@ use Rattle.std.proofs.Common.{List, ◌+◌, ◌-◌, ◌++◌, map, filter, ap,
 use Rattle.std.specs.List.{range_with_len}
 use Rattle.serde_json.specs.declared.value.Value.{Value}
 use Rattle.serde_json.specs.View.{view}
-use Rattle.aim_msg.specs.Lines.{has_lane, all_lanes}
+use Rattle.aim_messages.specs.Lines.{has_lane, all_lanes}
 use Rattle.aim_json.specs.Members.{count}
 use Rattle.aim_json.proofs.Lists.{lanes_next}
 use Rattle.aim_json.proofs.lines.lanes_value.Goals as goal

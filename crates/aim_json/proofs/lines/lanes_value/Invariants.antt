@@ -1,7 +1,7 @@
 use Rattle.std.proofs.Common.{◌≡◌, ◌-◌, ◌++◌, map, filter}
 use Rattle.std.specs.List.{range_with_len}
 use Rattle.serde_json.specs.View.{view}
-use Rattle.aim_msg.specs.Lines.{has_lane, all_lanes}
+use Rattle.aim_messages.specs.Lines.{has_lane, all_lanes}
 use Rattle.aim_json.specs.Members.{count}
 use Rattle.aim_json.proofs.lines.lanes_value.Given as goal
 

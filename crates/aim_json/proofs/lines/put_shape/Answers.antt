@@ -1,5 +1,5 @@
 use Rattle.std.proofs.Common.{sym, subst}
-use Rattle.aim_msg.specs.declared.script.MoveShape.{MoveShape}
+use Rattle.aim_messages.specs.declared.script.MoveShape.{MoveShape}
 use Rattle.aim_json.specs.Members.{with_members}
 use Rattle.aim_json.specs.Objects.{Holds}
 use Rattle.aim_json.specs.Lines.{shape_members}

@@ -1,7 +1,7 @@
 use Rattle.std.proofs.Common.{arith, refl, ap, subst, ◌≡◌, ◌∙◌, ◌++◌, ◌∷◌, [], IfOk}
 use Rattle.std.specs.List.{range_with_len}
 use Rattle.std.proofs.lemmas.Iterator.{items_from_collect, YieldsList-from_range}
-use Rattle.aim_msg.specs.declared.entries.TheConstants.{OPERATOR}
+use Rattle.aim_messages.specs.declared.entries.TheConstants.{OPERATOR}
 use Rattle.aim_manager.proofs.manager.caller_numbers.Goals as goal
 
 pub returns : goal.returns

@@ -1,16 +1,16 @@
 use Rattle.std.proofs.Common.{◌≡◌, ℕ, List, [], ◌∷◌, ◌++◌, map, length, sym, ap, ◌∙◌}
 use Rattle.std.specs.List.{range_with_len}
 use Rattle.std.proofs.lemmas.List.{length-map, map-append}
-use Rattle.aim_msg.specs.declared.entries.Entry.{Entry}
-use Rattle.aim_msg.specs.declared.entries.TheConstants.{OPERATOR}
-use Rattle.aim_turn.specs.Models.{PassModel, TurnstileModel, new_pass}
-use Rattle.aim_manager.specs.declared.keeper.Setting.{Setting}
+use Rattle.aim_messages.specs.declared.entries.Entry.{Entry}
+use Rattle.aim_messages.specs.declared.entries.TheConstants.{OPERATOR}
+use Rattle.aim_turnstile.specs.Models.{PassModel, TurnstileModel, new_pass}
+use Rattle.aim_manager.specs.declared.keeper.BookSetting.{BookSetting}
 use Rattle.aim_manager.specs.Seen.{callers}
 use Rattle.aim_manager.proofs.Callers.{callers_some, last_is}
 use Rattle.aim_manager.proofs.manager.seated.Goals as goal
 
 -- the passes of the vehicles, and the operator's
-taken : (m : TurnstileModel Setting) (n : ℕ) (all rest : List (PassModel Setting Entry)) (last : PassModel Setting Entry) → all ≡ map (new_pass m) m.numbers → m.numbers ≡ callers n
+taken : (m : TurnstileModel BookSetting) (n : ℕ) (all rest : List (PassModel BookSetting Entry)) (last : PassModel BookSetting Entry) → all ≡ map (new_pass m) m.numbers → m.numbers ≡ callers n
     → all ≡ rest ++ last ∷ [] → (rest ≡ map (new_pass m) (range_with_len 0 n)) × (last ≡ new_pass m OPERATOR)
 taken m n all rest last is numbers cut =
     last_is rest (map (new_pass m) (range_with_len 0 n)) last (new_pass m OPERATOR)

@@ -1,7 +1,7 @@
 use Rattle.std.proofs.Common.{ℕ, ◌<◌, ◌&&◌, List, get_or}
-use Rattle.aim_paths.specs.Intersection.{Intersection}
-use Rattle.aim_pool.specs.declared.spans.Span.{Span}
-use Rattle.aim_pool.specs.Spans.{in_span}
+use Rattle.aim_layout.specs.Intersection.{Intersection}
+use Rattle.aim_sheets.specs.declared.spans.Span.{Span}
+use Rattle.aim_sheets.specs.Spans.{in_span}
 use Rattle.aim_tiles.specs.Searches.{IsClear}
 use Rattle.aim_rules.specs.Timeline.{InForce}
 use Rattle.aim_reservations.specs.Blocking.{AreGreens, is_green}

@@ -1,7 +1,5 @@
-use Rattle.aim_rules.proofs.HistoryLaws.{fresh-one}
-use Rattle.aim_rules.proofs.HistoryLaws.{fresh-none}
-use Rattle.aim_rules.proofs.TimeLaws.{is_fresh-order}
-use Rattle.aim_rules.proofs.TimeLaws.{is_fresh-message}
+use Rattle.aim_rules.proofs.HistoryLaws.{fresh-one, fresh-none}
+use Rattle.aim_rules.proofs.TimeLaws.{is_fresh-order, is_fresh-message}
 use Rattle.aim_rules.proofs.growth.fresh_messages_of_one_more.Goals as goal
 
 pub returns-clause-fresh : goal.returns-clause-fresh

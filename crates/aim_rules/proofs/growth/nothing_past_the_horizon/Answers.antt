@@ -1,5 +1,4 @@
-use Rattle.aim_rules.proofs.TimeLaws.{owns-ahead}
-use Rattle.aim_rules.proofs.TimeLaws.{green-legal}
+use Rattle.aim_rules.proofs.TimeLaws.{owns-ahead, green-legal}
 use Rattle.aim_rules.proofs.growth.nothing_past_the_horizon.Goals as goal
 
 pub returns-clause-kept : goal.returns-clause-kept

@@ -1,5 +1,4 @@
-use Rattle.aim_rules.proofs.TableLaws.{owner-holder}
-use Rattle.aim_rules.proofs.TableLaws.{holder-snoc}
+use Rattle.aim_rules.proofs.TableLaws.{owner-holder, holder-snoc}
 use Rattle.aim_rules.proofs.growth.owners_of_one_more.Goals as goal
 
 pub returns-clause-others : goal.returns-clause-others

@@ -1,8 +1,4 @@
-use Rattle.aim_rules.proofs.PolicyLaws.{policy_at-changes}
-use Rattle.aim_rules.proofs.PolicyLaws.{changes-snoc}
-use Rattle.aim_rules.proofs.PolicyLaws.{green-before}
-use Rattle.aim_rules.proofs.PolicyLaws.{green-none}
-use Rattle.aim_rules.proofs.PolicyLaws.{is_stopped-snoc}
+use Rattle.aim_rules.proofs.PolicyLaws.{policy_at-changes, changes-snoc, green-before, green-none, is_stopped-snoc}
 use Rattle.aim_rules.proofs.growth.policies_of_one_more.Goals as goal
 
 pub returns-clause-at : goal.returns-clause-at

@@ -1,5 +1,4 @@
-use Rattle.aim_rules.proofs.TakenLaws.{reservations-have}
-use Rattle.aim_rules.proofs.TakenLaws.{reservations-kept}
+use Rattle.aim_rules.proofs.TakenLaws.{reservations-have, reservations-kept}
 use Rattle.aim_rules.proofs.growth.reservations_are_kept_and_last.Goals as goal
 
 pub returns-clause-has : goal.returns-clause-has

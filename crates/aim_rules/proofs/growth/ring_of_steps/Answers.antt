@@ -1,9 +1,4 @@
-use Rattle.aim_rules.proofs.RunLaws.{IsNear-legal}
-use Rattle.aim_rules.proofs.RunLaws.{IsRing-clear}
-use Rattle.aim_rules.proofs.RunLaws.{IsRing-far}
-use Rattle.aim_rules.proofs.RunLaws.{IsRing-at}
-use Rattle.aim_rules.proofs.RunLaws.{IsRing-snoc}
-use Rattle.aim_rules.proofs.RunLaws.{place-apart}
+use Rattle.aim_rules.proofs.RunLaws.{IsNear-legal, IsRing-clear, IsRing-far, IsRing-at, IsRing-snoc, place-apart}
 use Rattle.aim_rules.proofs.growth.ring_of_steps.Goals as goal
 
 pub returns-clause-near : goal.returns-clause-near

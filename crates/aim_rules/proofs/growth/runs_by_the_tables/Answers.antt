@@ -1,5 +1,4 @@
-use Rattle.aim_rules.proofs.RunLaws.{answer-tables}
-use Rattle.aim_rules.proofs.RunLaws.{run-journal}
+use Rattle.aim_rules.proofs.RunLaws.{answer-tables, run-journal}
 use Rattle.aim_rules.proofs.growth.runs_by_the_tables.Goals as goal
 
 pub returns-clause-answer : goal.returns-clause-answer

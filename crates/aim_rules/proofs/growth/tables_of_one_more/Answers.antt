@@ -1,7 +1,4 @@
-use Rattle.aim_rules.proofs.TableLaws.{AreTables-empty}
-use Rattle.aim_rules.proofs.TableLaws.{AreTables-snoc}
-use Rattle.aim_rules.proofs.TableLaws.{AreTables-pruned}
-use Rattle.aim_rules.proofs.TableLaws.{IsKnown-tables}
+use Rattle.aim_rules.proofs.TableLaws.{AreTables-empty, AreTables-snoc, AreTables-pruned, IsKnown-tables}
 use Rattle.aim_rules.proofs.growth.tables_of_one_more.Goals as goal
 
 pub returns-clause-none : goal.returns-clause-none

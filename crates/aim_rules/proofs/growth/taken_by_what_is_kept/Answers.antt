@@ -1,6 +1,4 @@
-use Rattle.aim_rules.proofs.TakenLaws.{taken_by-owner}
-use Rattle.aim_rules.proofs.TakenLaws.{are_below-legal}
-use Rattle.aim_rules.proofs.TakenLaws.{AreApart-legal}
+use Rattle.aim_rules.proofs.TakenLaws.{taken_by-owner, are_below-legal, AreApart-legal}
 use Rattle.aim_rules.proofs.growth.taken_by_what_is_kept.Goals as goal
 
 pub returns-clause-by : goal.returns-clause-by

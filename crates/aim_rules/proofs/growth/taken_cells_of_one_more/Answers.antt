@@ -1,6 +1,4 @@
-use Rattle.aim_rules.proofs.TakenLaws.{is_owned-others}
-use Rattle.aim_rules.proofs.TakenLaws.{is_owned-snoc}
-use Rattle.aim_rules.proofs.TakenLaws.{is_owned-same}
+use Rattle.aim_rules.proofs.TakenLaws.{is_owned-others, is_owned-snoc, is_owned-same}
 use Rattle.aim_rules.proofs.growth.taken_cells_of_one_more.Goals as goal
 
 pub returns-clause-others : goal.returns-clause-others

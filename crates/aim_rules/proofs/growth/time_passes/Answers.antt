@@ -1,8 +1,4 @@
-use Rattle.aim_rules.proofs.TimeLaws.{lasts-greatest}
-use Rattle.aim_rules.proofs.TimeLaws.{holding-later}
-use Rattle.aim_rules.proofs.TimeLaws.{is_coming-earlier}
-use Rattle.aim_rules.proofs.TimeLaws.{has_cell-lasts}
-use Rattle.aim_rules.proofs.TimeLaws.{if_lasts-next}
+use Rattle.aim_rules.proofs.TimeLaws.{lasts-greatest, holding-later, is_coming-earlier, has_cell-lasts, if_lasts-next}
 use Rattle.aim_rules.proofs.PolicyLaws.{policy_in-pruned}
 use Rattle.aim_rules.proofs.growth.time_passes.Goals as goal
 

@@ -1,5 +1,5 @@
+use Rattle.aim_driver.specs.Crossings.{first_entrance as entrance_of}
 use Rattle.std.proofs.Common.{◌≡◌, drop}
-use Rattle.aim_safety.specs.Occupied.{entrance as entrance_of}
 use Rattle.aim_safety.proofs.grants.entrance.Given as goal
 
 abbrev pub invariant-loop-item : goal.invariant-loop-item

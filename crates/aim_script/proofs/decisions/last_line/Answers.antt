@@ -1,6 +1,6 @@
 use Rattle.std.proofs.Common.{◌≡◌, ◌<◌, length, arith, ap, ◌∙◌}
 use Rattle.std.proofs.lemmas.List.{take_more_set}
-use Rattle.aim_msg.proofs.Words.{spaced_added}
+use Rattle.aim_messages.proofs.Words.{spaced_added}
 use Rattle.aim_script.specs.Decided.{decision_words, printed}
 use Rattle.aim_script.proofs.decisions.last_line.Goals as goal
 

@@ -1,11 +1,9 @@
-use Rattle.std.proofs.Common.{◌≡◌, ◌&&◌, arith, ap, ◌∙◌}
-use Rattle.aim_pool.specs.Sheets.{Spans}
-use Rattle.aim_pool.specs.Spans.{in_spans}
-use Rattle.aim_shards.specs.Cuts.{half_of, lies_at}
+use Rattle.std.proofs.Common.{◌≡◌, ◌&&◌, arith, ap, ◌∙◌, List, subst}
+use Rattle.aim_sheets.specs.Sheets.{Spans}
+use Rattle.aim_sheets.specs.Spans.{in_spans}
+use Rattle.aim_shards.specs.Cuts.{half_of, lies_at, AreCut}
 use Rattle.aim_shards.proofs.Cutting.{cut_more}
-use Rattle.std.proofs.Common.{List, subst}
 use Rattle.std.proofs.lemmas.List.{take_all}
-use Rattle.aim_shards.specs.Cuts.{AreCut}
 use Rattle.aim_shards.proofs.cuts.quarter_all.Goals as goal
 
 pub loop-sheet-preserved : goal.loop-sheet-preserved

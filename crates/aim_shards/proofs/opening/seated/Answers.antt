@@ -1,7 +1,6 @@
-use Rattle.std.proofs.Common.{[], sym, ap, ◌∙◌}
+use Rattle.std.proofs.Common.{[], sym, ap, ◌∙◌, List}
 use Rattle.aim_shards.specs.Ruled.{opening_view}
 use Rattle.aim_shards.specs.Sets.{Quarters}
-use Rattle.std.proofs.Common.{List}
 use Rattle.aim_shards.proofs.opening.seated.Goals as goal
 
 pub seat_all-requires-clause-root : goal.seat_all-requires-clause-root

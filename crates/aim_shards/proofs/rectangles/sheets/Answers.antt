@@ -1,10 +1,8 @@
-use Rattle.std.proofs.Common.{arith}
-use Rattle.aim_shards.proofs.Sheeted.{sheets_more}
-use Rattle.std.proofs.Common.{List, subst}
+use Rattle.std.proofs.Common.{arith, List, subst}
+use Rattle.aim_shards.proofs.Sheeted.{sheets_more, columns_fit, rows_fit, steps_fit}
 use Rattle.std.proofs.lemmas.List.{take_all}
 use Rattle.aim_shards.specs.declared.rectangles.Rectangle.{Rectangle}
 use Rattle.aim_shards.specs.Fitting.{AreSheets}
-use Rattle.aim_shards.proofs.Sheeted.{columns_fit, rows_fit, steps_fit}
 use Rattle.aim_shards.proofs.rectangles.sheets.Goals as goal
 
 pub loop-rectangle-preserved : goal.loop-rectangle-preserved

@@ -1,7 +1,6 @@
 use Rattle.aim_shards.specs.Ruled.{tail_of}
 use Rattle.aim_shards.specs.Sets.{touched}
-use Rattle.aim_shards.proofs.Walks.{works_some, gives_own}
-use Rattle.aim_shards.proofs.Walks.{of_gives}
+use Rattle.aim_shards.proofs.Walks.{works_some, gives_own, of_gives}
 use Rattle.aim_shards.proofs.turns.make.Goals as goal
 
 pub draw-ticket-requires-clause-works : goal.draw-ticket-requires-clause-works

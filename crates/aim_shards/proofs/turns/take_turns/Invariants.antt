@@ -1,8 +1,7 @@
 use Rattle.std.proofs.Common.{◌≡◌, ◌≤◌, length}
 use Rattle.aim_shards.specs.Found.{IsFound}
-use Rattle.aim_shards.specs.Sets.{touched}
+use Rattle.aim_shards.specs.Sets.{touched, IsOf}
 use Rattle.aim_shards.specs.Working.{Works}
-use Rattle.aim_shards.specs.Sets.{IsOf}
 use Rattle.aim_shards.proofs.turns.take_turns.Given as goal
 
 abbrev pub invariant-loop-quadrant : goal.invariant-loop-quadrant

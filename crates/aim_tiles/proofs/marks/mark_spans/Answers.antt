@@ -1,5 +1,5 @@
 use Rattle.std.proofs.Common.{refl, ◌∙◌}
-use Rattle.aim_pool.specs.declared.spans.Span.{Span}
+use Rattle.aim_sheets.specs.declared.spans.Span.{Span}
 use Rattle.aim_tiles.proofs.Runs.{first_page, page_stays, none_marked, marked_next, marked_all, place_within, count_more, count_all, no_count}
 use Rattle.aim_tiles.proofs.marks.mark_spans.Goals as goal
 

@@ -1,5 +1,5 @@
 use Rattle.std.proofs.Common.{refl, ◌∙◌}
-use Rattle.aim_pool.specs.declared.spans.Span.{Span}
+use Rattle.aim_sheets.specs.declared.spans.Span.{Span}
 use Rattle.aim_tiles.proofs.Runs.{row_of, unmarked_next, unmarked_all, none_unmarked, cost_more, cost_all, at_most, no_more, same_most}
 use Rattle.aim_tiles.proofs.marks.unmark_spans.Goals as goal
 

@@ -1,6 +1,6 @@
 use Rattle.std.proofs.Common.{length, get_or, refl, ◌∙◌, sym}
 use Rattle.std.specs.Option.{option_copied}
-use Rattle.aim_pool.specs.declared.spans.Span.{Span}
+use Rattle.aim_sheets.specs.declared.spans.Span.{Span}
 use Rattle.aim_tiles.specs.Pages.{place_of}
 use Rattle.aim_tiles.specs.Searches.{is_hit, spans_of}
 use Rattle.aim_tiles.proofs.Runs.{at_least_0, none_clear, same_most, next_within_same}

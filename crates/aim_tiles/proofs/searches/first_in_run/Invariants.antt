@@ -1,6 +1,6 @@
 use Rattle.std.proofs.Common.{ℕ, ◌<◌, ◌≤◌, ◌-◌, length, slice_index_or}
 use Rattle.std.specs.Option.{option_copied}
-use Rattle.aim_pool.specs.declared.spans.Span.{Span}
+use Rattle.aim_sheets.specs.declared.spans.Span.{Span}
 use Rattle.aim_tiles.specs.Searches.{is_hit, IsClear, spans_of}
 use Rattle.aim_tiles.proofs.searches.first_in_run.Given as goal
 

@@ -1,6 +1,6 @@
 use Rattle.std.proofs.Common.{◌∙◌, refl}
 use Rattle.std.proofs.lemmas.List.{length-set}
-use Rattle.aim_pool.specs.declared.spans.Span.{Span}
+use Rattle.aim_sheets.specs.declared.spans.Span.{Span}
 use Rattle.aim_tiles.proofs.Runs.{more_some, next_within, row_few, row_within, run_started, run_more}
 use Rattle.aim_tiles.proofs.searches.gather.Goals as goal
 

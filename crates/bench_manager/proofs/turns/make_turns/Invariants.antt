@@ -1,4 +1,4 @@
-use Rattle.aim_turn.specs.Models.{IsSamePass}
+use Rattle.aim_turnstile.specs.Models.{IsSamePass}
 use Rattle.bench_manager.proofs.turns.make_turns.Given as goal
 
 -- the pass stays the same pass

@@ -1,5 +1,5 @@
 use Rattle.std.proofs.Common.{◌≡◌}
-use Rattle.aim_buffers.specs.Shapes.{ArePreparedFor}
+use Rattle.aim_requests.specs.Shapes.{ArePreparedFor}
 use Rattle.bench_parts.proofs.crossings.prepare_all_known.Given as goal
 
 abbrev pub invariant-loop-round : goal.invariant-loop-round

@@ -1,5 +1,5 @@
 use Rattle.std.proofs.Common.{ℕ, ◌<◌, slice_index_or}
-use Rattle.aim_pool.specs.Sheets.{Spans}
+use Rattle.aim_sheets.specs.Sheets.{Spans}
 use Rattle.bench_parts.specs.Ready.{IsReady}
 use Rattle.bench_parts.proofs.tiles.are_ready.Given as goal
 

@@ -1,6 +1,6 @@
 use Rattle.std.proofs.Common.{ap, subst}
-use Rattle.aim_turn.specs.History.{Begins}
-use Rattle.aim_turn.proofs.Histories.{begins_trans}
+use Rattle.aim_turnstile.specs.History.{Begins}
+use Rattle.aim_turnstile.proofs.Histories.{begins_trans}
 use Rattle.tests_drives.proofs.turn.call_after_meeting.Goals as goal
 
 pub returns-clause-behind : goal.returns-clause-behind

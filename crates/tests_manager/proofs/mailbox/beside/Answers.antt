@@ -1,7 +1,7 @@
 use denote.Param.Send.{sendable}
 use Rattle.std.proofs.Crossing.{crosses}
-use Rattle.aim_paths.proofs.layouts.Layout.TheSendSync as layout
-use Rattle.aim_mailbox.proofs.Crosses.{crossing}
+use Rattle.aim_layout.proofs.layouts.Layout.TheSendSync as layout
+use Rattle.aim_mail.proofs.Crosses.{crossing}
 use Rattle.tests_manager.proofs.mailbox.beside.Goals as goal
 
 -- what is shown already is tried first

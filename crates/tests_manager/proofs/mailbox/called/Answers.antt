@@ -1,4 +1,4 @@
-use Rattle.aim_mailbox.proofs.Clients.{prepared_if, same_called}
+use Rattle.aim_mail.proofs.Clients.{prepared_if, same_called}
 use Rattle.tests_manager.proofs.mailbox.called.Goals as goal
 
 pub call-requires-clause-prepared : goal.call-requires-clause-prepared

@@ -1,4 +1,4 @@
-use Rattle.aim_mailbox.specs.Calls.{IsSameClient}
+use Rattle.aim_mail.specs.Calls.{IsSameClient}
 use Rattle.tests_manager.proofs.mailbox.requests.Given as goal
 
 -- the client stays the same client

@@ -1,5 +1,5 @@
-use Rattle.aim_mailbox.specs.Calls.{IsOfMail}
-use Rattle.aim_mailbox.proofs.Clients.{all_two}
+use Rattle.aim_mail.specs.Calls.{IsOfMail}
+use Rattle.aim_mail.proofs.Clients.{all_two}
 use Rattle.tests_manager.proofs.mailbox.settled.Goals as goal
 
 pub settle-requires : goal.settle-requires

@@ -1,4 +1,4 @@
-use Rattle.aim_turn.specs.Models.{IsSamePass}
+use Rattle.aim_turnstile.specs.Models.{IsSamePass}
 use Rattle.tests_manager.proofs.threads.calls.Given as goal
 
 -- the pass stays the same pass

@@ -1,6 +1,6 @@
 use Rattle.std.proofs.Common.{◌<◌, ◌∙◌, ap}
-use Rattle.aim_desk.specs.Keeping.{row_count}
-use Rattle.aim_desk.specs.Rows.{row_of}
+use Rattle.aim_book.specs.Keeping.{row_count}
+use Rattle.aim_book.specs.Rows.{row_of}
 use Rattle.aim_book.proofs.SheetLemmas.{count_is}
 use Rattle.aim_book.proofs.book.Book.kept.Goals as goal
 

@@ -1,5 +1,5 @@
 use Rattle.std.proofs.Common.{◌&&◌, sym, ◌∙◌}
-use Rattle.aim_pool.specs.Spans.{in_spans}
+use Rattle.aim_sheets.specs.Spans.{in_spans}
 use Rattle.aim_tiles.specs.Searches.{is_taken}
 use Rattle.aim_reservations.specs.Blocking.{is_green}
 use Rattle.aim_reservations.specs.Rows.{row_of, spans_in}

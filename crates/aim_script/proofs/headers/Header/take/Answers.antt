@@ -1,6 +1,6 @@
 use Rattle.std.proofs.Common.{◌≡◌, ℕ, None, refl}
-use Rattle.aim_msg.specs.declared.script.Line.{Line}
-use Rattle.aim_msg.specs.declared.script.Line.TheVariants as line
+use Rattle.aim_messages.specs.declared.script.Line.{Line}
+use Rattle.aim_messages.specs.declared.script.Line.TheVariants as line
 use Rattle.aim_script.specs.Said.{version_in, vehicles_in}
 use Rattle.aim_script.proofs.headers.Header.take.Goals as goal
 

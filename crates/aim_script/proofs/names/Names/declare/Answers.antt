@@ -1,7 +1,7 @@
 use Rattle.std.proofs.Common.{ap, not, ◌∙◌, ℕ, List, arith}
 use Rattle.std.specs.Prelude.{bytes_eq}
 use Rattle.std.specs.List.{list_any}
-use Rattle.aim_msg.specs.Lines.{name_word}
+use Rattle.aim_messages.specs.Lines.{name_word}
 use Rattle.aim_script.specs.declared.names.Key.{Key}
 use Rattle.aim_script.specs.Names.{IsPadded}
 use Rattle.aim_script.proofs.NameLemmas.{any_same}

@@ -1,6 +1,6 @@
 use Rattle.std.proofs.Common.{ap, ◌∙◌, ℕ, List, arith}
 use Rattle.std.specs.Prelude.{bytes_eq, position}
-use Rattle.aim_msg.specs.Lines.{name_word}
+use Rattle.aim_messages.specs.Lines.{name_word}
 use Rattle.aim_script.specs.declared.names.Key.{Key}
 use Rattle.aim_script.specs.Names.{IsPadded}
 use Rattle.aim_script.proofs.NameLemmas.{position_same}

@@ -1,8 +1,7 @@
 use Rattle.std.proofs.Common.{ap, sym, ◌∙◌}
 use Rattle.aim_shards.specs.Models.{PassModel, ShardsModel}
 use Rattle.aim_shards.proofs.Walks.{decides_claim, decides_own, of_works}
-use Rattle.aim_shards.proofs.Keeping.{keeps_room, keeps_more, set_there, of_same}
-use Rattle.aim_shards.proofs.Keeping.{works_own, calls_left, moves_claim}
+use Rattle.aim_shards.proofs.Keeping.{keeps_room, keeps_more, set_there, of_same, works_own, calls_left, moves_claim}
 use Rattle.aim_shards.proofs.calls.Shards.claim.Goals as goal
 
 pub take_turns-found-requires-clause-of : goal.take_turns-found-requires-clause-of

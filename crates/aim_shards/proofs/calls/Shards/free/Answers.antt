@@ -1,14 +1,10 @@
-use Rattle.std.proofs.Common.{List, ap, sym, ◌∙◌}
+use Rattle.std.proofs.Common.{List, ap, sym, ◌∙◌, subst}
 use Rattle.aim_shards.specs.Claims.{has_ticket, freed}
 use Rattle.aim_shards.specs.Models.{PassModel, ShardsModel}
-use Rattle.aim_shards.specs.Sets.{Quarters, chosen, lies_in}
-use Rattle.aim_shards.proofs.Walks.{decides_free, decides_own}
+use Rattle.aim_shards.specs.Sets.{Quarters, chosen, lies_in, IsOf}
+use Rattle.aim_shards.proofs.Walks.{decides_free, decides_own, of_works}
 use Rattle.aim_shards.proofs.Freed.{lies_same}
-use Rattle.aim_shards.proofs.Keeping.{keeps_room, keeps_more}
-use Rattle.std.proofs.Common.{subst}
-use Rattle.aim_shards.specs.Sets.{IsOf}
-use Rattle.aim_shards.proofs.Walks.{of_works}
-use Rattle.aim_shards.proofs.Keeping.{works_own, calls_left}
+use Rattle.aim_shards.proofs.Keeping.{keeps_room, keeps_more, works_own, calls_left}
 use Rattle.aim_shards.proofs.calls.Shards.free.Goals as goal
 
 pub make-entry-requires-clause-decides : goal.make-entry-requires-clause-decides

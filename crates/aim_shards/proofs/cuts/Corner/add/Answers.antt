@@ -1,5 +1,5 @@
 use Rattle.std.proofs.Common.{◌+◌, ◌*◌, ◌||◌, refl, sym, ap, ◌∙◌}
-use Rattle.aim_pool.specs.Spans.{in_spans}
+use Rattle.aim_sheets.specs.Spans.{in_spans}
 use Rattle.aim_shards.specs.Cuts.{one}
 use Rattle.aim_shards.proofs.Cutting.{none_span, off_span, or_none, part_span}
 use Rattle.aim_shards.proofs.cuts.Corner.add.Goals as goal

@@ -1,7 +1,7 @@
 use Rattle.std.proofs.Common.{◌≡◌, ◌≤◌, ◌+◌, ◌*◌, ◌&&◌, length, take}
 use Rattle.std.specs.Prelude.{filter}
 use Rattle.aim_geometry.specs.Cells.{Cell}
-use Rattle.aim_pool.specs.Spans.{in_spans}
+use Rattle.aim_sheets.specs.Spans.{in_spans}
 use Rattle.aim_shards.specs.Cuts.{is_beside, lies_at, one}
 use Rattle.aim_shards.proofs.cuts.Corner.part.Given as goal
 

@@ -1,6 +1,6 @@
 use Rattle.std.proofs.Common.{◌≡◌, ◌+◌, ◌-◌, ◌*◌, ◌≤◌, ◌&&◌, length}
 use Rattle.aim_geometry.specs.Cells.{Cell}
-use Rattle.aim_pool.specs.Spans.{in_spans}
+use Rattle.aim_sheets.specs.Spans.{in_spans}
 use Rattle.aim_shards.specs.Rectangles.{is_between}
 use Rattle.aim_shards.proofs.Boxes.{is_before}
 use Rattle.aim_shards.proofs.rectangles.Rectangle.sheet.Given as goal

@@ -1,9 +1,0 @@
-pub use Rattle.aim_manager.proofs.Crosses
-pub mod Passes
-pub mod Places
-pub mod Courses
-pub mod Sheets
-pub mod Turns
-pub mod Followed
-pub mod Rows
-pub mod Rests

@@ -1,9 +1,0 @@
-pub use Rattle.aim_manager.specs.declared.keeper.Setting
-pub use Rattle.aim_manager.specs.Seen
-pub use Rattle.aim_manager.specs.Full
-pub mod Rests
-pub mod Agents
-pub mod Places
-pub mod Went
-pub mod Followed
-pub mod Turns

@@ -1,0 +1,83 @@
+-- What is known of a message before the cells of its crossing are.
+use Rattle.std.proofs.Common.{◌≡◌, ℕ, ◌+◌, ◌≤◌, Bool, true, false, [], length, Option, Some, None, Result, Ok, Err, refl, sym, ◌∙◌, ap, arith, subst}
+use Rattle.std.specs.Prelude.{is_none, option_and_then, if◌then◌else◌, IfOk}
+use Rattle.std.specs.Option.{option_or}
+use Rattle.aim_messages.specs.declared.messages.Body.{Body}
+use Rattle.aim_messages.specs.declared.messages.Body.TheVariants as body
+use Rattle.aim_messages.specs.declared.messages.Params.{Params}
+use Rattle.aim_messages.specs.declared.replies.Field.{Field}
+use Rattle.aim_messages.specs.declared.replies.Reason.{Reason}
+use Rattle.aim_messages.specs.declared.replies.Reply.{Reply}
+use Rattle.aim_layout.specs.Intersection.{Intersection}
+use Rattle.aim_requests.specs.Requests.{IsPreparedFor, Request}
+use Rattle.aim_rules.specs.Bad.{bad, is_fast_made, span_count}
+use Rattle.aim_rules.specs.History.{params_of}
+use Rattle.aim_rules.specs.Known.{Known, answer_asking_by, answer_free_by, answer_fresh_by, first_reason_by, own_refusal_by, refusal_by, refused_or_by}
+use Rattle.aim_book.specs.Costs.{asked_spans}
+use Rattle.aim_reservations.specs.Keeping.{is_named, row_count}
+use Rattle.aim_reservations.specs.Rows.{spans_in}
+use Rattle.aim_book.specs.Reserved.{rows_exchanged}
+use Rattle.aim_reservations.specs.declared.reservations.Reservation.{Reservation}
+
+-- what is known of a result's value
+pub if_ok : {A E : Type 0} {P Q : A → Type 0} (r : Result A E) → ((a : A) → P a → Q a) → IfOk r P → IfOk r Q
+if_ok (Ok a) f p = f a p
+if_ok (Err e) f p = p
+
+-- a refusal for a reason that comes before the cells
+refused_asking : (i : Intersection) (k : Known) (b : Body) (p : Params) (why : Reason) (r : Reply) → option_or (own_refusal_by i k b) (first_reason_by i k p) ≡ Some why → r ≡ refusal_by i k p.arrive why → r ≡ answer_asking_by i k b p
+refused_asking i k b p why r first is = is ∙ sym (ap (λ o. refused_or_by i k p o (answer_free_by i k p)) first)
+
+pub refused_fresh : (i : Intersection) (k : Known) (b : Body) (p : Params) (why : Reason) (r : Reply) → k.stopped ≡ false → params_of b ≡ Some p → option_or (own_refusal_by i k b) (first_reason_by i k p) ≡ Some why → r ≡ refusal_by i k p.arrive why → r ≡ answer_fresh_by i k b
+refused_fresh i k (body.Cancel id) p why r going asks first is = absurd (cc)
+refused_fresh i k (body.Done id) p why r going asks first is = absurd (cc)
+refused_fresh i k (body.Request q) p why r going asks first is =
+    let s : q ≡ p = cc in
+    rw going (subst (λ u. r ≡ answer_asking_by i k (body.Request q) u) (sym s) (refused_asking i k (body.Request q) p why r first is))
+refused_fresh i k (body.Change id q) p why r going asks first is =
+    let s : q ≡ p = cc in
+    rw going (subst (λ u. r ≡ answer_asking_by i k (body.Change id q) u) (sym s) (refused_asking i k (body.Change id q) p why r first is))
+
+-- a reservation that is given up, as it is named
+pub given_count : (id : Option ℕ) (row : Option Reservation) → (if is_named id row then 1 else 0) + row_count (if is_named id row then None else row) ≡ row_count row
+given_count id None = refl
+given_count id (Some r) = go (is_named id (Some r))
+  where
+    go : (b : Bool) → (if b then 1 else 0) + row_count (if b then None else Some r) ≡ 1
+    go true = refl
+    go false = refl
+
+pub given_fits : (id : Option ℕ) (row : Option Reservation) → (if is_named id row then length (spans_in row) else 0) ≤ rows_exchanged row (if is_named id row then None else row)
+given_fits id None = omega arith
+given_fits id (Some r) = go (is_named id (Some r))
+  where
+    go : (b : Bool) → (if b then length r.sheet.spans else 0) ≤ rows_exchanged (Some r) (if b then None else Some r)
+    go true = omega arith
+    go false = omega arith
+
+-- the spans of what was prepared
+pub asked_is : (i : Intersection) (r : Request) → IsPreparedFor i r → length r.first.spans + length r.second.spans ≡ asked_spans i (params_of r.message.body)
+asked_is i r prepared = go (params_of r.message.body) refl
+  where
+    none : r.first.spans ≡ [] → r.second.spans ≡ [] → length r.first.spans + length r.second.spans ≡ 0
+    none a b = rw (a, b) refl
+
+    fast : (p : Params) (b : Bool) → is_fast_made p ≡ b → (if is_none r.bad then params_of r.message.body else None) ≡ Some p → length r.first.spans ≡ (if b then span_count i p true else 0)
+    fast p true made e = (prepared.fast p e made).count
+    fast p false made e = ap length (prepared.unmade p e made)
+
+    with_bad : (p : Params) (o : Option Field) → r.bad ≡ o → bad i p ≡ o → params_of r.message.body ≡ Some p → length r.first.spans + length r.second.spans ≡ (if is_none o then span_count i p false + (if is_fast_made p then span_count i p true else 0) else 0)
+    with_bad p (Some f) e g asks = let q = prepared.empty (rw e refl) in none q.0 q.1
+    with_bad p None e g asks =
+        let is : (if is_none r.bad then params_of r.message.body else None) ≡ Some p = rw (e, asks) refl in
+        let a = fast p (is_fast_made p) refl is in
+        let b = (prepared.steady p is).count in
+        omega arith
+
+    go : (o : Option Params) → params_of r.message.body ≡ o → length r.first.spans + length r.second.spans ≡ asked_spans i o
+    go None e = let q = prepared.empty (nothing (is_none r.bad) e) in none q.0 q.1
+      where
+        nothing : (b : Bool) → params_of r.message.body ≡ None → (if b then params_of r.message.body else None) ≡ None
+        nothing true e = e
+        nothing false e = refl
+    go (Some p) e = with_bad p (bad i p) (prepared.field ∙ ap (λ o. option_and_then (bad i) o) e) refl e

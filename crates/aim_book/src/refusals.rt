@@ -1,0 +1,177 @@
+//! Why a vehicle is refused before the cells of its crossing are looked at.
+
+ghost use Rattle.std.specs.Prelude.{◌≡◌, ℕ, ◌+◌, ◌<◌, ◌≤◌, false, nat_le, length, IfNone, Some, None, option_map};
+ghost use Rattle.std.specs.List.{list_any};
+ghost use Rattle.std.specs.Option.{option_or};
+ghost use Rattle.aim_messages.specs.declared.messages.Params.{Params};
+ghost use Rattle.aim_layout.specs.Intersection.{Intersection};
+ghost use Rattle.aim_rules.specs.Bad.{bad};
+ghost use Rattle.aim_rules.specs.Answer.{gives_way as gives_way_of};
+ghost use Rattle.aim_rules.specs.Cells.{cells};
+ghost use Rattle.aim_rules.specs.Kept.{policy_in};
+ghost use Rattle.aim_rules.specs.Known.{Known, first_reason_by, in_the_way_by, next_by, own_refusal_by, refusal_by, too_distant_by, too_far_by, too_late_by};
+ghost use Rattle.aim_book.specs.Asking.{AreCalling, IsAsking};
+ghost use Rattle.aim_book.specs.Desk.{Tells};
+
+use crate::desks::Desk;
+use aim_layout::{Layout, PolicyKind};
+use aim_messages::{Body, Params, Reason, Reply};
+use aim_policies::{has_lane, least_lane};
+use aim_requests::Prepared;
+use aim_reservations::{first_step, reaches};
+use aim_sessions::{asked_from, next_allowed};
+use std::sync::ledger::Ledger;
+
+impl<L: Ledger> Desk<L> {
+    /// The id of the reservation that the vehicle holds, if it holds one.
+    pub(crate) fn held(&self, vehicle: u32) -> Option<u32>
+        requires { vehicle < length self.now.reservations.rows.items }
+        ensures { (i : Intersection) (k : Known) (place : ℕ) → Tells i vehicle place k self.now → result ≡ option_map (λ x. x.place) k.holds }
+    {
+        match self.reservations.lasting(vehicle) {
+            Some(own) => Some(own.id),
+            None => None,
+        }
+    }
+
+    // When the vehicle may ask again, where it is refused for the reason.
+    fn next_after(&self, layout: &Layout, vehicle: u32, arrive: u32, reason: &Reason) -> u32
+        requires { vehicle < length self.now.sessions }
+        ensures { (k : Known) (place : ℕ) → Tells layout.now vehicle place k self.now → result ≡ next_by layout.now k arrive reason.now }
+    {
+        match reason {
+            Reason::Holds(_)
+            | Reason::NoReservation
+            | Reason::Begun(_)
+            | Reason::TooSoon(_)
+            | Reason::Reused(_) => self.sessions.standing(vehicle),
+            _ => {
+                let longest = layout.ground().times().longest;
+                next_allowed(self.reservations.now(), arrive, longest)
+            }
+        }
+    }
+
+    /// A refusal of the vehicle.
+    pub(crate) fn refuse(&self, layout: &Layout, vehicle: u32, arrive: u32, reason: Reason) -> Reply
+        requires there { vehicle < length self.now.sessions }
+        requires row { vehicle < length self.now.reservations.rows.items }
+        ensures { (k : Known) (place : ℕ) → Tells layout.now vehicle place k self.now → result ≡ refusal_by layout.now k arrive reason }
+    {
+        Reply::Reject {
+            next: self.next_after(layout, vehicle, arrive, &reason),
+            held: self.held(vehicle),
+            reason,
+        }
+    }
+
+    /// Why the vehicle may not ask so, by what it holds: it has a reservation, or it has none to change, or the one has begun.
+    pub(crate) fn own_refusal(&self, vehicle: u32, body: &Body) -> Option<Reason>
+        requires { vehicle < length self.now.reservations.rows.items }
+        ensures { (i : Intersection) (k : Known) (place : ℕ) → Tells i vehicle place k self.now → result ≡ own_refusal_by i k body.now }
+    {
+        let own = self.reservations.lasting(vehicle);
+        match (body, own) {
+            (Body::Request(_), Some(own)) => Some(Reason::Holds(own.id)),
+            (Body::Change(id, _), Some(own)) if own.id == *id => {
+                let first = first_step(&own.sheet);
+                if first <= self.reservations.now() {
+                    Some(Reason::Begun(first))
+                } else {
+                    None
+                }
+            }
+            (Body::Change(_, _), _) => Some(Reason::NoReservation),
+            _ => None,
+        }
+    }
+
+    // The lane to which the vehicle has to give way at its arrival, if there is one.
+    fn in_the_way(&self, layout: &Layout, params: &Params) -> Option<Reason>
+        requires there { (s : ℕ) → (policy_in self.now.timeline.pushed s).policy < length layout.now.policies }
+        requires lane { params.now.lane < 16 }
+        ensures { (k : Known) (vehicle place : ℕ) → Tells layout.now vehicle place k self.now → AreCalling layout.now k params.now self.now.approaches → result ≡ in_the_way_by layout.now k params.now }
+    {
+        let (policy, _) = self.timeline.policy_at(params.arrive);
+        if !gives_way(layout.kind(policy)) {
+            return None;
+        }
+        let horizon = layout.ground().times().horizon;
+        let lanes = self.approaches.lanes(self.reservations.now(), horizon);
+        if has_lane(lanes, params.lane) {
+            return None;
+        }
+        match least_lane(layout, lanes) {
+            Some(lane) => Some(Reason::Emergency(lane)),
+            None => None,
+        }
+    }
+
+    /// Why the vehicle is refused before the cells of its crossing are looked at, if it is: the first of the tests that
+    /// gives a reason.
+    pub(crate) fn early_reason(
+        &self,
+        layout: &Layout,
+        vehicle: u32,
+        prepared: &Prepared,
+        params: &Params,
+    ) -> Option<Reason>
+        requires caller { vehicle < length self.now.sessions }
+        requires there { (s : ℕ) → (policy_in self.now.timeline.pushed s).policy < length layout.now.policies }
+        requires asking { IsAsking layout.now params.now prepared.now }
+        ensures reason { (k : Known) (place : ℕ) → Tells layout.now vehicle place k self.now → AreCalling layout.now k params.now self.now.approaches → result ≡ first_reason_by layout.now k params.now }
+        ensures good { IfNone result (bad layout.now params.now ≡ None) }
+        ensures ahead { IfNone result (nat_le params.now.arrive (self.now.reservations.table.current + layout.now.times.edge) ≡ false) }
+    {
+        let now = self.reservations.now();
+        let next = self.sessions.standing(vehicle);
+        if now < next {
+            return Some(Reason::TooSoon(next));
+        }
+        if let Some(field) = prepared.bad() {
+            return Some(Reason::Bad(field));
+        }
+        self.timely_reason(layout, prepared, params)
+    }
+
+    // Why a vehicle whose params are good is refused before the cells of its crossing are looked at, if it is.
+    fn timely_reason(&self, layout: &Layout, prepared: &Prepared, params: &Params) -> Option<Reason>
+        requires good { bad layout.now params.now ≡ None }
+        requires there { (s : ℕ) → (policy_in self.now.timeline.pushed s).policy < length layout.now.policies }
+        requires asking { IsAsking layout.now params.now prepared.now }
+        ensures reason { (k : Known) (vehicle place : ℕ) → Tells layout.now vehicle place k self.now → AreCalling layout.now k params.now self.now.approaches →
+            result ≡ option_or (too_late_by layout.now k params.now) (option_or (too_far_by layout.now k params.now) (option_or (too_distant_by layout.now k params.now) (in_the_way_by layout.now k params.now))) }
+        ensures ahead { IfNone result (nat_le params.now.arrive (self.now.reservations.table.current + layout.now.times.edge) ≡ false) }
+    {
+        let times = layout.ground().times();
+        let now = self.reservations.now();
+        if params.arrive <= now + times.edge {
+            return Some(Reason::Late(now));
+        }
+        let reach = now + times.horizon;
+        if is_far(prepared, reach) {
+            return Some(Reason::Far(reach));
+        }
+        match self.distances.test(params.lane, asked_from(now, params)) {
+            Err(least) => Some(Reason::Distance(least)),
+            Ok(()) => self.in_the_way(layout, params),
+        }
+    }
+}
+
+// Whether vehicles give way to emergencies under a policy of this kind.
+fn gives_way(kind: PolicyKind) -> bool
+    ensures { result ≡ gives_way_of (Some kind) }
+{
+    matches!(kind, PolicyKind::Emerg | PolicyKind::LightEmerg)
+}
+
+// Whether the crossing has a cell at the step or at a later one.
+fn is_far(prepared: &Prepared, reach: u32) -> bool
+    ensures { (i : Intersection) (p : Params) → i.times.early ≤ i.times.edge → i.times.late ≤ i.times.edge → IsAsking i p prepared.now → bad i p ≡ None → result ≡ list_any (λ c. nat_le reach c.step) (cells i p false) }
+{
+    match prepared.cells_b() {
+        Some(sheet) => reaches(sheet, reach),
+        None => false,
+    }
+}

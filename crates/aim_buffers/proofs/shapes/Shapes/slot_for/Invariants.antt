@@ -1,5 +1,0 @@
-use Rattle.std.proofs.Common.{◌<◌}
-use Rattle.aim_buffers.proofs.shapes.Shapes.slot_for.Given as goal
-
-abbrev pub invariant-loop : goal.invariant-loop
-invariant-loop l = l.at < l.slots

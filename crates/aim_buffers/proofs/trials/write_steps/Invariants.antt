@@ -1,9 +1,0 @@
-use Rattle.std.proofs.Common.{◌≡◌}
-use Rattle.aim_buffers.specs.Written.{IsWritten}
-use Rattle.aim_buffers.proofs.trials.write_steps.Given as goal
-
-abbrev pub invariant-loop-t : goal.invariant-loop-t
-invariant-loop-t l = record {
-  written : IsWritten l.layout l.params l.fast l.rects l.reaches l.windows.outer l.windows.inner l.sheet.spans l.t;
-  room : l.sheet.room ≡ l.fn.sheet.room;
-}

@@ -1,6 +1,0 @@
-use Rattle.std.proofs.Common.{refl}
-use Rattle.aim_claims.proofs.Growing.{keeps_new}
-use Rattle.aim_claims.proofs.script.Script.new.Goals as goal
-
-pub invariant_of-result : goal.invariant_of-result
-invariant_of-result c = keeps_new _ _ c.new.ensures.items refl

@@ -1,7 +1,0 @@
-use Rattle.std.proofs.Common.{ℕ, ◌<◌, get_or}
-use Rattle.aim_travel.specs.Models.{TravellerModel}
-use Rattle.aim_crossings.specs.Closing.{HasMemory}
-use Rattle.aim_crossings.proofs.running.lack_memory.Given as goal
-
-abbrev pub invariant-loop-traveller : goal.invariant-loop-traveller
-invariant-loop-traveller l = (k : ℕ) (d : TravellerModel) → k < l.traveller-index → HasMemory (get_or l.travellers k d)

@@ -1,6 +1,0 @@
-use Rattle.std.proofs.Common.{sym, ◌∙◌}
-use Rattle.aim_desk.proofs.StepLemmas.{call_range}
-use Rattle.aim_desk.proofs.at_once.call_at_once.Goals as goal
-
-pub returns-in-None-clause-range : goal.returns-in-None-clause-range
-returns-in-None-clause-range c = call_range c.args.layout.now c.in-Some.params c.ground-ground.ensures.valid (sym c.in_ok-bad_field-in-Some.ensures.field ∙ c.in-None.is)

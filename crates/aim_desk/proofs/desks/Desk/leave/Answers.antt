@@ -1,5 +1,0 @@
-use Rattle.std.proofs.Common.{refl}
-use Rattle.aim_desk.proofs.desks.Desk.leave.Goals as goal
-
-pub returns : goal.returns
-returns g c = rw c.leave.ensures refl

@@ -1,7 +1,0 @@
--- What is kept of a history where the table belongs to no ledger.
-use Rattle.aim_desk.specs.declared.desks.Desk.{Desk}
-use Rattle.aim_desk.specs.declared.idle.IdleDesk.{IdleDesk}
-
--- the desk of the same parts
-abbrev pub joined : {L : Type 0} → IdleDesk → Desk L
-joined d = record { sessions = d.sessions; reservations = record { rows = d.reservations.rows; table = d.reservations.table }; timeline = d.timeline; distances = d.distances; has_lights = d.has_lights; stopped = d.stopped }

@@ -1,0 +1,69 @@
+-- With one worker all drivers are in one run, and one text is printed.
+use Rattle.std.proofs.Common.{◌≡◌, ℕ, ◌≤◌, ◌++◌, List, length, Option, Some, sym, ◌∙◌, ap, subst, arith}
+use Rattle.aim_io.specs.Known.{AppendsFront}
+use Rattle.aim_messages.specs.declared.entries.Entry.{Entry}
+use Rattle.aim_messages.specs.declared.script.Line.{Line}
+use Rattle.aim_script.specs.declared.decisions.Decision.{Decision}
+use Rattle.aim_script.specs.declared.decisions.Decision.TheVariants as decision
+use Rattle.aim_script.specs.Said.{layout_of, vehicles_of}
+use Rattle.aim_drive_script.specs.Said.{until_of, drives_of, orders_of}
+use Rattle.aim_drive_script.specs.Verdicts.{drive_verdict}
+use Rattle.aim_report.specs.Reports.{report}
+use Rattle.aim_drive.specs.Rounds.{run_size}
+use Rattle.aim_drive.specs.Headline.{VehicleLog}
+use Rattle.aim_drive_command.specs.Traffic.{traffic_lines}
+use Rattle.aim_drive_command.specs.Ordered.{in_order}
+use Rattle.aim_drive_command.specs.Runs.{IsRunOf}
+use Rattle.aim_drive_command.specs.Commands.{IsReport, IsTextOf, Shows, ShowsFront}
+use Rattle.aim_drive_command.specs.Summaries.{summary}
+use Rattle.aim_drive_command.specs.Generated.{IsSummary, Counts, CountsFront}
+use Rattle.aim_drive_command.proofs.Journals.{same_journal, same_logs_too}
+
+one_run : (count : ℕ) → count ≤ run_size count 1
+one_run count = omega arith
+
+pub run_journal : (lines : List Line) (h k : List Entry) (logs others : List VehicleLog) → IsRunOf 1 lines h logs → IsRunOf 1 lines k others → h ≡ k
+run_journal lines h k logs others x y =
+    same_journal (layout_of lines) (vehicles_of lines) (until_of lines) (run_size (length (drives_of lines)) 1) (drives_of lines) (orders_of lines) (one_run (length (drives_of lines))) h k logs others x y
+
+pub run_logs : (lines : List Line) (h k : List Entry) (logs others : List VehicleLog) → IsRunOf 1 lines h logs → IsRunOf 1 lines k others → logs ≡ others
+run_logs lines h k logs others x y =
+    same_logs_too (layout_of lines) (vehicles_of lines) (until_of lines) (run_size (length (drives_of lines)) 1) (drives_of lines) (orders_of lines) (one_run (length (drives_of lines))) h k logs others x y
+
+same_report : (lines : List Line) (text other : List ℕ) → IsReport 1 lines text → IsReport 1 lines other → text ≡ other
+same_report lines text other a b =
+    let h : a.journal ≡ b.journal = run_journal lines a.journal b.journal a.logs b.logs a.run b.run in
+    let l : a.logs ≡ b.logs = run_logs lines a.journal b.journal a.logs b.logs a.run b.run in
+    a.is ∙ (λ j. report (layout_of lines) (h j) (in_order (vehicles_of lines) (l j))) ∙ sym b.is
+
+pub same_text : (lines : List Line) (d : Decision) (text other : List ℕ) → IsTextOf 1 lines d text → IsTextOf 1 lines d other → text ≡ other
+same_text lines (decision.Whole count) text other a b = same_report lines text other a b
+same_text lines (decision.Bad number why) text other a b = a ∙ sym b
+same_text lines (decision.Limit which) text other a b = a ∙ sym b
+
+-- the same text behind the same bytes
+written_same : (before after other text text' : List ℕ) → after ≡ before ++ text → other ≡ before ++ text' → text ≡ text' → after ≡ other
+written_same before after other text text' a b same = a ∙ ap (λ (l : List ℕ). before ++ l) same ∙ sym b
+
+pub same_shown : (bytes before after other : List ℕ) (status another : ℕ) → Shows 1 bytes (Some before) (Some after) status → Shows 1 bytes (Some before) (Some other) another → (after ≡ other) × (status ≡ another)
+same_shown bytes before after other status another a b =
+    let v = a.writes in
+    let w = b.writes in
+    (written_same before after other v.text w.text v.written w.written (same_text (drive_verdict bytes).before (drive_verdict bytes).decision v.text w.text v.is w.is), a.status ∙ sym b.status)
+
+pub front_shown : (bytes text : List ℕ) (old new : Option (List ℕ)) → ShowsFront 1 bytes old new → (let v = drive_verdict bytes in IsTextOf 1 v.before v.decision text) → AppendsFront old new text
+front_shown bytes text old new a is =
+    let w = a.writes in
+    subst (λ (t : List ℕ). AppendsFront old new t) (same_text (drive_verdict bytes).before (drive_verdict bytes).decision w.text text w.is is) w.written
+
+pub same_summary : (number count : ℕ) (text other : List ℕ) → IsSummary number count text → IsSummary number count other → text ≡ other
+same_summary number count text other a b =
+    let h : a.journal ≡ b.journal = run_journal (traffic_lines number count) a.journal b.journal a.logs b.logs a.run b.run in
+    let l : a.logs ≡ b.logs = run_logs (traffic_lines number count) a.journal b.journal a.logs b.logs a.run b.run in
+    a.is ∙ (λ j. summary (until_of (traffic_lines number count)) (h j) (l j)) ∙ sym b.is
+
+pub same_counts : (number count : ℕ) (before after other : List ℕ) → Counts number count (Some before) (Some after) → Counts number count (Some before) (Some other) → after ≡ other
+same_counts number count before after other a b = written_same before after other a.text b.text a.written b.written (same_summary number count a.text b.text a.is b.is)
+
+pub front_counted : (number count : ℕ) (text : List ℕ) (old new : Option (List ℕ)) → CountsFront number count old new → IsSummary number count text → AppendsFront old new text
+front_counted number count text old new a is = subst (λ (t : List ℕ). AppendsFront old new t) (same_summary number count a.text text a.is is) a.written

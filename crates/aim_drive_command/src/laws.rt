@@ -1,0 +1,87 @@
+//! Laws, each the contract of a function that does nothing. The lines of generated traffic are a whole drive script, as
+//! which their text is read. A drive whose drivers are one run has one journal with its logs, and so one text is
+//! printed of it.
+
+ghost use Rattle.std.specs.Prelude.{◌≡◌, ◌<◌, ◌≤◌, ℕ, List, ◌++◌, length, slice_get, Option, Some};
+ghost use Rattle.aim_io.specs.Known.{AppendsFront};
+ghost use Rattle.aim_messages.specs.declared.entries.Entry.{Entry};
+ghost use Rattle.aim_messages.specs.declared.replies.Reply.{Reply};
+ghost use Rattle.aim_messages.specs.declared.script.Line.{Line};
+ghost use Rattle.aim_layout.specs.Intersection.{Intersection};
+ghost use Rattle.aim_driver.specs.declared.plans.DrivePlan.{DrivePlan};
+ghost use Rattle.aim_driver.specs.declared.links.Fate.{Fate};
+ghost use Rattle.aim_driver.specs.Follows.{follows};
+ghost use Rattle.aim_script.specs.declared.decisions.Decision.{Decision};
+ghost use Rattle.aim_script.specs.declared.decisions.Decision.TheVariants as decision;
+ghost use Rattle.aim_driver.specs.declared.orders.Ordered.{Ordered};
+ghost use Rattle.aim_drive_script.specs.Said.{Drive};
+ghost use Rattle.aim_drive_script.specs.Scripts.{IsDrive};
+ghost use Rattle.aim_drive_script.specs.Verdicts.{drive_verdict};
+ghost use Rattle.aim_drive.specs.Headline.{Headline, VehicleLog};
+ghost use Rattle.aim_drive_command.specs.Traffic.{traffic_lines, traffic_text};
+ghost use Rattle.aim_drive_command.specs.Runs.{IsRunOf};
+ghost use Rattle.aim_drive_command.specs.Commands.{IsTextOf, Shows, ShowsFront};
+ghost use Rattle.aim_drive_command.specs.Generated.{IsSummary, Counts, CountsFront};
+
+/// Generated traffic is a whole drive script: no line is at fault behind those before it, and none goes past a limit.
+pub fn traffic_is_a_drive()
+    ensures { (number count : ℕ) → 0 < count → count ≤ 256 → IsDrive (traffic_lines number count) }
+{}
+
+/// The text of generated traffic is read as these lines, to its end: the script is whole, and has no orders.
+pub fn text_of_traffic_is_read()
+    ensures { (number count : ℕ) → 0 < count → count ≤ 256 →
+        drive_verdict (traffic_text number count) ≡ record { before = traffic_lines number count; decision = decision.Whole 0 } }
+{}
+
+/// The next call of a driver depends on no more than the replies to its calls before it: whatever replies come behind
+/// them, it is that call, or there is none.
+pub fn next_call_by_the_replies_before_it()
+    ensures { (plan : DrivePlan) (up down : List Fate) (until : ℕ) (replies more : List Reply) →
+        slice_get (follows plan up down until (replies ++ more)).1 (length replies)
+        ≡ slice_get (follows plan up down until replies).1 (length replies) }
+{}
+
+/// Where all drivers are in one run, the headline holds of one journal at most, and of one list of logs.
+pub fn one_run_has_one_journal()
+    ensures journal { (i : Intersection) (vehicles until size : ℕ) (drives : List Drive) (orders : List Ordered)
+        (h k : List Entry) (logs others : List VehicleLog) → length drives ≤ size →
+        Headline i vehicles until size drives orders h logs → Headline i vehicles until size drives orders k others →
+        h ≡ k }
+    ensures logs { (i : Intersection) (vehicles until size : ℕ) (drives : List Drive) (orders : List Ordered)
+        (h k : List Entry) (logs others : List VehicleLog) → length drives ≤ size →
+        Headline i vehicles until size drives orders h logs → Headline i vehicles until size drives orders k others →
+        logs ≡ others }
+{}
+
+/// With one worker a script's lines have one journal at most, and one list of logs.
+pub fn one_worker_has_one_run()
+    ensures journal { (lines : List Line) (h k : List Entry) (logs others : List VehicleLog) →
+        IsRunOf 1 lines h logs → IsRunOf 1 lines k others → h ≡ k }
+    ensures logs { (lines : List Line) (h k : List Entry) (logs others : List VehicleLog) →
+        IsRunOf 1 lines h logs → IsRunOf 1 lines k others → logs ≡ others }
+{}
+
+/// With one worker a script has one text. Where it is written twice behind the same bytes, the bytes and the statuses
+/// are the same. A front that is written is one of that text.
+pub fn one_worker_has_one_text()
+    ensures text { (lines : List Line) (d : Decision) (text other : List ℕ) →
+        IsTextOf 1 lines d text → IsTextOf 1 lines d other → text ≡ other }
+    ensures shown { (bytes before after other : List ℕ) (status another : ℕ) →
+        Shows 1 bytes (Some before) (Some after) status → Shows 1 bytes (Some before) (Some other) another →
+        (after ≡ other) × (status ≡ another) }
+    ensures front { (bytes text : List ℕ) (old new : Option (List ℕ)) → ShowsFront 1 bytes old new →
+        (let v = drive_verdict bytes in IsTextOf 1 v.before v.decision text) → AppendsFront old new text }
+{}
+
+/// Generated traffic has one text of six lines for each number and count. Where it is written twice behind the same
+/// bytes, the bytes are the same. A front that is written is one of that text.
+pub fn generated_traffic_has_one_summary()
+    ensures text { (number count : ℕ) (text other : List ℕ) →
+        IsSummary number count text → IsSummary number count other → text ≡ other }
+    ensures shown { (number count : ℕ) (before after other : List ℕ) →
+        Counts number count (Some before) (Some after) → Counts number count (Some before) (Some other) →
+        after ≡ other }
+    ensures front { (number count : ℕ) (text : List ℕ) (old new : Option (List ℕ)) →
+        CountsFront number count old new → IsSummary number count text → AppendsFront old new text }
+{}

@@ -1,0 +1,6 @@
+use Rattle.std.proofs.Common.{◌≡◌, take}
+use Rattle.aim_drive_script.specs.Said.{changes_of}
+use Rattle.aim_drive_script.proofs.building.changes_of.Given as goal
+
+abbrev pub invariant-loop-line : goal.invariant-loop-line
+invariant-loop-line l = l.changes ≡ changes_of l.vehicle (take l.line-index l.lines)

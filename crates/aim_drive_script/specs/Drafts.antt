@@ -1,0 +1,136 @@
+-- What is known of a script's lines so far. No public clause cites this file: only contracts of private functions.
+use Rattle.std.specs.Prelude.{◌≡◌, ℕ, ◌<◌, ◌≤◌, Bool, true, false, List, [], ◌∷◌, ◌++◌, length, Option, Some, None, Result, Ok, Err, slice_get, if◌then◌else◌}
+use Rattle.aim_io.specs.declared.lines.LineFault.{LineFault}
+use Rattle.aim_io.specs.declared.lines.LineFault.TheVariants as fault
+use Rattle.aim_io.specs.Lines.{Line as LineOf}
+use Rattle.aim_messages.specs.declared.script.Line.{Line}
+use Rattle.aim_messages.specs.declared.script.Line.TheVariants as line
+use Rattle.aim_geometry.specs.Bounded.{is_outside}
+use Rattle.aim_driver.specs.declared.plans.PlannedChange.{PlannedChange}
+use Rattle.aim_driver.specs.Plans.{last_change}
+use Rattle.aim_script.specs.declared.decisions.Decision.TheVariants as decision
+use Rattle.aim_script.specs.declared.decisions.Kind.{Kind}
+use Rattle.aim_script.specs.declared.decisions.Kind.TheVariants as kind
+use Rattle.aim_script.specs.declared.decisions.Limit.TheVariants as limit
+use Rattle.aim_script.specs.declared.settings.Setting.{Setting}
+use Rattle.aim_script.specs.Headers.{HasName, Stands as StandsAsHeader}
+use Rattle.aim_script.specs.Kinds.{is_bad_policy}
+use Rattle.aim_script.specs.Said.{version_after, names_of, layout_of, vehicles_of, calls_of, last_of}
+use Rattle.aim_script.specs.Verdicts.{decides, goes_on, number_after, at_end}
+use Rattle.aim_script.specs.Versions.{version_number}
+use Rattle.aim_drive_script.specs.declared.places.Place.{Place}
+use Rattle.aim_drive_script.specs.declared.places.Place.TheVariants as place
+use Rattle.aim_drive_script.specs.declared.drafts.Part.{Part}
+use Rattle.aim_drive_script.specs.declared.drafts.Part.TheVariants as part
+use Rattle.aim_drive_script.specs.declared.drafts.Refusal.{Refusal}
+use Rattle.aim_drive_script.specs.declared.drafts.Refusal.TheVariants as refusal
+use Rattle.aim_drive_script.specs.Order.{place_after}
+use Rattle.aim_drive_script.specs.Kinds.{kind_of_fault, limit_of, vehicles_limit, is_no_vehicle, is_bad_moment, is_no_driver}
+use Rattle.aim_drive_script.specs.declared.scripts.DriveScript.{DriveScript}
+use Rattle.aim_drive_script.specs.declared.scripts.Ending.{Ending}
+use Rattle.aim_drive_script.specs.declared.scripts.Ending.TheVariants as ending
+use Rattle.aim_drive_script.specs.Scripts.{IsDrive, IsScriptOf}
+use Rattle.aim_drive_script.specs.Fits.{IsFit}
+use Rattle.aim_drive_script.specs.Verdicts.{judge, of_read}
+
+-- the header is whole
+abbrev pub is_open : Place → Bool
+is_open place.InHeader = false
+is_open place.ToBegin = true
+is_open place.ToUntil = true
+is_open place.InBody = true
+is_open place.Nothing = true
+
+-- the setting is what these lines say, the line of the vehicles among them
+pub record IsOpened (before : List Line) (s : Setting) : Type 0 where
+  pub place : is_open (place_after (last_of before)) ≡ true
+  pub version : version_after before ≡ version_number s.version
+  pub layout : layout_of before ≡ s.layout
+  pub named : names_of before ≡ s.names
+  pub numbered : length s.names ≡ length s.layout.policies
+  pub declared : vehicles_of before ≡ s.vehicles
+  pub some : 0 < s.vehicles
+  pub within : vehicles_limit s.layout.grid.spans s.vehicles ≡ None
+
+-- what is kept is what the lines say
+abbrev pub Stands : List Line → Part → Type 0
+Stands before (part.Header h) = StandsAsHeader before h
+Stands before (part.Opened s) = IsOpened before s
+
+-- the names in the lines are spelled as names
+pub record AreNamed (lines : List Line) : Type 0 where
+  pub each : (k : ℕ) (l : Line) → slice_get lines k ≡ Some l → HasName l
+
+-- what a draft keeps of its lines
+pub record IsDraft (lines : List Line) (p : Part) : Type 0 where
+  pub whole : IsDrive lines
+  pub named : AreNamed lines
+  pub stands : Stands lines p
+
+-- what a further line comes to, for what is kept
+abbrev pub Leads : List Line → Line → Result Part Refusal → Type 0
+Leads before l (Ok p) = (kind_of_fault before l ≡ None) × (limit_of before l ≡ None) × Stands (before ++ l ∷ []) p
+Leads before l (Err (refusal.Bad why)) = kind_of_fault before l ≡ Some why
+Leads before l (Err (refusal.Limit which)) = (kind_of_fault before l ≡ None) × (limit_of before l ≡ Some which)
+Leads before l (Err refusal.NoMemory) = Unit {0}
+
+-- what a further line comes to
+abbrev pub Takes : List Line → Line → Result (List Line) Refusal → Type 0
+Takes before l (Ok after) = (of_read before (Ok l) ≡ goes_on l) × (after ≡ before ++ l ∷ [])
+Takes before l (Err (refusal.Bad why)) = of_read before (Ok l) ≡ decides (decision.Bad (number_after before) why)
+Takes before l (Err (refusal.Limit which)) = of_read before (Ok l) ≡ decides (decision.Limit which)
+Takes before l (Err refusal.NoMemory) = Unit {0}
+
+-- what further bytes come to
+abbrev pub Judged : List Line → List ℕ → Result (List Line) Refusal → Type 0
+Judged before bytes (Ok after) = (l : Line) × (judge before (LineOf bytes) ≡ goes_on l) × (after ≡ before ++ l ∷ [])
+Judged before bytes (Err (refusal.Bad why)) = judge before (LineOf bytes) ≡ decides (decision.Bad (number_after before) why)
+Judged before bytes (Err (refusal.Limit which)) = judge before (LineOf bytes) ≡ decides (decision.Limit which)
+Judged before bytes (Err refusal.NoMemory) = Unit {0}
+
+-- what a fault of the input comes to
+abbrev pub at_fault : LineFault → Ending
+at_fault fault.Read = ending.Read
+at_fault (fault.Long number) = ending.Bad number kind.Long
+at_fault fault.Bytes = ending.Limit limit.Bytes
+at_fault fault.Lines = ending.Limit limit.Lines
+
+-- what the line of that number comes to, which isn't taken
+abbrev pub refused : ℕ → Refusal → Ending
+refused number (refusal.Bad why) = ending.Bad number why
+refused number (refusal.Limit which) = ending.Limit which
+refused number refusal.NoMemory = ending.NoMemory
+
+-- what lines come to behind which the input ends
+abbrev pub Ends : List Line → Result DriveScript Ending → Type 0
+Ends lines (Ok s) = (at_end lines ≡ decision.Whole (length (calls_of lines))) × IsDrive lines × IsScriptOf lines s × IsFit s
+Ends lines (Err (ending.Bad number why)) = at_end lines ≡ decision.Bad number why
+Ends lines (Err (ending.Limit which)) = ⊥
+Ends lines (Err ending.Read) = ⊥
+Ends lines (Err ending.NoMemory) = Unit {0}
+
+-- the kind of a line that stands in order behind the header, if it is at fault
+abbrev pub fault_in_order : List Line → Line → Option Kind
+fault_in_order before (line.Until step) = if is_outside step 65536 then Some kind.Moment else None
+fault_in_order before (line.PlanFor v first lead resend params ahead) =
+    let l = line.PlanFor v first lead resend params ahead in
+    if is_no_vehicle before l then Some kind.Vehicle else if is_no_driver before l then Some kind.Driver else None
+fault_in_order before (line.SwitchTo moment name) =
+    let l = line.SwitchTo moment name in
+    if is_bad_policy before l then Some kind.Policy else if is_bad_moment before l then Some kind.Moment else None
+fault_in_order before (line.StopAt moment) = if is_bad_moment before (line.StopAt moment) then Some kind.Moment else None
+fault_in_order before (line.ChangeAt v step lead) = if is_no_driver before (line.ChangeAt v step lead) then Some kind.Driver else None
+fault_in_order before (line.CancelAt v step) = if is_no_driver before (line.CancelAt v step) then Some kind.Driver else None
+fault_in_order before (line.Up v fates) = if is_no_driver before (line.Up v fates) then Some kind.Driver else None
+fault_in_order before (line.Down v fates) = if is_no_driver before (line.Down v fates) then Some kind.Driver else None
+fault_in_order before _ = None
+
+-- the change may be added to those before it
+pub record MayAdd (before : List PlannedChange) (c : PlannedChange) : Type 0 where
+  pub few : length before < 4
+  pub rising : last_change before ≤ c.step
+  pub lead : c.lead ≤ 65536
+
+-- the kind, where there is a fault
+abbrev pub kind_if : Bool → Kind → Option Kind
+kind_if fault why = if fault then Some why else None

@@ -1,6 +1,0 @@
-use Rattle.aim_driving.proofs.RunLemmas.{if_ok, is_summary}
-use Rattle.aim_driving.proofs.generating.text_of_traffic.Goals as goal
-
-pub returns : goal.returns
-returns g c =
-    if_ok c.summary_of.result (λ text. is_summary c.args.number c.args.count c.in_ok-script.script c.in_ok-script.ensures.script _ _ c.in_ok-drove.ensures.headline text.items) c.summary_of.ensures

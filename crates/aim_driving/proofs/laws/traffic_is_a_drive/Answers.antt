@@ -1,5 +1,0 @@
-use Rattle.aim_driving.proofs.Bodies.{whole}
-use Rattle.aim_driving.proofs.laws.traffic_is_a_drive.Goals as goal
-
-pub returns : goal.returns
-returns c number count some few = (whole number count some few).drive

@@ -1,6 +1,0 @@
-use Rattle.std.proofs.Common.{◌≡◌}
-use Rattle.aim_driving.specs.Laid.{laid}
-use Rattle.aim_driving.proofs.layout.of_four_arms.Given as goal
-
-abbrev pub invariant-loop-place : goal.invariant-loop-place
-invariant-loop-place l = l.builder ≡ laid l.place

@@ -1,5 +1,0 @@
-use Rattle.aim_events.proofs.Replaying.{replayed}
-use Rattle.aim_events.proofs.laws.events_could_be_replayed.Goals as goal
-
-pub returns : goal.returns
-returns c lines whole = replayed lines whole

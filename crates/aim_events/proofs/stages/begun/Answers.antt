@@ -1,6 +1,0 @@
-use Rattle.std.proofs.Common.{refl}
-use Rattle.aim_events.proofs.Staging.{begin_taken}
-use Rattle.aim_events.proofs.stages.begun.Goals as goal
-
-pub returns-in-Begin : goal.returns-in-Begin
-returns-in-Begin c before st = rw c.in-Begin.is (begin_taken before c.args.setting _ refl refl refl c.new-events.ensures.items st)

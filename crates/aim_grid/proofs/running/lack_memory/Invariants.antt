@@ -1,0 +1,7 @@
+use Rattle.std.proofs.Common.{ℕ, ◌<◌, get_or}
+use Rattle.aim_grid.specs.Models.{TravellerModel}
+use Rattle.aim_grid.specs.Closing.{HasMemory}
+use Rattle.aim_grid.proofs.running.lack_memory.Given as goal
+
+abbrev pub invariant-loop-traveller : goal.invariant-loop-traveller
+invariant-loop-traveller l = (k : ℕ) (d : TravellerModel) → k < l.traveller-index → HasMemory (get_or l.travellers k d)

@@ -1,0 +1,166 @@
+-- Worked rows: what is printed of two crossings, of a script in which nobody has a leg, and of scripts that aren't whole.
+use Rattle.std.proofs.Common.{◌≡◌, inl, inr, ℕ, zero, suc, List, [], ◌∷◌, ◌++◌, codes, Some, refl, sym, ap, subst, arith}
+use Rattle.std.specs.Prelude.{slice_get}
+use Rattle.std.specs.Fmt.{digits}
+use Rattle.std.specs.Option.{unwrap_or}
+use Rattle.aim_io.specs.Lines.{outcomes_from}
+use Rattle.aim_messages.specs.declared.messages.Body.{Body}
+use Rattle.aim_messages.specs.declared.messages.Body.TheVariants as body
+use Rattle.aim_messages.specs.declared.entries.Act.TheVariants as act
+use Rattle.aim_messages.specs.declared.entries.Entry.{Entry}
+use Rattle.aim_messages.specs.declared.replies.Reply.{Reply}
+use Rattle.aim_messages.specs.declared.replies.Reply.TheVariants as reply
+use Rattle.aim_layout.specs.Intersection.{Intersection}
+use Rattle.aim_rules.proofs.Rows.{small}
+use Rattle.aim_driver.specs.declared.logs.LogItem.TheVariants as item
+use Rattle.aim_driver.proofs.Rows.{car, sent, granted}
+use Rattle.aim_driver.proofs.SmallFacts.{none_some}
+use Rattle.aim_script.specs.declared.decisions.Kind.TheVariants as why
+use Rattle.aim_script.specs.declared.decisions.Limit.TheVariants as limit
+use Rattle.aim_script.specs.Said.{layout_of}
+use Rattle.aim_grid.specs.Headline.{VehicleLog}
+use Rattle.aim_grid.specs.Travelled.{IsCrossing}
+use Rattle.aim_grid_script.specs.declared.decisions.GridDecision.TheVariants as decision
+use Rattle.aim_grid_script.specs.declared.decisions.GridKind.TheVariants as kind
+use Rattle.aim_grid.specs.Runs.{IsRunOf}
+use Rattle.aim_grid_command.specs.Texts.{crossings_text, grid_report}
+use Rattle.aim_grid_command.specs.Commands.{Completes, IsTextOf, Shows, ShowsFront}
+
+-- texts, each as a line
+abbrev lines : List (List ℕ) → List ℕ
+lines [] = []
+lines (t ∷ ts) = t ++ 10 ∷ lines ts
+
+-- two crossings
+
+abbrev entry : ℕ → ℕ → ℕ → Body → Reply → Entry
+entry v moment seq b r = record { caller = v; moment = moment; act = act.Message (record { seq = seq; body = b }); reply = r }
+
+-- vehicle 0 crosses, and vehicle 1 did nothing there
+abbrev crossed : List Entry
+crossed = entry 0 1 1 (body.Request (car 0 11)) (granted 0 11 21) ∷ entry 0 22 2 (body.Done 0) (reply.Ack 0) ∷ []
+
+abbrev crossed_logs : List VehicleLog
+crossed_logs =
+    (1, [])
+    ∷ (0, sent 1 1 (body.Request (car 0 11)) ∷ item.Got 2 1 (granted 0 11 21) ∷ item.Entered 11 0 ∷ sent 22 2 (body.Done 0) ∷ item.Got 23 2 (reply.Ack 0) ∷ [])
+    ∷ []
+
+-- at the other one vehicle 1 asked, and has not entered
+abbrev asked : List Entry
+asked = entry 1 3 1 (body.Request (car 1 13)) (granted 0 13 23) ∷ []
+
+abbrev asked_logs : List VehicleLog
+asked_logs = (1, sent 3 1 (body.Request (car 1 13)) ∷ item.Got 4 1 (granted 0 13 23) ∷ []) ∷ []
+
+-- positions begin with 0 at each crossing, vehicles stand in rising order, and the last line counts the entries of both
+pub two_crossings : grid_report (small ∷ small ∷ []) 2 (crossed ∷ asked ∷ []) (crossed_logs ∷ asked_logs ∷ [])
+    ≡ lines (
+    codes "crossing 0"
+    ∷ codes "0 0 1 request 1 0 straight 11 500 500 0 1000 700 car -> confirm 0 11 0 0 steady 21" ∷ codes "1 0 22 done 2 0 -> ack 0"
+    ∷ codes "log 0 sent 1 request 1 0 straight 11 500 500 0 1000 700 car" ∷ codes "log 0 got 2 1 confirm 0 11 0 0 steady 21" ∷ codes "log 0 entered 11 0"
+    ∷ codes "log 0 sent 22 done 2 0" ∷ codes "log 0 got 23 2 ack 0"
+    ∷ codes "tiles 0 1 0 11 15" ∷ codes "tiles 0 1 1 12 17" ∷ codes "tiles 0 1 2 14 19" ∷ codes "tiles 0 1 3 16 21"
+    ∷ codes "crossing 1"
+    ∷ codes "0 1 3 request 1 1 straight 13 500 500 0 1000 700 car -> confirm 0 13 0 0 steady 23"
+    ∷ codes "log 1 sent 3 request 1 1 straight 13 500 500 0 1000 700 car" ∷ codes "log 1 got 4 1 confirm 0 13 0 0 steady 23"
+    ∷ codes "end 3" ∷ [])
+unfolding digits
+two_crossings = refl
+
+-- from a number on, and no further than the journals go
+pub from_seven_on : crossings_text 1 7 (small ∷ small ∷ small ∷ []) ([] ∷ [] ∷ []) ([] ∷ [] ∷ []) ≡ lines (codes "crossing 7" ∷ codes "crossing 8" ∷ [])
+unfolding digits
+from_seven_on = refl
+
+-- two blocks of two lanes that cross, one vehicle, and no leg so far
+
+abbrev block : List ℕ
+block = codes "aim 1\ngrid 4000 4 100 0 450 4096\ntimes 1500 25 20 0 0\nlanes 2\nmove 0 straight line 0 1500 4000 1500 40\nmove 1 straight line 2500 0 2500 4000 40\npolicy plain fcfs\n"
+
+abbrev two : List ℕ
+two = codes "crossings 2\n" ++ block ++ block ++ codes "vehicles 1\nbegin\nuntil 60\n"
+
+-- where nobody has a leg, nothing is asked
+
+nothing_in : {A : Type 0} (c : ℕ) (xs : List A) → slice_get ([] ∷ [] ∷ []) c ≡ Some xs → xs ≡ []
+nothing_in zero xs at = sym (ap (λ o. unwrap_or o xs) at)
+nothing_in (suc zero) xs at = sym (ap (λ o. unwrap_or o xs) at)
+nothing_in (suc (suc c)) xs at = none_some xs at
+
+nobody_there : (i : Intersection) (vehicles : ℕ) → IsCrossing i vehicles [] []
+nobody_there i vehicles = record {
+  legal = record { well_formed = λ k d l. absurd (omega arith); answered = λ k d l. absurd (omega arith) };
+  others = λ n ne. refl;
+  apart = λ j k x y ex. none_some x ex;
+  clear = λ k x t c ex. none_some x ex;
+}
+
+nobody_goes : (i j : Intersection) (vehicles until : ℕ) → IsRunOf (i ∷ j ∷ []) vehicles until [] ([] ∷ [] ∷ []) ([] ∷ [] ∷ [])
+nobody_goes i j vehicles until = record {
+  rides = [];
+  travelled = record {
+    count = refl;
+    crossings = λ c k h at there. subst (λ (x : List Entry). IsCrossing k vehicles x []) (sym (nothing_in c h there)) (nobody_there k vehicles);
+    legs = λ v. tt;
+    routes = λ v. tt;
+  };
+  planned = λ v. refl;
+  count = refl;
+  there = λ c xs at. nothing_in c xs at;
+}
+
+pub whole_shown : Shows (two ++ codes "end\n") (Some (codes "so ")) (Some (codes "so crossing 0\ncrossing 1\nend 0\n")) 0
+unfolding digits outcomes_from layout_of
+whole_shown = record {
+  writes = record { text = codes "crossing 0\ncrossing 1\nend 0\n"; is = record { journals = [] ∷ [] ∷ []; logs = [] ∷ [] ∷ []; run = nobody_goes _ _ _ _; is = refl }; written = refl };
+  status = refl;
+}
+
+-- what is written of other scripts
+
+pub a_second_leg_at_the_same_crossing : Shows (two ++ codes "leg 0 0 1 10 3 0 straight 500 500 0 1000 700 car\nleg 0 0 5 10 3 0 straight 500 500 0 1000 700 car\nend\n") (Some (codes "so ")) (Some (codes "so bad line 20 route\n")) 3
+unfolding digits outcomes_from layout_of
+a_second_leg_at_the_same_crossing = record { writes = record { text = codes "bad line 20 route\n"; is = refl; written = refl }; status = refl }
+
+pub no_crossing : Shows (codes "crossings 0\n") (Some (codes "so ")) (Some (codes "so bad line 1 crossing\n")) 3
+unfolding digits outcomes_from
+no_crossing = record { writes = record { text = codes "bad line 1 crossing\n"; is = refl; written = refl }; status = refl }
+
+pub a_front_of_no_crossing : ShowsFront (codes "crossings 0\n") (Some (codes "so ")) (Some (codes "so bad line 1 cr"))
+unfolding digits outcomes_from
+a_front_of_no_crossing = record {
+  writes = record { text = codes "bad line 1 crossing\n"; is = refl; written = record { front = codes "bad line 1 cr"; rest = codes "ossing\n"; whole = refl; added = refl } };
+}
+
+pub no_line : Shows [] (Some (codes "so ")) (Some (codes "so bad line 1 end\n")) 3
+unfolding digits outcomes_from
+no_line = record { writes = record { text = codes "bad line 1 end\n"; is = refl; written = refl }; status = refl }
+
+pub a_plain_kind : IsTextOf [] (decision.Bad 262144 (kind.Plain why.Vehicle)) (lines (codes "bad line 262144 vehicle" ∷ []))
+unfolding digits
+a_plain_kind = refl
+
+pub too_many_vehicles : Shows (codes "crossings 1\n" ++ block ++ codes "vehicles 257\n") (Some (codes "so ")) (Some (codes "so limit vehicles\n")) 6
+unfolding digits outcomes_from layout_of
+too_many_vehicles = record { writes = record { text = codes "limit vehicles\n"; is = refl; written = refl }; status = refl }
+
+pub a_limit : IsTextOf [] (decision.Limit limit.Sheets) (lines (codes "limit sheets" ∷ []))
+unfolding digits
+a_limit = refl
+
+-- where neither the source nor the sink failed, the status of a whole script is 0, or 7
+
+pub whole_completes : Completes (two ++ codes "end\n") 0 0 0 0 5 → ⊥
+unfolding digits outcomes_from layout_of
+whole_completes x = elim (x refl (λ r. absurd (omega arith)) (λ r. absurd (omega arith))) [ inl e ↦ absurd (omega arith) | inr e ↦ absurd (omega arith) ]
+
+pub source_failed : Completes (two ++ codes "end\n") 0 1 0 0 4
+source_failed = λ status source sink. absurd (source (omega arith))
+
+pub sink_failed : Completes (two ++ codes "end\n") 3 3 0 2 5
+sink_failed = λ status source sink. absurd (sink (omega arith))
+
+pub bad_completes : Completes (codes "crossings 0\n") 0 0 0 0 3
+unfolding digits outcomes_from
+bad_completes = λ status source sink. absurd (omega arith)

@@ -1,5 +1,0 @@
-use Rattle.aim_json_read.proofs.ReadingLaws.{line_was_read}
-use Rattle.aim_json_read.proofs.laws.line_was_read.Goals as goal
-
-pub returns : goal.returns
-returns c = line_was_read

@@ -1,5 +1,0 @@
-use Rattle.aim_json_read.proofs.ReadingLaws.{was_no_line}
-use Rattle.aim_json_read.proofs.laws.no_line_was_read.Goals as goal
-
-pub returns : goal.returns
-returns c = was_no_line

@@ -1,5 +1,0 @@
-use Rattle.aim_json_read.proofs.ReadingLaws.{value_is_read}
-use Rattle.aim_json_read.proofs.laws.value_is_read.Goals as goal
-
-pub returns : goal.returns
-returns c = value_is_read

@@ -1,3 +1,0 @@
-pub mod JsonScriptExamples
-pub mod DecisionLemmas
-pub mod SpellingLemmas

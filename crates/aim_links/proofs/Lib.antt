@@ -1,3 +1,0 @@
-pub mod SmallFacts
-pub mod LinkLemmas
-pub mod Rows

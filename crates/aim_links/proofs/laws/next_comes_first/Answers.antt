@@ -1,5 +1,0 @@
-use Rattle.aim_links.proofs.LinkLemmas.{next_is, next_found}
-use Rattle.aim_links.proofs.laws.next_comes_first.Goals as goal
-
-pub returns : goal.returns
-returns g c = λ l step place. (λ e. next_is l step place e, λ n. next_found l step place n)

@@ -1,5 +1,0 @@
-use Rattle.aim_links.proofs.LinkLemmas.{none_comes, nothing_found}
-use Rattle.aim_links.proofs.laws.nothing_comes.Goals as goal
-
-pub returns : goal.returns
-returns g c = λ l step. (λ e. none_comes l step e, λ n. nothing_found l step n)

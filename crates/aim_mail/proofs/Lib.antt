@@ -1,0 +1,12 @@
+pub mod ChannelCrosses
+pub mod Posts
+pub mod Tries
+pub mod Views
+pub mod CallLemmas
+pub mod Clients
+pub mod Crosses
+pub mod Deals
+pub mod Opens
+pub mod OwnEntries
+pub mod Responses
+pub mod Settles

@@ -1,0 +1,10 @@
+use denote.Param.Send.{sendable}
+use Rattle.std.proofs.Crossing.{crosses}
+use Rattle.aim_mail.proofs.Crosses.{crossing}
+use Rattle.aim_mail_command.proofs.runs.fn.beside.scope.Goals as goal
+
+pub spawn_with-requires-send-F : goal.spawn_with-requires-send-F
+spawn_with-requires-send-F g c κs within = search (sendable, crosses, crossing) depth 40 fits 20000
+
+pub spawn_with-requires-send-T : goal.spawn_with-requires-send-T
+spawn_with-requires-send-T g c κs within = search (sendable, crosses, crossing) depth 40 fits 20000

@@ -1,0 +1,25 @@
+-- What was read where the source fails before a line decides.
+use Rattle.std.specs.Prelude.{◌≡◌, ℕ, List, [], ◌∷◌, Option, Some}
+use Rattle.aim_io.specs.Lines.{Line as LineOf}
+use Rattle.aim_io.specs.Taken.{TookLines, TookWhole}
+use Rattle.aim_messages.specs.declared.script.Line.{Line}
+use Rattle.aim_drive_script.specs.Short.{unless_decided}
+use Rattle.aim_mail_script.specs.Verdicts.{judge}
+
+-- the script with further lines, if none of them decides
+abbrev pub script_after : List Line → List (List ℕ) → Option (List Line)
+script_after before [] = Some before
+script_after before (line ∷ lines) = unless_decided before (judge before (LineOf line)) (λ more. script_after more lines)
+
+-- none of the whole lines in the bytes that were read decides
+pub record StopsShort (left_old left_new : Option (List ℕ)) : Type 0 where
+  pub lines : List (List ℕ)
+  pub took : TookWhole left_old left_new lines
+  pub before : List Line
+  pub script : script_after [] lines ≡ Some before
+
+-- these lines are gone, and make this script
+pub record TookScript (left_old left_new : Option (List ℕ)) (script : List Line) : Type 0 where
+  pub lines : List (List ℕ)
+  pub took : TookLines left_old left_new lines
+  pub is : script_after [] lines ≡ Some script

@@ -1,4 +1,0 @@
-pub mod Asks
-pub mod Calls
-pub mod Mail
-pub mod Slips

@@ -1,9 +1,0 @@
--- Callers may go to other threads.
-use denote.Param.Send.{IsSend, sendable}
-use Rattle.std.proofs.Crossing.{crosses}
-use Rattle.aim_mailbox.proofs.Crosses.{client_send}
-use Rattle.aim_post.proofs.Crosses.{pool_send}
-use Rattle.aim_mailing.specs.contracts.callers.Caller as Caller
-
-pub caller_send : IsSend Caller.the_field.row
-caller_send = search (sendable, crosses, client_send, pool_send) depth 20

@@ -1,6 +1,0 @@
-use Rattle.std.proofs.Common.{◌≡◌, take}
-use Rattle.aim_mailing.specs.Runs.{calls_by}
-use Rattle.aim_mailing.proofs.callers.next_place.Given as goal
-
-abbrev pub invariant-loop-place : goal.invariant-loop-place
-invariant-loop-place l = calls_by l.vehicle (take l.place l.events) ≡ calls_by l.vehicle (take l.from l.events)

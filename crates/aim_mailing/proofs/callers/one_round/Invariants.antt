@@ -1,6 +1,0 @@
-use Rattle.aim_mailing.specs.Calling.{Went}
-use Rattle.aim_mailing.proofs.Places.{Done}
-use Rattle.aim_mailing.proofs.callers.one_round.Given as goal
-
-abbrev pub invariant-loop-caller : goal.invariant-loop-caller
-invariant-loop-caller g l = Done (Went l.layout l.events l.left) l.caller-index l.initial.callers l.callers

@@ -1,4 +1,0 @@
-use Rattle.aim_mailing.proofs.commands.put_run.Given as goal
-
-abbrev pub ghosts-text_of_run : goal.ghosts-text_of_run
-ghosts-text_of_run g a = record { name = a.blank.name; parts = a.blank.parts }

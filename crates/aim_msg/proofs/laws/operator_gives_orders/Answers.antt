@@ -1,5 +1,0 @@
-use Rattle.aim_msg.proofs.ActorLaws.{operator_orders}
-use Rattle.aim_msg.proofs.laws.operator_gives_orders.Goals as goal
-
-pub returns : goal.returns
-returns c = operator_orders

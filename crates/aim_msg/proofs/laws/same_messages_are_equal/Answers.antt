@@ -1,5 +1,0 @@
-use Rattle.aim_msg.proofs.SameLemmas.{same_message-is}
-use Rattle.aim_msg.proofs.laws.same_messages_are_equal.Goals as goal
-
-pub returns : goal.returns
-returns c = same_message-is

@@ -1,7 +1,0 @@
-use Rattle.std.proofs.Common.{◌≡◌, ℕ, ◌<◌, ◌&&◌, false}
-use Rattle.aim_paths.specs.Policies.{has_lane}
-use Rattle.aim_paths.specs.Building.{share_tile}
-use Rattle.aim_paths.proofs.builders.Builder.meets_earlier.Given as goal
-
-abbrev pub invariant-loop-other : goal.invariant-loop-other
-invariant-loop-other l = (k : ℕ) → k < l.other → (has_lane l.lanes k && share_tile l.self l.lane k) ≡ false

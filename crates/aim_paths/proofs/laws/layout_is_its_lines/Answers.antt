@@ -1,5 +1,0 @@
-use Rattle.aim_paths.proofs.AddedLemmas.{layout_is_its_lines}
-use Rattle.aim_paths.proofs.laws.layout_is_its_lines.Goals as goal
-
-pub returns : goal.returns
-returns c = layout_is_its_lines

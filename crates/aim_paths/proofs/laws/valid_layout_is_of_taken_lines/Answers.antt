@@ -1,5 +1,0 @@
-use Rattle.aim_paths.proofs.MadeLemmas.{valid_made}
-use Rattle.aim_paths.proofs.laws.valid_layout_is_of_taken_lines.Goals as goal
-
-pub returns : goal.returns
-returns c = valid_made

@@ -1,6 +1,0 @@
-use Rattle.std.proofs.Common.{◌≡◌, take, filter_map}
-use Rattle.aim_plans.specs.Said.{ordered_in}
-use Rattle.aim_plans.proofs.building.orders_of.Given as goal
-
-abbrev pub invariant-loop-line : goal.invariant-loop-line
-invariant-loop-line l = l.orders.items ≡ filter_map (ordered_in l.setting.names) (take l.line-index l.lines)

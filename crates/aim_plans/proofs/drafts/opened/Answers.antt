@@ -1,8 +1,0 @@
-use Rattle.std.proofs.Common.{◌∙◌, sym}
-use Rattle.aim_plans.proofs.Drafting.{opened_more}
-use Rattle.aim_plans.proofs.drafts.opened.Goals as goal
-
-pub returns : goal.returns
-returns c =
-    let kind = sym c.fault.ensures ∙ c.in_default.is in
-    (kind, sym c.limit.ensures ∙ c.in_default-limit.is, opened_more c.args.lines.now c.args.line.now c.args.setting c.requires.opened kind)

@@ -1,7 +1,0 @@
-use Rattle.aim_msg.specs.declared.script.Line.TheVariants as line
-use Rattle.aim_plans.specs.Said.{down_in}
-use Rattle.aim_plans.proofs.Scanning.{found_next}
-use Rattle.aim_plans.proofs.questions.down_of.Goals as goal
-
-pub loop-line-preserved : goal.loop-line-preserved
-loop-line-preserved c = found_next (down_in c.args.vehicle) c.args.lines.now c.loop-line.line-index (line.Version 0) c.loop-line.found c.down_in.result c.or-found.result c.loop-line-test.true c.loop-line.invariant c.down_in.ensures c.or-found.ensures

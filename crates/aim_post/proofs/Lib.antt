@@ -1,4 +1,0 @@
-pub mod Crosses
-pub mod Posts
-pub mod Tries
-pub mod Views

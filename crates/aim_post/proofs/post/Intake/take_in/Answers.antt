@@ -1,5 +1,0 @@
-use Rattle.aim_post.proofs.Posts.{takes_as}
-use Rattle.aim_post.proofs.post.Intake.take_in.Goals as goal
-
-pub absorb-requires-clause-rule : goal.absorb-requires-clause-rule
-absorb-requires-clause-rule c = takes_as _ _ _ _ _ _ _ _ c.self.invariant.2 c.port.invariant.1

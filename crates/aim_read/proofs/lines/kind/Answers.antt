@@ -1,5 +1,0 @@
-use Rattle.aim_read.proofs.TableLaws.{kind_read_3}
-use Rattle.aim_read.proofs.lines.kind.Goals as goal
-
-pub returns-then-version-eq3 : goal.returns-then-version-eq3
-returns-then-version-eq3 c = kind_read_3 _ c.if-version-eq3.true _ _ _ c.choice.ensures

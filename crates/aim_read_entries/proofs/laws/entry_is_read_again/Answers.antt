@@ -1,5 +1,0 @@
-use Rattle.aim_read_entries.proofs.EntryAgain.{entry_again}
-use Rattle.aim_read_entries.proofs.laws.entry_is_read_again.Goals as goal
-
-pub returns : goal.returns
-returns c = entry_again

@@ -1,4 +1,0 @@
-use Rattle.aim_replay.proofs.session.replay_by.Given as goal
-
-abbrev pub ghosts-replay_script : goal.ghosts-replay_script
-ghosts-replay_script g a = record { name = a.blank.name; parts = a.blank.parts }

@@ -1,0 +1,14 @@
+use Rattle.std.proofs.Common.{◌∙◌, ap}
+use Rattle.aim_geometry.specs.declared.ground.Grid.{Grid}
+use Rattle.aim_replay.proofs.StageLemmas.{header_whole, header_past}
+use Rattle.aim_replay.proofs.stages.headed.Goals as goal
+
+pub returns-in-Some-clause-takes : goal.returns-in-Some-clause-takes
+returns-in-Some-clause-takes g c before st =
+    let spans = ap (λ (x : Grid). x.spans) (c.grid-spans.ensures.grid ∙ c.ground.ensures.grid) in
+    header_past before c.args.line.now c.in-Ok-Whole.setting _ _ (rw c.in-Ok-Whole.field-0-is at (c.in-Ok-Whole.ensures before st)) spans c.in-Some.ensures
+
+pub returns-in-None-clause-takes : goal.returns-in-None-clause-takes
+returns-in-None-clause-takes g c before st =
+    let spans = ap (λ (x : Grid). x.spans) (c.grid-spans.ensures.grid ∙ c.ground.ensures.grid) in
+    header_whole g.row.L.Denot before c.args.line.now c.in-Ok-Whole.setting _ (rw c.in-Ok-Whole.field-0-is at (c.in-Ok-Whole.ensures before st)) spans c.in-None.ensures

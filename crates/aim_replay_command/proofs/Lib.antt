@@ -1,0 +1,11 @@
+pub mod Examples
+pub mod MoreExamples
+pub mod ScriptExamples
+pub mod TextLemmas
+pub mod LineLemmas
+pub mod SessionLemmas
+pub mod EndLemmas
+pub mod StepLemmas
+pub mod JsonScriptExamples
+pub mod DecisionLemmas
+pub mod SpellingLemmas

@@ -1,0 +1,39 @@
+-- What the bytes of a line come to.
+use Rattle.std.proofs.Common.{◌≡◌, ℕ, List, Result, Ok, Err, refl, sym}
+use Rattle.aim_io.specs.Lines.{Line as LineOf}
+use Rattle.aim_messages.specs.Lines.{KeepsRanges}
+use Rattle.aim_messages.specs.declared.script.Line.{Line}
+use Rattle.aim_messages.specs.declared.script.Line.TheVariants as line
+use Rattle.aim_text_lines.proofs.LineSpelled.{line_was_spelled}
+use Rattle.aim_text_lines.specs.Reading.{line_at}
+use Rattle.aim_script.specs.declared.decisions.Decision.TheVariants as decision
+use Rattle.aim_script.specs.declared.decisions.Kind.{Kind}
+use Rattle.aim_script.specs.Verdicts.{judge, decides, number_after}
+use Rattle.aim_script.specs.Headers.{HasName}
+use Rattle.aim_script.specs.Spellings.{Spelled}
+use Rattle.aim_replay.specs.declared.stages.Stage.{Stage}
+use Rattle.aim_replay.specs.declared.stages.Refusal.{Refusal}
+use Rattle.aim_replay.specs.declared.stages.Refusal.TheVariants as refusal
+use Rattle.aim_replay.specs.Stages.{Stands, Takes, version_at}
+use Rattle.aim_replay.proofs.StageLemmas.{version_is}
+use Rattle.aim_replay_command.specs.Sessions.{Judged}
+
+-- what bytes come to is what their line comes to
+pub judged : {L : Type 0} (w : Spelled) (before : List Line) (s : Stage L) (bytes : List ℕ) (n : ℕ) (l : Line) (r : Result (Stage L) Refusal) → Stands before s → n ≡ version_at s → w.reads n bytes ≡ Ok l → Takes before l r → Judged w before bytes r
+judged w before s bytes n l (Ok next) st version is takes = (l, rw (version_is before s st, ← version, is) takes.0, takes.1)
+judged w before s bytes n l (Err (refusal.Bad kind)) st version is takes = rw (version_is before s st, ← version, is) takes
+judged w before s bytes n l (Err (refusal.Limit which)) st version is takes = rw (version_is before s st, ← version, is) takes
+judged w before s bytes n l (Err refusal.NoMemory) st version is takes = tt
+
+-- bytes that spell no line
+pub unread : {L : Type 0} (w : Spelled) (before : List Line) (s : Stage L) (bytes : List ℕ) (n : ℕ) (kind : Kind) → Stands before s → n ≡ version_at s → w.reads n bytes ≡ Err kind → judge w.reads before (LineOf bytes) ≡ decides (decision.Bad (number_after before) kind)
+unread w before s bytes n kind st version is = rw (version_is before s st, ← version, is) refl
+
+named : (n : ℕ) (l : Line) → KeepsRanges n l → HasName l
+named n (line.Policy name k) keeps = keeps.0
+named n (line.SwitchTo at name) keeps = keeps
+named n l keeps = tt
+
+-- a line of words that was read has its name spelled as one
+pub read_name : (bytes : List ℕ) (n : ℕ) (l : Line) → Ok l ≡ line_at n bytes → HasName l
+read_name bytes n l is = named n l (line_was_spelled n bytes l (sym is)).1

@@ -1,0 +1,5 @@
+pub mod Texts
+pub mod Replays
+pub mod Written
+pub mod Sessions
+pub mod Spelling

@@ -1,0 +1,10 @@
+pub use Rattle.aim_footprint.specs.Fields
+pub mod Rows
+pub mod Counts
+pub mod Cells
+pub mod Moves
+pub mod Requests
+pub mod Written
+pub mod Shapes
+pub mod Grounds
+pub mod Memos

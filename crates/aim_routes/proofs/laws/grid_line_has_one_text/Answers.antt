@@ -1,5 +1,0 @@
-use Rattle.aim_routes.proofs.Texts.{grid_alone}
-use Rattle.aim_routes.proofs.laws.grid_line_has_one_text.Goals as goal
-
-pub returns : goal.returns
-returns c = grid_alone

@@ -1,5 +1,0 @@
-use Rattle.aim_routes.proofs.Texts.{grid_again}
-use Rattle.aim_routes.proofs.laws.grid_line_is_read_again.Goals as goal
-
-pub returns : goal.returns
-returns c = grid_again

@@ -1,5 +1,0 @@
-use Rattle.aim_routes.proofs.Staging.{end_taken}
-use Rattle.aim_routes.proofs.stages.after_end.Goals as goal
-
-pub returns : goal.returns
-returns c before st = end_taken before c.args.routes st

@@ -1,8 +1,0 @@
-use Rattle.aim_routes.proofs.Staging.{first_taken}
-use Rattle.aim_routes.specs.declared.stages.Blocks.{Blocks}
-use Rattle.aim_routes.proofs.stages.first_block.Goals as goal
-
-pub returns-in-Ok : goal.returns-in-Ok
-returns-in-Ok c before counted =
-    let blocks : Blocks = record { count = c.args.count; whole = c.new.result; header = c.in-Ok.header } in
-    first_taken before blocks c.args.number c.new.ensures.items counted c.in-Ok.ensures

@@ -1,5 +1,0 @@
-use Rattle.std.proofs.Common.{refl}
-use Rattle.aim_session.proofs.approaches.set.Goals as goal
-
-pub returns : goal.returns
-returns c = refl

@@ -1,0 +1,13 @@
+pub mod Digits
+pub mod Growing
+pub mod Deciding
+pub mod Ending
+pub mod Fitting
+pub mod Behind
+pub mod Crosses
+pub mod Calls
+pub mod Marks
+pub mod Seating
+pub mod Runs
+pub mod TextLines
+pub mod Promises

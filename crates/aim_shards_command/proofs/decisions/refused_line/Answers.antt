@@ -1,0 +1,11 @@
+use Rattle.std.proofs.Common.{◌≡◌, ◌<◌, length, arith, ap, ◌∙◌}
+use Rattle.std.proofs.lemmas.List.{take_more_set}
+use Rattle.aim_messages.proofs.Words.{spaced_added}
+use Rattle.aim_shards_command.specs.ClaimTexts.{refused_words, printed}
+use Rattle.aim_shards_command.proofs.decisions.refused_line.Goals as goal
+
+pub returns-clause-text : goal.returns-clause-text
+returns-clause-text c =
+    let room : c.give-len.result < length c.give-len.new.out = omega (arith, c.put_refused.ensures.fits) in
+    let words : _ ≡ _ = spaced_added (refused_words c.args.refused) in
+    take_more_set c.give-len.new.out c.give-len.result 10 room ∙ ap printed (c.give-len.ensures.line ∙ rw c.put_refused.ensures.words words)

@@ -1,0 +1,13 @@
+use Rattle.std.proofs.Common.{◌≡◌, true, length}
+use Rattle.std.specs.List.{list_all}
+use Rattle.aim_text_words.specs.Faults.{is_digit, value_after, value_of}
+use Rattle.aim_shards_command.proofs.numbers.value_up_to.Given as goal
+
+abbrev pub invariant-loop-digits : goal.invariant-loop-digits
+invariant-loop-digits l = record {
+  digits : list_all is_digit l.digits ≡ true;
+  same : value_after l.value l.digits ≡ value_of l.word;
+}
+
+abbrev pub decreases-loop-digits : goal.decreases-loop-digits
+decreases-loop-digits l = length l.digits

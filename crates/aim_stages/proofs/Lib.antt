@@ -1,3 +1,0 @@
-pub mod SheetLemmas
-pub mod ChartLemmas
-pub mod StageLemmas

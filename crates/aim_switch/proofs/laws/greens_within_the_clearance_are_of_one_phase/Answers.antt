@@ -1,5 +1,0 @@
-use Rattle.aim_switch.proofs.Greens.{green_one}
-use Rattle.aim_switch.proofs.laws.greens_within_the_clearance_are_of_one_phase.Goals as goal
-
-pub returns : goal.returns
-returns c i policy first last a b valid l m h k = green_one i policy first last a b valid l m h k

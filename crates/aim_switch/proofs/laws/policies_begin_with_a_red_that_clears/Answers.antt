@@ -1,5 +1,0 @@
-use Rattle.aim_switch.proofs.Greens.{green_clear}
-use Rattle.aim_switch.proofs.laws.policies_begin_with_a_red_that_clears.Goals as goal
-
-pub returns : goal.returns
-returns c i policy offset lane valid h = green_clear i policy offset lane valid h

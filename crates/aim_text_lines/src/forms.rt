@@ -1,0 +1,169 @@
+// The forms of script lines, each of which words choose.
+ghost use Rattle.std.specs.Prelude.{◌≡◌, ◌==◌, ◌&&◌, ◌+◌, ◌<◌, ◌^◌, count_by, nat_le, length, bytes_eq, codes};
+ghost use Rattle.aim_text_words.specs.Faults.{words_of};
+ghost use Rattle.aim_text_words.specs.Forms.{message_form, order_form};
+ghost use Rattle.aim_text_lines.specs.Forms.{shape_form, times_form, plan_form, in_version, plain_form, line_form, has_count};
+
+use aim_messages::LineKind;
+use aim_text_words::forms::{MessageForm, OrderForm, message_form, order_form};
+use aim_text_words::numbers::begins_with_digit;
+use aim_text_words::tables::look_up;
+use aim_text_words::words::Words;
+
+/// The forms of a move's way.
+#[derive(Clone, Copy)]
+pub enum ShapeForm {
+    Line,
+    Curve,
+}
+
+/// The forms of script lines. A form that has other words in another version is another form there.
+#[derive(Clone, Copy)]
+pub enum LineForm {
+    Version,
+    Grid,
+    Times,
+    Times6,
+    Lanes,
+    Move(ShapeForm),
+    Policy,
+    Phase,
+    Vehicles,
+    Begin,
+    Event(MessageForm),
+    Order(OrderForm),
+    Until,
+    Plan,
+    PlanInWindow,
+    ChangePlan,
+    CancelPlan,
+    Up,
+    Down,
+    End,
+}
+
+const SHAPES: [(&[u8], ShapeForm); 2] = [(b"line", ShapeForm::Line), (b"curve", ShapeForm::Curve)];
+
+// The lines of version 1 that only their first word chooses.
+const LINES: [(&[u8], LineForm); 15] = [
+    (b"aim", LineForm::Version),
+    (b"grid", LineForm::Grid),
+    (b"times", LineForm::Times),
+    (b"lanes", LineForm::Lanes),
+    (b"policy", LineForm::Policy),
+    (b"phase", LineForm::Phase),
+    (b"vehicles", LineForm::Vehicles),
+    (b"begin", LineForm::Begin),
+    (b"until", LineForm::Until),
+    (b"plan", LineForm::Plan),
+    (b"change", LineForm::ChangePlan),
+    (b"cancel", LineForm::CancelPlan),
+    (b"up", LineForm::Up),
+    (b"down", LineForm::Down),
+    (b"end", LineForm::End),
+];
+
+fn shape_form(word: &[u8]) -> Result<ShapeForm, LineKind>
+    ensures { result ≡ shape_form word.now }
+{
+    look_up(&SHAPES, LineKind::Words, word)
+}
+
+fn times_form(version: u8) -> LineForm
+    ensures { result ≡ times_form version }
+{
+    if version == 1 {
+        LineForm::Times
+    } else {
+        LineForm::Times6
+    }
+}
+
+fn plan_form(version: u8) -> LineForm
+    ensures { result ≡ plan_form version }
+{
+    if version == 3 {
+        LineForm::PlanInWindow
+    } else {
+        LineForm::Plan
+    }
+}
+
+// The form that a line of version 1 has in that version.
+fn in_version(form: LineForm, version: u8) -> LineForm
+    ensures { result ≡ in_version version form }
+{
+    match form {
+        LineForm::Times => times_form(version),
+        LineForm::Plan => plan_form(version),
+        _ => form,
+    }
+}
+
+// The form of a line that only its first word chooses.
+fn plain_form(word: &[u8], version: u8) -> Result<LineForm, LineKind>
+    ensures { result ≡ plain_form version word.now }
+{
+    let form = look_up(&LINES, LineKind::Unknown, word)?;
+    Ok(in_version(form, version))
+}
+
+/// The form that a line's words choose: the first word, and the third of an event and of an order, and the fourth of
+/// a move.
+pub fn line_form(line: &[u8], version: u8) -> Result<LineForm, LineKind>
+    ensures { result ≡ line_form version (words_of line.now) }
+{
+    let mut words = Words::new(line);
+    let first = words.take();
+    if begins_with_digit(first) {
+        words.take();
+        let form = message_form(words.take())?;
+        Ok(LineForm::Event(form))
+    } else if first == b"operator".as_slice() {
+        words.take();
+        let form = order_form(words.take())?;
+        Ok(LineForm::Order(form))
+    } else if first == b"move".as_slice() {
+        words.take();
+        words.take();
+        let form = shape_form(words.take())?;
+        Ok(LineForm::Move(form))
+    } else {
+        plain_form(first, version)
+    }
+}
+
+fn spaces(line: &[u8]) -> usize
+    ensures { result ≡ count_by (λ b. b == 32) line.now }
+{
+    line.iter().filter(|b| **b == b' ').count()
+}
+
+/// How many words a line has.
+#[tactic(auto, using(aim_text_words::proofs::Splits::words_counted))]
+pub fn count(line: &[u8]) -> usize
+    ensures { result ≡ length (words_of line.now) }
+{
+    spaces(line) + 1
+}
+
+/// Whether a line of the form may have so many words.
+pub fn has_count(form: LineForm, count: usize) -> bool
+    ensures { result ≡ has_count form count }
+{
+    match form {
+        LineForm::Begin | LineForm::End => count == 1,
+        LineForm::Version | LineForm::Lanes | LineForm::Vehicles | LineForm::Until => count == 2,
+        LineForm::Policy | LineForm::Order(OrderForm::Stop) | LineForm::CancelPlan => count == 3,
+        LineForm::Order(OrderForm::Switch) | LineForm::ChangePlan => count == 4,
+        LineForm::Event(MessageForm::Cancel | MessageForm::Done) => count == 5,
+        LineForm::Times => count == 6,
+        LineForm::Grid | LineForm::Times6 => count == 7,
+        LineForm::Move(ShapeForm::Line) => count == 9,
+        LineForm::Move(ShapeForm::Curve) => count == 11,
+        LineForm::Event(MessageForm::Request) | LineForm::Plan => count == 13,
+        LineForm::Event(MessageForm::Change) | LineForm::PlanInWindow => count == 14,
+        LineForm::Phase => 4 <= count && count <= 19,
+        LineForm::Up | LineForm::Down => 3 <= count && count <= 66,
+    }
+}

@@ -1,0 +1,80 @@
+//! Reads the lines of scripts, whose types and texts `aim_messages` has.
+#![tactic(auto)]
+
+ghost use Rattle.std.specs.Prelude.{◌≡◌, ◌<◌, ◌≤◌, length};
+ghost use Rattle.aim_text_lines.specs.Forms.{has_count};
+ghost use Rattle.aim_text_lines.specs.Reading.{line_at};
+ghost use Rattle.aim_text_lines.specs.Steps.{behind_keyword, steps_in};
+
+mod forms;
+pub mod laws;
+mod lines;
+mod lists;
+
+use aim_messages::{Line, LineKind};
+use aim_text_words::fields::number32;
+use aim_text_words::forms::OrderForm;
+use aim_text_words::words::Words;
+use forms::{LineForm, count, has_count, line_form};
+
+// Passes the keyword with which each line but an event begins.
+fn skip_keyword(words: &mut Words<'_>, form: LineForm)
+    ensures { words.new ≡ behind_keyword form words.old }
+{
+    if !matches!(form, LineForm::Event(_)) {
+        words.take();
+    }
+}
+
+// The line of that form, of the words behind its keyword.
+#[tactic(auto, unfolding(crate::specs::Steps::steps_in))]
+fn line_in(words: &mut Words<'_>, form: LineForm, version: u8) -> Result<Line, LineKind>
+    requires { length words.old ≤ 65 }
+    ensures { result ≡ steps_in version form words.old }
+{
+    match form {
+        LineForm::Version => number32(words).map(Line::Version),
+        LineForm::Grid => lines::grid(words),
+        LineForm::Times => lines::times(words),
+        LineForm::Times6 => lines::times6(words),
+        LineForm::Lanes => number32(words).map(Line::Lanes),
+        LineForm::Move(shape) => lines::move_line(words, shape),
+        LineForm::Policy => lines::policy(words, version),
+        LineForm::Phase => lists::phase(words),
+        LineForm::Vehicles => number32(words).map(Line::Vehicles),
+        LineForm::Begin => Ok(Line::Begin),
+        LineForm::Event(message) => lines::event(words, message),
+        LineForm::Order(OrderForm::Switch) => lines::switch(words),
+        LineForm::Order(OrderForm::Stop) => lines::stop(words),
+        LineForm::Until => number32(words).map(Line::Until),
+        LineForm::Plan => lines::plan(words, false),
+        LineForm::PlanInWindow => lines::plan(words, true),
+        LineForm::ChangePlan => lines::change_plan(words),
+        LineForm::CancelPlan => lines::cancel_plan(words),
+        LineForm::Up => lists::up(words),
+        LineForm::Down => lists::down(words),
+        LineForm::End => Ok(Line::End),
+    }
+}
+
+/// Reads a line of a script of that version, which is 1 to 3: the line for its one spelling, else the kind of the
+/// first of these rules that the bytes break.
+///
+/// 1. `Unknown`: the first word begins a form. Words are what stands between the spaces.
+/// 2. `Words`: the third word of an event or an order and the fourth of a `move` choose a form, and the line has as
+///    many words as its form.
+/// 3. From the left, each word may stand in its place: else `Words` in the place of a keyword, a name or a fate,
+///    `Number` where it isn't spelled as a number, and `Range` where the number is too small or too great.
+#[tactic(auto, using(crate::proofs::StepLaws::steps_are))]
+pub fn read_line(line: &[u8], version: u8) -> Result<Line, LineKind>
+    requires { (0 < version) × (version ≤ 3) }
+    ensures { result ≡ line_at version line.now }
+{
+    let form = line_form(line, version)?;
+    if !has_count(form, count(line)) {
+        return Err(LineKind::Words);
+    }
+    let mut words = Words::new(line);
+    skip_keyword(&mut words, form);
+    line_in(&mut words, form, version)
+}

@@ -1,0 +1,43 @@
+-- The tables of messages and orders: by which word a form is chosen, and which places a message has.
+use Rattle.std.specs.Prelude.{ℕ, List, [], ◌∷◌, Result, codes}
+use Rattle.aim_messages.specs.declared.script.LineKind.{LineKind}
+use Rattle.aim_messages.specs.declared.script.LineKind.TheVariants as kind
+use Rattle.aim_text_words.specs.declared.forms.MessageForm.{MessageForm}
+use Rattle.aim_text_words.specs.declared.forms.MessageForm.TheVariants as message
+use Rattle.aim_text_words.specs.declared.forms.OrderForm.{OrderForm}
+use Rattle.aim_text_words.specs.declared.forms.OrderForm.TheVariants as order
+use Rattle.aim_text_words.specs.Tables.{look_up}
+use Rattle.aim_text_words.specs.Faults.{Place, number32, number8, turns, classes}
+
+-- by the first word of a message
+abbrev pub message_forms : List (List ℕ × MessageForm)
+message_forms =
+    (codes "request", message.Request) ∷ (codes "change", message.Change) ∷ (codes "cancel", message.Cancel) ∷ (codes "done", message.Done) ∷ []
+
+abbrev pub message_form : List ℕ → Result MessageForm LineKind
+message_form word = look_up kind.Words message_forms word
+
+-- by the first word of an order
+abbrev pub order_forms : List (List ℕ × OrderForm)
+order_forms =
+    (codes "switch", order.Switch)
+    ∷ (codes "stop", order.Stop)
+    ∷ []
+
+abbrev pub order_form : List ℕ → Result OrderForm LineKind
+order_form word = look_up kind.Words order_forms word
+
+-- SPEED MAX ACCEL LENGTH WIDTH CLASS
+abbrev pub vehicle_places : List Place
+vehicle_places = number32 ∷ number32 ∷ number32 ∷ number32 ∷ number32 ∷ classes ∷ []
+
+-- LANE TURN ARRIVE and those
+abbrev pub params_places : List Place
+params_places = number8 ∷ turns ∷ number32 ∷ vehicle_places
+
+-- the places of a message's words behind the first
+abbrev pub message_places : MessageForm → List Place
+message_places message.Request = number32 ∷ params_places
+message_places message.Change = number32 ∷ number32 ∷ params_places
+message_places message.Cancel = number32 ∷ number32 ∷ []
+message_places message.Done = number32 ∷ number32 ∷ []

@@ -1,9 +1,0 @@
-pub mod Along
-pub mod Runs
-pub mod Legs
-pub mod Crosses
-pub mod Wakes
-pub mod Tells
-pub mod Logs
-pub mod Rests
-pub mod Rows

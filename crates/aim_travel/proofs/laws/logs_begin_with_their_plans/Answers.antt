@@ -1,5 +1,0 @@
-use Rattle.aim_travel.proofs.Logs.{follows_begins}
-use Rattle.aim_travel.proofs.laws.logs_begin_with_their_plans.Goals as goal
-
-pub returns : goal.returns
-returns c = follows_begins

@@ -1,5 +1,0 @@
-use Rattle.aim_travel.proofs.Legs.{set_out}
-use Rattle.aim_travel.proofs.laws.setting_out_takes_no_turn.Goals as goal
-
-pub returns : goal.returns
-returns c = set_out

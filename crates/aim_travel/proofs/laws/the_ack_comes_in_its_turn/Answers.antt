@@ -1,5 +1,0 @@
-use Rattle.aim_travel.proofs.Logs.{acked_turn}
-use Rattle.aim_travel.proofs.laws.the_ack_comes_in_its_turn.Goals as goal
-
-pub returns : goal.returns
-returns c = acked_turn

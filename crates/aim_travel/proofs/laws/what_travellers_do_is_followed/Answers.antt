@@ -1,5 +1,0 @@
-use Rattle.aim_travel.proofs.Legs.{legs_followed}
-use Rattle.aim_travel.proofs.laws.what_travellers_do_is_followed.Goals as goal
-
-pub returns : goal.returns
-returns c = legs_followed

@@ -1,6 +1,0 @@
-use Rattle.std.proofs.Common.{◌≡◌, ◌++◌, map}
-use Rattle.aim_travel.specs.Legs.{told, told_unbegun}
-use Rattle.aim_travel.proofs.travellers.append_unbegun.Given as goal
-
-abbrev pub invariant-loop-leg : goal.invariant-loop-leg
-invariant-loop-leg l = map told l.over.items ≡ map told l.initial.over.items ++ map told_unbegun l.yielded

@@ -1,5 +1,0 @@
-use Rattle.aim_travel.proofs.Runs.{Turned}
-use Rattle.aim_travel.proofs.travelling.run_turns.Given as goal
-
-abbrev pub invariant-loop-traveller : goal.invariant-loop-traveller
-invariant-loop-traveller g l = Turned l.managers l.step l.traveller-index l.initial.travellers l.travellers

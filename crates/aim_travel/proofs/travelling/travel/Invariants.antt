@@ -1,5 +1,0 @@
-use Rattle.aim_travel.proofs.Wakes.{Going}
-use Rattle.aim_travel.proofs.travelling.travel.Given as goal
-
-abbrev pub invariant-loop-step : goal.invariant-loop-step
-invariant-loop-step g l = Going l.managers l.from l.step l.wake l.fn.travellers l.travellers

@@ -1,6 +1,0 @@
-use Rattle.aim_mailbox.specs.Calls.{IsSameClient}
-use Rattle.bench_mailbox.proofs.make_turns.Given as goal
-
--- the client stays the same client
-abbrev pub invariant-loop : goal.invariant-loop
-invariant-loop g l = IsSameClient l.initial.client l.client

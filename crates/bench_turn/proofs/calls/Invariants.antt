@@ -1,6 +1,0 @@
-use Rattle.aim_turn.specs.Models.{IsSamePass}
-use Rattle.bench_turn.proofs.calls.Given as goal
-
--- the pass stays the same pass
-abbrev pub invariant-loop-call : goal.invariant-loop-call
-invariant-loop-call g l = IsSamePass l.initial.pass l.pass
