@@ -4,11 +4,14 @@ with a status other than 0 where anything lacks.
 A name is a text in backquotes. A word with a point or a slash is a file, or a module and what stands in it; a word of letters,
 digits and underscores that isn't plain English has to stand somewhere in the sources or the tests. Of each row of docs/SPEC.md
 the files of definitions and the functions have to stand in the crates that it names, and a contract there has to cite them.
+Each row of changed-definitions.tsv has to find the text that it changes.
 """
 import pathlib
 import re
 import subprocess
 import sys
+
+import changed_definitions
 
 TOP = pathlib.Path(__file__).resolve().parent.parent
 SOURCES = {".rt", ".antt", ".py", ".sh", ".txt", ".edit", ".js", ".html", ".aim", ".out", ".tsv", ""}
@@ -139,6 +142,10 @@ def main():
         judge.names_in(page, text)
         if page == "docs/SPEC.md":
             judge.spec(page, text)
+    for row in changed_definitions.read_rows():
+        file = TOP / row["file"]
+        stands = file.is_file() and changed_definitions.changed(file.read_text(encoding="utf-8"), row) is not None
+        judge.ask("tests/changed-definitions.tsv", f"{row['definition']}, {row['change']}", stands)
     for line in judge.lacking:
         print(f"docs: {line} is not there", file=sys.stderr)
     print(f"docs: {judge.asked - len(judge.lacking)} passed, {len(judge.lacking)} failed")
