@@ -10,11 +10,17 @@ LONG = 600.0
 """Seconds after which something won't happen any more; far beyond what a slow and busy machine takes."""
 
 
+def _fresh():
+    """Ignores no signal, whatever the one who runs the tests ignores: a shell does in what it runs behind it, nohup too."""
+    for number in (signal.SIGINT, signal.SIGTERM, signal.SIGHUP):
+        signal.signal(number, signal.SIG_DFL)
+
+
 def start(*words):
     """A command that hears an interrupt, though the tests may have been started where that is ignored."""
     return subprocess.Popen(
         list(map(str, words)), stdout=subprocess.DEVNULL, stderr=subprocess.PIPE, text=True,
-        preexec_fn=lambda: signal.signal(signal.SIGINT, signal.default_int_handler))
+        preexec_fn=_fresh)
 
 
 def kill(process):
