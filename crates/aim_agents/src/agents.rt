@@ -162,7 +162,7 @@ impl Agent {
         ensures agent { result ≡ new_agent driver up down pass pool }
         ensures new { IsNew result }
     {
-        let _number = pass.number();
+        pass.has_own_entries();
         sheets_are_those_of_own_entries();
         Agent {
             driver,

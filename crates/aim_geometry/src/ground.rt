@@ -3,7 +3,7 @@
 ghost use Rattle.std.specs.Prelude.{◌≡◌, IfOk};
 ghost use Rattle.std.specs.Result.{result_err};
 ghost use Rattle.aim_geometry.specs.Bounded.{is_outside as is_outside_of};
-ghost use Rattle.aim_geometry.specs.Sites.{IsGrid, IsTimes, has_bad_buffers as has_bad_buffers_of, has_bad_numbers, has_bad_times as has_bad_times_of, ground_fault};
+ghost use Rattle.aim_geometry.specs.Sites.{IsGrid, IsSite, IsTimes, has_bad_buffers as has_bad_buffers_of, has_bad_numbers, has_bad_times as has_bad_times_of, ground_fault};
 
 use std::marker::Model;
 
@@ -102,6 +102,13 @@ impl Ground {
             return Err(GroundFault::Times);
         }
         Ok(Ground { grid, times })
+    }
+
+    /// All numbers of the ground are in their ranges. This is a law: the call does nothing.
+    pub fn has_ranges(&self)
+        ensures { IsSite self.now }
+    {
+        let _ = &self.grid;
     }
 
     /// The grid that the ground was built from. The call also tells the ranges of its numbers.

@@ -165,8 +165,6 @@ impl Builder {
         requires { move_fault self.old lane turn shape.now ≡ None }
         ensures { self.new ≡ with_move self.old lane turn shape.now }
     {
-        // This call only tells the ranges of the grid.
-        let _grid = self.ground.grid();
         let paths = &mut self.lanes[lane as usize];
         let rows = &mut self.tiles[lane as usize];
         add_path(&self.ground, paths, rows, turn, shape);
@@ -317,9 +315,7 @@ fn make(alloc: Global, ground: Ground, lanes: u32) -> Result<Builder, NoMemory>
     requires most { lanes ≤ 16 }
     ensures { IfOk result (λ b. b ≡ bare ground lanes) }
 {
-    // These two calls only tell the ranges of the grid and of the times.
-    let _grid = ground.grid();
-    let _times = ground.times();
+    ground.has_ranges();
     Ok(Builder {
         ground,
         lanes: bare_lanes(alloc, lanes)?,

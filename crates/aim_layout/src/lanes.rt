@@ -3,6 +3,7 @@
 ghost use Rattle.std.specs.Prelude.{◌≡◌, ℕ, ◌<◌, ◌≤◌, ◌&&◌, ◌||◌, false, is_some, IfOk, None, slice_get, Some, vec_capacity};
 ghost use Rattle.aim_geometry.specs.declared.stations.Station.{Station};
 ghost use Rattle.aim_geometry.specs.Rects.{tile_at};
+ghost use Rattle.aim_geometry.specs.Sites.{IsGrid};
 ghost use Rattle.aim_layout.specs.Building.{no_paths, with_path};
 ghost use Rattle.aim_layout.specs.Intersection.{path_of};
 ghost use Rattle.aim_layout.specs.LaneTiles.{is_met};
@@ -106,13 +107,12 @@ pub fn add_path(
     turn: Turn,
     shape: &Shape,
 )
+    requires grid { IsGrid ground.now.grid }
     requires shape { is_bad_shape ground.now.grid.side shape.now ≡ false }
     requires none { path_of paths.old turn ≡ None }
     ensures paths { paths.new ≡ with_path paths.old turn (stations_of shape.now) }
     ensures rows { (row col : ℕ) → row < 64 → col < 64 → tile_at rows.new row col ≡ (tile_at rows.old row col || is_met ground.now.grid (stations_of shape.now) row col) }
 {
-    // This call only tells the ranges of the grid.
-    let _grid = ground.grid();
     paths.add(turn, shape);
     mark(ground, paths.stations(turn), rows);
 }

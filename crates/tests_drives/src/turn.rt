@@ -35,6 +35,7 @@ fn four_calls<R: Wait + Abort>(
     requires own { IsPassOf turnstile.now first.old × IsPassOf turnstile.now second.old }
     ensures same { IsSamePass first.old first.new × IsSamePass second.old second.new }
 {
+    first.has_own_entries();
     assert!(rt; first.number() == 7 && second.number() == 3);
     assert!(rt; turnstile.with_turn(rt, first, 50) == Some(0));
     assert!(rt;

@@ -40,6 +40,7 @@ fn rectangles(rt: HostRuntime) {
     assert!(rt; narrow.is_bad() && !GRID.is_bad());
     assert!(rt; is_outside(0, 9) && !is_outside(9, 9) && is_outside(10, 9));
     let ground = Ground::build(GRID, TIMES).ok().expect(&rt, "no ground");
+    ground.has_ranges();
     assert!(rt; ground.times().horizon == 1500 && ground.grid().side == 4000);
     let inner = tile_rect(&ground, 1500, 1500, 450);
     assert!(rt; spans(inner, 1, 1));

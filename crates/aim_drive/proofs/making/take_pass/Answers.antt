@@ -24,4 +24,4 @@ pub returns-then-number-vehicle : goal.returns-then-number-vehicle
 returns-then-number-vehicle c =
     let lt : c.loop-place.place < length c.loop-place.passes.items = omega arith in
     taken_at c.args.passes.now.items c.loop-place.passes.items c.remove.new.self.items c.args.vehicle c.loop-place.place c.index.result.now c.remove.result
-    c.loop-place.invariant.same lt c.index.ensures (sym c.number.ensures.number ∙ c.if-number-vehicle.true) c.remove.ensures.value c.remove.ensures.items
+    c.loop-place.invariant.same lt c.index.ensures (sym c.number.ensures ∙ c.if-number-vehicle.true) c.remove.ensures.value c.remove.ensures.items

@@ -1,4 +1,4 @@
-use Rattle.std.proofs.Common.{◌≡◌, ◌≤◌, Some, ◌∙◌}
+use Rattle.std.proofs.Common.{◌≡◌, Some, ◌∙◌}
 use Rattle.aim_layout.specs.LaneRooms.{offered}
 use Rattle.aim_layout.specs.Shapes.{stations_of}
 use Rattle.aim_layout.proofs.ShapeLemmas.{is_bad_shape-largest}
@@ -7,8 +7,7 @@ use Rattle.aim_layout.proofs.lanes.add_path.Goals as goal
 
 pub add-requires-clause-shape : goal.add-requires-clause-shape
 add-requires-clause-shape c =
-    let side : c.args.ground.now.grid.side ≤ 1000000 = rw c.grid-grid.ensures.grid at c.grid-grid.ensures.valid.side in
-    is_bad_shape-largest c.args.shape.now c.args.ground.now.grid.side side c.requires.shape
+    is_bad_shape-largest c.args.shape.now c.args.ground.now.grid.side c.requires.grid.side c.requires.shape
 
 pub mark-requires : goal.mark-requires
 mark-requires c =
