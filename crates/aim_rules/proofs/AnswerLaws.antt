@@ -1,7 +1,6 @@
 -- The answer to a message by what is kept.
 use Rattle.std.proofs.Common.{◌≡◌, ℕ, zero, suc, ◌+◌, ◌<◌, ◌≤◌, Bool, true, false, ◌&&◌, ◌||◌, not, List, [], ◌∷◌, length, Option, Some, None, arith, refl, sym, ◌∙◌, ap, inl, inr}
 use Rattle.std.specs.Prelude.{if◌then◌else◌, option_map, option_and_then, find, is_none, nat_le, nat_lt, unwrap_or, slice_get}
-use Rattle.std.specs.List.{list_any}
 use Rattle.std.specs.Option.{option_or}
 use Rattle.std.proofs.lemmas.Bool.Decides.{nat_tests}
 use Rattle.aim_messages.specs.declared.messages.Params.{Params}
@@ -21,13 +20,13 @@ use Rattle.aim_geometry.specs.Cells.{Cell}
 use Rattle.aim_rules.specs.Cells.{IsIn, cells}
 use Rattle.aim_rules.specs.Bad.{bad, is_fast_made}
 use Rattle.aim_rules.specs.History.{Fresh, fresh, is_fresh_seq, now_of, of_vehicle, message_at}
-use Rattle.aim_rules.specs.Holds.{holding, reservations, taken_by, is_number}
+use Rattle.aim_rules.specs.Holds.{holding, reservations, taken_by}
 use Rattle.aim_rules.specs.Timeline.{InForce, policy_at}
 use Rattle.aim_rules.specs.Claims.{green}
 use Rattle.aim_rules.specs.Asking.{standing_next}
 use Rattle.aim_rules.specs.Distance.{asked_from, reservation_distance}
-use Rattle.aim_rules.specs.Approach.{approached, is_approached, is_coming}
-use Rattle.aim_rules.specs.Answer.{Asked, answer, answer_known, answer_again, answer_fresh, answer_asking, answer_free, first_blocked, blocked_by, first_reason, own_refusal, where_so, exceeds, is_stopped, refusal, confirmation, refused_or, gives_way, must_give_way, too_soon, too_late, too_far, too_distant, in_the_way, is_seq}
+use Rattle.aim_rules.specs.Approach.{is_approached, is_coming}
+use Rattle.aim_rules.specs.Answer.{Asked, answer, answer_known, answer_again, answer_fresh, answer_asking, answer_free, first_blocked, blocked_by, first_reason, own_refusal, where_so, exceeds, is_stopped, confirmation, refused_or, gives_way, must_give_way, too_soon, too_late, too_far, too_distant, in_the_way, is_seq}
 use Rattle.aim_rules.specs.Legal.{IsLegal}
 use Rattle.aim_rules.proofs.CellLemmas.{cells_needed, cells_inside}
 use Rattle.aim_rules.proofs.GrantLemmas.{tests_passed}
@@ -40,7 +39,7 @@ use Rattle.aim_rules.proofs.PolicyLaws.{green_by-same}
 use Rattle.aim_rules.proofs.LaneLaws.{approached-each}
 use Rattle.aim_rules.proofs.TakenLaws.{taken_by-owner, are_below-legal, AreApart-legal, AreApart-later}
 use Rattle.aim_rules.specs.Kept.{last_of, seq_of, is_above_all, are_below, AreApart}
-use Rattle.aim_rules.specs.Known.{exchange_of, seq_in, Known, IsKnown, green_by, refusal_by, confirmation_by, own_refusal_by, refused_or_by, blocked_in, first_blocked_by, answer_free_by, comes, must_give_way_by, in_the_way_by, too_distant_by, first_reason_by, answer_asking_by, answer_fresh_by, answer_known_by, answer_by}
+use Rattle.aim_rules.specs.Known.{exchange_of, seq_in, Known, IsKnown, green_by, refusal_by, own_refusal_by, blocked_in, first_blocked_by, answer_free_by, comes, must_give_way_by, in_the_way_by, too_distant_by, first_reason_by, answer_asking_by, answer_fresh_by, answer_known_by, answer_by}
 
 -- questions that agree where they are asked
 

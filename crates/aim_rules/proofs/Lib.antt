@@ -17,6 +17,7 @@ pub mod LaneLaws
 pub mod PolicyLaws
 pub mod TakenLaws
 pub mod AnswerLaws
+pub mod BlameLaws
 pub mod TimeLaws
 pub mod TableLaws
 pub mod RunLaws

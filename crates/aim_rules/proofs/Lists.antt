@@ -7,7 +7,7 @@ use Rattle.std.proofs.lemmas.Bool.{eqb-true, eq-eqb}
 use Rattle.std.specs.Option.{option_or}
 use Rattle.std.proofs.lemmas.List.{append-nil}
 use Rattle.std.proofs.Math.Seq.{append_snoc}
-use Rattle.aim_geometry.specs.Bounded.{last, greatest, max_with, least, min_with, some_below}
+use Rattle.aim_geometry.specs.Bounded.{last, greatest, max_with, least, least_below, min_with, some_below}
 use Rattle.aim_rules.specs.Cells.{IsIn}
 use Rattle.aim_rules.proofs.HistoryLemmas.{last-append}
 
@@ -190,3 +190,13 @@ last-in {X = X} p xs x h = from_front (λ xs. last p xs ≡ Some x → IsIn x xs
 
 pub last-test : {X : Type 0} (p : X → Bool) (xs : List X) (x : X) → last p xs ≡ Some x → p x ≡ true
 last-test p xs x h = find-test p (reverse xs) x h
+
+-- the least number that passes is below the bound, and passes
+pub least_below_is : (n : ℕ) (test : ℕ → Bool) (w : ℕ) → least_below n test ≡ Some w → (w < n) × (test w ≡ true)
+least_below_is zero test w h = absurd (cc)
+least_below_is (suc n) test w h = go (least_below n test) refl (test n) refl (λ g. least_below_is n test w g) h
+  where
+    go : (o : Option ℕ) → least_below n test ≡ o → (b : Bool) → test n ≡ b → (least_below n test ≡ Some w → (w < n) × (test w ≡ true)) → option_or o (if b then Some n else None) ≡ Some w → (w < suc n) × (test w ≡ true)
+    go (Some x) e b t earlier h = let r = earlier (e ∙ h) in let l = r.0 in (omega arith, r.1)
+    go None e true t earlier h = let s : n ≡ w = cc in (omega arith, rw s at t)
+    go None e false t earlier h = absurd (cc)

@@ -1,7 +1,6 @@
 -- The tables of a manager, entry by entry.
-use Rattle.std.proofs.Common.{◌≡◌, ℕ, zero, suc, ◌+◌, ◌<◌, ◌≤◌, Bool, true, false, ◌&&◌, ◌||◌, not, List, [], ◌∷◌, ◌++◌, length, Option, Some, None, arith, refl, sym, ◌∙◌, ap, subst, max, length-append}
+use Rattle.std.proofs.Common.{◌≡◌, ℕ, ◌+◌, ◌<◌, ◌≤◌, Bool, true, false, ◌&&◌, ◌||◌, not, List, [], ◌∷◌, ◌++◌, length, Option, Some, None, arith, refl, sym, ◌∙◌, ap, subst, max, length-append}
 use Rattle.std.specs.Prelude.{◌==◌, if◌then◌else◌, option_and_then, option_map, filter_map, unwrap_or}
-use Rattle.std.specs.Option.{option_or}
 use Rattle.std.proofs.lemmas.Bool.{eqb-true, eq-eqb}
 use Rattle.aim_messages.specs.declared.messages.Message.{Message}
 use Rattle.aim_messages.specs.declared.entries.Act.{Act}
@@ -20,7 +19,7 @@ use Rattle.aim_rules.specs.Answer.{is_stopped}
 use Rattle.aim_rules.specs.Legal.{IsLegal}
 use Rattle.aim_rules.proofs.LegalLemmas.{IsLegal-before}
 use Rattle.aim_rules.proofs.HistoryLemmas.{served}
-use Rattle.aim_rules.proofs.Lists.{differ, some_below-same}
+use Rattle.aim_rules.proofs.Lists.{differ, least_below_is, some_below-same}
 use Rattle.aim_rules.proofs.HistoryLaws.{fresh-one, fresh-none, now_of-max, now_of-snoc, is_fresh_seq-last, last_of-snoc}
 use Rattle.aim_rules.proofs.VehicleLaws.{kept-snoc, standing_next-snoc}
 use Rattle.aim_rules.proofs.LaneLaws.{reservation_distance-snoc}
@@ -41,16 +40,7 @@ holder_is i n xs now w c apart l m k = least_below_at n (owns i xs c) w l (λ j 
     none j b false e = refl
 
 pub holder_owns : (i : Intersection) (n : ℕ) (xs : List Fresh) (c : Cell) (w : ℕ) → holder i n xs c ≡ Some w → (w < n) × (owns i xs c w ≡ true)
-holder_owns i n xs c w h = least_is n (owns i xs c) w h
-  where
-    least_is : (n : ℕ) (test : ℕ → Bool) (w : ℕ) → least_below n test ≡ Some w → (w < n) × (test w ≡ true)
-    least_is zero test w h = absurd (cc)
-    least_is (suc n) test w h = go (least_below n test) refl (test n) refl (λ g. least_is n test w g) h
-      where
-        go : (o : Option ℕ) → least_below n test ≡ o → (b : Bool) → test n ≡ b → (least_below n test ≡ Some w → (w < n) × (test w ≡ true)) → option_or o (if b then Some n else None) ≡ Some w → (w < suc n) × (test w ≡ true)
-        go (Some x) e b t earlier h = let r = earlier (e ∙ h) in let l = r.0 in (omega arith, r.1)
-        go None e true t earlier h = let s : n ≡ w = cc in (omega arith, rw s at t)
-        go None e false t earlier h = absurd (cc)
+holder_owns i n xs c w h = least_below_is n (owns i xs c) w h
 
 pub holder_none : (i : Intersection) (n : ℕ) (xs : List Fresh) (c : Cell) (w : ℕ) → holder i n xs c ≡ None → w < n → owns i xs c w ≡ false
 holder_none i n xs c w h l = go (owns i xs c w) refl

@@ -11,6 +11,7 @@ pub mod Asking
 pub mod Distance
 pub mod Approach
 pub mod Answer
+pub mod Blame
 pub mod Legal
 pub mod Journals
 pub mod Charts

@@ -1,20 +1,23 @@
 //! Laws of the definitions, each the contract of a function that does nothing. They say what the definitions mean in
 //! the subject's words, and make a wrong definition visible.
 
-ghost use Rattle.std.specs.Prelude.{◌≡◌, ◌↔◌, ◌==◌, ℕ, ◌+◌, ◌-◌, ◌<◌, ◌≤◌, Bool, true, false, List, ◌++◌, Some, None, map};
+ghost use Rattle.std.specs.Prelude.{◌≡◌, ◌↔◌, ◌==◌, ℕ, ◌+◌, ◌-◌, ◌<◌, ◌≤◌, Bool, true, false, List, [], ◌∷◌, ◌++◌, Option, Some, None, map};
 ghost use Rattle.aim_messages.specs.declared.messages.Params.{Params};
 ghost use Rattle.aim_messages.specs.declared.messages.Message.{Message};
 ghost use Rattle.aim_messages.specs.declared.entries.Entry.{Entry};
 ghost use Rattle.aim_messages.specs.declared.entries.Act.{Act};
+ghost use Rattle.aim_messages.specs.declared.replies.Reply.{Reply};
+ghost use Rattle.aim_messages.specs.declared.replies.Reason.{Reason};
 ghost use Rattle.aim_layout.specs.Intersection.{Intersection};
 ghost use Rattle.aim_rules.specs.Motion.{front, speed_in, sum_below};
 ghost use Rattle.aim_rules.specs.Footprint.{crossing_steps, path_length};
-ghost use Rattle.aim_geometry.specs.Cells.{Cell};
+ghost use Rattle.aim_geometry.specs.Cells.{Cell, cell_at};
 ghost use Rattle.aim_rules.specs.Cells.{IsIn, cells, in_cells};
 ghost use Rattle.aim_rules.specs.Bad.{IsGood, bad};
 ghost use Rattle.aim_rules.specs.History.{Fresh, fresh, is_confirm, is_fresh_seq, now_of, params_of};
 ghost use Rattle.aim_rules.specs.Holds.{reservations, is_fast, is_granted};
 ghost use Rattle.aim_rules.specs.Answer.{answer};
+ghost use Rattle.aim_rules.specs.Blame.{IsClaimedBy, IsHeldBy, IsYielded, Yielded, cell_blamed};
 ghost use Rattle.aim_rules.specs.Journals.{Call, MayCall, call_of, journal};
 ghost use Rattle.aim_rules.specs.Legal.{IsLegal};
 
@@ -65,6 +68,28 @@ pub fn granted_cells_are_free()
         is_fresh_seq h v m.seq ≡ true → params_of m.body ≡ Some p → is_confirm (answer i h v moment (Act.Message m)) ≡ true →
         in_cells i p (is_fast (answer i h v moment (Act.Message m))) c ≡ true →
         IsIn x (reservations i (fresh h) (now_of h moment)) → (x.entry.caller == v) ≡ false → is_granted i x c ≡ false }
+{}
+
+/// A refusal for a cell blames rightly: the cell is one that the steady trial needs, and another vehicle holds it then, or
+/// another lane claims it by its green.
+pub fn refusals_for_a_cell_blame_another()
+    ensures taken { (i : Intersection) (h : List Entry) (v moment : ℕ) (m : Message) (p : Params) (row col step by next : ℕ) (held : Option ℕ) →
+        is_fresh_seq h v m.seq ≡ true → params_of m.body ≡ Some p →
+        answer i h v moment (Act.Message m) ≡ Reply.Reject (Reason.Taken row col step by) next held →
+        (in_cells i p false (cell_at step row col) ≡ true) × (x : Fresh) × IsHeldBy i h (now_of h moment) v by (cell_at step row col) x }
+    ensures green { (i : Intersection) (h : List Entry) (v moment : ℕ) (m : Message) (p : Params) (row col step lane next : ℕ) (held : Option ℕ) →
+        is_fresh_seq h v m.seq ≡ true → params_of m.body ≡ Some p →
+        answer i h v moment (Act.Message m) ≡ Reply.Reject (Reason.Green row col step lane) next held →
+        (in_cells i p false (cell_at step row col) ≡ true) × IsClaimedBy i h p.lane lane (cell_at step row col) }
+{}
+
+/// A refusal for a cell goes with its holder: once that vehicle has given its reservation up, nothing else having changed,
+/// a fresh request for the same crossing isn't refused for that cell.
+pub fn refusals_for_a_cell_go_with_its_holder()
+    ensures { (i : Intersection) (n : ℕ) (y : Yielded) (moment : ℕ) (again : Message) (why : Reason) (next : ℕ) (held : Option ℕ) → IsYielded i n y →
+        is_fresh_seq (y.history ++ y.refused ∷ y.gone ∷ []) y.refused.caller again.seq ≡ true → params_of again.body ≡ Some y.params →
+        answer i (y.history ++ y.refused ∷ y.gone ∷ []) y.refused.caller moment (Act.Message again) ≡ Reply.Reject why next held →
+        cell_blamed why ≡ Some y.cell → ⊥ }
 {}
 
 /// The journal of calls that may be made is legal.

@@ -57,3 +57,9 @@ bad_steps = refl
 
 pub too_soon : replies small (ask 0 0 1 0 10 ∷ ask 1 3 1 1 10 ∷ ask 1 5 2 1 18 ∷ []) ≡ steady 0 10 20 ∷ reject (Taken 1 2 13 0) 6 None ∷ reject (TooSoon 6) 6 None ∷ []
 too_soon = refl
+
+pub free_once_given_up : replies small (ask 0 0 1 0 10 ∷ ask 1 0 1 1 10 ∷ cancel 0 1 2 0 ∷ ask 1 5 2 1 10 ∷ []) ≡ steady 0 10 20 ∷ reject (Taken 1 2 13 0) 5 None ∷ Ack 0 ∷ steady 3 10 20 ∷ []
+free_once_given_up = refl
+
+pub taken_while_another_is_given_up : replies small (ask 0 0 1 0 10 ∷ ask 1 0 1 1 10 ∷ cancel 0 1 2 7 ∷ ask 1 5 2 1 10 ∷ []) ≡ steady 0 10 20 ∷ reject (Taken 1 2 13 0) 5 None ∷ Ack 7 ∷ reject (Taken 1 2 13 0) 7 None ∷ []
+taken_while_another_is_given_up = refl
