@@ -56,6 +56,7 @@ fn after(at: usize, slots: usize) -> usize
 pub struct Shapes {
     slots: Vec<Prepared>,
     turn: u32,
+    worked_out: u64,
 }
 
 impl Model for Shapes {
@@ -78,7 +79,17 @@ impl Shapes {
         for _ in 0..count {
             slots.push_reserved(prepare_from(layout, &NO_REQUEST, &mut pool));
         }
-        Ok(Shapes { slots, turn: 0 })
+        Ok(Shapes {
+            slots,
+            turn: 0,
+            worked_out: 0,
+        })
+    }
+
+    /// How many messages got cells that weren't copied from a shape. No clause speaks of it: it is there for tests, which
+    /// see by it that a known crossing costs no such work.
+    pub fn worked_out(&self) -> u64 {
+        self.worked_out
     }
 
     // The slot that has the shape of the params' crossing, if one has it, and the step at which the crossing there arrives.
@@ -162,6 +173,7 @@ impl Shapes {
             }
             None => {
                 let prepared = prepare_from(layout, message, pool);
+                self.worked_out = self.worked_out.saturating_add(1);
                 self.keep(layout, &params, &prepared);
                 prepared
             }

@@ -223,6 +223,25 @@ fn known(field: Result<Option<Field>, NeedsCells>) -> Option<Option<Field>> {
 }
 
 #[test]
+fn a_known_crossing_is_not_worked_out_again(rt: HostRuntime) {
+    let layout = built(rt.alloc(), &SMALL, TIMES).expect(&rt, "no layout");
+    let mut pool = Pool::new(rt.alloc(), 4, 4096).expect(&rt, "no memory for a pool");
+    let mut shapes = Shapes::new(rt.alloc(), &layout, 8).expect(&rt, "no memory for shapes");
+    let later = Params { arrive: 900, ..CAR };
+    let wider = Params {
+        width: CAR.width + 1,
+        ..CAR
+    };
+    for (params, count) in [(CAR, 1), (later, 1), (wider, 2), (CAR, 2), (later, 2)] {
+        check_shapes(&rt, &layout, &mut shapes, &mut pool, &request(1, params));
+        assert!(&rt; shapes.worked_out() == count);
+    }
+    drop(shapes);
+    drop(pool);
+    drop(layout);
+}
+
+#[test]
 fn a_shape_tells_that_no_field_is_wrong(rt: HostRuntime) {
     let layout = built(rt.alloc(), &TIGHT, TIMES).expect(&rt, "no layout");
     let mut pool = Pool::new(rt.alloc(), 4, 40).expect(&rt, "no memory for a pool");
