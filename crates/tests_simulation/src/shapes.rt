@@ -234,7 +234,7 @@ fn a_known_crossing_is_not_worked_out_again(rt: HostRuntime) {
     };
     for (params, count) in [(CAR, 1), (later, 1), (wider, 2), (CAR, 2), (later, 2)] {
         check_shapes(&rt, &layout, &mut shapes, &mut pool, &request(1, params));
-        assert!(&rt; shapes.worked_out() == count);
+        assert!(rt; shapes.worked_out() == count);
     }
     drop(shapes);
     drop(pool);
