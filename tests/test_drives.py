@@ -1,4 +1,6 @@
 """`drive` and `generate`: scripts with 1, 2 and 4 workers, judged by the rules of drives; and texts that the judge refuses."""
+import random
+
 import pytest
 from hypothesis import given
 from hypothesis import strategies
@@ -193,6 +195,34 @@ def test_small_drive(program, seed):
 def test_busy_drive(program, seed, workers):
     fault, _ = judged(program, busy(seed), workers)
     assert not fault, fault
+
+
+def callers_by_moment(text):
+    """The vehicles that have calls in each moment of a report's journal."""
+    callers = {}
+    for line in text.split("\n"):
+        words = line.split(" ")
+        if "->" in words and words[1] != "operator":
+            callers.setdefault(int(words[2]), set()).add(int(words[1]))
+    return callers
+
+
+@pytest.mark.parametrize("seed", range(6))
+def test_workers_matter_only_where_calls_race(program, seed):
+    """Vehicles come so far apart that no moment has calls of two: so the text is the same, however many workers there are."""
+    die = random.Random(seed)
+    plans = [
+        f"plan {vehicle} {200 * vehicle} {die.randrange(5, 40)} {die.randrange(1, 9)} {die.randrange(2)} straight"
+        f" {die.randrange(100, 501)} 500 {die.randrange(3)} 1000 700 car" for vehicle in range(6)]
+    head = CROSSING.format(version=1, times="1500 25 20 0 0", policies=PLAIN_AND_LIGHTS, vehicles=6)
+    script = head + "\n".join(["until 2000", *plans, "end", ""])
+    fault, text = judged(program, script, 1)
+    assert not fault, fault
+    callers = callers_by_moment(text)
+    assert len(callers) >= 12 and all(len(these) == 1 for these in callers.values()), callers
+    for workers in (2, 3, 6):
+        fault, other = judged(program, script, workers, text)
+        assert not fault and other == text, fault
 
 
 def test_256_vehicles(program):
