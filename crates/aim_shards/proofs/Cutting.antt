@@ -179,10 +179,10 @@ module _ (half : ℕ) where
   cut_at (s ∷ ss) (t ∷ ts) sheet set zero q cell e old new = old zero
   cut_at (s ∷ ss) (t ∷ ts) sheet set (suc k) q cell e old new = cut_at ss ts sheet set k q cell (omega (arith, e)) (λ j. old (suc j)) new
 
-  pub cut_more : (sheets : List Spans) (sets sets' : List Quarters) (i : ℕ) (d : Spans) (set : Quarters) → i < length sheets → AreCut half (take i sheets) sets → sets' ≡ sets ++ set ∷ [] → ((q : ℕ) (cell : Cell) → q < 4 → in_spans (part set q) cell ≡ (in_spans (get_or sheets i d).spans cell && lies_at half q cell)) → AreCut half (take (i + 1) sheets) sets'
-  cut_more sheets sets sets' i d set lt old e new = subst (λ (y : List Spans × List Quarters). AreCut half y.0 y.1) (λ j. (sym (taken_more sheets i d lt) j, sym e j)) record {
-    count = length-append sets (set ∷ []) ∙ (ap (λ k. k + 1) old.count ∙ sym (length-append (take i sheets) (get_or sheets i d ∷ [])));
-    cells = λ k q cell b. cut_at (take i sheets) sets (get_or sheets i d) set k q cell old.count (λ j. old.cells j q cell b) (new q cell b);
+  pub cut_one : (sheets : List Spans) (sets sets' : List Quarters) (sheet : Spans) (set : Quarters) → AreCut half sheets sets → sets' ≡ sets ++ set ∷ [] → ((q : ℕ) (cell : Cell) → q < 4 → in_spans (part set q) cell ≡ (in_spans sheet.spans cell && lies_at half q cell)) → AreCut half (sheets ++ sheet ∷ []) sets'
+  cut_one sheets sets sets' sheet set old e new = subst (AreCut half (sheets ++ sheet ∷ [])) (sym e) record {
+    count = length-append sets (set ∷ []) ∙ (ap (λ k. k + 1) old.count ∙ sym (length-append sheets (sheet ∷ [])));
+    cells = λ k q cell b. cut_at sheets sets sheet set k q cell old.count (λ j. old.cells j q cell b) (new q cell b);
   }
 
   pub cut_none : AreCut half [] []
@@ -210,6 +210,10 @@ within_cut half n horizon sheets sheets' sets same cut grid = record { tiles = �
 pub part_at : (half : ℕ) (down right : Bool) (spans a : List Span) {k : Corner} → k ≡ record { half = half; down = down; right = right } → ((cell : Cell) → in_spans a cell ≡ (in_spans spans cell && lies_at k.half (2 * one k.down + one k.right) cell))
     → (cell : Cell) → in_spans a cell ≡ (in_spans spans cell && lies_at half (2 * one down + one right) cell)
 part_at half down right spans a is p cell = p cell ∙ ap (λ (x : Corner). in_spans spans cell && lies_at x.half (2 * one x.down + one x.right) cell) is
+
+-- the room for them
+pub room_at : (half : ℕ) (down right : Bool) (spans : List Span) (room : ℕ) {k : Corner} → k ≡ record { half = half; down = down; right = right } → length (filter (is_beside half down) spans) ≤ room → length (filter (is_beside k.half k.down) spans) ≤ room
+room_at half down right spans room is le = subst (λ (x : Corner). length (filter (is_beside x.half x.down) spans) ≤ room) (sym is) le
 
 -- the parts of one set in the four quadrants
 pub four_parts : (half : ℕ) (spans a b c d : List Span) → ((cell : Cell) → in_spans a cell ≡ (in_spans spans cell && lies_at half (2 * one false + one false) cell)) → ((cell : Cell) → in_spans b cell ≡ (in_spans spans cell && lies_at half (2 * one false + one true) cell))

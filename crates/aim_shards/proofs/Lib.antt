@@ -21,3 +21,6 @@ pub mod Rows
 pub mod Boxes
 pub mod Sheeted
 pub mod Emptied
+pub mod Pushed
+pub mod Touching
+pub mod Crosses

@@ -28,6 +28,10 @@ is_empty set = not (has_cells set 0 || has_cells set 1 || has_cells set 2 || has
 abbrev pub lies_in : Quarters → ℕ → Bool
 lies_in set q = has_cells set q || (is_empty set && (q == 0))
 
+-- whether it touches each of the four
+abbrev pub touches_of : Quarters → List Bool
+touches_of set = lies_in set 0 ∷ lies_in set 1 ∷ lies_in set 2 ∷ lies_in set 3 ∷ []
+
 -- whether the two spans have a cell in common
 abbrev pub span_meets : Span → Span → Bool
 span_meets s t = is_at s t.step t.row && not (bit_and s.mask t.mask == 0)

@@ -1,15 +1,35 @@
 //! Cutting sets along the borders of the quadrants.
 
-ghost use Rattle.std.specs.Prelude.{◌≡◌, ◌<◌, ◌≤◌, ◌+◌, ◌*◌, ◌==◌, ◌&&◌, ◌||◌, true, false, not, nat_le, if◌then◌else◌, ℕ, filter, length, IfOk};
+ghost use Rattle.std.specs.Prelude.{◌≡◌, ◌<◌, ◌≤◌, ◌+◌, ◌*◌, ◌==◌, ◌&&◌, ◌||◌, true, false, not, nat_le, if◌then◌else◌, ℕ, filter, length, All, IfOk};
 ghost use Rattle.aim_geometry.specs.Cells.{Cell};
 ghost use Rattle.aim_geometry.specs.Rects.{has_bit};
-ghost use Rattle.aim_sheets.specs.Spans.{in_span, in_spans};
+ghost use Rattle.aim_sheets.specs.Spans.{in_span, in_spans, precedes};
 ghost use Rattle.aim_shards.specs.Cuts.{AreCut, half_of, is_beside, lies_at, one, quadrant_at};
 ghost use Rattle.aim_shards.specs.Sets.{part};
 
 use crate::sets::Quartered;
 use aim_sheets::{Pool, Sheet, Span};
 use std::alloc::{AllocError, Global};
+
+// Whether the span's row is in the second half, or in the first, as `down` says.
+fn is_beside(half: u32, down: bool, span: &Span) -> bool
+    ensures { result ≡ is_beside half down span.now }
+{
+    (span.row as u32 >= half) == down
+}
+
+// Room for the spans whose rows are in that half.
+fn room_beside(half: u32, down: bool, sheet: &Sheet) -> u32
+    ensures { length (filter (is_beside half down) sheet.now.spans) ≤ result }
+{
+    let mut count = 0;
+    for span in sheet.spans() {
+        if is_beside(half, down, span) {
+            count += 1;
+        }
+    }
+    count.min(sheet.room() as usize) as u32
+}
 
 // A quadrant: whether its rows are those of the second half, and whether its columns are.
 #[derive(Clone, Copy)]
@@ -26,13 +46,6 @@ impl Corner {
         Corner { half, down, right }
     }
 
-    // Whether the span's row is one of the quadrant's.
-    fn has_row(self, span: &Span) -> bool
-        ensures { result ≡ is_beside self.half self.down span.now }
-    {
-        (span.row as u32 >= self.half) == self.down
-    }
-
     // The columns of a row that lie in the quadrant.
     fn columns(self, row: u8, mask: u64) -> u64
         requires half { self.half ≤ 32 }
@@ -46,45 +59,35 @@ impl Corner {
         }
     }
 
-    // Room for the spans that have a row of the quadrant.
-    fn room(self, sheet: &Sheet) -> u32
-        ensures { length (filter (is_beside self.half self.down) sheet.now.spans) ≤ result }
-    {
-        let mut count = 0;
-        for span in sheet.spans() {
-            if self.has_row(span) {
-                count += 1;
-            }
-        }
-        count.min(sheet.room() as usize) as u32
-    }
-
-    // Adds the span's cells in the quadrant.
+    // Adds the span's cells in the quadrant, which come behind all that were added.
     fn add(self, part: &mut Sheet, span: Span)
         requires half { self.half ≤ 32 }
         requires room { is_beside self.half self.down span ≡ true → length part.old.spans < part.old.room }
+        requires last { All (λ held. precedes held span.step span.row ≡ true) part.old.spans }
         ensures cells { (cell : Cell) → in_spans part.new.spans cell ≡ (in_spans part.old.spans cell || (in_span span cell && lies_at self.half (2 * one self.down + one self.right) cell)) }
         ensures count { length part.new.spans ≤ length part.old.spans + one (is_beside self.half self.down span) }
         ensures room { part.new.room ≡ part.old.room }
+        ensures last { (step row : ℕ) → All (λ held. precedes held step row ≡ true) part.old.spans → precedes span step row ≡ true → All (λ held. precedes held step row ≡ true) part.new.spans }
     {
-        if !self.has_row(&span) {
+        if !is_beside(self.half, self.down, &span) {
             return;
         }
         let mask = self.columns(span.row, span.mask);
         if mask == 0 {
             return;
         }
-        let Ok(()) = part.push(Span { mask, ..span }) else {
+        let Ok(()) = part.push_last(Span { mask, ..span }) else {
             unreachable!()
         };
     }
 
-    // The set's cells in the quadrant.
-    fn part(self, alloc: Global, sheet: &Sheet) -> Result<Sheet, AllocError>
-        requires { self.half ≤ 32 }
+    // The set's cells in the quadrant, for whose spans there is so much room.
+    fn part(self, alloc: Global, room: u32, sheet: &Sheet) -> Result<Sheet, AllocError>
+        requires half { self.half ≤ 32 }
+        requires room { length (filter (is_beside self.half self.down) sheet.now.spans) ≤ room }
         ensures { IfOk result (λ s. (cell : Cell) → in_spans s.spans cell ≡ (in_spans sheet.now.spans cell && lies_at self.half (2 * one self.down + one self.right) cell)) }
     {
-        let mut pool = Pool::new(alloc, 1, self.room(sheet))?;
+        let mut pool = Pool::new(alloc, 1, room)?;
         let Ok(mut part) = pool.take() else {
             unreachable!()
         };
@@ -106,8 +109,9 @@ fn two_parts(
     ensures left { IfOk result (λ p. (cell : Cell) → in_spans p.0.spans cell ≡ (in_spans sheet.now.spans cell && lies_at half (2 * one down + one false) cell)) }
     ensures right { IfOk result (λ p. (cell : Cell) → in_spans p.1.spans cell ≡ (in_spans sheet.now.spans cell && lies_at half (2 * one down + one true) cell)) }
 {
-    let left = Corner::new(half, down, false).part(alloc, sheet)?;
-    let right = Corner::new(half, down, true).part(alloc, sheet)?;
+    let room = room_beside(half, down, sheet);
+    let left = Corner::new(half, down, false).part(alloc, room, sheet)?;
+    let right = Corner::new(half, down, true).part(alloc, room, sheet)?;
     Ok((left, right))
 }
 
@@ -118,27 +122,23 @@ fn quarter(alloc: Global, half: u32, sheet: &Sheet) -> Result<Quartered, AllocEr
 {
     let upper = two_parts(alloc, half, false, sheet)?;
     let lower = two_parts(alloc, half, true, sheet)?;
-    Ok(Quartered {
-        first: upper.0,
-        second: upper.1,
-        third: lower.0,
-        fourth: lower.1,
-    })
+    Ok(Quartered::new(upper.0, upper.1, lower.0, lower.1))
 }
 
-/// All sets' parts in the four quadrants of a grid of n rows and columns.
+/// All sets' parts in the four quadrants of a grid of n rows and columns. Each set is let go once it is cut, so its room can be
+/// taken for the next one's parts.
 pub(crate) fn quarter_all(
     alloc: Global,
     n: u32,
-    sets: &[Sheet],
+    sets: Vec<Sheet>,
 ) -> Result<Vec<Quartered>, AllocError>
     requires { n ≤ 64 }
-    ensures { IfOk result (λ v. AreCut (half_of n) sets.now v.items) }
+    ensures { IfOk result (λ v. AreCut (half_of n) sets.items v.items) }
 {
     let half = n.div_ceil(2);
     let mut quarters = Vec::with_capacity(alloc, sets.len())?;
     for sheet in sets {
-        quarters.push_reserved(quarter(alloc, half, sheet)?);
+        quarters.push_reserved(quarter(alloc, half, &sheet)?);
     }
     Ok(quarters)
 }

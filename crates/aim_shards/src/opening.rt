@@ -109,7 +109,7 @@ fn laid(
     alloc: Global,
     n: u32,
     horizon: u32,
-    sheets: &Vec<Sheet>,
+    sheets: Snapshot<Vec<Sheet>>,
     sets: &Vec<Quartered>,
     numbers: &Vec<u32>,
     calls: u32,
@@ -120,7 +120,7 @@ fn laid(
     requires distinct { AllPairs (λ m n. m ≢ n) numbers.now.items }
     requires few { (length numbers.now.items ≤ 64) × (calls ≤ 1024) }
     ensures counts { IfOk result (λ r. (r.0.shared.table_id.words ≡ 9) × (r.0.shared.table_id.slots ≡ 4)) }
-    ensures grid { IfOk result (λ r. (r.0.shared.key.size ≡ n) × (r.0.shared.key.sheets.value.items ≡ sheets.now.items)) }
+    ensures grid { IfOk result (λ r. (r.0.shared.key.size ≡ n) × (r.0.shared.key.sheets.value.items ≡ sheets.value.items)) }
     ensures key { IfOk result (λ r. (r.0.shared.key.sets.value.items ≡ sets.now.items) × (r.0.shared.key.numbers.value.items ≡ numbers.now.items) × (r.0.shared.key.calls ≡ calls)) }
     ensures seat { IfOk result (λ r. (r.1.table_id ≡ r.0.shared.table_id) × (r.1.me ≡ (opening_view sets.now.items numbers.now.items calls, []))) }
 {
@@ -128,7 +128,7 @@ fn laid(
     let slots = four_quarters(alloc, room, n, horizon)?;
     let about = Opening {
         size: n,
-        sheets: Snapshot::of(sheets),
+        sheets,
         sets: Snapshot::of(sets),
         numbers: Snapshot::of(numbers),
         calls,
@@ -187,7 +187,7 @@ fn seated(
     alloc: Global,
     n: u32,
     horizon: u32,
-    sheets: &Vec<Sheet>,
+    sheets: Snapshot<Vec<Sheet>>,
     sets: &Vec<Quartered>,
     numbers: &Vec<u32>,
     calls: u32,
@@ -198,7 +198,7 @@ fn seated(
     requires distinct { AllPairs (λ m n. m ≢ n) numbers.now.items }
     requires few { (length numbers.now.items ≤ 64) × (calls ≤ 1024) }
     ensures counts { IfOk result (λ r. (r.0.shared.table_id.words ≡ 9) × (r.0.shared.table_id.slots ≡ 4)) }
-    ensures grid { IfOk result (λ r. (r.0.shared.key.size ≡ n) × (r.0.shared.key.sheets.value.items ≡ sheets.now.items)) }
+    ensures grid { IfOk result (λ r. (r.0.shared.key.size ≡ n) × (r.0.shared.key.sheets.value.items ≡ sheets.value.items)) }
     ensures key { IfOk result (λ r. (r.0.shared.key.sets.value.items ≡ sets.now.items) × (r.0.shared.key.numbers.value.items ≡ numbers.now.items) × (r.0.shared.key.calls ≡ calls)) }
     ensures passes { IfOk result (λ r. r.1.items ≡ map (new_pass (record { table = r.0.shared.table_id; size = r.0.shared.key.size; sets = r.0.shared.key.sheets.value.items; quarters = r.0.shared.key.sets.value.items; numbers = r.0.shared.key.numbers.value.items; calls = r.0.shared.key.calls })) numbers.now.items) }
 {
@@ -215,22 +215,23 @@ impl Shards {
         alloc: Global,
         n: u32,
         horizon: u32,
-        sets: &Vec<Sheet>,
+        sets: Vec<Sheet>,
         numbers: &Vec<u32>,
         calls: u32,
     ) -> Result<OpenedShards, AllocError>
         requires n { (1 ≤ n) × (n ≤ 64) }
         requires horizon { (1 ≤ horizon) × (horizon ≤ 8192) }
-        requires grid { AreOnGrid n horizon sets.now.items }
+        requires grid { AreOnGrid n horizon sets.items }
         requires distinct { AllPairs (λ m n. m ≢ n) numbers.now.items }
         requires few { (length numbers.now.items ≤ 64) × (calls ≤ 1024) }
-        ensures shards { IfOk result (λ r. (r.shards.size ≡ n) × (r.shards.sets ≡ sets.now.items) × (r.shards.numbers ≡ numbers.now.items) × (r.shards.calls ≡ calls)) }
-        ensures cut { IfOk result (λ r. AreCut (half_of n) sets.now.items r.shards.quarters) }
+        ensures shards { IfOk result (λ r. (r.shards.size ≡ n) × (r.shards.sets ≡ sets.items) × (r.shards.numbers ≡ numbers.now.items) × (r.shards.calls ≡ calls)) }
+        ensures cut { IfOk result (λ r. AreCut (half_of n) sets.items r.shards.quarters) }
         ensures passes { IfOk result (λ r. r.passes.items ≡ map (new_pass r.shards) numbers.now.items) }
     {
+        let sheets = Snapshot::of(&sets);
         let quarters = quarter_all(alloc, n, sets)?;
         let nothing = no_cells(alloc)?;
-        match seated(alloc, n, horizon, sets, &quarters, numbers, calls) {
+        match seated(alloc, n, horizon, sheets, &quarters, numbers, calls) {
             Ok((desk, passes)) => {
                 let shards = Shards {
                     desk,
@@ -275,7 +276,7 @@ impl Shards {
         let Ok(numbers) = count_up(alloc, callers) else {
             return Err(ShardFault::NoMemory);
         };
-        match Shards::opened(alloc, n, horizon, &sets, &numbers, calls) {
+        match Shards::opened(alloc, n, horizon, sets, &numbers, calls) {
             Ok(opened) => Ok(opened),
             Err(_) => Err(ShardFault::NoMemory),
         }

@@ -1,9 +1,9 @@
 //! Sets of all tiles of a rectangle in some steps.
 
-ghost use Rattle.std.specs.Prelude.{◌≡◌, ◌≢◌, ◌+◌, ◌-◌, ◌*◌, ◌<◌, ◌≤◌, ◌==◌, ◌&&◌, ◌||◌, ◌↔◌, IsTrue, ℕ, length, All, IfOk};
+ghost use Rattle.std.specs.Prelude.{◌≡◌, ◌≢◌, ◌+◌, ◌-◌, ◌*◌, ◌<◌, ◌≤◌, ◌==◌, ◌&&◌, ◌||◌, ◌↔◌, IsTrue, true, ℕ, length, All, IfOk};
 ghost use Rattle.aim_geometry.specs.Cells.{Cell};
 ghost use Rattle.aim_geometry.specs.Rects.{has_bit};
-ghost use Rattle.aim_sheets.specs.Spans.{in_spans};
+ghost use Rattle.aim_sheets.specs.Spans.{in_spans, precedes};
 ghost use Rattle.aim_shards.specs.Fitting.{AreSheets};
 ghost use Rattle.aim_shards.specs.Rectangles.{FitsGrid, in_rectangle, is_between};
 
@@ -31,33 +31,37 @@ impl Rectangle {
         (u64::MAX >> (63 - self.col1)) & (u64::MAX << self.col0)
     }
 
-    // Adds the tiles of one row in one step.
+    // Adds the tiles of one row in one step, which comes behind all that were added.
     fn add_row(&self, sheet: &mut Sheet, step: u32, row: u32)
         requires columns { (self.now.col0 ≤ self.now.col1) × (self.now.col1 < 64) }
         requires row { row < 64 }
         requires room { length sheet.old.spans < sheet.old.room }
+        requires last { All (λ held. precedes held step row ≡ true) sheet.old.spans }
         ensures cells { (cell : Cell) → in_spans sheet.new.spans cell ≡ (in_spans sheet.old.spans cell || (cell.step == step && (cell.row == row && is_between self.now.col0 self.now.col1 cell.col))) }
         ensures count { length sheet.new.spans ≤ length sheet.old.spans + 1 }
         ensures room { sheet.new.room ≡ sheet.old.room }
+        ensures last { All (λ held. precedes held step (row + 1) ≡ true) sheet.new.spans }
     {
         let span = Span {
             step,
             row: row as u8,
             mask: self.columns(),
         };
-        let Ok(()) = sheet.push(span) else {
+        let Ok(()) = sheet.push_last(span) else {
             unreachable!()
         };
     }
 
-    // Adds the tiles of one step.
+    // Adds the tiles of one step, which comes behind all that were added.
     fn add_step(&self, sheet: &mut Sheet, step: u32)
         requires columns { (self.now.col0 ≤ self.now.col1) × (self.now.col1 < 64) }
         requires rows { (self.now.row0 ≤ self.now.row1) × (self.now.row1 < 64) }
         requires room { length sheet.old.spans + (self.now.row1 - self.now.row0 + 1) ≤ sheet.old.room }
+        requires last { All (λ held. precedes held step self.now.row0 ≡ true) sheet.old.spans }
         ensures cells { (cell : Cell) → in_spans sheet.new.spans cell ≡ (in_spans sheet.old.spans cell || (cell.step == step && (is_between self.now.row0 self.now.row1 cell.row && is_between self.now.col0 self.now.col1 cell.col))) }
         ensures count { length sheet.new.spans ≤ length sheet.old.spans + (self.now.row1 - self.now.row0 + 1) }
         ensures room { sheet.new.room ≡ sheet.old.room }
+        ensures last { All (λ held. precedes held (step + 1) self.now.row0 ≡ true) sheet.new.spans }
     {
         for row in self.row0..self.row1 + 1 {
             self.add_row(sheet, step, row);

@@ -1,7 +1,7 @@
 //! Sets of cells, each cut along the borders of the four quadrants.
 
-ghost use Rattle.std.specs.Prelude.{◌≡◌, ◌<◌, ◌+◌, [], length, IfOk};
-ghost use Rattle.aim_shards.specs.Sets.{is_empty, lies_in, part, is_some, chosen, SameParts, IsOf};
+ghost use Rattle.std.specs.Prelude.{◌≡◌, ◌<◌, ◌+◌, [], ◌∷◌, ◌||◌, not, length, IfOk};
+ghost use Rattle.aim_shards.specs.Sets.{Quarters, has_cells, lies_in, part, is_some, touches_of, chosen, SameParts, IsOf};
 
 use aim_sheets::{Pool, Sheet};
 use std::alloc::{AllocError, Global};
@@ -10,22 +10,67 @@ use std::marker::Model;
 /// The sheets of a set in the four quadrants.
 #[derive(Drop)]
 pub struct Quartered {
-    pub(crate) first: Sheet,
-    pub(crate) second: Sheet,
-    pub(crate) third: Sheet,
-    pub(crate) fourth: Sheet,
+    first: Sheet,
+    second: Sheet,
+    third: Sheet,
+    fourth: Sheet,
+    // Whether a claim of the set touches each quadrant. It stands here, so a call looks at no sheet of the others.
+    touched: [bool; 4],
 }
 
 impl Model for Quartered {
-    ghost use Rattle.std.specs.Prelude.{[], ◌∷◌};
-    ghost use Rattle.aim_shards.specs.Sets.{Quarters};
+    ghost use Rattle.std.specs.Prelude.{◌≡◌, [], ◌∷◌};
+    ghost use Rattle.aim_shards.specs.Sets.{Quarters, touches_of};
 
     ghost Value = { Quarters };
 
     ghost view = { λ s. s.first.spans ∷ s.second.spans ∷ s.third.spans ∷ s.fourth.spans ∷ [] };
+
+    ghost invariant = { λ s. s.touched ≡ touches_of (s.first.spans ∷ s.second.spans ∷ s.third.spans ∷ s.fourth.spans ∷ []) };
+}
+
+// Whether the sheet has a cell.
+fn is_some(sheet: &Sheet) -> bool
+    ensures { result ≡ is_some sheet.now.spans }
+{
+    !sheet.spans().is_empty()
+}
+
+// Whether a claim of a set touches the first quadrant, by whether the set has a cell in each: one without cells does.
+fn touches_first(first: bool, second: bool, third: bool, fourth: bool) -> bool
+    ensures { result ≡ (first || not (first || second || third || fourth)) }
+{
+    first || !(second || third || fourth)
+}
+
+// Whether a claim of a set touches each quadrant, by whether the set has a cell there.
+fn touches_of(first: bool, second: bool, third: bool, fourth: bool) -> [bool; 4]
+    ensures { (set : Quarters) → first ≡ has_cells set 0 → second ≡ has_cells set 1 → third ≡ has_cells set 2 → fourth ≡ has_cells set 3 → result ≡ touches_of set }
+{
+    let first = touches_first(first, second, third, fourth);
+    [first, second, third, fourth]
 }
 
 impl Quartered {
+    /// A set with these sheets in the four quadrants.
+    pub(crate) fn new(first: Sheet, second: Sheet, third: Sheet, fourth: Sheet) -> Quartered
+        ensures { result ≡ first.spans ∷ second.spans ∷ third.spans ∷ fourth.spans ∷ [] }
+    {
+        let touched = touches_of(
+            is_some(&first),
+            is_some(&second),
+            is_some(&third),
+            is_some(&fourth),
+        );
+        Quartered {
+            first,
+            second,
+            third,
+            fourth,
+            touched,
+        }
+    }
+
     /// The sheet of a quadrant.
     pub fn part(&self, quadrant: usize) -> &Sheet
         requires { quadrant < 4 }
@@ -40,29 +85,13 @@ impl Quartered {
         }
     }
 
-    // Whether the set has a cell in the quadrant.
-    fn has_cells(&self, quadrant: usize) -> bool
-        requires { quadrant < 4 }
-        ensures some { result ≡ is_some (part self.now quadrant) }
-        ensures four { length self.now ≡ 4 }
-    {
-        !self.part(quadrant).spans().is_empty()
-    }
-
-    // Whether the set has no cell.
-    fn is_empty(&self) -> bool
-        ensures { result ≡ is_empty self.now }
-    {
-        !(self.has_cells(0) || self.has_cells(1) || self.has_cells(2) || self.has_cells(3))
-    }
-
     /// Whether a claim of the set touches the quadrant.
     pub fn touches(&self, quadrant: usize) -> bool
         requires { quadrant < 4 }
         ensures touches { result ≡ lies_in self.now quadrant }
         ensures four { length self.now ≡ 4 }
     {
-        self.has_cells(quadrant) || (self.is_empty() && quadrant == 0)
+        self.touched[quadrant]
     }
 }
 
@@ -71,12 +100,11 @@ pub(crate) fn no_cells(alloc: Global) -> Result<Quartered, AllocError>
     ensures { IfOk result (λ s. SameParts s []) }
 {
     let mut pool = Pool::new(alloc, 4, 0)?;
-    Ok(Quartered {
-        first: empty_sheet(&mut pool),
-        second: empty_sheet(&mut pool),
-        third: empty_sheet(&mut pool),
-        fourth: empty_sheet(&mut pool),
-    })
+    let first = empty_sheet(&mut pool);
+    let second = empty_sheet(&mut pool);
+    let third = empty_sheet(&mut pool);
+    let fourth = empty_sheet(&mut pool);
+    Ok(Quartered::new(first, second, third, fourth))
 }
 
 // A sheet of the pool.

@@ -4,7 +4,6 @@ pub mod Deciding
 pub mod Ending
 pub mod Fitting
 pub mod Behind
-pub mod Crosses
 pub mod Calls
 pub mod Marks
 pub mod Seating

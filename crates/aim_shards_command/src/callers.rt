@@ -121,14 +121,19 @@ pub fn marks_of(alloc: Global, lines: &[ShardLine]) -> Result<Vec<u8>, AllocErro
     Ok(marks)
 }
 
-// The place of the first line from that place on which may ask something of the caller, or the number of all lines.
+// The place of the first line from that place on which may ask something of the caller, or the number of all lines. Mostly
+// a caller's lines are neighbours, so the one at that place is looked at first.
 fn next_place(marks: &[u8], number: u32, from: usize) -> usize
     requires from { from ≤ length marks.now }
     ensures later { from ≤ result }
     ensures within { result ≤ length marks.now }
     ensures passed { AllWithin (λ m. m ≢ min number 255) marks.now from result }
 {
-    match memchr(mark(number), &marks[from..]) {
+    let mark = mark(number);
+    if from < marks.len() && marks[from] == mark {
+        return from;
+    }
+    match memchr(mark, &marks[from..]) {
         Some(at) => from + at,
         None => marks.len(),
     }

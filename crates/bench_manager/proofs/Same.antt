@@ -1,5 +1,6 @@
 -- A client that stayed the same client is one of the same mailbox.
-use Rattle.std.proofs.Common.{◌≡◌, sym, ap, ◌∙◌, subst}
+use Rattle.std.proofs.Common.{◌≡◌, List, sym, ap, ◌∙◌, subst}
+use Rattle.std.specs.Prelude.{All}
 use mathlib.Core.Option.{some}
 use lib.ListN.{get_elem?}
 use Rattle.aim_mail.specs.Calls.{ClientModel, ServerModel, IsOfMail, IsSameClient}
@@ -13,3 +14,7 @@ same_mail m old taken left new was is same own =
       hears_on = ap (λ v. get_elem? m.answers_on v) same.vehicle ∙ o.hears_on ∙ ap (λ h. some h) (sym same.hears_on);
       setting = same.setting ∙ o.setting;
     })
+
+-- What is so of the clients of any mailbox is so of those of the server's, which one that served leaves.
+pub own_of : (server served : ServerModel) (old new : List ClientModel) → (served ≡ server) × ((m : ServerModel) → All (IsOfMail m) old → All (IsOfMail m) new) → All (IsOfMail server) old → All (IsOfMail served) new
+own_of server served old new h own = subst (λ (m : ServerModel). All (IsOfMail m) new) (sym h.0) (h.1 server own)

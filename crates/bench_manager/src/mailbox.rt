@@ -11,10 +11,11 @@ use aim_requests::prepare_from;
 use aim_sheets::Pool;
 use anyhow::{Result, anyhow};
 use bench_day::{Caller, ROOM, SHEETS, SPANS, Taken, Turns, twelve_lanes};
-use std::alloc::Global;
+use std::alloc::{AllocError, Global};
+use std::snapshot::Snapshot;
 use std::sync::Wait;
 use std::sync::ledger::{Blank, Ledger};
-use std::thread::{self, Threads};
+use std::thread::{self, Promise, Threads};
 use std::time::{Clock, Instant};
 
 // Prepares one message and calls with it. None is where the call may not be made, or finds the journal full.
@@ -118,7 +119,18 @@ fn call_and_finish<R: Threads + Wait + Sync>(
     finish_all(rt, clients, ended)
 }
 
-// The server on one thread, and the clients beside it: what they leave.
+// What a server leaves is of its own mailbox.
+#[derive(Drop)]
+struct OfServer<L: Ledger> {
+    server: Snapshot<Server<L>>,
+}
+
+impl<L: Ledger> Promise<Served<L>> for OfServer<L> {
+    ghost kept_by = { λ p r. r ≡ p.server.value };
+}
+
+// The server on a thread of its own, and the clients beside it: what they leave. Where no thread can be made for the server,
+// nothing is called, since a client would wait for ever.
 fn beside<L: Ledger + Send + Sync, R: Threads + Wait + Sync>(
     rt: &R,
     alloc: Global,
@@ -127,24 +139,35 @@ fn beside<L: Ledger + Send + Sync, R: Threads + Wait + Sync>(
     ended: Vec<Ended>,
     layout: &Layout,
     day: &Turns,
-) -> (Served<L>, Vec<Ended>)
+) -> Result<(Served<L>, Vec<Ended>), AllocError>
     requires layout { All (λ c. IfSome c.setting (λ s. s.layout ≡ layout.now)) clients.items }
     requires own { All (IsOfMail server) clients.items }
     requires none { ended.items ≡ [] }
     requires room { length clients.items ≤ vec_capacity ended }
-    ensures own { All (IsOfMail result.0) result.1.items }
+    ensures own { IfOk result (λ r. All (IsOfMail r.0) r.1.items) }
 {
-    thread::join(
+    let both = thread::scope(
+        thread::scope_env(),
         rt,
-        move || -> Served<L>
-            requires { IsSync R.row }
-            ensures { result ≡ server }
-        { server.run(rt) },
-        move || -> Vec<Ended>
+        move |scope| -> Result<(Served<L>, Vec<Ended>), AllocError>
             requires { IsSync R.row × All (λ c. IfSome c.setting (λ s. s.layout ≡ layout.now)) clients.items × (ended.items ≡ []) × (length clients.items ≤ vec_capacity ended) }
-            ensures { (m : ServerModel) → All (IsOfMail m) clients.items → All (IsOfMail m) result.items }
-        { call_and_finish(rt, alloc, clients, ended, layout, day) },
-    )
+            ensures { IfOk result (λ r. (r.0 ≡ server) × ((m : ServerModel) → All (IsOfMail m) clients.items → All (IsOfMail m) r.1.items)) }
+        {
+            let promise = OfServer {
+                server: Snapshot::of(&server),
+            };
+            let serving = scope.spawn_with(
+                promise,
+                move || -> Served<L>
+                    requires { IsSync R.row }
+                    ensures { result ≡ server }
+                { server.run(rt) },
+            )?;
+            let ended = call_and_finish(rt, alloc, clients, ended, layout, day);
+            Ok((serving.join(rt), ended))
+        },
+    )?;
+    Ok(both)
 }
 
 // A mailbox over a copy of the layout, for so many callers.
@@ -186,7 +209,7 @@ fn over_layout<L: Ledger + Send + Sync, R: Threads + Wait + Sync + Clock>(
     let opened = open::<L, R>(rt, alloc, layout, callers, blank)?;
     let OpenedMail { server, clients } = opened;
     let start = Instant::now(rt).ok();
-    let (served, ended) = beside(rt, alloc, server, clients, ended, layout, day);
+    let (served, ended) = beside(rt, alloc, server, clients, ended, layout, day)?;
     let end = Instant::now(rt).ok();
     Taken::between(&settle(served, ended), start, end)
 }

@@ -1,7 +1,7 @@
 use denote.Param.Send.{sendable}
 use Rattle.std.proofs.Common.{◌<◌, length, sym, subst}
 use Rattle.aim_shards.specs.Models.{IsPassOf, PassModel}
-use Rattle.aim_shards_command.proofs.Crosses.{shards_sync}
+use Rattle.aim_shards.proofs.Crosses.{shards_sync}
 use Rattle.bench_shards.proofs.all_calls.Goals as goal
 
 pub for_each_mut-requires-clause-accepts : goal.for_each_mut-requires-clause-accepts

@@ -1,6 +1,5 @@
-use Rattle.std.proofs.Common.{◌≡◌, ◌≤◌, ℕ, List, length, take, sym, ap, ◌∙◌, subst, arith}
+use Rattle.std.proofs.Common.{◌≡◌, take, sym, ◌∙◌, subst, arith}
 use Rattle.std.proofs.lemmas.List.{take_all}
-use Rattle.aim_shards_command.specs.declared.lines.ShardLine.{ShardLine}
 use Rattle.aim_shards_command.specs.Said.{asked_of}
 use Rattle.aim_shards_command.specs.Following.{Follows}
 use Rattle.aim_shards_command.proofs.callers.make_all.Goals as goal

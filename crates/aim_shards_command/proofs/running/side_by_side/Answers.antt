@@ -3,7 +3,7 @@ use Rattle.std.proofs.Common.{◌≡◌, length, subst, arith}
 use Rattle.aim_shards_command.proofs.lines.ShardLine.TheSendSync as line
 use Rattle.aim_shards_command.specs.declared.callers.Caller.{Caller}
 use Rattle.aim_shards_command.specs.Running.{HasCalled}
-use Rattle.aim_shards_command.proofs.Crosses.{shards_sync}
+use Rattle.aim_shards.proofs.Crosses.{shards_sync}
 use Rattle.aim_shards_command.proofs.running.side_by_side.Goals as goal
 
 pub for_each_mut-requires-sync-F : goal.for_each_mut-requires-sync-F

@@ -1,20 +1,6 @@
-use Rattle.std.proofs.Common.{sym, subst}
-use denote.Param.Send.{sendable}
-use Rattle.std.specs.Prelude.{All}
-use Rattle.std.proofs.Crossing.{crosses}
-use Rattle.aim_mail.specs.Calls.{IsOfMail, ServerModel}
-use Rattle.aim_mail.proofs.Crosses.{crossing}
+use Rattle.bench_manager.proofs.Same.{own_of}
 use Rattle.bench_manager.proofs.mailbox.beside.Goals as goal
 
--- what is shown already is tried first
-pub join-requires-send-F : goal.join-requires-send-F
-join-requires-send-F g c κs within = search (crossing, sendable, crosses) depth 40 fits 20000
-
-pub join-requires-send-A : goal.join-requires-send-A
-join-requires-send-A g c κs within = search (crossing, sendable, crosses) depth 40 fits 20000
-
--- what the clients' thread says of any mailbox, of this server's
+-- what the clients' side says of any mailbox, of this server's
 pub returns : goal.returns
-returns g c = record {
-  own = subst (λ (m : ServerModel). All (IsOfMail m) c.join.result.1.items) (sym c.join.ensures.first) (c.join.ensures.second c.args.server c.requires.own);
-}
+returns g c = record { own = own_of c.args.server c.in_ok-both.both.0 c.args.clients.items c.in_ok-both.both.1.items c.in_ok-both.ensures.1 c.requires.own }

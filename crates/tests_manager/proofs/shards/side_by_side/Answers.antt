@@ -1,6 +1,6 @@
 use denote.Param.Send.{sendable}
 use Rattle.std.proofs.Crossing.{crosses}
-use Rattle.aim_shards_command.proofs.Crosses.{shards_sync}
+use Rattle.aim_shards.proofs.Crosses.{shards_sync}
 use Rattle.tests_manager.proofs.Crosses.{flag_sync, pass_send}
 use Rattle.tests_manager.proofs.shards.side_by_side.Goals as goal
 

@@ -1,8 +1,10 @@
-use Rattle.std.proofs.Common.{◌≡◌, ◌≤◌, ◌+◌, ◌*◌, ◌&&◌, length, take}
+use Rattle.std.proofs.Common.{◌≡◌, ◌≤◌, ◌+◌, ◌*◌, ◌&&◌, ℕ, ◌<◌, get_or, length, take}
 use Rattle.std.specs.Prelude.{filter}
 use Rattle.aim_geometry.specs.Cells.{Cell}
+use Rattle.aim_sheets.specs.declared.spans.Span.{Span}
 use Rattle.aim_sheets.specs.Spans.{in_spans}
 use Rattle.aim_shards.specs.Cuts.{is_beside, lies_at, one}
+use Rattle.aim_shards.proofs.Pushed.{AreBefore}
 use Rattle.aim_shards.proofs.cuts.Corner.part.Given as goal
 
 abbrev pub invariant-loop-span : goal.invariant-loop-span
@@ -11,4 +13,5 @@ invariant-loop-span l = record {
   count : length l.part.spans ≤ length (filter (is_beside l.self.half l.self.down) (take l.span-index l.span-items));
   room : length (filter (is_beside l.self.half l.self.down) l.span-items) ≤ l.part.room;
   all : l.span-items ≡ l.sheet.spans;
+  last : (k : ℕ) (d : Span) → l.span-index ≤ k → k < length l.span-items → AreBefore (get_or l.span-items k d).step (get_or l.span-items k d).row l.part.spans;
 }
