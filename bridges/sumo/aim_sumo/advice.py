@@ -1,14 +1,28 @@
-"""What is said of types of vehicles on a layout: what can't be driven, and how many spans they need."""
+"""What is said of a layout and of types of vehicles on it: paths that nobody guards, what can't be driven, and spans."""
 
-from .fit import refusals
+from .fit import depth, refusals
 from .planner import GATHERED
 
 SPANS_ROUND = 256
 
 
 def told_of(fits, types, step, hold):
-    """What `net` says of types of vehicles on a layout: what can't be driven, and whether the spans are enough."""
-    return [*refusals(fits, types).values(), *few_spans(fits, types, step, hold)]
+    """What `net` says of a layout with these types: inner ends, what can't be driven, and whether the spans are enough."""
+    ends = [line for each in fits for line in inner_ends(each.layout)]
+    return [*ends, *refusals(fits, types).values(), *few_spans(fits, types, step, hold)]
+
+
+def inner_ends(layout):
+    """Where paths begin or end inside the ground: no tile there is reserved for the part that is off the path."""
+    lines = []
+    for move in layout.moves:
+        for what, point in (("begins", move.points[0]), ("ends", move.points[-1])):
+            deep = depth(layout, point)
+            if deep:
+                lines.append(
+                    f"the path of {move.name} {what} {deep} mm inside the ground: nothing is reserved there for what of "
+                    "a vehicle is off the path, and no promise speaks of it")
+    return lines
 
 
 def few_spans(fits, types, step, hold):

@@ -125,10 +125,16 @@ class Fits:
         return tuple(sorted(found))
 
 
+def depth(layout, point):
+    """By how many millimetres a point is inside the ground, where that is more than counts as the border; else 0."""
+    x, y = point
+    inside = min(x, y, layout.side - x, layout.side - y)
+    return inside if inside > AT_BORDER else 0
+
+
 def _has_inner_ends(layout):
     """True where a path begins or ends inside the ground."""
-    ends = [point for move in layout.moves for point in (move.points[0], move.points[-1])]
-    return any(min(x, y, layout.side - x, layout.side - y) > AT_BORDER for x, y in ends)
+    return any(depth(layout, point) for move in layout.moves for point in (move.points[0], move.points[-1]))
 
 
 def _strips(junction, width):

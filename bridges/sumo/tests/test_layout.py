@@ -1,5 +1,6 @@
 import unittest
 
+from aim_sumo.advice import inner_ends
 from aim_sumo.curve import Way
 from aim_sumo.faults import BadHead
 from aim_sumo.layout import Phase, read_head
@@ -33,6 +34,13 @@ class Heads(unittest.TestCase):
             "policy lights light", "phase 300 600 0", "phase 300 600 1", "phase 300 600 2", "phase 300 600 3",
             "policy plain fcfs"])
         self.assertEqual(sorted(lines), sorted(text.splitlines()))
+
+    def test_paths_that_begin_or_end_inside_the_ground_are_told(self):
+        self.assertEqual(inner_ends(read_head(head("tee"))), [])
+        text = head("tee").replace("move 0 straight line 0 4500 12000 4500", "move 0 straight line 340 4500 11900 4500")
+        self.assertEqual(inner_ends(read_head(text)), [
+            "the path of 0.straight begins 340 mm inside the ground: nothing is reserved there for what of a vehicle is "
+            "off the path, and no promise speaks of it"])
 
     def test_heads_that_are_refused(self):
         good = head("tee")

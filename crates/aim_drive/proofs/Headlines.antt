@@ -19,7 +19,8 @@ use Rattle.aim_driver.specs.declared.orders.Ordered.{Ordered}
 use Rattle.aim_drive_script.specs.declared.scripts.Planned.{Planned}
 use Rattle.aim_drive_script.specs.Said.{Drive}
 use Rattle.aim_drive_script.specs.Scripts.{drive_told}
-use Rattle.aim_safety.proofs.MeetLemmas.{no_two_drivers, no_green}
+use Rattle.aim_safety.proofs.EnteredLemmas.{who_entered}
+use Rattle.aim_safety.proofs.MeetLemmas.{no_two_drivers, no_green, is_reserved}
 use Rattle.aim_agents.specs.Agents.{AgentModel, AgentPass}
 use Rattle.aim_agents.specs.Went.{Went}
 use Rattle.aim_agents.proofs.Followed.{followed}
@@ -158,6 +159,12 @@ module _ (m : TurnstileModel BookSetting) (until size spans : ℕ) (plans : List
           let ly : k < length ys = omega arith in
           let y = (element ys k ly).0 in
           in_order.runs j k y r ly p q a b at_a at_b (ca ∙ number_at j c y ec) (cb ∙ number_at k d y ed) same;
+      crosses = λ k x t ex at.
+          let lx = log_at k x ex in
+          who_entered m.setting.layout m.setting.vehicles h x.0 x.1 t e.closed.legal lx.rules lx.fits at;
+      reserved = λ k x c ex on.
+          let lx = log_at k x ex in
+          is_reserved m.setting.layout m.setting.vehicles h x.0 x.1 c e.valid e.closed.legal lx.rules lx.fits on;
       apart = λ j k x y ex ey ne c on.
           let lx = log_at j x ex in
           let ly = log_at k y ey in

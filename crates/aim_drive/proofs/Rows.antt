@@ -1,7 +1,7 @@
 -- Worked rows: a drive of no steps, and what the headline refuses.
 use Prim.Native.Nat.{zero, suc}
-use Rattle.std.proofs.Common.{◌≡◌, ◌≢◌, ℕ, ◌≤◌, List, [], ◌∷◌, Some, refl, ap, arith}
-use Rattle.std.specs.Prelude.{slice_get}
+use Rattle.std.proofs.Common.{◌≡◌, ◌≢◌, ℕ, ◌≤◌, List, [], ◌∷◌, Option, Some, None, refl, ap, arith}
+use Rattle.std.specs.Prelude.{option_map, slice_get}
 use Rattle.aim_messages.specs.declared.entries.Act.TheVariants as act
 use Rattle.aim_messages.specs.declared.entries.Entry.{Entry}
 use Rattle.aim_messages.specs.declared.entries.Order.TheVariants as order
@@ -10,6 +10,7 @@ use Rattle.aim_messages.specs.declared.messages.Body.TheVariants as body
 use Rattle.aim_messages.specs.declared.replies.Reply.TheVariants as reply
 use Rattle.aim_layout.specs.Intersection.{Intersection}
 use Rattle.aim_driver.specs.declared.logs.LogItem.{LogItem}
+use Rattle.aim_driver.specs.declared.logs.LogItem.TheVariants as item
 use Rattle.aim_driver.specs.Follows.{Call}
 use Rattle.aim_driver.proofs.Rows.{car, plain}
 use Rattle.aim_driver.specs.declared.orders.Ordered.{Ordered}
@@ -71,3 +72,19 @@ falling i vehicles until size drives orders logs x =
 -- the orders of a moment come first
 pub late_order : (i : Intersection) (vehicles until size : ℕ) (drives : List Drive) (orders : List Ordered) (logs : List VehicleLog) → Headline i vehicles until size drives orders (asks 0 3 ∷ stops 3 ∷ []) logs → ⊥
 late_order i vehicles until size drives orders logs x = cc (x.orders_first 0 1 (asks 0 3) (stops 3) refl refl (omega arith) refl refl)
+
+-- a driver that entered crosses: on an id that no entry has nobody enters
+pub entered_on_nothing : (i : Intersection) (vehicles until size : ℕ) (drives : List Drive) (orders : List Ordered) → Headline i vehicles until size drives orders [] ((0, item.Entered 10 0 ∷ []) ∷ []) → ⊥
+entered_on_nothing i vehicles until size drives orders x =
+    let crossed = x.crosses 0 (0, item.Entered 10 0 ∷ []) (record { step = 10; id = 0 }) refl refl in
+    let none : None ≡ Some crossed.entry = crossed.granted.stands in
+    cc none
+
+-- nor on the entry of another vehicle
+pub entered_on_anothers : (i : Intersection) (vehicles until size : ℕ) (drives : List Drive) (orders : List Ordered) → Headline i vehicles until size drives orders (asks 1 2 ∷ []) ((0, item.Entered 10 0 ∷ []) ∷ []) → ⊥
+entered_on_anothers i vehicles until size drives orders x =
+    let crossed = x.crosses 0 (0, item.Entered 10 0 ∷ []) (record { step = 10; id = 0 }) refl refl in
+    let callers : ◌≡◌ {A = Option ℕ} (Some 1) (Some crossed.entry.caller) = ap (option_map (λ (e : Entry). e.caller)) crossed.granted.stands in
+    let one : 1 ≡ crossed.entry.caller = cc callers in
+    let zero_is = crossed.granted.own in
+    absurd (omega (arith, one, zero_is))

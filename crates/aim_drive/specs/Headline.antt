@@ -6,12 +6,15 @@ use Rattle.aim_geometry.specs.Cells.{Cell}
 use Rattle.aim_layout.specs.Intersection.{Intersection}
 use Rattle.aim_rules.specs.Claims as claims
 use Rattle.aim_rules.specs.Legal.{IsLegal}
+use Rattle.aim_driver.specs.declared.logs.Entrance.{Entrance}
 use Rattle.aim_driver.specs.declared.logs.LogItem.{LogItem}
+use Rattle.aim_driver.specs.Crossings.{first_entrance}
 use Rattle.aim_driver.specs.Fits.{entries_of, replies_of, AreCallsOf}
 use Rattle.aim_driver.specs.Follows.{Call, follows}
 use Rattle.aim_driver.specs.declared.orders.Ordered.{Ordered}
 use Rattle.aim_drive_script.specs.Said.{Drive}
 use Rattle.aim_safety.specs.Occupied.{Passage, passage, is_on, is_occupied}
+use Rattle.aim_safety.specs.Reserved.{Crosses, IsReserved}
 use Rattle.aim_agents.specs.Places.{At}
 use Rattle.aim_agents.specs.Runs.{InRun}
 use Rattle.aim_agents.specs.Orders.{CarryOrders}
@@ -40,6 +43,10 @@ pub record Headline (i : Intersection) (vehicles until size : ℕ) (drives : Lis
   pub orders_first : (p q : ℕ) (e f : Entry) → At h p e → At h q f → p < q → e.moment ≡ f.moment → f.caller ≡ OPERATOR → e.caller ≡ OPERATOR
   pub runs : (j k : ℕ) (c d : Drive) → InRun size j k → slice_get drives j ≡ Some c → slice_get drives k ≡ Some d → (p q : ℕ) (e f : Entry) → At h p e → At h q f
       → e.caller ≡ c.vehicle → f.caller ≡ d.vehicle → e.moment ≡ f.moment → p < q
+  -- a driver that entered has a crossing, on a Confirm of its own vehicle
+  pub crosses : (k : ℕ) (x : VehicleLog) (t : Entrance) → slice_get logs k ≡ Some x → first_entrance x.1 ≡ Some t → Crosses i h x.0 x.1 t
+  -- each tile on which it is was reserved for it
+  pub reserved : (k : ℕ) (x : VehicleLog) (c : Cell) → slice_get logs k ≡ Some x → is_occupied i h x.1 c ≡ true → IsReserved i h x.0 x.1 c
   -- no two drivers are on one tile in one step
   pub apart : (j k : ℕ) (x y : VehicleLog) → slice_get logs j ≡ Some x → slice_get logs k ≡ Some y → x.0 ≢ y.0 → (c : Cell) → is_occupied i h x.1 c ≡ true → is_occupied i h y.1 c ≡ false
   -- nor is a driver on a tile that the green of a lane other than its own claims then

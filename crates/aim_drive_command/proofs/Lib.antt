@@ -7,6 +7,7 @@ pub mod Scripts
 pub mod Drawing
 mod Printed
 pub mod Spelling
+pub mod OwnTiles
 pub mod RunLemmas
 pub mod OrderLemmas
 mod ShownLemmas
@@ -16,4 +17,5 @@ pub mod Courses
 pub mod Nexts
 pub mod Journals
 pub mod Texts
+pub mod Races
 pub mod Rows

@@ -1,6 +1,9 @@
 -- Worked rows: logs in order, counts, what is printed, the run of a script with nobody in it, and what isn't a run.
-use Rattle.std.proofs.Common.{◌≡◌, inl, inr, ℕ, ◌+◌, ◌*◌, ◌<◌, ◌≤◌, false, List, [], ◌∷◌, ◌++◌, length, codes, Some, None, refl, arith}
+use Rattle.std.proofs.Common.{◌≡◌, inl, inr, ℕ, ◌+◌, ◌*◌, ◌<◌, ◌≤◌, true, false, true≢false, List, [], ◌∷◌, ◌++◌, length, codes, Some, None, refl, sym, ap, ◌∙◌, arith}
 use Rattle.std.specs.Fmt.{digits}
+use Rattle.std.specs.Prelude.{All}
+use Rattle.std.proofs.lemmas.Bool.{leb-true}
+use Rattle.std.proofs.lemmas.List.Elements.{All-nil, All-cons}
 use Rattle.aim_io.specs.Lines.{outcomes_from}
 use Rattle.aim_messages.specs.declared.messages.Message.{Message}
 use Rattle.aim_messages.specs.declared.messages.Body.TheVariants as body
@@ -12,7 +15,9 @@ use Rattle.aim_messages.specs.declared.entries.Order.TheVariants as order
 use Rattle.aim_messages.specs.declared.entries.TheConstants.{OPERATOR}
 use Rattle.aim_messages.specs.declared.script.Line.{Line}
 use Rattle.aim_messages.specs.declared.script.Line.TheVariants as line
+use Rattle.aim_geometry.specs.Cells.{Cell}
 use Rattle.aim_layout.specs.Intersection.{Intersection}
+use Rattle.aim_rules.specs.Cells.{IsIn}
 use Rattle.aim_driver.specs.declared.logs.LogItem.{LogItem}
 use Rattle.aim_driver.specs.declared.logs.LogItem.TheVariants as item
 use Rattle.aim_driver.proofs.Rows.{car, plain, sent, granted, refused}
@@ -22,6 +27,11 @@ use Rattle.aim_script.specs.declared.decisions.Kind.TheVariants as why
 use Rattle.aim_script.specs.declared.decisions.Limit.TheVariants as limit
 use Rattle.aim_script.specs.Said.{layout_of}
 use Rattle.aim_drive_script.specs.Said.{Drive, drives_of}
+use Rattle.aim_safety.specs.Occupied.{is_occupied}
+use Rattle.aim_safety.specs.Tiles.{EntersBy}
+use Rattle.aim_report.specs.Apart.{AreOnOwnTiles}
+use Rattle.aim_report.specs.Told.{IsTold, IsItem, IsLog, AreTold}
+use Rattle.aim_report.proofs.TileLines.{printed_apart, printed_own}
 use Rattle.aim_drive.specs.Runs.{InRun}
 use Rattle.aim_drive.specs.Rounds.{run_size}
 use Rattle.aim_drive.specs.Headline.{VehicleLog, Headline}
@@ -105,6 +115,8 @@ nothing i vehicles until size = record {
   moments = λ p q e f at. absurd at;
   orders_first = λ p q e f at. absurd at;
   runs = λ j k c d run ec. none_some c ec;
+  crosses = λ k x t ex. none_some x ex;
+  reserved = λ k x c ex. none_some x ex;
   apart = λ j k x y ex. none_some x ex;
   clear = λ k x t c ex. none_some x ex;
 }
@@ -112,9 +124,37 @@ nothing i vehicles until size = record {
 pub run_of_nobody : IsRunOf 1 empty [] []
 run_of_nobody = nothing (layout_of empty) 1 40 (run_size 0 1)
 
+-- what the report of one vehicle tells that did nothing
+nothing_told : AreTold [] ((0, []) ∷ [])
+nothing_told = record {
+  few = omega arith;
+  entries = All-nil IsTold;
+  own = All-cons IsLog (0, []) [] (record { vehicle = omega arith; items = All-nil IsItem }) (All-nil IsLog);
+  one_each = λ j k d lt l. absurd (omega arith);
+}
+
+nobody_on : (i : Intersection) (x : VehicleLog) (c : Cell) → IsIn x ((0, []) ∷ []) → is_occupied i [] x.1 c ≡ true → ⊥
+nobody_on i x c (inl is) on = true≢false (sym on ∙ ap (λ (y : VehicleLog). is_occupied i [] y.1 c) is)
+nobody_on i x c (inr none) on = none
+
+nothing_on : (i : Intersection) → AreOnOwnTiles i [] ((0, []) ∷ [])
+nothing_on i = record {
+  enters = All-cons (λ (x : VehicleLog). EntersBy 2147483648 x.1) (0, []) [] tt (All-nil (λ (x : VehicleLog). EntersBy 2147483648 x.1));
+  apart = λ x y c mx my ne on. absurd (nobody_on i x c mx on);
+  own = λ x c m on. absurd (nobody_on i x c m on);
+}
+
 pub report_of_nobody : IsTextOf 1 empty (decision.Whole 0) (lines (codes "end 0" ∷ []))
-unfolding digits
-report_of_nobody = record { journal = []; logs = []; run = run_of_nobody; is = refl }
+unfolding digits layout_of
+report_of_nobody = record {
+  journal = [];
+  logs = [];
+  run = run_of_nobody;
+  is = refl;
+  told = nothing_told;
+  apart = printed_apart (layout_of empty) [] ((0, []) ∷ []) (leb-true (layout_of empty).grid.n 64 refl) nothing_told (nothing_on (layout_of empty));
+  own = printed_own (layout_of empty) [] ((0, []) ∷ []) (leb-true (layout_of empty).grid.n 64 refl) nothing_told (nothing_on (layout_of empty));
+}
 
 -- what isn't a run
 
@@ -175,7 +215,22 @@ whole = codes "aim 1\ngrid 4000 4 100 0 450 4096\ntimes 1500 25 20 0 0\nlanes 1\
 
 pub whole_shown : Shows 1 whole (Some (codes "so ")) (Some (codes "so end 0\n")) 0
 unfolding digits outcomes_from layout_of
-whole_shown = record { writes = record { text = codes "end 0\n"; is = record { journal = []; logs = []; run = nothing _ _ _ _; is = refl }; written = refl }; status = refl }
+whole_shown = record {
+  writes = record {
+    text = codes "end 0\n";
+    is = record {
+      journal = [];
+      logs = [];
+      run = nothing _ _ _ _;
+      is = refl;
+      told = nothing_told;
+      apart = printed_apart (layout_of empty) [] ((0, []) ∷ []) (leb-true (layout_of empty).grid.n 64 refl) nothing_told (nothing_on (layout_of empty));
+      own = printed_own _ [] ((0, []) ∷ []) (leb-true _ 64 refl) nothing_told (nothing_on _);
+    };
+    written = refl;
+  };
+  status = refl;
+}
 
 -- where neither the source nor the sink failed, its status is 0, or 7
 pub whole_completes : Completes whole 0 0 0 0 5 → ⊥

@@ -11,17 +11,23 @@ use Rattle.aim_script.specs.declared.decisions.Decision.TheVariants as decision
 use Rattle.aim_script.specs.Decided.{decision_words, printed, status_of}
 use Rattle.aim_script.specs.Said.{layout_of, vehicles_of}
 use Rattle.aim_drive_script.specs.Verdicts.{drive_verdict}
+use Rattle.aim_report.specs.Apart.{TilesAreApart, TilesAreOwn}
 use Rattle.aim_report.specs.Reports.{report}
+use Rattle.aim_report.specs.Told.{AreTold}
 use Rattle.aim_drive.specs.Headline.{VehicleLog}
 use Rattle.aim_drive_command.specs.Ordered.{in_order}
 use Rattle.aim_drive_command.specs.Runs.{IsRunOf}
 
--- The text reports a run of these lines: its journal, and of each vehicle, in rising order, the log and the tiles.
+-- The text reports a run of these lines: its journal, and of each vehicle, in rising order, the log and the tiles. The text tells the journal and the
+-- logs, and of no tile do its lines say that two drivers are on it in one step, or one where the green of another lane claims it.
 pub record IsReport (workers : ℕ) (lines : List Line) (text : List ℕ) : Type 0 where
   pub journal : List Entry
   pub logs : List VehicleLog
   pub run : IsRunOf workers lines journal logs
   pub is : text ≡ report (layout_of lines) journal (in_order (vehicles_of lines) logs)
+  pub told : AreTold journal (in_order (vehicles_of lines) logs)
+  pub apart : TilesAreApart text
+  pub own : TilesAreOwn (layout_of lines) journal text
 
 -- The text of a script: of a whole one the report of a run of it, and of another one the line that says why it isn't whole.
 abbrev pub IsTextOf : ℕ → List Line → Decision → List ℕ → Type 0

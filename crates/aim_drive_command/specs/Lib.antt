@@ -4,6 +4,7 @@ pub mod Traffic
 pub mod Laid
 pub mod Ordered
 pub mod Runs
+pub mod Races
 pub mod Commands
 pub mod Summaries
 pub mod Generated

@@ -2,25 +2,30 @@
 //! which their text is read. A drive whose drivers are one run has one journal with its logs, and so one text is
 //! printed of it.
 
-ghost use Rattle.std.specs.Prelude.{◌≡◌, ◌<◌, ◌≤◌, ℕ, List, ◌++◌, length, slice_get, Option, Some};
+ghost use Rattle.std.specs.Prelude.{◌≡◌, ◌≢◌, ◌<◌, ◌≤◌, ℕ, List, ◌++◌, length, slice_get, Option, Some};
 ghost use Rattle.aim_io.specs.Known.{AppendsFront};
 ghost use Rattle.aim_messages.specs.declared.entries.Entry.{Entry};
+ghost use Rattle.aim_messages.specs.declared.entries.TheConstants.{OPERATOR};
 ghost use Rattle.aim_messages.specs.declared.replies.Reply.{Reply};
 ghost use Rattle.aim_messages.specs.declared.script.Line.{Line};
 ghost use Rattle.aim_layout.specs.Intersection.{Intersection};
 ghost use Rattle.aim_driver.specs.declared.plans.DrivePlan.{DrivePlan};
 ghost use Rattle.aim_driver.specs.declared.links.Fate.{Fate};
+ghost use Rattle.aim_driver.specs.Fits.{entries_of};
 ghost use Rattle.aim_driver.specs.Follows.{follows};
 ghost use Rattle.aim_script.specs.declared.decisions.Decision.{Decision};
 ghost use Rattle.aim_script.specs.declared.decisions.Decision.TheVariants as decision;
 ghost use Rattle.aim_driver.specs.declared.orders.Ordered.{Ordered};
-ghost use Rattle.aim_drive_script.specs.Said.{Drive};
+ghost use Rattle.aim_script.specs.Said.{vehicles_of};
+ghost use Rattle.aim_drive_script.specs.Said.{Drive, orders_of};
 ghost use Rattle.aim_drive_script.specs.Scripts.{IsDrive};
 ghost use Rattle.aim_drive_script.specs.Verdicts.{drive_verdict};
 ghost use Rattle.aim_drive.specs.Headline.{Headline, VehicleLog};
 ghost use Rattle.aim_drive_command.specs.Traffic.{traffic_lines, traffic_text};
+ghost use Rattle.aim_drive_command.specs.Ordered.{log_among};
+ghost use Rattle.aim_drive_command.specs.Races.{NoneRace};
 ghost use Rattle.aim_drive_command.specs.Runs.{IsRunOf};
-ghost use Rattle.aim_drive_command.specs.Commands.{IsTextOf, Shows, ShowsFront};
+ghost use Rattle.aim_drive_command.specs.Commands.{IsReport, IsTextOf, Shows, ShowsFront};
 ghost use Rattle.aim_drive_command.specs.Generated.{IsSummary, Counts, CountsFront};
 
 /// Generated traffic is a whole drive script: no line is at fault behind those before it, and none goes past a limit.
@@ -72,6 +77,31 @@ pub fn one_worker_has_one_text()
         (after ≡ other) × (status ≡ another) }
     ensures front { (bytes text : List ℕ) (old new : Option (List ℕ)) → ShowsFront 1 bytes old new →
         (let v = drive_verdict bytes in IsTextOf 1 v.before v.decision text) → AppendsFront old new text }
+{}
+
+/// Workers matter only where calls race: where calls of one moment are of one run, the journal and the logs are those of
+/// one worker, and so is the text.
+pub fn workers_matter_only_where_calls_race()
+    ensures run { (workers : ℕ) (lines : List Line) (h : List Entry) (logs : List VehicleLog) →
+        IsRunOf workers lines h logs → NoneRace workers lines h → IsRunOf 1 lines h logs }
+    ensures text { (workers : ℕ) (lines : List Line) (text other : List ℕ) (a : IsReport workers lines text) →
+        NoneRace workers lines a.journal → IsReport 1 lines other → text ≡ other }
+{}
+
+/// A journal is short: it has at most 128 entries of a vehicle, and one of each order.
+pub fn a_journal_is_short()
+    ensures vehicle { (workers : ℕ) (lines : List Line) (h : List Entry) (logs : List VehicleLog) →
+        IsRunOf workers lines h logs → (v : ℕ) → v ≢ OPERATOR → length (entries_of h v) ≤ 128 }
+    ensures orders { (workers : ℕ) (lines : List Line) (h : List Entry) (logs : List VehicleLog) →
+        IsRunOf workers lines h logs → length (entries_of h OPERATOR) ≡ length (orders_of lines) }
+{}
+
+/// A text that reports a run reports one: it has one journal, and the same log of each vehicle, whatever the workers.
+pub fn a_text_tells_one_run()
+    ensures journal { (workers others : ℕ) (lines : List Line) (text : List ℕ) (a : IsReport workers lines text)
+        (b : IsReport others lines text) → a.journal ≡ b.journal }
+    ensures logs { (workers others : ℕ) (lines : List Line) (text : List ℕ) (a : IsReport workers lines text)
+        (b : IsReport others lines text) (v : ℕ) → v < vehicles_of lines → log_among v a.logs ≡ log_among v b.logs }
 {}
 
 /// Generated traffic has one text of six lines for each number and count. Where it is written twice behind the same

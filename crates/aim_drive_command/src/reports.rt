@@ -1,15 +1,18 @@
 //! The printed text of a drive.
 
 ghost use Rattle.std.specs.Prelude.{◌≡◌, ◌++◌, ◌≤◌, length, map, All, OnOk, IfOk};
+ghost use Rattle.aim_text_entries.specs.Ranges.{IsEntry};
+ghost use Rattle.aim_layout.specs.Valid.{IsValid};
 ghost use Rattle.aim_safety.specs.Tiles.{EntersBy};
 ghost use Rattle.aim_report.specs.Reports.{all_logs, all_tiles, report};
+ghost use Rattle.aim_report.specs.Told.{IsItem};
 ghost use Rattle.aim_drive.specs.Making.{log_of};
 ghost use Rattle.aim_drive_command.specs.Ordered.{in_order, log_among};
 
 use aim_drive::{Drove, Logged};
 use aim_driver::LogItem;
 use aim_layout::Layout;
-use aim_report::{NoMemory, put_end, put_entries, put_log, put_tiles};
+use aim_report::{NoMemory, entries_fit, items_fit, put_end, put_entries, put_log, put_tiles};
 use std::alloc::Global;
 
 // The log of the vehicle's driver, which is empty where it has none.
@@ -54,7 +57,17 @@ pub fn put_all_tiles(
     Ok(())
 }
 
-/// The text that reports a drive of so many vehicles.
+// The items of all logs have the values of their types.
+fn logs_fit(logs: &[Logged])
+    ensures { All (λ l. All IsItem l.driver.log) logs.now }
+{
+    for logged in logs {
+        items_fit(logged.driver.log());
+    }
+}
+
+/// The text that reports a drive of so many vehicles. The drive's entries and items have the values of their types, so the
+/// text tells them.
 pub(crate) fn report_of(
     alloc: Global,
     layout: &Layout,
@@ -63,8 +76,14 @@ pub(crate) fn report_of(
 ) -> Result<Vec<u8>, NoMemory>
     requires few { length drove.now.journal.items ≤ 4294967295 }
     requires enters { All (λ l. EntersBy 2147483648 l.driver.log) drove.now.logs.items }
-    ensures { IfOk result (λ text. text.items ≡ report layout.now drove.now.journal.items (in_order vehicles (map log_of drove.now.logs.items))) }
+    ensures text { IfOk result (λ text. text.items ≡ report layout.now drove.now.journal.items (in_order vehicles (map log_of drove.now.logs.items))) }
+    ensures entries { All IsEntry drove.now.journal.items }
+    ensures items { All (λ l. All IsItem l.driver.log) drove.now.logs.items }
+    ensures valid { IsValid layout.now }
 {
+    entries_fit(&drove.journal);
+    logs_fit(&drove.logs);
+    let _ground = layout.ground();
     let mut text = Vec::new(alloc);
     put_entries(&mut text, &drove.journal)?;
     put_logs(&mut text, vehicles, &drove.logs)?;

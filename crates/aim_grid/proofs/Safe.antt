@@ -1,4 +1,4 @@
--- Drivers at one crossing are apart, and clear of others' greens.
+-- Drivers at one crossing cross on what was granted to them, are apart, and clear of others' greens.
 use Rattle.std.proofs.Common.{◌≡◌, ◌≢◌, ℕ, zero, suc, ◌≤◌, ◌==◌, Bool, true, false, List, [], ◌∷◌, Option, Some, None, if◌then◌else◌, refl, sym, ap, ◌∙◌, subst, arith}
 use Rattle.std.specs.Prelude.{slice_get}
 use Rattle.std.proofs.lemmas.Bool.Decides.{nat_tests}
@@ -8,7 +8,9 @@ use Rattle.aim_layout.specs.Intersection.{Intersection}
 use Rattle.aim_layout.specs.Valid.{IsValid}
 use Rattle.aim_rules.specs.Claims.{green}
 use Rattle.aim_rules.specs.Legal.{IsLegal}
+use Rattle.aim_driver.specs.declared.logs.Entrance.{Entrance}
 use Rattle.aim_driver.specs.declared.logs.LogItem.{LogItem}
+use Rattle.aim_driver.specs.Crossings.{first_entrance}
 use Rattle.aim_driver.specs.Fits.{Fits, AreCallsOf, entries_of, replies_of}
 use Rattle.aim_driver.specs.Follows.{Call}
 use Rattle.aim_driver.specs.Keeps.{keeps}
@@ -16,7 +18,9 @@ use Rattle.aim_driver.proofs.SmallFacts.{none_some, some_is}
 use Rattle.aim_driver.proofs.FollowLemmas.{follows_fits}
 use Rattle.aim_driver.proofs.TurnLemmas.{follows_keeps}
 use Rattle.aim_safety.specs.Occupied.{Passage, passage, is_on, is_occupied}
-use Rattle.aim_safety.proofs.MeetLemmas.{no_two_drivers, no_green}
+use Rattle.aim_safety.specs.Reserved.{Crosses, IsReserved}
+use Rattle.aim_safety.proofs.EnteredLemmas.{who_entered}
+use Rattle.aim_safety.proofs.MeetLemmas.{no_two_drivers, no_green, is_reserved}
 use Rattle.aim_grid.specs.Acked.{begun_at}
 use Rattle.aim_grid.specs.Travelled.{Ride, IsLeg}
 
@@ -55,6 +59,18 @@ log_is until h (Some s) r lead f = record {
   fits = subst (λ (p : List LogItem × List Call). Fits h r.vehicle p.0) f.course
       (follows_fits (begun_at s r.plan) [] [] 0 until h r.vehicle (subst (λ (p : List LogItem × List Call). AreCallsOf p.1 h r.vehicle) (sym f.course) f.carried));
 }
+
+pub crosses : (i : Intersection) (vehicles until : ℕ) (h : List Entry) (begun : Option ℕ) (r : Ride) (t : Entrance)
+    → IsLegal i vehicles h → r.plan.lead ≤ 65536 → IsLeg until h begun r → first_entrance r.log ≡ Some t → Crosses i h r.vehicle r.log t
+crosses i vehicles until h begun r t legal lead leg at =
+    let x = log_is until h begun r lead leg in
+    who_entered i vehicles h r.vehicle r.log t legal x.rules x.fits at
+
+pub reserved : (i : Intersection) (vehicles until : ℕ) (h : List Entry) (begun : Option ℕ) (r : Ride) (c : Cell)
+    → IsValid i → IsLegal i vehicles h → r.plan.lead ≤ 65536 → IsLeg until h begun r → is_occupied i h r.log c ≡ true → IsReserved i h r.vehicle r.log c
+reserved i vehicles until h begun r c valid legal lead leg on =
+    let x = log_is until h begun r lead leg in
+    is_reserved i vehicles h r.vehicle r.log c valid legal x.rules x.fits on
 
 pub apart : (i : Intersection) (vehicles until : ℕ) (h : List Entry) (begun begun' : Option ℕ) (r q : Ride) (c : Cell)
     → IsValid i → IsLegal i vehicles h → r.vehicle ≢ q.vehicle → r.plan.lead ≤ 65536 → q.plan.lead ≤ 65536

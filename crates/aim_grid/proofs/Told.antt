@@ -11,6 +11,9 @@ use Rattle.aim_layout.specs.Valid.{IsValid}
 use Rattle.aim_rules.specs.Claims.{green}
 use Rattle.aim_rules.specs.Legal.{IsLegal}
 use Rattle.aim_safety.specs.Occupied.{Passage, passage, is_on, is_occupied}
+use Rattle.aim_safety.specs.Reserved.{Crosses, IsReserved}
+use Rattle.aim_driver.specs.declared.logs.Entrance.{Entrance}
+use Rattle.aim_driver.specs.Crossings.{first_entrance}
 use Rattle.aim_safety.specs.Tiles.{EntersBy}
 use Rattle.aim_turnstile.specs.History.{entries_of}
 use Rattle.aim_turnstile.specs.Models.{TurnstileModel}
@@ -27,7 +30,7 @@ use Rattle.aim_grid_script.specs.declared.routes.PlannedLeg.{PlannedLeg}
 use Rattle.aim_grid.specs.Travelled.{Ride, AreLate, AreLegs, AreTravelled, IsCrossing, IsLeg, journal_in, logs_at, rides_of}
 use Rattle.aim_grid.specs.Travelled as grid
 use Rattle.aim_grid.proofs.Orders.{in_order}
-use Rattle.aim_grid.proofs.Safe.{apart, clear}
+use Rattle.aim_grid.proofs.Safe.{crosses, reserved, apart, clear}
 use Rattle.aim_grid.specs.Runs.{IsRunOf, journal_left, logs_left, legs_for, planned_of}
 use Rattle.aim_grid.specs.Making.{vehicles_of}
 use Rattle.aim_grid.specs.Closing.{all_gone, logs_gone}
@@ -117,6 +120,16 @@ module _ (layouts : List Intersection) (vehicles until : ℕ) (legs : List Plann
       leg_of : (x : VehicleLog) (q : IsRideOf until journal c x) → IsLeg until d.journal.items q.known.begun q.ride
       leg_of x q = subst (λ (h : List Entry). IsLeg until h q.known.begun q.ride) (ap journal q.at ∙ journal_is c d at') q.known.leg
 
+      who_crosses : (x : VehicleLog) (t : Entrance) → IsRideOf until journal c x → first_entrance x.1 ≡ Some t → Crosses m.setting.layout d.journal.items x.0 x.1 t
+      who_crosses x t p =
+          subst (λ (z : VehicleLog). first_entrance z.1 ≡ Some t → Crosses m.setting.layout d.journal.items z.0 z.1 t) p.log
+          (λ entered. crosses m.setting.layout vehicles until d.journal.items p.known.begun p.ride t legal p.known.lead (leg_of x p) entered)
+
+      are_reserved : (x : VehicleLog) (cell : Cell) → IsRideOf until journal c x → is_occupied m.setting.layout d.journal.items x.1 cell ≡ true → IsReserved m.setting.layout d.journal.items x.0 x.1 cell
+      are_reserved x cell p =
+          subst (λ (z : VehicleLog). is_occupied m.setting.layout d.journal.items z.1 cell ≡ true → IsReserved m.setting.layout d.journal.items z.0 z.1 cell) p.log
+          (λ on. reserved m.setting.layout vehicles until d.journal.items p.known.begun p.ride cell valid legal p.known.lead (leg_of x p) on)
+
       are_apart : (x y : VehicleLog) (cell : Cell) → IsRideOf until journal c x → IsRideOf until journal c y → x.0 ≢ y.0 → is_occupied m.setting.layout d.journal.items x.1 cell ≡ true → is_occupied m.setting.layout d.journal.items y.1 cell ≡ false
       are_apart x y cell p q =
           subst (λ (z : VehicleLog). x.0 ≢ z.0 → is_occupied m.setting.layout d.journal.items x.1 cell ≡ true → is_occupied m.setting.layout d.journal.items z.1 cell ≡ false) q.log
@@ -133,6 +146,8 @@ module _ (layouts : List Intersection) (vehicles until : ℕ) (legs : List Plann
       crossing_is = record {
         legal = legal;
         others = λ n none. left.others n (subst (λ (l : List VehicleLog). (k : ℕ) (x : VehicleLog) → slice_get l k ≡ Some x → x.0 ≢ n) (logs_are c) none);
+        crosses = λ k x t ex entered. who_crosses x t (ride_at until journal c (all_rides legs us) k x rides_each ex) entered;
+        reserved = λ k x cell ex on. are_reserved x cell (ride_at until journal c (all_rides legs us) k x rides_each ex) on;
         apart = λ j k x y ex ey ne cell on.
             are_apart x y cell (ride_at until journal c (all_rides legs us) j x rides_each ex) (ride_at until journal c (all_rides legs us) k y rides_each ey) ne on;
         clear = λ k x t cell ex passes on. are_clear x t cell (ride_at until journal c (all_rides legs us) k x rides_each ex) passes on;

@@ -7,10 +7,13 @@ use Rattle.aim_layout.specs.Intersection.{Intersection}
 use Rattle.aim_rules.specs.Claims as claims
 use Rattle.aim_rules.specs.Legal.{IsLegal}
 use Rattle.aim_driver.specs.declared.plans.DrivePlan.{DrivePlan}
+use Rattle.aim_driver.specs.declared.logs.Entrance.{Entrance}
 use Rattle.aim_driver.specs.declared.logs.LogItem.{LogItem}
+use Rattle.aim_driver.specs.Crossings.{first_entrance}
 use Rattle.aim_driver.specs.Fits.{entries_of}
 use Rattle.aim_drive_script.specs.Said.{Drive}
 use Rattle.aim_safety.specs.Occupied.{Passage, passage, is_on, is_occupied}
+use Rattle.aim_safety.specs.Reserved.{Crosses, IsReserved}
 use Rattle.aim_drive.specs.Headline.{VehicleLog, IsFollowed}
 use Rattle.aim_grid.specs.Acked.{acked, begun_at}
 use Rattle.aim_grid.specs.Route.{IsRoute}
@@ -66,6 +69,10 @@ pub record IsCrossing (i : Intersection) (vehicles : ℕ) (h : List Entry) (logs
   pub legal : IsLegal i vehicles h
   -- nobody else has an entry, and no order was given
   pub others : (n : ℕ) → ((k : ℕ) (x : VehicleLog) → slice_get logs k ≡ Some x → x.0 ≢ n) → entries_of h n ≡ []
+  -- a driver that entered has a crossing, on a Confirm of its own vehicle
+  pub crosses : (k : ℕ) (x : VehicleLog) (t : Entrance) → slice_get logs k ≡ Some x → first_entrance x.1 ≡ Some t → Crosses i h x.0 x.1 t
+  -- each tile on which it is was reserved for it
+  pub reserved : (k : ℕ) (x : VehicleLog) (c : Cell) → slice_get logs k ≡ Some x → is_occupied i h x.1 c ≡ true → IsReserved i h x.0 x.1 c
   -- no two drivers are on one tile in one step
   pub apart : (j k : ℕ) (x y : VehicleLog) → slice_get logs j ≡ Some x → slice_get logs k ≡ Some y → x.0 ≢ y.0 → (c : Cell) → is_occupied i h x.1 c ≡ true → is_occupied i h y.1 c ≡ false
   -- nor is a driver on a tile that the green of a lane other than its own claims then

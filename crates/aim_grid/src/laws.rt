@@ -5,6 +5,8 @@ ghost use Rattle.std.specs.Prelude.{◌≡◌, ℕ, ◌≤◌, true, List, [], S
 ghost use Rattle.aim_messages.specs.declared.replies.Reply.{Reply};
 ghost use Rattle.aim_driver.specs.declared.plans.DrivePlan.{DrivePlan};
 ghost use Rattle.aim_driver.specs.declared.links.Fate.{Fate};
+ghost use Rattle.aim_driver.specs.declared.logs.Entrance.{Entrance};
+ghost use Rattle.aim_driver.specs.Crossings.{first_entrance};
 ghost use Rattle.aim_driver.specs.Follows.{Course, turn, course, follows};
 ghost use Rattle.aim_grid.specs.Acked.{acked};
 ghost use Rattle.aim_grid.specs.Route.{EachStep, IsRoute};
@@ -19,6 +21,7 @@ ghost use Rattle.aim_layout.specs.Valid.{IsValid};
 ghost use Rattle.aim_rules.specs.Claims.{green};
 ghost use Rattle.aim_rules.specs.Legal.{IsLegal};
 ghost use Rattle.aim_safety.specs.Occupied.{Passage, passage, is_on, is_occupied};
+ghost use Rattle.aim_safety.specs.Reserved.{Crosses, IsReserved};
 ghost use Rattle.aim_grid.specs.Travelled.{Ride, AreLate, AreLegs, IsLeg, log_of};
 
 /// Over links that deliver all in time, a driver that is through does nothing more.
@@ -57,6 +60,20 @@ pub fn what_travellers_do_is_followed()
 pub fn legs_are_in_order()
     ensures { (until : ℕ) (journal : ℕ → List Entry) (rides : List Ride) →
         AreLate rides → AreLegs until journal (Some 0) rides → IsRoute (map log_of rides) }
+{}
+
+/// A driver that entered on a leg has a crossing there, on a Confirm of its own vehicle.
+pub fn who_entered_on_a_leg_crosses()
+    ensures { (i : Intersection) (vehicles until : ℕ) (h : List Entry) (begun : Option ℕ) (r : Ride) (t : Entrance) →
+        IsLegal i vehicles h → r.plan.lead ≤ 65536 → IsLeg until h begun r → first_entrance r.log ≡ Some t →
+        Crosses i h r.vehicle r.log t }
+{}
+
+/// Each tile on which a driver is was reserved for it, in that step.
+pub fn legs_are_on_tiles_of_their_own()
+    ensures { (i : Intersection) (vehicles until : ℕ) (h : List Entry) (begun : Option ℕ) (r : Ride) (c : Cell) →
+        IsValid i → IsLegal i vehicles h → r.plan.lead ≤ 65536 → IsLeg until h begun r → is_occupied i h r.log c ≡ true →
+        IsReserved i h r.vehicle r.log c }
 {}
 
 /// Two drivers whose legs are at one crossing are never on one tile in one step.

@@ -1,5 +1,5 @@
 -- What the command writes, and its status.
-use Rattle.std.specs.Prelude.{◌≡◌, ◌⊎◌, ◌++◌, ℕ, List, Option, length}
+use Rattle.std.specs.Prelude.{◌≡◌, ◌⊎◌, ◌++◌, ℕ, List, [], Option, length}
 use Rattle.std.specs.Io.KnownBytes.{Appends}
 use Rattle.aim_io.specs.Causes.{Rose}
 use Rattle.aim_io.specs.Known.{AppendsFront}
@@ -13,17 +13,19 @@ use Rattle.aim_script.specs.Said.{layout_of, vehicles_of}
 use Rattle.aim_mail_script.specs.Said.{events_of}
 use Rattle.aim_mail_script.specs.Verdicts.{event_verdict}
 use Rattle.aim_report.specs.Reports.{end_words, journal_lines}
+use Rattle.aim_report.specs.Told.{AreTold}
 use Rattle.aim_mail_command.specs.Runs.{IsRun}
 
 -- the lines of a journal, and how many they are
 abbrev pub report : List Entry → List ℕ
 report h = journal_lines 0 h ++ printed (spaced (end_words (length h)))
 
--- The text reports the journal of a run of these lines.
+-- The text reports the journal of a run of these lines, and tells it.
 pub record IsReport (lines : List Line) (text : List ℕ) : Type 0 where
   pub journal : List Entry
   pub run : IsRun (layout_of lines) (vehicles_of lines) (events_of lines) journal
   pub is : text ≡ report journal
+  pub told : AreTold journal []
 
 -- The text of a script: of a whole one the report of a run of it, and of another one the line that says why it isn't whole.
 abbrev pub IsTextOf : List Line → Decision → List ℕ → Type 0

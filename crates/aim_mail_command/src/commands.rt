@@ -1,10 +1,11 @@
 //! The command that runs a script of events over a mailbox: from bytes to bytes.
 
-ghost use Rattle.std.specs.Prelude.{◌≡◌, ◌⊎◌, ◌<◌, ◌≤◌, ℕ, [], List, length, IfOk, IfSome};
+ghost use Rattle.std.specs.Prelude.{◌≡◌, ◌⊎◌, ◌<◌, ◌≤◌, ℕ, [], List, length, All, IfOk, IfSome};
 ghost use Rattle.std.specs.Io.KnownBytes.{Appends, IsAtEnd};
 ghost use Rattle.aim_io.specs.Causes.{Rose};
 ghost use Rattle.aim_io.specs.Known.{AppendsFront};
 ghost use Rattle.aim_messages.specs.declared.script.Line.{Line};
+ghost use Rattle.aim_text_entries.specs.Ranges.{IsEntry};
 ghost use Rattle.aim_mail_script.specs.Fits.{IsFit};
 ghost use Rattle.aim_drive_script.specs.Scripts.{TakesAtMost};
 ghost use Rattle.aim_mail_script.specs.Scripts.{IsScriptOf};
@@ -16,7 +17,7 @@ use crate::running::run_script;
 use aim_io::{Sink, Source, put_all};
 use aim_mail_script::{EventEnding, EventScript, read_events};
 use aim_messages::Entry;
-use aim_report::{put_end, put_entries};
+use aim_report::{entries_fit, put_end, put_entries};
 use aim_script::{Decision, put_refused};
 use std::alloc::{AllocError, Global};
 use std::marker::Brand;
@@ -24,11 +25,13 @@ use std::sync::Wait;
 use std::sync::ledger::{Blank, Ledger};
 use std::thread::Threads;
 
-// The text that reports a journal.
+// The text that reports a journal. Its entries have the values of their types, so the text tells them.
 fn report_of(alloc: Global, journal: &[Entry]) -> Result<Vec<u8>, AllocError>
     requires { length journal.now ≤ 4294967295 }
-    ensures { IfOk result (λ text. text.items ≡ report journal.now) }
+    ensures text { IfOk result (λ text. text.items ≡ report journal.now) }
+    ensures entries { All IsEntry journal.now }
 {
+    entries_fit(journal);
     let mut text = Vec::new(alloc);
     put_entries(&mut text, journal)?;
     put_end(&mut text, journal.len() as u32)?;

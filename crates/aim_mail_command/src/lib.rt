@@ -3,6 +3,7 @@
 
 mod callers;
 mod commands;
+pub mod laws;
 mod running;
 mod runs;
 

@@ -9,3 +9,4 @@ pub mod StepLemmas
 pub mod JsonScriptExamples
 pub mod DecisionLemmas
 pub mod SpellingLemmas
+pub mod ReadLaws

@@ -59,6 +59,10 @@ pub record LastNeededBy (w : Spelled) (left_old left_new : Option (List ℕ)) (l
   pub undecided : 0 < length part → length lines < 262144
   pub told : IfSome last (λ n. n ≡ length piece)
 
+-- behind what was written before stand the lines of the entries of these lines' events and orders
+abbrev pub WroteEntriesOf : Spelled → List Line → List ℕ → List ℕ → Type 0
+WroteEntriesOf w before old new = new ≡ old ++ entry_lines w 0 (journal (layout_of before) (calls_of before))
+
 -- where the source tells its bytes, a front of their text was written
 abbrev pub WritesFront : Option (List ℕ) → Option (List ℕ) → Option (List ℕ) → (List ℕ → List ℕ) → Type 0
 WritesFront bytes old new text = IfSome bytes (λ bs. AppendsFront old new (text bs))

@@ -4,6 +4,7 @@
 mod faults;
 mod json_decisions;
 mod json_lines;
+pub mod laws;
 mod outputs;
 mod session;
 mod spellings;

@@ -1,6 +1,6 @@
 -- Worked rows: what is printed of a small drive, and that it can be of some.
-use Rattle.std.proofs.Common.{◌≡◌, ◌≢◌, ℕ, false, List, [], ◌∷◌, ◌++◌, None, codes, refl, arith}
-use Rattle.std.specs.Prelude.{All}
+use Rattle.std.proofs.Common.{◌≡◌, ◌≢◌, inl, inr, ℕ, ◌<◌, false, List, [], ◌∷◌, ◌++◌, Option, Some, None, slice_get, codes, refl, ap, subst, arith}
+use Rattle.std.specs.Prelude.{◌^◌, All, option_map}
 use Rattle.std.specs.Fmt.{digits}
 use Rattle.std.proofs.lemmas.List.Elements.{All-nil, All-cons}
 use Rattle.std.proofs.lemmas.List.Kept.{AllPairs-cons}
@@ -20,6 +20,7 @@ use Rattle.aim_driver.specs.declared.logs.LogItem.TheVariants as item
 use Rattle.aim_driver.proofs.Rows.{car}
 use Rattle.aim_safety.proofs.Rows.Drives.{windows}
 use Rattle.aim_report.specs.declared.stays.Stay.{Stay}
+use Rattle.aim_report.specs.Apart.{IsStay, IsOwn, TilesAreApart}
 use Rattle.aim_report.specs.Stays.{stays}
 use Rattle.aim_report.specs.Reports.{Logged, journal_lines, log_lines, stay_lines, tile_lines, report}
 use Rattle.aim_report.specs.Told.{IsTold, IsItem, IsLog, AreTold, log_in}
@@ -84,6 +85,29 @@ stay_text = refl
 pub tiles_text : tile_lines windows (asked ∷ []) 7 log ≡ lines (codes "tiles 7 1 0 9 13" ∷ codes "tiles 7 1 1 10 15" ∷ codes "tiles 7 1 2 12 17" ∷ codes "tiles 7 1 3 14 19" ∷ [])
 unfolding digits
 tiles_text = refl
+
+-- two lines of one tile that have a step in common
+pub overlap : TilesAreApart (lines (codes "tiles 1 2 3 4 6" ∷ codes "tiles 2 2 3 6 8" ∷ [])) → ⊥
+unfolding digits
+overlap x = x 1 2 (cell 2 3 6) (λ is. absurd (omega (arith, is)))
+    (record { stay = stay 2 3 4 6; vehicle = omega arith; values = small 2 3 4 6 (omega arith) (omega arith) (omega arith) (omega arith); line = inl refl; covers = record { row = refl; col = refl; after = omega arith; before = omega arith } })
+    (record { stay = stay 2 3 6 8; vehicle = omega arith; values = small 2 3 6 8 (omega arith) (omega arith) (omega arith) (omega arith); line = inr (inl refl); covers = record { row = refl; col = refl; after = omega arith; before = omega arith } })
+  where
+    small : (row col first last : ℕ) → row < 2 ^ 8 → col < 2 ^ 8 → first < 2 ^ 32 → last < 2 ^ 32 → IsStay (stay row col first last)
+    small row col first last a b c d = record { row = a; col = b; first = c; last = d }
+
+-- a text without a line is apart
+pub no_line : TilesAreApart []
+no_line v w c ne x y = x.line
+
+-- the first driver's tile isn't its own by an entry of another vehicle
+pub not_its_own : (x : IsOwn windows (asked ∷ []) 3 (cell 1 0 9)) → x.id ≡ 0 → ⊥
+not_its_own x first =
+    let at : slice_get (asked ∷ []) 0 ≡ Some x.entry = subst (λ n. slice_get (asked ∷ []) n ≡ Some x.entry) first x.granted.stands in
+    let callers : ◌≡◌ {A = Option ℕ} (Some 7) (Some x.entry.caller) = ap (option_map (λ (e : Entry). e.caller)) at in
+    let seven : 7 ≡ x.entry.caller = cc callers in
+    let three = x.granted.own in
+    absurd (omega (arith, seven, three))
 
 -- whole reports
 

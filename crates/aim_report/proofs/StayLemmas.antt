@@ -10,10 +10,10 @@ use Rattle.aim_safety.specs.Tiles.{IsRising, Precedes}
 use Rattle.aim_report.specs.declared.stays.Stay.{Stay}
 use Rattle.aim_report.specs.Stays.{AreCovering, Covers, IsLongest, goes_on, longer, stay_of, stays, stays_after}
 
-abbrev end_of : Stay → Cell
+abbrev pub end_of : Stay → Cell
 end_of s = record { row = s.row; col = s.col; step = s.last }
 
-abbrev start_of : Stay → Cell
+abbrev pub start_of : Stay → Cell
 start_of s = record { row = s.row; col = s.col; step = s.first }
 
 cell_same : (c d : Cell) → c.row ≡ d.row → c.col ≡ d.col → c.step ≡ d.step → c ≡ d
@@ -233,6 +233,15 @@ stays_cover (d ∷ cs) c r = (λ m. h.1 (to m), λ a. from (h.0 a))
     from : Covers (stay_of d) c ⊎ IsIn c cs → IsIn c (d ∷ cs)
     from (inl v) = inl ((single_has d c).0 v)
     from (inr m) = inr m
+
+-- a cell that a stay has
+pub stay_has : (cells : List Cell) (s : Stay) (c : Cell) → IsRising cells → IsIn s (stays cells) → Covers s c → IsIn c cells
+stay_has cells s c r m v = (stays_cover cells c r).1 (covering (stays cells) s c m v)
+
+-- no stay is empty
+pub stay_order : (cells : List Cell) (s : Stay) → IsIn s (stays cells) → s.first ≤ s.last
+stay_order [] s m = elim m [ ]
+stay_order (d ∷ cs) s m = ordered (stay_of d) cs s (omega arith) m
 
 pub stays_longest : (cells : List Cell) (s : Stay) → IsRising cells → IsIn s (stays cells) → IsLongest s cells
 stays_longest [] s r m = elim m [ ]

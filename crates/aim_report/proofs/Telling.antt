@@ -55,21 +55,21 @@ next_line s t lines lines' more others a b e =
 
 -- the first byte
 
-abbrev Begins : (ℕ → Type 0) → List ℕ → Type 0
+abbrev pub Begins : (ℕ → Type 0) → List ℕ → Type 0
 Begins P [] = ⊥
 Begins P (b ∷ bs) = P b
 
-Begins-append : (P : ℕ → Type 0) (xs ys : List ℕ) → Begins P xs → Begins P (xs ++ ys)
+pub Begins-append : (P : ℕ → Type 0) (xs ys : List ℕ) → Begins P xs → Begins P (xs ++ ys)
 Begins-append P [] ys h = absurd h
 Begins-append P (x ∷ xs) ys h = h
 
-Begins-both : (P Q : ℕ → Type 0) (xs : List ℕ) → ((b : ℕ) → P b → Q b → ⊥) → Begins P xs → Begins Q xs → ⊥
+pub Begins-both : (P Q : ℕ → Type 0) (xs : List ℕ) → ((b : ℕ) → P b → Q b → ⊥) → Begins P xs → Begins Q xs → ⊥
 Begins-both P Q [] never p q = absurd p
 Begins-both P Q (x ∷ xs) never p q = never x p q
 
 -- the lines of a journal
 
-number_low : (n : ℕ) → Is32 n → Begins (λ b. b ≤ 57) (decimal n)
+pub number_low : (n : ℕ) → Is32 n → Begins (λ b. b ≤ 57) (decimal n)
 number_low n small = low (decimal n) (number_begins (decimal n) (decimal_number n (omega arith)))
   where
     low : (w : List ℕ) → begins_with_digit w ≡ true → Begins (λ b. b ≤ 57) w
@@ -107,7 +107,7 @@ journal_told p (c ∷ cs) (d ∷ ds) more others lh lk th tk a b e =
 number_alone : (m n : ℕ) → Is32 m → Is32 n → decimal m ≡ decimal n → m ≡ n
 number_alone m n a b e = decimal_injective m n (omega arith) (omega arith) e
 
-item_are_words : (v : ℕ) (x : LogItem) → Is32 v → IsItem x → AreWords (item_words v x)
+pub item_are_words : (v : ℕ) (x : LogItem) → Is32 v → IsItem x → AreWords (item_words v x)
 item_are_words v (item.Sent step m) a r = (refl, (w32 v a, (refl, (w32 step r.0, message_are_words m r.1))))
 item_are_words v (item.Got step seq p) a r = (refl, (w32 v a, (refl, (w32 step r.0, (w32 seq r.1, reply_are_words p r.2)))))
 item_are_words v (item.Entered step id) a r = (refl, (w32 v a, (refl, (w32 step r.0, (w32 id r.1, tt)))))
@@ -155,22 +155,22 @@ item_begins P v (item.Entered step id) more h = h
 
 -- the items of all logs, each with its vehicle
 
-abbrev Item : Type 0
+abbrev pub Item : Type 0
 Item = ℕ × LogItem
 
 abbrev of_vehicle : ℕ → List LogItem → List Item
 of_vehicle v [] = []
 of_vehicle v (x ∷ xs) = (v, x) ∷ of_vehicle v xs
 
-abbrev all_items : List Logged → List Item
+abbrev pub all_items : List Logged → List Item
 all_items [] = []
 all_items (x ∷ xs) = of_vehicle x.0 x.1 ++ all_items xs
 
-abbrev item_lines : List Item → List ℕ
+abbrev pub item_lines : List Item → List ℕ
 item_lines [] = []
 item_lines (x ∷ xs) = item_line x.0 x.1 ++ item_lines xs
 
-abbrev AreItems : List Item → Type 0
+abbrev pub AreItems : List Item → Type 0
 AreItems [] = Unit {0}
 AreItems (x ∷ xs) = Is32 x.0 × IsItem x.1 × AreItems xs
 
@@ -178,7 +178,7 @@ log_are_lines : (v : ℕ) (log : List LogItem) (xs : List Item) → item_lines (
 log_are_lines v [] xs = refl
 log_are_lines v (x ∷ log) xs = ap (λ l. item_line v x ++ l) (log_are_lines v log xs) ∙ sym (append_assoc (item_line v x) (log_lines v log) (item_lines xs))
 
-logs_are_lines : (logs : List Logged) → all_logs logs ≡ item_lines (all_items logs)
+pub logs_are_lines : (logs : List Logged) → all_logs logs ≡ item_lines (all_items logs)
 logs_are_lines [] = refl
 logs_are_lines (x ∷ xs) = ap (λ l. log_lines x.0 x.1 ++ l) (logs_are_lines xs) ∙ sym (log_are_lines x.0 x.1 (all_items xs))
 
@@ -186,7 +186,7 @@ log_are_items : (v : ℕ) (log : List LogItem) (xs : List Item) → Is32 v → A
 log_are_items v [] xs small each h = h
 log_are_items v (x ∷ log) xs small each h = (small, All-head IsItem x log each, log_are_items v log xs small (All-tail IsItem x log each) h)
 
-logs_are_items : (logs : List Logged) → All IsLog logs → AreItems (all_items logs)
+pub logs_are_items : (logs : List Logged) → All IsLog logs → AreItems (all_items logs)
 logs_are_items [] each = tt
 logs_are_items (x ∷ xs) each =
     let its = All-head IsLog x xs each in
@@ -255,7 +255,7 @@ tiles_begin P i h (x ∷ xs) more p b =
     subst (Begins P) (sym (append_assoc (tile_lines i h x.0 x.1) (all_tiles i h xs) more))
     (stays_begin P x.0 (stays (occupied_cells i h x.1)) (all_tiles i h xs ++ more) p (tiles_begin P i h xs more p b))
 
-abbrev behind_logs : Intersection → List Entry → List Logged → List ℕ
+abbrev pub behind_logs : Intersection → List Entry → List Logged → List ℕ
 behind_logs i h logs = all_tiles i h logs ++ printed (spaced (end_words (length h)))
 
 behind_begins : (P : ℕ → Type 0) (i : Intersection) (h : List Entry) (logs : List Logged) → P 116 → P 101 → Begins P (behind_logs i h logs)
@@ -272,7 +272,7 @@ no_log i h logs = behind_begins (λ b. b ≢ 108) i h logs (λ is. absurd (omega
 
 -- the two parts of a report
 
-report_is : (i : Intersection) (h : List Entry) (logs : List Logged) → report i h logs ≡ journal_lines 0 h ++ (all_logs logs ++ behind_logs i h logs)
+pub report_is : (i : Intersection) (h : List Entry) (logs : List Logged) → report i h logs ≡ journal_lines 0 h ++ (all_logs logs ++ behind_logs i h logs)
 report_is i h logs =
     append_assoc (journal_lines 0 h ++ all_logs logs) (all_tiles i h logs) (printed (spaced (end_words (length h)))) ∙ append_assoc (journal_lines 0 h) (all_logs logs) (behind_logs i h logs)
 

@@ -1,3 +1,4 @@
 pub mod Stays
 pub mod Reports
 pub mod Told
+pub mod Apart

@@ -1,12 +1,13 @@
 //! What the printed stays mean, and what a report tells, each as the contract of a function that does nothing.
 
-ghost use Rattle.std.specs.Prelude.{◌≡◌, ◌↔◌, ℕ, List};
+ghost use Rattle.std.specs.Prelude.{◌≡◌, ◌≤◌, ◌↔◌, ℕ, List};
 ghost use Rattle.aim_messages.specs.declared.entries.Entry.{Entry};
 ghost use Rattle.aim_geometry.specs.Cells.{Cell};
 ghost use Rattle.aim_layout.specs.Intersection.{Intersection};
 ghost use Rattle.aim_rules.specs.Cells.{IsIn};
 ghost use Rattle.aim_safety.specs.Tiles.{IsRising};
 ghost use Rattle.aim_report.specs.declared.stays.Stay.{Stay};
+ghost use Rattle.aim_report.specs.Apart.{AreOnOwnTiles, TilesAreApart, TilesAreOwn};
 ghost use Rattle.aim_report.specs.Reports.{Logged, report};
 ghost use Rattle.aim_report.specs.Stays.{AreCovering, IsLongest, stays};
 ghost use Rattle.aim_report.specs.Told.{AreTold, log_in};
@@ -16,6 +17,15 @@ ghost use Rattle.aim_report.specs.Told.{AreTold, log_in};
 pub fn stays_are_the_longest_runs()
     ensures cover { (cells : List Cell) (c : Cell) → IsRising cells → (IsIn c cells ↔ AreCovering (stays cells) c) }
     ensures longest { (cells : List Cell) (s : Stay) → IsRising cells → IsIn s (stays cells) → IsLongest s cells }
+{}
+
+/// The printed tiles don't overlap: of no tile do two lines say that two vehicles' drivers are on it in one step. And each
+/// is its vehicle's own: a Confirm of the vehicle has it, and no other lane's green claims it.
+pub fn printed_tiles_are_apart()
+    ensures apart { (i : Intersection) (h : List Entry) (logs : List Logged) → i.grid.n ≤ 64 → AreTold h logs → AreOnOwnTiles i h logs →
+        TilesAreApart (report i h logs) }
+    ensures own { (i : Intersection) (h : List Entry) (logs : List Logged) → i.grid.n ≤ 64 → AreTold h logs → AreOnOwnTiles i h logs →
+        TilesAreOwn i h (report i h logs) }
 {}
 
 /// A report tells the journal, and the log of each vehicle: where two drives have one report, these are the same. Of a

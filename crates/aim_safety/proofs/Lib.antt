@@ -11,3 +11,5 @@ pub mod TraceLemmas
 pub mod FootprintLemmas
 pub mod PassageLemmas
 pub mod ListLemmas
+pub mod EnteredLemmas
+pub mod ReservedLemmas

@@ -25,9 +25,11 @@ use Rattle.aim_rules.proofs.HistoryLaws.{now_of-max}
 use Rattle.aim_rules.proofs.TakenLaws.{AreApart-legal}
 use Rattle.aim_driver.specs.declared.logs.Entrance.{Entrance}
 use Rattle.aim_driver.specs.declared.logs.LogItem.{LogItem}
+use Rattle.aim_driver.specs.Crossings.{first_entrance}
 use Rattle.aim_driver.specs.Keeps.{keeps}
 use Rattle.aim_driver.specs.Fits.{Fits}
 use Rattle.aim_safety.specs.Occupied.{Passage, params_in, grant_of, passage, is_on, is_occupied_by, is_occupied}
+use Rattle.aim_safety.specs.Reserved.{IsReserved}
 use Rattle.aim_safety.proofs.PlaceLemmas.{some_same, legal_at, legal_take, now_next, kept_fresh}
 use Rattle.aim_safety.proofs.AnswerLemmas.{asked}
 use Rattle.aim_safety.proofs.HeldLemmas.{Grants}
@@ -45,8 +47,9 @@ buffers : (i : Intersection) → IsValid i → Buffers i
 buffers i valid = record { early = valid.sound.times.early; late = valid.sound.times.late; spacing = valid.sound.grid.some_spacing }
 
 -- a driver that is on a tile: where it entered, what the history has of it, and where the cell lies
-record Meets (i : Intersection) (h : List Entry) (v : ℕ) (x : Passage) (c : Cell) : Type 0 where
+record Meets (i : Intersection) (h : List Entry) (v : ℕ) (log : List LogItem) (x : Passage) (c : Cell) : Type 0 where
   pub entrance : Entrance
+  pub entered : first_entrance log ≡ Some entrance
   pub crosses : Crosses i h v entrance
   pub params : x.grant.params ≡ crosses.grant.params
   pub lies : Lies i crosses.grant.params (is_fast crosses.grant.entry.reply) entrance.step c
@@ -54,7 +57,7 @@ record Meets (i : Intersection) (h : List Entry) (v : ℕ) (x : Passage) (c : Ce
 asks_at : (e : Entry) (m : Message) (p : Params) → e.act ≡ act.Message m → params_of m.body ≡ Some p → params_in e ≡ Some p
 asks_at e m p carried asks = rw carried asks
 
-meets : (i : Intersection) (vehicles : ℕ) (h : List Entry) (v : ℕ) (log : List LogItem) (x : Passage) (c : Cell) → Buffers i → IsLegal i vehicles h → keeps log ≡ true → Fits h v log → passage i h log ≡ Some x → is_on i x c ≡ true → Meets i h v x c
+meets : (i : Intersection) (vehicles : ℕ) (h : List Entry) (v : ℕ) (log : List LogItem) (x : Passage) (c : Cell) → Buffers i → IsLegal i vehicles h → keeps log ≡ true → Fits h v log → passage i h log ≡ Some x → is_on i x c ≡ true → Meets i h v log x c
 meets i vehicles h v log x c b legal rules fits at on =
     let t = passage_at i h log x at in
     let k = crosses i vehicles h v log t.0 legal rules fits t.1 in
@@ -71,6 +74,7 @@ meets i vehicles h v log x c b legal rules fits at on =
     let same : x ≡ record { step = t.0.step; grant = record { params = g.params; fast = is_fast g.entry.reply } } = (λ j. record { step = sym t.2 j; grant = is j }) in
     record {
       entrance = t.0;
+      entered = t.1;
       crosses = k;
       params = ap (λ g. g.params) is;
       lies = lies i g.params (is_fast g.entry.reply) t.0.step c b.early b.late (omega arith) (omega arith) (subst P same on);
@@ -134,8 +138,8 @@ later_apart i vehicles h v w t u c b legal apart k m before lies_v lies_w = elim
     keeps_it = kept_fresh h u.id g.entry w g.stands new ∙ rw (own, g.confirms) refl
 
 -- no cell is two drivers'
-meet : (i : Intersection) (vehicles : ℕ) (h : List Entry) (v w : ℕ) (x y : Passage) (c : Cell) → Buffers i → IsLegal i vehicles h → v ≢ w → Meets i h v x c → Meets i h w y c → ⊥
-meet i vehicles h v w x y c b legal apart k m = elim (dec_lt k.entrance.id m.entrance.id) [
+meet : (i : Intersection) (vehicles : ℕ) (h : List Entry) (v w : ℕ) (log another : List LogItem) (x y : Passage) (c : Cell) → Buffers i → IsLegal i vehicles h → v ≢ w → Meets i h v log x c → Meets i h w another y c → ⊥
+meet i vehicles h v w log another x y c b legal apart k m = elim (dec_lt k.entrance.id m.entrance.id) [
   | yes l ↦ later_apart i vehicles h v w k.entrance m.entrance c b legal apart k.crosses m.crosses l k.lies m.lies
   | no n ↦ elim (dec_lt m.entrance.id k.entrance.id) [
     | yes l ↦ later_apart i vehicles h w v m.entrance k.entrance c b legal (λ e. apart (sym e)) m.crosses k.crosses l m.lies k.lies
@@ -147,7 +151,7 @@ meet i vehicles h v w x y c b legal apart k m = elim (dec_lt k.entrance.id m.ent
   ]
 ]
 
-occupied_passage : (i : Intersection) (h : List Entry) (log : List LogItem) (c : Cell) → is_occupied i h log c ≡ true → (x : Passage) × (passage i h log ≡ Some x) × (is_on i x c ≡ true)
+pub occupied_passage : (i : Intersection) (h : List Entry) (log : List LogItem) (c : Cell) → is_occupied i h log c ≡ true → (x : Passage) × (passage i h log ≡ Some x) × (is_on i x c ≡ true)
 occupied_passage i h log c on = go (passage i h log) refl on
   where
     go : (o : Option Passage) → passage i h log ≡ o → is_occupied_by i o c ≡ true → (x : Passage) × (passage i h log ≡ Some x) × (is_on i x c ≡ true)
@@ -164,7 +168,7 @@ no_two_drivers i vehicles h v w a b c valid legal apart rules_a rules_b fits_a f
         let s = buffers i valid in
         let x = occupied_passage i h a c on in
         let y = occupied_passage i h b c p in
-        absurd (meet i vehicles h v w x.0 y.0 c s legal apart (meets i vehicles h v a x.0 c s legal rules_a fits_a x.1 x.2) (meets i vehicles h w b y.0 c s legal rules_b fits_b y.1 y.2))
+        absurd (meet i vehicles h v w a b x.0 y.0 c s legal apart (meets i vehicles h v a x.0 c s legal rules_a fits_a x.1 x.2) (meets i vehicles h w b y.0 c s legal rules_b fits_b y.1 y.2))
 
 pub no_green : (i : Intersection) (vehicles : ℕ) (h : List Entry) (v : ℕ) (a : List LogItem) (x : Passage) (c : Cell) → IsValid i → IsLegal i vehicles h → keeps a ≡ true → Fits h v a →
     passage i h a ≡ Some x → is_on i x c ≡ true → green i h c x.grant.params.lane ≡ None
@@ -177,3 +181,21 @@ no_green i vehicles h v a x c valid legal rules fits at on =
     let listed = cells_has i g.params (is_fast g.entry.reply) c b.early b.late needed in
     let then_free = free_green (asked i (take m.entrance.id h) v g.entry.moment) g.params (is_fast g.entry.reply) c g.rests.free listed in
     ap (λ p. green i h c p.lane) m.params ∙ never_green i vehicles h c g.params.lane m.entrance.id g.entry legal g.stands near then_free
+
+-- a tile on which a driver is was reserved for it
+pub is_reserved : (i : Intersection) (vehicles : ℕ) (h : List Entry) (v : ℕ) (a : List LogItem) (c : Cell) → IsValid i → IsLegal i vehicles h → keeps a ≡ true → Fits h v a →
+    is_occupied i h a c ≡ true → IsReserved i h v a c
+is_reserved i vehicles h v a c valid legal rules fits on =
+    let b = buffers i valid in
+    let x = occupied_passage i h a c on in
+    let m = meets i vehicles h v a x.0 c b legal rules fits x.1 x.2 in
+    let g = m.crosses.grant in
+    record {
+      entrance = m.entrance;
+      entered = m.entered;
+      entry = g.entry;
+      granted = record { stands = g.stands; own = g.own; confirms = g.confirms };
+      params = g.params;
+      asked = asks_at g.entry g.message g.params g.carried g.asks;
+      cell = cells_has i g.params (is_fast g.entry.reply) c b.early b.late m.lies.needed;
+    }

@@ -1,4 +1,5 @@
 pub mod Begun
 pub mod Occupied
+pub mod Reserved
 pub mod Tiles
 pub mod Traces

@@ -1,5 +1,5 @@
 -- The tiles on which a driver is, step by step.
-use Rattle.std.specs.Prelude.{ℕ, ◌+◌, Bool, false, ◌&&◌, ◌==◌, List, [], ◌∷◌, Option, Some, None, is_none, option_and_then, option_map, slice_get, if◌then◌else◌}
+use Rattle.std.specs.Prelude.{ℕ, ◌+◌, Bool, false, ◌&&◌, ◌==◌, List, Option, Some, None, is_none, option_and_then, option_map, slice_get, if◌then◌else◌}
 use Rattle.aim_messages.specs.declared.messages.Params.{Params}
 use Rattle.aim_messages.specs.declared.replies.Reply.{Reply}
 use Rattle.aim_messages.specs.declared.entries.Entry.{Entry}

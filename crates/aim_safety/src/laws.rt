@@ -1,4 +1,5 @@
-//! The law of safety, and what the list of a driver's tiles has, each the contract of a function that does nothing.
+//! The law of safety, what a driver that is on a tile was granted, and what the list of its tiles has, each the contract
+//! of a function that does nothing.
 
 ghost use Rattle.std.specs.Prelude.{◌≡◌, ◌≢◌, ◌↔◌, ℕ, true, false, List, Some, None};
 ghost use Rattle.aim_messages.specs.declared.entries.Entry.{Entry};
@@ -8,10 +9,13 @@ ghost use Rattle.aim_geometry.specs.Cells.{Cell};
 ghost use Rattle.aim_rules.specs.Cells.{IsIn};
 ghost use Rattle.aim_rules.specs.Claims.{green};
 ghost use Rattle.aim_rules.specs.Legal.{IsLegal};
+ghost use Rattle.aim_driver.specs.declared.logs.Entrance.{Entrance};
 ghost use Rattle.aim_driver.specs.declared.logs.LogItem.{LogItem};
+ghost use Rattle.aim_driver.specs.Crossings.{first_entrance};
 ghost use Rattle.aim_driver.specs.Keeps.{keeps};
 ghost use Rattle.aim_driver.specs.Fits.{Fits};
 ghost use Rattle.aim_safety.specs.Occupied.{Passage, passage, is_on, is_occupied};
+ghost use Rattle.aim_safety.specs.Reserved.{Crosses, IsReserved};
 ghost use Rattle.aim_safety.specs.Tiles.{IsRising, occupied_cells};
 
 /// Over every valid layout and every legal history, where the logs of two vehicles keep the rules of drivers and fit
@@ -27,6 +31,21 @@ pub fn disjoint()
     ensures green { (i : Intersection) (vehicles : ℕ) (h : List Entry) (v : ℕ) (a : List LogItem) (x : Passage)
         (c : Cell) → IsValid i → IsLegal i vehicles h → keeps a ≡ true → Fits h v a →
         passage i h a ≡ Some x → is_on i x c ≡ true → green i h c x.grant.params.lane ≡ None }
+{}
+
+/// Whoever entered crosses: over every legal history, where the log of a vehicle keeps the rules of drivers and fits the
+/// history, a driver that entered has a crossing, on a Confirm of its own vehicle.
+pub fn who_entered_crosses()
+    ensures { (i : Intersection) (vehicles : ℕ) (h : List Entry) (v : ℕ) (a : List LogItem) (t : Entrance) →
+        IsLegal i vehicles h → keeps a ≡ true → Fits h v a → first_entrance a ≡ Some t → Crosses i h v a t }
+{}
+
+/// Each tile on which a driver is was reserved for it, in that step: over every valid layout and every legal history,
+/// where the log of a vehicle keeps the rules of drivers and fits the history.
+pub fn drivers_are_on_tiles_of_their_own()
+    ensures { (i : Intersection) (vehicles : ℕ) (h : List Entry) (v : ℕ) (a : List LogItem) (c : Cell) →
+        IsValid i → IsLegal i vehicles h → keeps a ≡ true → Fits h v a → is_occupied i h a c ≡ true →
+        IsReserved i h v a c }
 {}
 
 /// The list of a driver's tiles has just those on which it is, in rising order of row, column and step, so each once.

@@ -2,7 +2,7 @@
 
 use aim_driver::LogItem;
 use aim_messages::{Act, Body, Entry, Message, Reply};
-use aim_report::{put_end, put_entries, put_log, put_tiles};
+use aim_report::{entries_fit, items_fit, put_end, put_entries, put_log, put_tiles};
 use aim_safety::occupied;
 use tests_samples::{CAR, PLAIN, WINDOWS, built};
 
@@ -54,6 +54,8 @@ fn the_text_of_a_drive(rt: HostRuntime) {
         },
         LogItem::Entered { step: 9, id: 0 },
     ];
+    entries_fit(&JOURNAL);
+    items_fit(&log);
     let mut text = Vec::new(rt.alloc());
     put_entries(&mut text, &JOURNAL).expect(&rt, "memory for a journal");
     put_log(&mut text, 7, &log).expect(&rt, "memory for a log");

@@ -1,6 +1,6 @@
 -- With two workers a script has two runs: each of two drivers calls at step 0, in a run of its own, and either is served first.
-use Rattle.std.proofs.Common.{◌≡◌, ◌≢◌, ◌⊎◌, inl, inr, ℕ, zero, suc, ◌*◌, ◌+◌, ◌<◌, ◌≤◌, Bool, false, cond, ◌==◌, List, [], ◌∷◌, map, slice_get, Some, refl, sym, ap, subst, arith}
-use Rattle.std.proofs.lemmas.Bool.{ne_eqb}
+use Rattle.std.proofs.Common.{◌≡◌, ◌≢◌, ◌⊎◌, inl, inr, ℕ, zero, suc, ◌*◌, ◌+◌, ◌<◌, ◌≤◌, Bool, false, cond, ◌==◌, List, [], ◌∷◌, map, slice_get, Some, refl, sym, ap, ◌∙◌, subst, arith}
+use Rattle.std.proofs.lemmas.Bool.{ne_eqb, true≢false}
 use Rattle.aim_messages.specs.declared.messages.Message.{Message}
 use Rattle.aim_messages.specs.declared.messages.Body.TheVariants as body
 use Rattle.aim_messages.specs.declared.entries.Act.TheVariants as act
@@ -16,6 +16,7 @@ use Rattle.aim_rules.proofs.LegalLemmas.{IsLegal-journal}
 use Rattle.aim_driver.specs.declared.logs.LogItem.{LogItem}
 use Rattle.aim_driver.specs.declared.logs.LogItem.TheVariants as item
 use Rattle.aim_driver.specs.Fits.{entries_of}
+use Rattle.aim_driver.specs.Crossings.{first_entrance}
 use Rattle.aim_driver.specs.Follows.{call}
 use Rattle.aim_driver.proofs.Rows.{car, plain}
 use Rattle.aim_driver.proofs.SmallFacts.{some_is, none_some}
@@ -84,6 +85,8 @@ module _ (i : Intersection) (h : List Entry) where
             let order : j < k = r.order in
             let last : k < r.run * 1 + 1 = r.last in
             absurd (omega arith);
+        crosses = λ k x t ex at. none_some t (subst (λ (l : List LogItem). first_entrance l ≡ Some t) (sym (same_log k x ex)) at);
+        reserved = λ k x c ex on. absurd (true≢false (sym on ∙ nobody_is_there c x.1 (same_log k x ex)));
         apart = λ j k x y ex ey ne c on. nobody_is_there c y.1 (same_log k y ey);
         clear = λ k x t c ex is. none_some t (subst (λ (l : List LogItem). passage i h l ≡ Some t) (sym (same_log k x ex)) is);
       }
