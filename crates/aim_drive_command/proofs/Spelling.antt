@@ -23,11 +23,11 @@ use Rattle.aim_geometry.specs.Bounded.{find_map}
 use Rattle.aim_script.specs.declared.decisions.Decision.{Decision}
 use Rattle.aim_script.specs.declared.decisions.Decision.TheVariants as decision
 use Rattle.aim_script.specs.Said.{names_of, version_after, version_in}
-use Rattle.aim_script.specs.Verdicts.{Verdict, at_end}
+use Rattle.aim_script.specs.Verdicts.{Verdict}
 use Rattle.aim_script.proofs.AppendLemmas.{find_map-one}
 use Rattle.aim_drive_script.specs.Kinds.{kind_of_fault, limit_of}
 use Rattle.aim_drive_script.specs.Scripts.{IsDrive}
-use Rattle.aim_drive_script.specs.Verdicts.{drive_verdict, verdict_from}
+use Rattle.aim_drive_script.specs.Verdicts.{at_end, drive_verdict, verdict_from}
 use Rattle.aim_drive_script.proofs.Drafting.{ends_whole}
 use Rattle.rand_pcg.specs.Lcg.{Lcg}
 use Rattle.aim_drive_command.specs.Arms.{layout_lines, moves}

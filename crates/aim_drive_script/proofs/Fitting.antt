@@ -400,7 +400,3 @@ fits lines setting s d opened is =
       orders = λ k o e. each_order lines s k o d is e;
       rising = λ i j a b le x y. two_orders lines i j a b d (order_at lines s i a is x) (order_at lines s j b is y) le;
     }
-
-pub fits_of : (before : List Line) (r : Result DriveScript Ending) → Ends before r → IfOk r IsFit
-fits_of before (Ok s) e = e.3
-fits_of before (Err why) e = tt

@@ -5,6 +5,6 @@ pub mod Naming
 pub mod Placing
 pub mod Heading
 pub mod Drafting
-pub mod Deciding
+pub mod Telling
 pub mod Fitting
 pub mod Rows

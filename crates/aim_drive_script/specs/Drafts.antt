@@ -1,29 +1,31 @@
 -- What is known of a script's lines so far. No public clause cites this file: only contracts of private functions.
 use Rattle.std.specs.Prelude.{◌≡◌, ℕ, ◌<◌, ◌≤◌, Bool, true, false, List, [], ◌∷◌, ◌++◌, length, Option, Some, None, Result, Ok, Err, slice_get, if◌then◌else◌}
-use Rattle.aim_io.specs.declared.lines.LineFault.{LineFault}
-use Rattle.aim_io.specs.declared.lines.LineFault.TheVariants as fault
 use Rattle.aim_io.specs.Lines.{Line as LineOf}
 use Rattle.aim_messages.specs.declared.script.Line.{Line}
 use Rattle.aim_messages.specs.declared.script.Line.TheVariants as line
 use Rattle.aim_geometry.specs.Bounded.{is_outside}
 use Rattle.aim_driver.specs.declared.plans.PlannedChange.{PlannedChange}
 use Rattle.aim_driver.specs.Plans.{last_change}
-use Rattle.aim_script.specs.declared.decisions.Decision.TheVariants as decision
+use Rattle.aim_script_reading.specs.declared.decisions.Bound.TheVariants as bound
+use Rattle.aim_script_reading.specs.declared.decisions.Refused.{Refused}
+use Rattle.aim_script_reading.specs.declared.decisions.Refused.TheVariants as refused
+use Rattle.aim_script_reading.specs.declared.decisions.Why.TheVariants as reason
+use Rattle.aim_script_reading.specs.declared.takers.Refusal.{Refusal}
+use Rattle.aim_script_reading.specs.declared.takers.Refusal.TheVariants as refusal
+use Rattle.aim_script_reading.specs.Verdicts.{decides, goes_on, number_after}
 use Rattle.aim_script.specs.declared.decisions.Kind.{Kind}
 use Rattle.aim_script.specs.declared.decisions.Kind.TheVariants as kind
-use Rattle.aim_script.specs.declared.decisions.Limit.TheVariants as limit
+use Rattle.aim_script.specs.declared.decisions.Limit.{Limit}
 use Rattle.aim_script.specs.declared.settings.Setting.{Setting}
 use Rattle.aim_script.specs.Headers.{HasName, Stands as StandsAsHeader}
 use Rattle.aim_script.specs.Kinds.{is_bad_policy}
-use Rattle.aim_script.specs.Said.{version_after, names_of, layout_of, vehicles_of, calls_of, last_of}
-use Rattle.aim_script.specs.Verdicts.{decides, goes_on, number_after, at_end}
+use Rattle.aim_script.specs.Said.{version_after, names_of, layout_of, vehicles_of, last_of}
+use Rattle.aim_script.specs.Told.{kind_told, limit_told}
 use Rattle.aim_script.specs.Versions.{version_number}
 use Rattle.aim_drive_script.specs.declared.places.Place.{Place}
 use Rattle.aim_drive_script.specs.declared.places.Place.TheVariants as place
 use Rattle.aim_drive_script.specs.declared.drafts.Part.{Part}
 use Rattle.aim_drive_script.specs.declared.drafts.Part.TheVariants as part
-use Rattle.aim_drive_script.specs.declared.drafts.Refusal.{Refusal}
-use Rattle.aim_drive_script.specs.declared.drafts.Refusal.TheVariants as refusal
 use Rattle.aim_drive_script.specs.Order.{place_after}
 use Rattle.aim_drive_script.specs.Kinds.{kind_of_fault, limit_of, vehicles_limit, is_no_vehicle, is_bad_moment, is_no_driver}
 use Rattle.aim_drive_script.specs.declared.scripts.DriveScript.{DriveScript}
@@ -67,44 +69,44 @@ pub record IsDraft (lines : List Line) (p : Part) : Type 0 where
   pub named : AreNamed lines
   pub stands : Stands lines p
 
+-- a further line goes on, and this is what is kept
+abbrev pub LeadsTo : List Line → Line → Part → Type 0
+LeadsTo before l p = (kind_of_fault before l ≡ None) × (limit_of before l ≡ None) × Stands (before ++ l ∷ []) p
+
 -- what a further line comes to, for what is kept
-abbrev pub Leads : List Line → Line → Result Part Refusal → Type 0
-Leads before l (Ok p) = (kind_of_fault before l ≡ None) × (limit_of before l ≡ None) × Stands (before ++ l ∷ []) p
+abbrev pub Leads : {H : Type 0} → List Line → Line → Result Part (Refusal Kind Limit H) → Type 0
+Leads before l (Ok p) = LeadsTo before l p
 Leads before l (Err (refusal.Bad why)) = kind_of_fault before l ≡ Some why
 Leads before l (Err (refusal.Limit which)) = (kind_of_fault before l ≡ None) × (limit_of before l ≡ Some which)
-Leads before l (Err refusal.NoMemory) = Unit {0}
+Leads before l (Err (refusal.Halt h)) = Unit {0}
 
 -- what a further line comes to
-abbrev pub Takes : List Line → Line → Result (List Line) Refusal → Type 0
+abbrev pub Takes : {H : Type 0} → List Line → Line → Result (List Line) (Refusal Kind Limit H) → Type 0
 Takes before l (Ok after) = (of_read before (Ok l) ≡ goes_on l) × (after ≡ before ++ l ∷ [])
-Takes before l (Err (refusal.Bad why)) = of_read before (Ok l) ≡ decides (decision.Bad (number_after before) why)
-Takes before l (Err (refusal.Limit which)) = of_read before (Ok l) ≡ decides (decision.Limit which)
-Takes before l (Err refusal.NoMemory) = Unit {0}
+Takes before l (Err (refusal.Bad why)) = of_read before (Ok l) ≡ decides (refused.Bad (number_after before) (reason.Fault why))
+Takes before l (Err (refusal.Limit which)) = of_read before (Ok l) ≡ decides (refused.Limit (bound.Further which))
+Takes before l (Err (refusal.Halt h)) = Unit {0}
+
+-- further bytes go on, to these lines
+abbrev pub GoesTo : List Line → List ℕ → List Line → Type 0
+GoesTo before bytes after = (l : Line) × (judge before (LineOf bytes) ≡ goes_on l) × (after ≡ before ++ l ∷ [])
 
 -- what further bytes come to
-abbrev pub Judged : List Line → List ℕ → Result (List Line) Refusal → Type 0
-Judged before bytes (Ok after) = (l : Line) × (judge before (LineOf bytes) ≡ goes_on l) × (after ≡ before ++ l ∷ [])
-Judged before bytes (Err (refusal.Bad why)) = judge before (LineOf bytes) ≡ decides (decision.Bad (number_after before) why)
-Judged before bytes (Err (refusal.Limit which)) = judge before (LineOf bytes) ≡ decides (decision.Limit which)
-Judged before bytes (Err refusal.NoMemory) = Unit {0}
+abbrev pub Judged : {H : Type 0} → List Line → List ℕ → Result (List Line) (Refusal Kind Limit H) → Type 0
+Judged before bytes (Ok after) = GoesTo before bytes after
+Judged before bytes (Err (refusal.Bad why)) = judge before (LineOf bytes) ≡ decides (refused.Bad (number_after before) (reason.Fault why))
+Judged before bytes (Err (refusal.Limit which)) = judge before (LineOf bytes) ≡ decides (refused.Limit (bound.Further which))
+Judged before bytes (Err (refusal.Halt h)) = Unit {0}
 
--- what a fault of the input comes to
-abbrev pub at_fault : LineFault → Ending
-at_fault fault.Read = ending.Read
-at_fault (fault.Long number) = ending.Bad number kind.Long
-at_fault fault.Bytes = ending.Limit limit.Bytes
-at_fault fault.Lines = ending.Limit limit.Lines
+-- what comes of a line or a limit that decides
+abbrev pub ending_of : Refused Kind Limit → Ending
+ending_of (refused.Bad number w) = ending.Bad number (kind_told w)
+ending_of (refused.Limit b) = ending.Limit (limit_told b)
 
--- what the line of that number comes to, which isn't taken
-abbrev pub refused : ℕ → Refusal → Ending
-refused number (refusal.Bad why) = ending.Bad number why
-refused number (refusal.Limit which) = ending.Limit which
-refused number refusal.NoMemory = ending.NoMemory
-
--- what lines come to behind which the input ends
+-- what lines come to that make a whole script
 abbrev pub Ends : List Line → Result DriveScript Ending → Type 0
-Ends lines (Ok s) = (at_end lines ≡ decision.Whole (length (calls_of lines))) × IsDrive lines × IsScriptOf lines s × IsFit s
-Ends lines (Err (ending.Bad number why)) = at_end lines ≡ decision.Bad number why
+Ends lines (Ok s) = IsScriptOf lines s × IsFit s
+Ends lines (Err (ending.Bad number why)) = ⊥
 Ends lines (Err (ending.Limit which)) = ⊥
 Ends lines (Err ending.Read) = ⊥
 Ends lines (Err ending.NoMemory) = Unit {0}

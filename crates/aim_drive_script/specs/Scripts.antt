@@ -1,22 +1,21 @@
 -- A whole drive script, and what reading one comes to.
-use Rattle.std.specs.Prelude.{◌≡◌, ℕ, ◌≤◌, List, length, map, take, Option, Some, None, IfSome, Result, Ok, Err, slice_get}
-use Rattle.std.specs.Io.KnownBytes.{Consumes}
+use Rattle.std.specs.Prelude.{◌≡◌, ℕ, List, length, map, Option, IfSome, Result, Ok, Err}
 use Rattle.aim_messages.specs.declared.script.Line.{Line}
 use Rattle.aim_script.specs.declared.decisions.Decision.{Decision}
 use Rattle.aim_script.specs.declared.decisions.Decision.TheVariants as decision
+use Rattle.aim_script_reading.specs.Verdicts.{IsScript}
+use Rattle.aim_script_reading.specs.Short.{TakesAtMost as TakesAtMostBy}
 use Rattle.aim_script.specs.Said.{layout_of, vehicles_of, calls_of}
 use Rattle.aim_drive_script.specs.declared.scripts.DriveScript.{DriveScript}
 use Rattle.aim_drive_script.specs.declared.scripts.Ending.{Ending}
 use Rattle.aim_drive_script.specs.declared.scripts.Ending.TheVariants as ending
 use Rattle.aim_drive_script.specs.declared.scripts.Planned.{Planned}
 use Rattle.aim_drive_script.specs.Said.{Drive, until_of, drives_of, orders_of}
-use Rattle.aim_drive_script.specs.Kinds.{kind_of_fault, limit_of}
-use Rattle.aim_drive_script.specs.Verdicts.{drive_verdict}
+use Rattle.aim_drive_script.specs.Verdicts.{drive_rules, drive_verdict}
 
 -- no line is at fault behind those before it, and none goes past a limit
-pub record IsDrive (lines : List Line) : Type 0 where
-  pub no_fault : (k : ℕ) (l : Line) → slice_get lines k ≡ Some l → kind_of_fault (take k lines) l ≡ None
-  pub no_limit : (k : ℕ) (l : Line) → slice_get lines k ≡ Some l → limit_of (take k lines) l ≡ None
+abbrev pub IsDrive : List Line → Type 0
+IsDrive lines = IsScript drive_rules lines
 
 -- the drive that is kept
 abbrev pub drive_told : Planned → Drive
@@ -50,7 +49,5 @@ Reads bytes (Err ending.Read) = Unit {0}
 Reads bytes (Err ending.NoMemory) = Unit {0}
 
 -- where the source tells its bytes, no more than these were taken
-pub record TakesAtMost (most : ℕ) (left_old left_new : Option (List ℕ)) : Type 0 where
-  pub bytes : List ℕ
-  pub taken : Consumes left_old left_new bytes
-  pub within : length bytes ≤ most
+abbrev pub TakesAtMost : ℕ → Option (List ℕ) → Option (List ℕ) → Type 0
+TakesAtMost most left_old left_new = TakesAtMostBy most left_old left_new

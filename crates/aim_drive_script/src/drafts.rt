@@ -1,6 +1,6 @@
 //! The lines of a script so far.
 
-ghost use Rattle.std.specs.Prelude.{◌≡◌, ◌≤◌, List, [], length};
+ghost use Rattle.std.specs.Prelude.{◌≡◌, List, [], true};
 ghost use Rattle.aim_messages.specs.declared.script.Line.{Line as AnyLine};
 ghost use Rattle.aim_script.specs.Headers.{HasName, Stands as StandsAsHeader};
 ghost use Rattle.aim_script.specs.Order.{is_end};
@@ -13,10 +13,12 @@ use crate::building::script_of;
 use crate::checks::{fault, limit, vehicles_limit};
 use crate::scripts::{DriveScript, Ending};
 use aim_messages::Line;
-use aim_script::{Headed, Header, Kind, Limit, ScriptVersion, Setting};
+use aim_script::{Headed, Header, HeaderRefusal, Kind, Limit, ScriptVersion, Setting};
+use aim_script_reading::{LineTaker, Refusal};
 use aim_text_lines::read_line;
-use std::alloc::Global;
+use std::alloc::{AllocError, Global};
 use std::marker::Model;
+use std::mem;
 
 /// What is kept of the lines of a header.
 #[derive(Drop)]
@@ -27,15 +29,8 @@ pub enum Part {
     Opened(Setting),
 }
 
-/// Why a line isn't taken.
-pub(crate) enum Refusal {
-    /// It is at fault.
-    Bad(Kind),
-    /// It goes past a limit.
-    Limit(Limit),
-    /// Memory has run out.
-    NoMemory,
-}
+// Why a line isn't taken: its kind, its limit, or that memory has run out.
+type NotTaken = Refusal<Kind, Limit, AllocError>;
 
 // Whether the script may end behind the lines.
 fn is_over(lines: &[Line]) -> bool
@@ -45,7 +40,7 @@ fn is_over(lines: &[Line]) -> bool
 }
 
 // What a line of the header leads to.
-fn headed(header: Header, alloc: Global, line: &Line) -> Result<Part, Refusal>
+fn headed(header: Header, alloc: Global, line: &Line) -> Result<Part, NotTaken>
     requires { HasName line.now }
     ensures { (before : List AnyLine) → StandsAsHeader before header → Leads before line.now result }
 {
@@ -61,13 +56,13 @@ fn headed(header: Header, alloc: Global, line: &Line) -> Result<Part, Refusal>
                 None => Ok(Part::Opened(setting)),
             }
         }
-        Err(aim_script::HeaderRefusal::Bad(kind)) => Err(Refusal::Bad(kind)),
-        Err(aim_script::HeaderRefusal::NoMemory) => Err(Refusal::NoMemory),
+        Err(HeaderRefusal::Bad(kind)) => Err(Refusal::Bad(kind)),
+        Err(HeaderRefusal::NoMemory) => Err(Refusal::Halt(AllocError)),
     }
 }
 
 // What a line behind the header leads to.
-fn opened(setting: Setting, lines: &[Line], line: &Line) -> Result<Part, Refusal>
+fn opened(setting: Setting, lines: &[Line], line: &Line) -> Result<Part, NotTaken>
     requires opened { IsOpened lines.now setting }
     requires name { HasName line.now }
     ensures { Leads lines.now line.now result }
@@ -83,6 +78,18 @@ fn opened(setting: Setting, lines: &[Line], line: &Line) -> Result<Part, Refusal
     Ok(Part::Opened(setting))
 }
 
+// What is kept behind the end of a script.
+#[tactic(auto, using(crate::proofs::Drafting::not_over))]
+fn setting_of(part: Part) -> Setting
+    requires { (before : List AnyLine) × Stands before part × (is_end (last_of before) ≡ true) }
+    ensures { (before : List AnyLine) → Stands before part → is_end (last_of before) ≡ true → IsOpened before result }
+{
+    match part {
+        Part::Opened(setting) => setting,
+        Part::Header(_) => unreachable!(),
+    }
+}
+
 impl Part {
     // The version in which the next line is read.
     fn version(&self, lines: &[Line]) -> ScriptVersion
@@ -96,7 +103,7 @@ impl Part {
     }
 
     // What a further line leads to.
-    fn after(self, alloc: Global, lines: &[Line], line: &Line) -> Result<Part, Refusal>
+    fn after(self, alloc: Global, lines: &[Line], line: &Line) -> Result<Part, NotTaken>
         requires stands { Stands lines.now self }
         requires name { HasName line.now }
         ensures { Leads lines.now line.now result }
@@ -149,7 +156,7 @@ impl Draft {
     }
 
     // Takes the next line.
-    fn take_line(self, alloc: Global, line: &Line) -> Result<Draft, Refusal>
+    fn take_line(self, alloc: Global, line: &Line) -> Result<Draft, NotTaken>
         requires { HasName line.now }
         ensures { Takes self line.now result }
     {
@@ -160,14 +167,14 @@ impl Draft {
                 Ok(()) => Ok(Draft { lines, part }),
                 Err(_) => {
                     drop(part);
-                    Err(Refusal::NoMemory)
+                    Err(Refusal::Halt(AllocError))
                 }
             },
         }
     }
 
-    /// Takes the next line of a script, without its byte 10.
-    pub(crate) fn take(self, alloc: Global, bytes: &[u8]) -> Result<Draft, Refusal>
+    // The draft behind the next line of a script, without its byte 10.
+    fn after(self, alloc: Global, bytes: &[u8]) -> Result<Draft, NotTaken>
         ensures { Judged self bytes.now result }
     {
         let version = self.part.version(&self.lines).number();
@@ -180,24 +187,58 @@ impl Draft {
         }
     }
 
-    /// The script, if it is whole where its input ends here, behind so many lines.
-    pub(crate) fn end(self, alloc: Global, count: u32) -> Result<DriveScript, Ending>
-        requires count { count ≡ length self }
-        requires few { count ≤ 262144 }
+    /// The script, where it is whole.
+    pub(crate) fn script(self, alloc: Global) -> Result<DriveScript, Ending>
+        requires { is_end (last_of self) ≡ true }
         ensures { Ends self result }
     {
         let Draft { lines, part } = self;
-        match part {
-            Part::Opened(setting) if is_over(&lines) => {
-                match script_of(alloc, setting, &lines) {
-                    Ok(script) => Ok(script),
-                    Err(_) => Err(Ending::NoMemory),
-                }
-            }
-            other => {
-                drop(other);
-                Err(Ending::Bad(count + 1, Kind::End))
-            }
+        let setting = setting_of(part);
+        match script_of(alloc, setting, &lines) {
+            Ok(script) => Ok(script),
+            Err(_) => Err(Ending::NoMemory),
         }
     }
+}
+
+impl LineTaker for Draft {
+    ghost use Rattle.std.specs.Prelude.{◌≡◌};
+    ghost use Rattle.aim_drive_script.specs.Verdicts.{drive_rules};
+
+    type Line = Line;
+
+    type Kind = Kind;
+
+    type Limit = Limit;
+
+    type Halt = AllocError;
+
+    ghost rules = { drive_rules };
+
+    ghost stands = { λ first before d. d ≡ before };
+
+    ghost rests = { λ first before d. Unit {0} };
+
+    ghost halts = { λ first before d why. Unit {0} };
+
+    fn take(
+        &mut self,
+        alloc: Global,
+        bytes: &[u8],
+    ) -> Result<(), Refusal<Kind, Limit, AllocError>> {
+        let draft = mem::replace(self, Draft::new(alloc));
+        match draft.after(alloc, bytes) {
+            Ok(next) => {
+                *self = next;
+                Ok(())
+            }
+            Err(why) => Err(why),
+        }
+    }
+
+    fn is_whole(&self) -> bool {
+        is_over(&self.lines)
+    }
+
+    ghost stands_rests = { λ first before d stands. tt };
 }

@@ -1,39 +1,27 @@
 //! Reads a drive script.
 
-ghost use Rattle.std.specs.Prelude.{◌≡◌, ◌≤◌, Err, IfOk};
+ghost use Rattle.std.specs.Prelude.{◌≡◌, ◌≤◌, ◌⊎◌, Err, IfOk};
 ghost use Rattle.std.specs.Io.KnownBytes.{IsAtEnd};
 ghost use Rattle.aim_io.specs.Causes.{Rose};
-ghost use Rattle.aim_drive_script.specs.Drafts.{at_fault, refused};
+ghost use Rattle.aim_drive_script.specs.Drafts.{ending_of};
 ghost use Rattle.aim_drive_script.specs.Fits.{IsFit};
 ghost use Rattle.aim_drive_script.specs.Scripts.{Reads, TakesAtMost};
-ghost use Rattle.aim_drive_script.specs.Short.{StopsShort};
+ghost use Rattle.aim_drive_script.specs.Short.{LastNeeded, StopsShort};
 
-use crate::drafts::{Draft, Refusal};
+use crate::drafts::Draft;
 use crate::scripts::{DriveScript, Ending};
-use aim_io::{LineFault, LineReader, Source};
-use aim_script::{Kind, Limit};
+use aim_io::Source;
+use aim_script::{Kind, Limit, kind_told, limit_told};
+use aim_script_reading::{Refused, Stop, read_script};
 use std::alloc::Global;
 
-// What a fault of the input comes to.
-fn after_fault(fault: LineFault) -> Ending
-    ensures { result ≡ at_fault fault }
+// What comes of a line or a limit that decides.
+fn ending_of(refused: Refused<Kind, Limit>) -> Ending
+    ensures { result ≡ ending_of refused }
 {
-    match fault {
-        LineFault::Read => Ending::Read,
-        LineFault::Long(number) => Ending::Bad(number, Kind::Long),
-        LineFault::Bytes => Ending::Limit(Limit::Bytes),
-        LineFault::Lines => Ending::Limit(Limit::Lines),
-    }
-}
-
-// What the line of that number comes to, which isn't taken.
-fn after_refusal(number: u32, why: Refusal) -> Ending
-    ensures { result ≡ refused number why }
-{
-    match why {
-        Refusal::Bad(kind) => Ending::Bad(number, kind),
-        Refusal::Limit(limit) => Ending::Limit(limit),
-        Refusal::NoMemory => Ending::NoMemory,
+    match refused {
+        Refused::Bad(number, why) => Ending::Bad(number, kind_told(why)),
+        Refused::Limit(bound) => Ending::Limit(limit_told(bound)),
     }
 }
 
@@ -49,26 +37,15 @@ pub fn read_drive<S: Source>(alloc: Global, source: &mut S) -> Result<DriveScrip
     ensures read { result ≡ Err Ending.Read → Rose (S.faults source.old) (S.faults source.new) }
     ensures source { S.faults source.old ≤ S.faults source.new }
 
-    // No more than one byte past the greatest input is taken.
+    // No more than one byte past the greatest input is taken, and nothing is read behind bytes that decide.
     ensures most { TakesAtMost 67108865 (S.left source.old) (S.left source.new) }
+    ensures needed { (source.new ≡ source.old) ⊎ LastNeeded (S.left source.old) (S.left source.new) (S.last_read source.new) }
 {
-    let mut reader = LineReader::new();
     let mut draft = Draft::new(alloc);
-    let mut number = 0u32;
-    'lines: loop {
-        match reader.advance(source) {
-            Err(fault) => {
-                drop(draft);
-                return Err(after_fault(fault));
-            }
-            Ok(false) => return draft.end(alloc, number),
-            Ok(true) => {
-                number += 1;
-                match draft.take(alloc, reader.line()) {
-                    Ok(next) => draft = next,
-                    Err(why) => return Err(after_refusal(number, why)),
-                }
-            }
-        }
+    match read_script(alloc, source, &mut draft) {
+        Ok(None) => draft.script(alloc),
+        Ok(Some(refused)) => Err(ending_of(refused)),
+        Err(Stop::Read) => Err(Ending::Read),
+        Err(Stop::Halt(_)) => Err(Ending::NoMemory),
     }
 }

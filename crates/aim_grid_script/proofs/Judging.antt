@@ -4,6 +4,7 @@ use Rattle.std.specs.Prelude.{if◌then◌else◌}
 use Rattle.aim_messages.specs.declared.script.Line.{Line}
 use Rattle.aim_messages.specs.declared.script.Line.TheVariants as plain
 use Rattle.aim_layout.specs.Building.{finish_fault}
+use Rattle.aim_script_reading.specs.Verdicts.{decides, goes_on}
 use Rattle.aim_script.specs.declared.decisions.Kind.{Kind}
 use Rattle.aim_script.specs.declared.decisions.Kind.TheVariants as why
 use Rattle.aim_script.specs.declared.decisions.Limit.{Limit}
@@ -17,13 +18,12 @@ use Rattle.aim_script.specs.Said.{layout_of, vehicles_in as vehicles_in_plain}
 use Rattle.aim_script.proofs.KindLemmas.{first_kind, first_kind_is, out_of_order}
 use Rattle.aim_grid_script.specs.declared.lines.GridLine.{GridLine}
 use Rattle.aim_grid_script.specs.declared.lines.GridLine.TheVariants as line
-use Rattle.aim_grid_script.specs.declared.decisions.GridDecision.TheVariants as decision
 use Rattle.aim_grid_script.specs.declared.decisions.GridKind.{GridKind}
 use Rattle.aim_grid_script.specs.declared.decisions.GridKind.TheVariants as kind
 use Rattle.aim_grid_script.specs.Kinds.{aim_kind, block_kind, has_all, kind_in, kind_of_fault, limit_of, may_end, next_kind, phase_kind}
 use Rattle.aim_grid_script.specs.Order.{Part, part_after, in_blocks}
 use Rattle.aim_grid_script.specs.Said.{Parted, begins_block, crossings_of, is_of_layout, last_of, parted, some_block}
-use Rattle.aim_grid_script.specs.Verdicts.{bad, decides, goes_on, of_read}
+use Rattle.aim_grid_script.specs.Verdicts.{bad, of_read, past}
 
 -- a line without a kind and a limit goes on, and one with a kind decides, and one past a limit
 pub goes : (before : List GridLine) (l : GridLine) → kind_of_fault before l ≡ None → limit_of before l ≡ None → of_read before (Ok l) ≡ goes_on l
@@ -32,7 +32,7 @@ goes before l no_kind no_limit = rw (no_kind, no_limit) refl
 pub falls : (before : List GridLine) (l : GridLine) (k : GridKind) → kind_of_fault before l ≡ Some k → of_read before (Ok l) ≡ decides (bad before k)
 falls before l k is = rw is refl
 
-pub passes : (before : List GridLine) (l : GridLine) (which : Limit) → kind_of_fault before l ≡ None → limit_of before l ≡ Some which → of_read before (Ok l) ≡ decides (decision.Limit which)
+pub passes : (before : List GridLine) (l : GridLine) (which : Limit) → kind_of_fault before l ≡ None → limit_of before l ≡ Some which → of_read before (Ok l) ≡ decides (past which)
 passes before l which no_kind past = rw (no_kind, past) refl
 
 pub kind_at : (before : List GridLine) (l : GridLine) (p : Part) → part_after (last_of before) ≡ p → kind_of_fault before l ≡ kind_in p before l

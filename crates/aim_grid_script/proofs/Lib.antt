@@ -6,4 +6,4 @@ pub mod Fitting
 pub mod Staging
 pub mod Ending
 pub mod Rows
-pub mod Reaching
+pub mod Telling

@@ -15,6 +15,7 @@ use Rattle.aim_messages.specs.declared.entries.TheConstants.{MOST_VEHICLES}
 use Rattle.aim_layout.specs.Building.{finish_fault}
 use Rattle.aim_layout.specs.Intersection.{Intersection}
 use Rattle.aim_drive_script.specs.Kinds.{vehicles_limit}
+use Rattle.aim_script_reading.specs.Verdicts.{decides, number_after}
 use Rattle.aim_script.specs.declared.decisions.Kind.{Kind}
 use Rattle.aim_script.specs.declared.decisions.Kind.TheVariants as why
 use Rattle.aim_script.specs.declared.headers.Header.{Header}
@@ -34,6 +35,7 @@ use Rattle.aim_grid_script.specs.declared.lines.GridLine.TheVariants as line
 use Rattle.aim_grid_script.specs.Legs.{grid_line_at}
 use Rattle.aim_grid_script.specs.Spelled.{IsBare}
 use Rattle.aim_grid_script.proofs.Texts.{grid_was_spelled}
+use Rattle.aim_grid_script.specs.declared.decisions.GridDecision.TheVariants as decision
 use Rattle.aim_grid_script.specs.declared.decisions.GridKind.{GridKind}
 use Rattle.aim_grid_script.specs.declared.decisions.GridKind.TheVariants as kind
 use Rattle.aim_grid_script.specs.declared.routes.PlannedLeg.{PlannedLeg}
@@ -48,7 +50,7 @@ use Rattle.aim_grid_script.specs.Kinds.{has_all, kind_of_fault, leg_kind_of, lim
 use Rattle.aim_grid_script.specs.Order.{Part, part_after, in_blocks, in_legs, nothing, to_begin, to_until}
 use Rattle.aim_grid_script.specs.Said.{Parted, begins_block, blocks_in, last_of, layouts_of, leg_in, legs_of, parted, parted_by, parted_with, some_block, spans_in, vehicles_of, version_of}
 use Rattle.aim_grid_script.specs.Stages.{AreBlocks, Begins, Ends, EndsBlock, IsCounted, IsSettled, Judged, Settles, Stands, Takes, WasRead, ending_of, is_order, refusal_of}
-use Rattle.aim_grid_script.specs.Verdicts.{at_end, bad, decides, end_after, judge, of_read}
+use Rattle.aim_grid_script.specs.Verdicts.{at_end, bad, end_after, judge, of_read}
 use Rattle.aim_grid_script.proofs.Fitting.{bounds_of, legs_more, no_legs}
 use Rattle.aim_grid_script.proofs.Judging.{as_plain, block_at, empty_kind, end_kind, falls, further_kind, goes, kind_at, other, passes, taken_form}
 use Rattle.aim_grid_script.proofs.Parting.{SaysNone, crossings_same, inside, last_more, legs_same, no_until, parted_more, quiet_more, some_more, until_first, until_same, vehicles_first, vehicles_same}
@@ -414,7 +416,7 @@ ends_whole before r st =
     )
 
 -- the input ends where a script isn't whole
-not_end : (before : List GridLine) (o : Option GridLine) → (o ≡ Some (line.Plain plain.End) → ⊥) → end_after before o ≡ bad before (kind.Plain why.End)
+not_end : (before : List GridLine) (o : Option GridLine) → (o ≡ Some (line.Plain plain.End) → ⊥) → end_after before o ≡ decision.Bad (number_after before) (kind.Plain why.End)
 not_end before None other = refl
 not_end before (Some (line.Crossings n)) other = refl
 not_end before (Some (line.Leg v c p)) other = refl
@@ -443,7 +445,7 @@ part_apart : (o : Option GridLine) (p : Part) → part_after o ≡ p → (p ≡ 
 part_apart o p part apart is = apart (sym part ∙ ap part_after is)
 
 -- a stage that isn't over stands for lines that don't end
-pub not_over : (before : List GridLine) (s : GridStage) → ((r : Routes) → s ≡ stage.Over r → ⊥) → Stands before s → at_end before ≡ bad before (kind.Plain why.End)
+pub not_over : (before : List GridLine) (s : GridStage) → ((r : Routes) → s ≡ stage.Over r → ⊥) → Stands before s → at_end before ≡ decision.Bad (number_after before) (kind.Plain why.End)
 not_over before stage.Opening other st = ap (λ ls. end_after before (last_of ls)) st
 not_over before (stage.Counted n) other st = not_end before (last_of before) (part_apart (last_of before) in_blocks st.part (λ e. cc))
 not_over before (stage.Blocks b) other st = not_end before (last_of before) (part_apart (last_of before) in_blocks st.part (λ e. cc))

@@ -10,4 +10,3 @@ pub mod Stages
 pub mod Scripts
 pub mod Short
 pub mod Endings
-pub mod LinesRead

@@ -1,19 +1,18 @@
 -- A whole script of several crossings, and what reading one comes to.
-use Rattle.std.specs.Prelude.{◌≡◌, ℕ, List, take, Option, Some, None, IfSome, Result, Ok, Err, slice_get}
+use Rattle.std.specs.Prelude.{◌≡◌, ℕ, List, Option, IfSome, Result, Ok, Err}
+use Rattle.aim_script_reading.specs.Verdicts.{IsScript}
 use Rattle.aim_grid_script.specs.declared.lines.GridLine.{GridLine}
 use Rattle.aim_grid_script.specs.declared.decisions.GridDecision.{GridDecision}
 use Rattle.aim_grid_script.specs.declared.decisions.GridDecision.TheVariants as decision
 use Rattle.aim_grid_script.specs.declared.routes.Routes.{Routes}
 use Rattle.aim_grid_script.specs.Fits.{AreRoutesOf}
-use Rattle.aim_grid_script.specs.Kinds.{kind_of_fault, limit_of}
-use Rattle.aim_grid_script.specs.Verdicts.{at_end, grid_verdict}
+use Rattle.aim_grid_script.specs.Verdicts.{at_end, grid_rules, grid_verdict}
 use Rattle.aim_grid_script.specs.declared.endings.GridEnding.{GridEnding}
 use Rattle.aim_grid_script.specs.declared.endings.GridEnding.TheVariants as ending
 
 -- no line is at fault behind those before it, and none goes past a limit
-pub record IsGrid (lines : List GridLine) : Type 0 where
-  pub no_fault : (k : ℕ) (l : GridLine) → slice_get lines k ≡ Some l → kind_of_fault (take k lines) l ≡ None
-  pub no_limit : (k : ℕ) (l : GridLine) → slice_get lines k ≡ Some l → limit_of (take k lines) l ≡ None
+abbrev pub IsGrid : List GridLine → Type 0
+IsGrid lines = IsScript grid_rules lines
 
 -- The routes are those of lines that make a whole script, and where the source tells its bytes, they come to just these lines.
 pub record IsRead (bytes : Option (List ℕ)) (r : Routes) : Type 0 where

@@ -6,6 +6,7 @@ use Rattle.aim_messages.specs.declared.script.Line.TheVariants as plain
 use Rattle.aim_geometry.specs.Bounded.{find_map, is_outside}
 use Rattle.aim_layout.specs.Intersection.{Intersection}
 use Rattle.aim_drive_script.specs.Kinds.{vehicles_limit}
+use Rattle.aim_script_reading.specs.Verdicts.{decides, goes_on, number_after}
 use Rattle.aim_script.specs.declared.decisions.Kind.{Kind}
 use Rattle.aim_script.specs.declared.decisions.Kind.TheVariants as why
 use Rattle.aim_script.specs.declared.headers.Header.{Header}
@@ -33,7 +34,7 @@ use Rattle.aim_grid_script.specs.Fits.{AreLegs, AreRoutesOf, AreWithin}
 use Rattle.aim_grid_script.specs.Kinds.{next_kind}
 use Rattle.aim_grid_script.specs.Order.{part_after, in_blocks, to_begin, to_until, in_legs}
 use Rattle.aim_grid_script.specs.Said.{crossings_of, last_of, layouts_of, legs_of, parted, some_block, spans_in, until_in, until_of, vehicles_in, vehicles_of, version_of}
-use Rattle.aim_grid_script.specs.Verdicts.{at_end, bad, decides, goes_on, judge, of_read}
+use Rattle.aim_grid_script.specs.Verdicts.{at_end, bad, judge, of_read, past}
 
 -- what holds of a line that was read: a name in it is spelled as one, and a leg's plan is bare
 abbrev pub WasRead : GridLine → Type 0
@@ -95,20 +96,20 @@ Stands before (stage.Over r) = (last_of before ≡ Some (line.Plain plain.End)) 
 abbrev pub Takes : List GridLine → GridLine → Result GridStage GridRefusal → Type 0
 Takes before l (Ok next) = (of_read before (Ok l) ≡ goes_on l) × Stands (before ++ l ∷ []) next
 Takes before l (Err (refusal.Bad k)) = of_read before (Ok l) ≡ decides (bad before k)
-Takes before l (Err (refusal.Limit which)) = of_read before (Ok l) ≡ decides (decision.Limit which)
+Takes before l (Err (refusal.Limit which)) = of_read before (Ok l) ≡ decides (past which)
 Takes before l (Err refusal.NoMemory) = Unit {0}
 
 -- what a further line's bytes come to
 abbrev pub Judged : List GridLine → List ℕ → Result GridStage GridRefusal → Type 0
 Judged before bytes (Ok next) = (l : GridLine) × (judge before (LineOf bytes) ≡ goes_on l) × Stands (before ++ l ∷ []) next
 Judged before bytes (Err (refusal.Bad k)) = judge before (LineOf bytes) ≡ decides (bad before k)
-Judged before bytes (Err (refusal.Limit which)) = judge before (LineOf bytes) ≡ decides (decision.Limit which)
+Judged before bytes (Err (refusal.Limit which)) = judge before (LineOf bytes) ≡ decides (past which)
 Judged before bytes (Err refusal.NoMemory) = Unit {0}
 
 -- what the end of the input comes to
 abbrev pub Ends : List GridLine → Option Routes → Type 0
 Ends before (Some r) = (at_end before ≡ decision.Whole) × AreRoutesOf before r × AreWithin r
-Ends before None = at_end before ≡ bad before (kind.Plain why.End)
+Ends before None = at_end before ≡ decision.Bad (number_after before) (kind.Plain why.End)
 
 -- an `aim` line begins a block, as it begins a script
 abbrev pub Begins : ℕ → Result Header HeaderRefusal → Type 0

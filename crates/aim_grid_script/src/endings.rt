@@ -1,12 +1,12 @@
 //! Why there is no whole script.
 
 ghost use Rattle.std.specs.Prelude.{◌≡◌};
-ghost use Rattle.aim_grid_script.specs.Endings.{of_fault, of_refusal};
+ghost use Rattle.aim_grid_script.specs.Endings.{ending_of};
+ghost use Rattle.aim_grid_script.specs.Verdicts.{kind_told};
 
 use crate::decisions::GridKind;
-use crate::stages::GridRefusal;
-use aim_io::LineFault;
-use aim_script::{Kind, Limit};
+use aim_script::{Kind, Limit, limit_told};
+use aim_script_reading::{Refused, Why};
 
 /// Why there are no routes.
 #[derive(Clone, Copy)]
@@ -21,25 +21,23 @@ pub enum GridEnding {
     NoMemory,
 }
 
-/// What a fault of the input comes to.
-pub(crate) fn of_fault(fault: LineFault) -> GridEnding
-    ensures { result ≡ of_fault fault }
+// The kind of a line at fault.
+fn kind_told(why: Why<GridKind>) -> GridKind
+    ensures { result ≡ kind_told why }
 {
-    match fault {
-        LineFault::Read => GridEnding::Read,
-        LineFault::Long(number) => GridEnding::Bad(number, GridKind::Plain(Kind::Long)),
-        LineFault::Bytes => GridEnding::Limit(Limit::Bytes),
-        LineFault::Lines => GridEnding::Limit(Limit::Lines),
+    match why {
+        Why::Long => GridKind::Plain(Kind::Long),
+        Why::End => GridKind::Plain(Kind::End),
+        Why::Fault(kind) => kind,
     }
 }
 
-/// What the line of that number comes to where it isn't taken.
-pub(crate) fn of_refusal(number: u32, why: GridRefusal) -> GridEnding
-    ensures { result ≡ of_refusal number why }
+/// What comes of a line or a limit that decides.
+pub(crate) fn ending_of(refused: Refused<GridKind, Limit>) -> GridEnding
+    ensures { result ≡ ending_of refused }
 {
-    match why {
-        GridRefusal::Bad(kind) => GridEnding::Bad(number, kind),
-        GridRefusal::Limit(limit) => GridEnding::Limit(limit),
-        GridRefusal::NoMemory => GridEnding::NoMemory,
+    match refused {
+        Refused::Bad(number, why) => GridEnding::Bad(number, kind_told(why)),
+        Refused::Limit(bound) => GridEnding::Limit(limit_told(bound)),
     }
 }

@@ -1,92 +1,32 @@
 //! Reads a script of several crossings.
 
-ghost use Rattle.std.specs.Prelude.{◌≡◌, ◌≤◌, Err, IfOk, List, None, length};
+ghost use Rattle.std.specs.Prelude.{◌≡◌, ◌≤◌, ◌⊎◌, Err, IfOk, List};
 ghost use Rattle.std.specs.Io.KnownBytes.{IsAtEnd};
 ghost use Rattle.aim_io.specs.Causes.{Rose};
 ghost use Rattle.aim_drive_script.specs.Scripts.{TakesAtMost};
+ghost use Rattle.aim_grid_script.specs.declared.decisions.GridDecision.TheVariants as decision;
 ghost use Rattle.aim_grid_script.specs.declared.lines.GridLine.{GridLine};
-ghost use Rattle.aim_grid_script.specs.Fits.{AreWithin};
-ghost use Rattle.aim_grid_script.specs.Stages.{Stands};
-ghost use Rattle.aim_grid_script.specs.Endings.{Ended};
-ghost use Rattle.aim_grid_script.specs.LinesRead.{Comes, IsTaken, IsTold, Steps};
+ghost use Rattle.aim_grid_script.specs.Fits.{AreRoutesOf, AreWithin};
 ghost use Rattle.aim_grid_script.specs.Scripts.{Reads};
-ghost use Rattle.aim_grid_script.specs.Short.{StopsShort};
+ghost use Rattle.aim_grid_script.specs.Short.{LastNeeded, StopsShort};
+ghost use Rattle.aim_grid_script.specs.Stages.{Stands};
+ghost use Rattle.aim_grid_script.specs.Verdicts.{at_end};
 
-use crate::decisions::GridKind;
-use crate::endings::{GridEnding, of_fault, of_refusal};
+use crate::endings::{GridEnding, ending_of};
 use crate::routes::Routes;
 use crate::stages::GridStage;
-use aim_io::{LineReader, Source};
-use aim_script::Kind;
+use aim_io::Source;
+use aim_script_reading::{Stop, read_script};
 use std::alloc::Global;
 
-// What the script comes to where its input ends behind so many lines.
-fn ended(stage: GridStage, lines: u32) -> Result<Routes, GridEnding>
-    requires { lines ≤ 262144 }
-    ensures { (before : List GridLine) → Stands before stage → length before ≡ lines → Ended before result }
+// The routes of a script that is whole.
+fn finished(stage: GridStage) -> Routes
+    requires { (before : List GridLine) × Stands before stage × (at_end before ≡ decision.Whole) }
+    ensures { (before : List GridLine) → Stands before stage → at_end before ≡ decision.Whole → AreRoutesOf before result × AreWithin result }
 {
     match stage.at_end() {
-        Some(routes) => Ok(routes),
-        None => Err(GridEnding::Bad(lines + 1, GridKind::Plain(Kind::End))),
-    }
-}
-
-// Takes the line of that number.
-fn take_line(
-    stage: GridStage,
-    alloc: Global,
-    line: &[u8],
-    number: u32,
-) -> Result<GridStage, GridEnding>
-    ensures { IsTold stage line.now number result }
-{
-    match stage.take(alloc, line) {
-        Ok(next) => Ok(next),
-        Err(why) => Err(of_refusal(number, why)),
-    }
-}
-
-// Reads the line of that number and takes it: the stage behind it, or at the end of the input, with `false`, the same.
-fn read_line<S: Source>(
-    alloc: Global,
-    source: &mut S,
-    reader: &mut LineReader,
-    stage: GridStage,
-    number: u32,
-) -> Result<(GridStage, bool), GridEnding>
-    requires { reader.old.fault ≡ None }
-    ensures { Steps reader.old reader.new (S.left source.old) (S.left source.new) (S.faults source.old) (S.faults source.new) stage number result }
-{
-    match reader.advance(source) {
-        Ok(true) => match take_line(stage, alloc, reader.line(), number) {
-            Ok(next) => Ok((next, true)),
-            Err(ending) => Err(ending),
-        },
-        Ok(false) => Ok((stage, false)),
-        Err(fault) => {
-            drop(stage);
-            Err(of_fault(fault))
-        }
-    }
-}
-
-// Reads lines to the end of the input, or to the line that decides: the stage behind them, and how many they are.
-fn read_lines<S: Source>(alloc: Global, source: &mut S) -> Result<(GridStage, u32), GridEnding>
-    ensures taken { IsTaken (S.left source.old) (S.left source.new) (S.faults source.old) (S.faults source.new) }
-    ensures comes { Comes (S.left source.old) (S.left source.new) (S.faults source.old) (S.faults source.new) result }
-{
-    let mut reader = LineReader::new();
-    let mut stage = GridStage::new();
-    let mut number = 0u32;
-    'lines: loop {
-        match read_line(alloc, source, &mut reader, stage, number + 1) {
-            Ok((next, true)) => {
-                stage = next;
-                number += 1;
-            }
-            Ok((last, false)) => return Ok((last, number)),
-            Err(ending) => return Err(ending),
-        }
+        Some(routes) => routes,
+        None => unreachable!(),
     }
 }
 
@@ -103,11 +43,15 @@ pub fn read_grid<S: Source>(alloc: Global, source: &mut S) -> Result<Routes, Gri
     ensures read { result ≡ Err GridEnding.Read → Rose (S.faults source.old) (S.faults source.new) }
     ensures source { S.faults source.old ≤ S.faults source.new }
 
-    // No more than one byte past the greatest input is taken.
+    // No more than one byte past the greatest input is taken, and nothing is read behind bytes that decide.
     ensures most { TakesAtMost 67108865 (S.left source.old) (S.left source.new) }
+    ensures needed { (source.new ≡ source.old) ⊎ LastNeeded (S.left source.old) (S.left source.new) (S.last_read source.new) }
 {
-    match read_lines(alloc, source) {
-        Ok((stage, lines)) => ended(stage, lines),
-        Err(ending) => Err(ending),
+    let mut stage = GridStage::new();
+    match read_script(alloc, source, &mut stage) {
+        Ok(None) => Ok(finished(stage)),
+        Ok(Some(refused)) => Err(ending_of(refused)),
+        Err(Stop::Read) => Err(GridEnding::Read),
+        Err(Stop::Halt(_)) => Err(GridEnding::NoMemory),
     }
 }

@@ -24,7 +24,9 @@ use aim_geometry::is_outside;
 use aim_layout::Layout;
 use aim_messages::Line;
 use aim_script::{Headed, Header, Kind, Limit, ScriptVersion, Setting};
-use std::alloc::Global;
+use aim_script_reading::{LineTaker, Refusal};
+use std::alloc::{AllocError, Global};
+use std::mem;
 
 /// The blocks of a script so far, one for each crossing.
 #[derive(Drop)]
@@ -529,8 +531,8 @@ impl GridStage {
         }
     }
 
-    /// Takes the next line of a script, without its byte 10.
-    pub fn take(self, alloc: Global, bytes: &[u8]) -> Result<GridStage, GridRefusal>
+    /// The stage behind the next line of a script, without its byte 10.
+    pub fn after(self, alloc: Global, bytes: &[u8]) -> Result<GridStage, GridRefusal>
         ensures { (before : List AnyLine) → Stands before self → Judged before bytes.now result }
     {
         let version = self.version().number();
@@ -555,4 +557,49 @@ impl GridStage {
             }
         }
     }
+}
+
+impl LineTaker for GridStage {
+    ghost use Rattle.std.specs.Prelude.{List};
+    ghost use Rattle.aim_grid_script.specs.Stages.{Stands};
+    ghost use Rattle.aim_grid_script.specs.Verdicts.{grid_rules};
+
+    type Line = GridLine;
+
+    type Kind = GridKind;
+
+    type Limit = Limit;
+
+    type Halt = AllocError;
+
+    ghost rules = { grid_rules };
+
+    ghost stands = { λ first before s. Stands before s };
+
+    ghost rests = { λ first before s. Unit {0} };
+
+    ghost halts = { λ first before s why. Unit {0} };
+
+    fn take(
+        &mut self,
+        alloc: Global,
+        bytes: &[u8],
+    ) -> Result<(), Refusal<GridKind, Limit, AllocError>> {
+        let stage = mem::replace(self, GridStage::new());
+        match stage.after(alloc, bytes) {
+            Ok(next) => {
+                *self = next;
+                Ok(())
+            }
+            Err(GridRefusal::Bad(kind)) => Err(Refusal::Bad(kind)),
+            Err(GridRefusal::Limit(limit)) => Err(Refusal::Limit(limit)),
+            Err(GridRefusal::NoMemory) => Err(Refusal::Halt(AllocError)),
+        }
+    }
+
+    fn is_whole(&self) -> bool {
+        matches!(self, GridStage::Over(_))
+    }
+
+    ghost stands_rests = { λ first before s stands. tt };
 }

@@ -4,7 +4,10 @@ use Rattle.std.proofs.lemmas.Bool.{cases_Bool}
 use Rattle.aim_messages.specs.declared.script.Line.{Line}
 use Rattle.aim_messages.specs.declared.script.Line.TheVariants as line
 use Rattle.aim_messages.specs.declared.script.Name.{Name}
-use Rattle.aim_script.specs.declared.decisions.Decision.TheVariants as decision
+use Rattle.aim_script_reading.specs.declared.decisions.Bound.TheVariants as bound
+use Rattle.aim_script_reading.specs.declared.decisions.Refused.TheVariants as refused
+use Rattle.aim_script_reading.specs.declared.decisions.Why.TheVariants as reason
+use Rattle.aim_script_reading.specs.Verdicts.{decides, goes_on, number_after, of_read}
 use Rattle.aim_script.specs.declared.decisions.Kind.{Kind}
 use Rattle.aim_script.specs.declared.decisions.Kind.TheVariants as why
 use Rattle.aim_script.specs.declared.decisions.Limit.{Limit}
@@ -15,10 +18,9 @@ use Rattle.aim_script.specs.Headers.{Stands as StandsAsHeader, part_of}
 use Rattle.aim_script.specs.Kinds.{kinds as kinds_of_any, kind_of_fault as kind_of_any}
 use Rattle.aim_script.specs.Order.{Part, part_after, belongs}
 use Rattle.aim_script.specs.Said.{last_of}
-use Rattle.aim_script.specs.Verdicts.{decides, goes_on, number_after}
 use Rattle.aim_script.proofs.KindLemmas.{first_kind, first_kind_is, out_of_order}
 use Rattle.aim_mail_script.specs.Kinds.{is_order, kinds, kind_of_fault, limit_of}
-use Rattle.aim_mail_script.specs.Verdicts.{of_read}
+use Rattle.aim_mail_script.specs.Verdicts.{event_rules}
 
 kind_is : (before : List Line) (l : Line) → kind_of_fault before l ≡ first_kind kinds before l
 kind_is before l = first_kind_is kinds before l
@@ -67,13 +69,13 @@ same_kind before h l st = elim (cases_Bool (is_order before l)) [
 ]
 
 -- a line without a kind and a limit goes on
-pub goes : (before : List Line) (l : Line) → kind_of_fault before l ≡ None → limit_of before l ≡ None → of_read before (Ok l) ≡ goes_on l
+pub goes : (before : List Line) (l : Line) → kind_of_fault before l ≡ None → limit_of before l ≡ None → of_read event_rules before (Ok l) ≡ goes_on l
 goes before l no_kind no_limit = rw (no_kind, no_limit) refl
 
 -- a line with a kind decides
-pub falls : (before : List Line) (l : Line) (kind : Kind) → kind_of_fault before l ≡ Some kind → of_read before (Ok l) ≡ decides (decision.Bad (number_after before) kind)
+pub falls : (before : List Line) (l : Line) (kind : Kind) → kind_of_fault before l ≡ Some kind → of_read event_rules before (Ok l) ≡ decides (refused.Bad (number_after before) (reason.Fault kind))
 falls before l kind is = rw is refl
 
 -- a line without a kind that goes past a limit
-pub passes : (before : List Line) (l : Line) (which : Limit) → kind_of_fault before l ≡ None → limit_of before l ≡ Some which → of_read before (Ok l) ≡ decides (decision.Limit which)
+pub passes : (before : List Line) (l : Line) (which : Limit) → kind_of_fault before l ≡ None → limit_of before l ≡ Some which → of_read event_rules before (Ok l) ≡ decides (refused.Limit (bound.Further which))
 passes before l which no_kind past = rw (no_kind, past) refl

@@ -1,5 +1,5 @@
 pub mod Kinding
 pub mod Staging
 pub mod Replaying
-pub mod Deciding
+pub mod Telling
 pub mod Rows

@@ -1,6 +1,6 @@
 -- What a line comes to at the stage where it belongs.
 use Rattle.std.proofs.Common.{◌≡◌, ◌⊎◌, inl, inr, ℕ, zero, suc, ◌+◌, ◌*◌, ◌<◌, ◌≤◌, Bool, true, false, nat_lt, nat_le, List, [], ◌∷◌, ◌++◌, length, filter_map, take, Option, Some, None, Result, Ok, Err, refl, sym, ap, ◌∙◌, subst, arith, length-append, append-nil, slice_get}
-use Rattle.std.specs.Prelude.{if◌then◌else◌, IfOk}
+use Rattle.std.specs.Prelude.{if◌then◌else◌}
 use Rattle.std.specs.Option.{unwrap_or}
 use Rattle.std.proofs.lemmas.Bool.{leb-false, ltb-false}
 use Rattle.std.proofs.lemmas.List.{take-append-le}
@@ -12,7 +12,13 @@ use Rattle.aim_messages.specs.declared.script.LineKind.{LineKind}
 use Rattle.aim_messages.specs.declared.entries.TheConstants.{LATEST_MOMENT, MOST_ENTRIES}
 use Rattle.aim_text_lines.specs.Reading.{line_at}
 use Rattle.aim_io.specs.Lines.{Line as LineOf}
-use Rattle.aim_script.specs.declared.decisions.Decision.TheVariants as decision
+use Rattle.aim_script_reading.specs.declared.decisions.Bound.TheVariants as bound
+use Rattle.aim_script_reading.specs.declared.decisions.Refused.TheVariants as refused
+use Rattle.aim_script_reading.specs.declared.decisions.Why.TheVariants as reason
+use Rattle.aim_script_reading.specs.declared.takers.Refusal.{Refusal}
+use Rattle.aim_script_reading.specs.declared.takers.Refusal.TheVariants as refusal
+use Rattle.aim_script_reading.specs.Verdicts.{decides, judge, number_after, of_read}
+use Rattle.aim_script_reading.proofs.First.{script_more, script_none}
 use Rattle.aim_script.specs.declared.decisions.Kind.{Kind}
 use Rattle.aim_script.specs.declared.decisions.Kind.TheVariants as why
 use Rattle.aim_script.specs.declared.decisions.Limit.{Limit}
@@ -23,25 +29,21 @@ use Rattle.aim_script.specs.Headers.{IsSet, Heeds}
 use Rattle.aim_script.specs.Kinds.{kind_of_fault as kind_of_any, vehicles_limit as vehicles_limit_of_any}
 use Rattle.aim_script.specs.Order.{part_after, is_end}
 use Rattle.aim_script.specs.Said.{version_in, version_after, name_in, names_of, layout_of, vehicles_in, call_in, calls_of, last_of}
-use Rattle.aim_script.specs.Verdicts.{decides, number_after, at_end}
 use Rattle.aim_script.specs.Versions.{version_number}
 use Rattle.aim_script.proofs.AppendLemmas.{IsSilent, filter_map-one, last_of_more, version_same, layout_same, vehicles_same, calls_more, calls_same}
 use Rattle.aim_script.proofs.KindLemmas.{event_kind as event_kind_of, begin_kind, end_kind}
 use Rattle.aim_drive_script.specs.Kinds.{vehicles_limit}
 use Rattle.aim_mail_script.specs.declared.scripts.Event.{Event}
-use Rattle.aim_mail_script.specs.declared.scripts.EventScript.{EventScript}
-use Rattle.aim_mail_script.specs.declared.scripts.EventEnding.{EventEnding}
 use Rattle.aim_mail_script.specs.declared.stages.Draft.{Draft}
 use Rattle.aim_mail_script.specs.declared.stages.Stage.{Stage}
 use Rattle.aim_mail_script.specs.declared.stages.Stage.TheVariants as stage
-use Rattle.aim_mail_script.specs.declared.stages.Refusal.{Refusal}
-use Rattle.aim_mail_script.specs.declared.stages.Refusal.TheVariants as refusal
 use Rattle.aim_mail_script.specs.Said.{event_in, events_of}
 use Rattle.aim_mail_script.specs.Kinds.{kind_of_fault, limit_of}
 use Rattle.aim_mail_script.specs.Fits.{FitsEvent, IsFit}
 use Rattle.aim_mail_script.specs.Scripts.{AreEvents}
-use Rattle.aim_mail_script.specs.Stages.{IsDraft, Stands, Takes, Judged, Ends, event_kind, version_at}
-use Rattle.aim_mail_script.specs.Verdicts.{judge, of_read}
+use Rattle.aim_mail_script.specs.Stages.{GoesTo, IsDraft, Stands, Takes, Judged, Ends, event_kind, version_at}
+use Rattle.aim_script.specs.Spellings.{of_words}
+use Rattle.aim_mail_script.specs.Verdicts.{event_rules}
 use Rattle.aim_mail_script.proofs.Kinding.{other_kind, same_kind, goes, falls, passes}
 
 some_is : {A : Type 0} (x y : A) → Some x ≡ Some y → x ≡ y
@@ -61,33 +63,12 @@ get_more (y ∷ xs) x (suc k) m e = at (get_more xs x k m e)
     at (inl p) = inl (omega (arith, p.0), p.1)
     at (inr p) = inr (ap suc p.0, p.1)
 
--- what holds of each line behind those before it
-each_more : (P : List Line → Line → Type 0) (lines : List Line) (l : Line) → ((k : ℕ) (m : Line) → slice_get lines k ≡ Some m → P (take k lines) m) → P lines l
-    → (k : ℕ) (m : Line) → slice_get (lines ++ l ∷ []) k ≡ Some m → P (take k (lines ++ l ∷ [])) m
-each_more P lines l each last k m e = at (get_more lines l k m e)
-  where
-    at : ((k < length lines) × (slice_get lines k ≡ Some m)) ⊎ ((k ≡ length lines) × (m ≡ l)) → P (take k (lines ++ l ∷ [])) m
-    at (inl p) =
-        let lt : k < length lines = p.0 in
-        let within : k ≤ length lines = omega arith in
-        subst (λ ls. P ls m) (sym (take-append-le k lines (l ∷ []) within)) (each k m p.1)
-    at (inr p) = subst (λ ls. P ls m) (sym (ap (λ n. take n (lines ++ l ∷ [])) p.0 ∙ take-append_seam lines (l ∷ []))) (subst (λ x. P lines x) (sym p.1) last)
-
 pub no_lines : AreEvents []
-no_lines = record {
-  no_fault = λ k l e. absurd (none_some l e);
-  no_limit = λ k l e. absurd (none_some l e);
-}
-
-events_more : (lines : List Line) (l : Line) → AreEvents lines → kind_of_fault lines l ≡ None → limit_of lines l ≡ None → AreEvents (lines ++ l ∷ [])
-events_more lines l d kind limit = record {
-  no_fault = each_more (λ ls m. kind_of_fault ls m ≡ None) lines l d.no_fault kind;
-  no_limit = each_more (λ ls m. limit_of ls m ≡ None) lines l d.no_limit limit;
-}
+no_lines = script_none event_rules
 
 -- a line that goes on, and the stage behind it
-taken : (before : List Line) (l : Line) (s : Stage) → AreEvents before → kind_of_fault before l ≡ None → limit_of before l ≡ None → (AreEvents (before ++ l ∷ []) → Stands (before ++ l ∷ []) s) → Takes before l (Ok s)
-taken before l s whole kind limit next = (goes before l kind limit, next (events_more before l whole kind limit))
+taken : (before : List Line) (l : Line) (s : Stage) → AreEvents before → kind_of_fault before l ≡ None → limit_of before l ≡ None → (AreEvents (before ++ l ∷ []) → Stands (before ++ l ∷ []) s) → GoesTo before l s
+taken before l s whole kind limit next = (goes before l kind limit, next (script_more event_rules before l whole kind limit))
 
 -- ---- the header
 
@@ -95,12 +76,12 @@ no_limit : (before : List Line) (l : Line) → vehicles_in l ≡ None → limit_
 no_limit before l none = rw none refl
 
 -- a line before that of the vehicles
-pub header_more : (before : List Line) (l : Line) (h next : Header) → Stands before (stage.Header h) → Heeds before l (Ok (headed.More next)) → Takes before l (Ok (stage.Header next))
+pub header_more : (before : List Line) (l : Line) (h next : Header) → Stands before (stage.Header h) → Heeds before l (Ok (headed.More next)) → GoesTo before l (stage.Header next)
 header_more before l h next st (kind, vehicles, stands) =
     taken before l (stage.Header next) st.whole (same_kind before h l st.says ∙ kind) (no_limit before l vehicles) (λ whole. record { whole = whole; says = stands })
 
 -- a line that is refused
-pub header_falls : (before : List Line) (l : Line) (h : Header) (kind : Kind) → Stands before (stage.Header h) → kind_of_any before l ≡ Some kind → of_read before (Ok l) ≡ decides (decision.Bad (number_after before) kind)
+pub header_falls : (before : List Line) (l : Line) (h : Header) (kind : Kind) → Stands before (stage.Header h) → kind_of_any before l ≡ Some kind → of_read event_rules before (Ok l) ≡ decides (refused.Bad (number_after before) (reason.Fault kind))
 header_falls before l h kind st is = falls before l kind (same_kind before h l st.says ∙ is)
 
 silent_vehicles : (l : Line) (n : ℕ) → vehicles_in l ≡ Some n → IsSilent l
@@ -114,7 +95,7 @@ limit_is before l s vehicles set =
 
 -- the line of the vehicles, which aren't too many
 pub header_whole : (before : List Line) (l : Line) (h : Header) (s : Setting) (n : ℕ) → Stands before (stage.Header h) → Heeds before l (Ok (headed.Whole s)) → n ≡ s.layout.grid.spans → None ≡ vehicles_limit n s.vehicles
-    → Takes before l (Ok (stage.Begin s))
+    → GoesTo before l (stage.Begin s)
 header_whole before l h s n st (kind, vehicles, set) spans within =
     let limit : vehicles_limit s.layout.grid.spans s.vehicles ≡ None = rw (← spans) (sym within) in
     taken before l (stage.Begin s) st.whole (same_kind before h l st.says ∙ kind) (limit_is before l s vehicles set ∙ limit)
@@ -122,7 +103,7 @@ header_whole before l h s n st (kind, vehicles, set) spans within =
 
 -- the line of too many
 pub header_past : (before : List Line) (l : Line) (h : Header) (s : Setting) (n : ℕ) (which : Limit) → Stands before (stage.Header h) → Heeds before l (Ok (headed.Whole s)) → n ≡ s.layout.grid.spans
-    → Some which ≡ vehicles_limit n s.vehicles → of_read before (Ok l) ≡ decides (decision.Limit which)
+    → Some which ≡ vehicles_limit n s.vehicles → of_read event_rules before (Ok l) ≡ decides (refused.Limit (bound.Further which))
 header_past before l h s n which st (kind, vehicles, set) spans past =
     passes before l which (same_kind before h l st.says ∙ kind) (limit_is before l s vehicles set ∙ rw (← spans) (sym past))
 
@@ -144,9 +125,9 @@ no_events names (line.StopAt at ∷ ls) e = absurd (cc)
 no_events names (l ∷ ls) e = no_events names ls e
 
 -- `begin`
-pub begin_taken : (before : List Line) (s : Setting) (d : Draft) → d.version ≡ s.version → d.script.layout ≡ s.layout → d.script.vehicles ≡ s.vehicles → d.script.events.items ≡ [] → Stands before (stage.Begin s)
-    → Takes before line.Begin (Ok (stage.Body d))
-begin_taken before s d version layout vehicles events st =
+begin_goes : (before : List Line) (s : Setting) (d : Draft) → d.version ≡ s.version → d.script.layout ≡ s.layout → d.script.vehicles ≡ s.vehicles → d.script.events.items ≡ [] → Stands before (stage.Begin s)
+    → GoesTo before line.Begin (stage.Body d)
+begin_goes before s d version layout vehicles events st =
     let l = line.Begin in
     let set = st.says.0 in
     let open_ = st.says.1 in
@@ -166,6 +147,10 @@ begin_taken before s d version layout vehicles events st =
     } in
     taken before l (stage.Body d) st.whole (other_kind before l refl ∙ begin_kind before set.part) refl
     (λ whole. record { whole = whole; says = (ap part_after (last_of_more before l), ap is_end (last_of_more before l), draft) })
+
+pub begin_taken : (before : List Line) (l : Line) (s : Setting) (d : Draft) → l ≡ line.Begin → d.version ≡ s.version → d.script.layout ≡ s.layout → d.script.vehicles ≡ s.vehicles → d.script.events.items ≡ [] → Stands before (stage.Begin s)
+    → GoesTo before l (stage.Body d)
+begin_taken before l s d is version layout vehicles events st = subst (λ (x : Line). GoesTo before x (stage.Body d)) (sym is) (begin_goes before s d version layout vehicles events st)
 
 none_first : (b : Bool) (kind : Kind) (rest : Option Kind) → (if b then Some kind else rest) ≡ None → (b ≡ false) × (rest ≡ None)
 none_first true kind rest e = absurd (cc)
@@ -187,7 +172,7 @@ each_event P es e each last k x is = at (get_more es e k x is)
 
 -- an event
 pub event_taken : (before : List Line) (d new : Draft) (v at : ℕ) (m : Message) → event_kind d.script.vehicles v at ≡ None → new.version ≡ d.version → new.script.layout ≡ d.script.layout → new.script.vehicles ≡ d.script.vehicles
-    → new.script.events.items ≡ d.script.events.items ++ (record { vehicle = v; moment = at; message = m }) ∷ [] → Stands before (stage.Body d) → Takes before (line.Event v at m) (Ok (stage.Body new))
+    → new.script.events.items ≡ d.script.events.items ++ (record { vehicle = v; moment = at; message = m }) ∷ [] → Stands before (stage.Body d) → GoesTo before (line.Event v at m) (stage.Body new)
 event_taken before d new v at m good version layout vehicles events st =
     let l = line.Event v at m in
     let e : Event = record { vehicle = v; moment = at; message = m } in
@@ -215,14 +200,14 @@ event_taken before d new v at m good version layout vehicles events st =
 
 -- an event that is at fault
 pub event_falls : (before : List Line) (d : Draft) (v at : ℕ) (m : Message) (kind : Kind) → event_kind d.script.vehicles v at ≡ Some kind → Stands before (stage.Body d)
-    → of_read before (Ok (line.Event v at m)) ≡ decides (decision.Bad (number_after before) kind)
+    → of_read event_rules before (Ok (line.Event v at m)) ≡ decides (refused.Bad (number_after before) (reason.Fault kind))
 event_falls before d v at m kind is st =
     let l = line.Event v at m in
     falls before l kind (other_kind before l refl ∙ event_kind_of before v at m st.says.0 ∙ ap (λ n. event_kind n v at) st.says.2.declared ∙ is)
 
 -- `end`
-pub end_taken : (before : List Line) (d : Draft) → Stands before (stage.Body d) → Takes before line.End (Ok (stage.Over d))
-end_taken before d st =
+end_goes : (before : List Line) (d : Draft) → Stands before (stage.Body d) → GoesTo before line.End (stage.Over d)
+end_goes before d st =
     let l = line.End in
     let draft = st.says.2 in
     let silent : IsSilent l = record { grid = refl; times = refl; lanes = refl; added = refl } in
@@ -240,6 +225,9 @@ end_taken before d st =
     taken before l (stage.Over d) st.whole (other_kind before l refl ∙ end_kind before st.says.0) refl
     (λ whole. record { whole = whole; says = (ap part_after (last_of_more before l), ap is_end (last_of_more before l), next) })
 
+pub end_taken : (before : List Line) (l : Line) (d : Draft) → l ≡ line.End → Stands before (stage.Body d) → GoesTo before l (stage.Over d)
+end_taken before l d is st = subst (λ (x : Line). GoesTo before x (stage.Over d)) (sym is) (end_goes before d st)
+
 -- ---- reading, and the end
 
 pub version_is : (before : List Line) (s : Stage) → Stands before s → version_after before ≡ version_at s
@@ -248,19 +236,19 @@ version_is before (stage.Begin s) st = st.says.0.version
 version_is before (stage.Body d) st = st.says.2.version
 version_is before (stage.Over d) st = st.says.2.version
 
-read_as : (before : List Line) (bytes : List ℕ) (n : ℕ) (l : Line) → version_after before ≡ n → Ok l ≡ line_at n bytes → judge before (LineOf bytes) ≡ of_read before (Ok l)
-read_as before bytes n l version is = ap (λ v. of_read before (line_at v bytes)) version ∙ ap (of_read before) (sym is)
+read_as : (before : List Line) (bytes : List ℕ) (n : ℕ) (r : Result Line LineKind) → version_after before ≡ n → r ≡ line_at n bytes → judge event_rules before (LineOf bytes) ≡ of_read event_rules before (of_words r)
+read_as before bytes n r version is = ap (λ v. of_read event_rules before (of_words (line_at v bytes))) version ∙ ap (λ x. of_read event_rules before (of_words x)) (sym is)
 
 -- a line that was read comes to what its bytes come to
-pub judged : (before : List Line) (bytes : List ℕ) (n : ℕ) (l : Line) (r : Result Stage Refusal) → version_after before ≡ n → Ok l ≡ line_at n bytes → Takes before l r → Judged before bytes r
-judged before bytes n l (Ok next) version is t = (l, read_as before bytes n l version is ∙ t.0, t.1)
-judged before bytes n l (Err (refusal.Bad kind)) version is t = read_as before bytes n l version is ∙ t
-judged before bytes n l (Err (refusal.Limit which)) version is t = read_as before bytes n l version is ∙ t
-judged before bytes n l (Err refusal.NoMemory) version is t = tt
+pub judged : {H : Type 0} (before : List Line) (bytes : List ℕ) (n : ℕ) (l : Line) (r : Result Stage (Refusal Kind Limit H)) → version_after before ≡ n → Ok l ≡ line_at n bytes → Takes before l r → Judged before bytes r
+judged before bytes n l (Ok next) version is t = (l, read_as before bytes n (Ok l) version is ∙ t.0, t.1)
+judged before bytes n l (Err (refusal.Bad kind)) version is t = read_as before bytes n (Ok l) version is ∙ t
+judged before bytes n l (Err (refusal.Limit which)) version is t = read_as before bytes n (Ok l) version is ∙ t
+judged before bytes n l (Err (refusal.Halt h)) version is t = tt
 
 -- bytes that spell no line
-pub unread : (before : List Line) (bytes : List ℕ) (n : ℕ) (kind : LineKind) → version_after before ≡ n → Err kind ≡ line_at n bytes → judge before (LineOf bytes) ≡ decides (decision.Bad (number_after before) (why.Spelling kind))
-unread before bytes n kind version is = ap (λ v. of_read before (line_at v bytes)) version ∙ ap (of_read before) (sym is)
+pub unread : (before : List Line) (bytes : List ℕ) (n : ℕ) (kind : LineKind) → version_after before ≡ n → Err kind ≡ line_at n bytes → judge event_rules before (LineOf bytes) ≡ decides (refused.Bad (number_after before) (reason.Fault (why.Spelling kind)))
+unread before bytes n kind version is = read_as before bytes n (Err kind) version is
 
 few_vehicles : (spans n : ℕ) → vehicles_limit spans n ≡ None → (n ≤ 256) × (n * spans ≤ 16777216)
 few_vehicles spans n e = at (nat_lt 256 n) refl e
@@ -273,27 +261,18 @@ few_vehicles spans n e = at (nat_lt 256 n) refl e
     at true h e = absurd (cc (rw h at e))
     at false h e = let few : n ≤ 256 = ltb-false 256 n h in (few, inner (nat_lt 16777216 (n * spans)) refl few (rw h at e))
 
--- the script is whole where its input ends behind its `end`
-pub ends_whole : (before : List Line) (d : Draft) (n : ℕ) → Stands before (stage.Over d) → length before ≡ n → n ≤ 262144 → Ends before (Ok d.script)
-ends_whole before d n st count most =
+-- the script is whole behind its `end`
+pub ends_whole : (before : List Line) (d : Draft) → Stands before (stage.Over d) → length before ≤ 262144 → Ends before d.script
+ends_whole before d st most =
     let over = st.says.1 in
     let draft = st.says.2 in
     let few = few_vehicles d.script.layout.grid.spans d.script.vehicles draft.within in
-    let events : length d.script.events.items ≤ MOST_ENTRIES = omega (arith, draft.few, count, most) in (
-      rw (over, draft.calls) refl,
-      st.whole,
-      over,
-      record { layout = sym draft.layout; vehicles = sym draft.declared; events = sym draft.events },
-      record { some_vehicles = draft.some; few_vehicles = few.0; few_spans = few.1; few_events = events; events = draft.each },
-    )
-
--- the input ends where the script goes on
-pub ends_early : (before : List Line) (n : ℕ) → is_end (last_of before) ≡ false → length before ≡ n → at_end before ≡ decision.Bad (n + 1) why.End
-ends_early before n over count = rw (over, count) refl
+    let events : length d.script.events.items ≤ MOST_ENTRIES = omega (arith, draft.few, most) in record {
+      count = draft.calls;
+      whole = st.whole;
+      is = record { layout = sym draft.layout; vehicles = sym draft.declared; events = sym draft.events };
+      fits = record { some_vehicles = draft.some; few_vehicles = few.0; few_spans = few.1; few_events = events; events = draft.each };
+    }
 
 pub not_over : (before : List Line) (h : Header) → Stands before (stage.Header h) → is_end (last_of before) ≡ false
 not_over before h st = st.says.place.over
-
-pub fits_of : (before : List Line) (r : Result EventScript EventEnding) → Ends before r → IfOk r IsFit
-fits_of before (Ok s) e = e.4
-fits_of before (Err why) e = tt

@@ -1,6 +1,7 @@
 -- A whole script of events, and what reading one comes to.
-use Rattle.std.specs.Prelude.{◌≡◌, ℕ, true, List, length, take, Option, Some, None, IfSome, Result, Ok, Err, slice_get}
+use Rattle.std.specs.Prelude.{◌≡◌, ℕ, true, List, length, Option, IfSome, Result, Ok, Err}
 use Rattle.aim_messages.specs.declared.script.Line.{Line}
+use Rattle.aim_script_reading.specs.Verdicts.{IsScript}
 use Rattle.aim_script.specs.declared.decisions.Decision.{Decision}
 use Rattle.aim_script.specs.declared.decisions.Decision.TheVariants as decision
 use Rattle.aim_script.specs.Order.{is_end}
@@ -9,13 +10,11 @@ use Rattle.aim_mail_script.specs.declared.scripts.EventScript.{EventScript}
 use Rattle.aim_mail_script.specs.declared.scripts.EventEnding.{EventEnding}
 use Rattle.aim_mail_script.specs.declared.scripts.EventEnding.TheVariants as ending
 use Rattle.aim_mail_script.specs.Said.{events_of}
-use Rattle.aim_mail_script.specs.Kinds.{kind_of_fault, limit_of}
-use Rattle.aim_mail_script.specs.Verdicts.{event_verdict}
+use Rattle.aim_mail_script.specs.Verdicts.{event_rules, event_verdict}
 
 -- no line is at fault behind those before it, and none goes past a limit
-pub record AreEvents (lines : List Line) : Type 0 where
-  pub no_fault : (k : ℕ) (l : Line) → slice_get lines k ≡ Some l → kind_of_fault (take k lines) l ≡ None
-  pub no_limit : (k : ℕ) (l : Line) → slice_get lines k ≡ Some l → limit_of (take k lines) l ≡ None
+abbrev pub AreEvents : List Line → Type 0
+AreEvents lines = IsScript event_rules lines
 
 -- the script says what the lines say
 pub record IsScriptOf (lines : List Line) (s : EventScript) : Type 0 where

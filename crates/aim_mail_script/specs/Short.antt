@@ -1,25 +1,12 @@
--- What was read where the source fails before a line decides.
-use Rattle.std.specs.Prelude.{◌≡◌, ℕ, List, [], ◌∷◌, Option, Some}
-use Rattle.aim_io.specs.Lines.{Line as LineOf}
-use Rattle.aim_io.specs.Taken.{TookLines, TookWhole}
-use Rattle.aim_messages.specs.declared.script.Line.{Line}
-use Rattle.aim_drive_script.specs.Short.{unless_decided}
-use Rattle.aim_mail_script.specs.Verdicts.{judge}
-
--- the script with further lines, if none of them decides
-abbrev pub script_after : List Line → List (List ℕ) → Option (List Line)
-script_after before [] = Some before
-script_after before (line ∷ lines) = unless_decided before (judge before (LineOf line)) (λ more. script_after more lines)
+-- What was read where the source fails before a line decides, and what was read at all.
+use Rattle.std.specs.Prelude.{ℕ, List, Option}
+use Rattle.aim_script_reading.specs.Short.{LastNeededBy, StopsShort as StopsShortBy}
+use Rattle.aim_mail_script.specs.Verdicts.{event_rules}
 
 -- none of the whole lines in the bytes that were read decides
-pub record StopsShort (left_old left_new : Option (List ℕ)) : Type 0 where
-  pub lines : List (List ℕ)
-  pub took : TookWhole left_old left_new lines
-  pub before : List Line
-  pub script : script_after [] lines ≡ Some before
+abbrev pub StopsShort : Option (List ℕ) → Option (List ℕ) → Type 0
+StopsShort left_old left_new = StopsShortBy event_rules left_old left_new
 
--- these lines are gone, and make this script
-pub record TookScript (left_old left_new : Option (List ℕ)) (script : List Line) : Type 0 where
-  pub lines : List (List ℕ)
-  pub took : TookLines left_old left_new lines
-  pub is : script_after [] lines ≡ Some script
+-- the last read was needed: what was read before it decides nothing
+abbrev pub LastNeeded : Option (List ℕ) → Option (List ℕ) → Option ℕ → Type 0
+LastNeeded left_old left_new last = LastNeededBy event_rules left_old left_new last

@@ -1,18 +1,22 @@
 //! How far a script has come, line by line.
 
-ghost use Rattle.std.specs.Prelude.{◌≡◌, ◌≤◌, List, [], length};
+ghost use Rattle.std.specs.Prelude.{◌≡◌, ◌≤◌, List, [], length, true};
 ghost use Rattle.aim_messages.specs.declared.messages.Message.{Message as AnyMessage};
 ghost use Rattle.aim_messages.specs.declared.script.Line.{Line};
 ghost use Rattle.aim_script.specs.Headers.{HasName};
+ghost use Rattle.aim_script.specs.Order.{is_end};
+ghost use Rattle.aim_script.specs.Said.{last_of};
 ghost use Rattle.aim_script.specs.Versions.{version_number};
 ghost use Rattle.aim_mail_script.specs.Stages.{Ends, Judged, Stands, Takes, version_at};
 
 use crate::checks::{event_fault, vehicles_limit};
-use crate::scripts::{Event, EventEnding, EventScript};
+use crate::scripts::{Event, EventScript};
 use aim_messages::{Line, Message};
-use aim_script::{Headed, Header, Kind, Limit, ScriptVersion, Setting};
+use aim_script::{Headed, Header, HeaderRefusal, Kind, Limit, ScriptVersion, Setting};
+use aim_script_reading::{LineTaker, Refusal};
 use aim_text_lines::read_line;
-use std::alloc::Global;
+use std::alloc::{AllocError, Global};
+use std::mem;
 
 /// A script so far, and the version of its lines.
 #[derive(Drop)]
@@ -34,18 +38,11 @@ pub(crate) enum Stage {
     Over(Draft),
 }
 
-/// Why a line isn't taken.
-pub(crate) enum Refusal {
-    /// It is at fault.
-    Bad(Kind),
-    /// It goes past a limit.
-    Limit(Limit),
-    /// Memory has run out.
-    NoMemory,
-}
+// Why a line isn't taken: its kind, its limit, or that memory has run out.
+type NotTaken = Refusal<Kind, Limit, AllocError>;
 
 // Takes a line before that of the vehicles, or this one.
-fn headed(header: Header, alloc: Global, line: &Line) -> Result<Stage, Refusal>
+fn headed(header: Header, alloc: Global, line: &Line) -> Result<Stage, NotTaken>
     requires { HasName line.now }
     ensures { (before : List Line) → Stands before (Stage.Header header) → Takes before line.now result }
 {
@@ -61,13 +58,13 @@ fn headed(header: Header, alloc: Global, line: &Line) -> Result<Stage, Refusal>
                 None => Ok(Stage::Begin(setting)),
             }
         }
-        Err(aim_script::HeaderRefusal::Bad(kind)) => Err(Refusal::Bad(kind)),
-        Err(aim_script::HeaderRefusal::NoMemory) => Err(Refusal::NoMemory),
+        Err(HeaderRefusal::Bad(kind)) => Err(Refusal::Bad(kind)),
+        Err(HeaderRefusal::NoMemory) => Err(Refusal::Halt(AllocError)),
     }
 }
 
 // Takes the line behind that of the vehicles.
-fn begun(setting: Setting, alloc: Global, line: &Line) -> Result<Stage, Refusal>
+fn begun(setting: Setting, alloc: Global, line: &Line) -> Result<Stage, NotTaken>
     ensures { (before : List Line) → Stands before (Stage.Begin setting) → Takes before line.now result }
 {
     match line {
@@ -99,7 +96,7 @@ fn gathered(
     vehicle: u32,
     moment: u32,
     message: &Message,
-) -> Result<Stage, Refusal>
+) -> Result<Stage, NotTaken>
     ensures { (before : List Line) → Stands before (Stage.Body draft) → Takes before (Line.Event vehicle moment message.now) result }
 {
     if let Some(kind) = event_fault(draft.script.vehicles, vehicle, moment) {
@@ -115,13 +112,13 @@ fn gathered(
         Ok(()) => Ok(Stage::Body(draft)),
         Err(_) => {
             drop(draft);
-            Err(Refusal::NoMemory)
+            Err(Refusal::Halt(AllocError))
         }
     }
 }
 
 // Takes a line of the body.
-fn continued(draft: Draft, line: &Line) -> Result<Stage, Refusal>
+fn continued(draft: Draft, line: &Line) -> Result<Stage, NotTaken>
     ensures { (before : List Line) → Stands before (Stage.Body draft) → Takes before line.now result }
 {
     match line {
@@ -158,7 +155,7 @@ impl Stage {
     }
 
     // Takes the next line of a script.
-    fn take_line(self, alloc: Global, line: &Line) -> Result<Stage, Refusal>
+    fn take_line(self, alloc: Global, line: &Line) -> Result<Stage, NotTaken>
         requires { HasName line.now }
         ensures { (before : List Line) → Stands before self → Takes before line.now result }
     {
@@ -173,8 +170,8 @@ impl Stage {
         }
     }
 
-    /// Takes the next line of a script, without its byte 10.
-    pub(crate) fn take(self, alloc: Global, bytes: &[u8]) -> Result<Stage, Refusal>
+    // The stage behind the next line of a script, without its byte 10.
+    fn after(self, alloc: Global, bytes: &[u8]) -> Result<Stage, NotTaken>
         ensures { (before : List Line) → Stands before self → Judged before bytes.now result }
     {
         match read_line(bytes, self.version().number()) {
@@ -186,17 +183,58 @@ impl Stage {
         }
     }
 
-    /// The script, if it is whole where its input ends here, behind so many lines.
-    pub(crate) fn end(self, lines: u32) -> Result<EventScript, EventEnding>
-        requires few { lines ≤ 262144 }
-        ensures { (before : List Line) → Stands before self → length before ≡ lines → Ends before result }
+    /// The script, which is whole.
+    #[tactic(auto, using(crate::proofs::Staging::ends_whole, crate::proofs::Staging::not_over))]
+    pub(crate) fn script(self) -> EventScript
+        requires { (before : List Line) × Stands before self × (is_end (last_of before) ≡ true) }
+        ensures { (before : List Line) → Stands before self → is_end (last_of before) ≡ true → length before ≤ 262144 → Ends before result }
     {
         match self {
-            Stage::Over(draft) => Ok(draft.script),
-            other => {
-                drop(other);
-                Err(EventEnding::Bad(lines + 1, Kind::End))
-            }
+            Stage::Over(draft) => draft.script,
+            _ => unreachable!(),
         }
     }
+}
+
+impl LineTaker for Stage {
+    ghost use Rattle.std.specs.Prelude.{List};
+    ghost use Rattle.aim_mail_script.specs.Stages.{Stands};
+    ghost use Rattle.aim_mail_script.specs.Verdicts.{event_rules};
+
+    type Line = Line;
+
+    type Kind = Kind;
+
+    type Limit = Limit;
+
+    type Halt = AllocError;
+
+    ghost rules = { event_rules };
+
+    ghost stands = { λ first before s. Stands before s };
+
+    ghost rests = { λ first before s. Unit {0} };
+
+    ghost halts = { λ first before s why. Unit {0} };
+
+    fn take(
+        &mut self,
+        alloc: Global,
+        bytes: &[u8],
+    ) -> Result<(), Refusal<Kind, Limit, AllocError>> {
+        let stage = mem::replace(self, Stage::new());
+        match stage.after(alloc, bytes) {
+            Ok(next) => {
+                *self = next;
+                Ok(())
+            }
+            Err(why) => Err(why),
+        }
+    }
+
+    fn is_whole(&self) -> bool {
+        matches!(self, Stage::Over(_))
+    }
+
+    ghost stands_rests = { λ first before s stands. tt };
 }

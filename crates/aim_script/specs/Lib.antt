@@ -3,6 +3,7 @@ pub mod Said
 pub mod Kinds
 pub mod Verdicts
 pub mod First
+pub mod Told
 pub mod Decided
 pub mod Refusals
 pub mod Versions

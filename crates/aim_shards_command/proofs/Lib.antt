@@ -1,9 +1,6 @@
-pub mod Digits
+pub mod Counting
 pub mod Growing
-pub mod Deciding
-pub mod Ending
 pub mod Fitting
-pub mod Behind
 pub mod Calls
 pub mod Marks
 pub mod Seating

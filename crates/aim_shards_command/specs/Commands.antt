@@ -5,30 +5,29 @@ use Rattle.aim_io.specs.Causes.{Rose}
 use Rattle.aim_io.specs.Known.{AppendsFront}
 use Rattle.aim_messages.specs.Texts.{spaced}
 use Rattle.aim_shards.specs.declared.claims.ClaimEntry.{ClaimEntry}
-use Rattle.aim_shards_command.specs.declared.decisions.Refused.{Refused}
 use Rattle.aim_shards_command.specs.declared.lines.ShardLine.{ShardLine}
-use Rattle.aim_shards_command.specs.ClaimTexts.{printed, refused_words, status_of}
+use Rattle.aim_shards_command.specs.ClaimTexts.{ClaimRefused, printed, refused_words, status_of}
 use Rattle.aim_shards_command.specs.Verdicts.{verdict}
 use Rattle.aim_shards_command.specs.Running.{IsRun}
 use Rattle.aim_shards_command.specs.Texts.{history_text}
 
 -- The text of a script: of a whole one the history of a run of it, and of another one the line that says why it isn't whole.
-abbrev pub IsTextOf : List ShardLine → Option Refused → List ℕ → Type 0
+abbrev pub IsTextOf : List ShardLine → Option ClaimRefused → List ℕ → Type 0
 IsTextOf before None text = (log : List ClaimEntry) × IsRun before log × (text ≡ history_text log)
 IsTextOf before (Some why) text = text ≡ printed (spaced (refused_words why))
 
-abbrev pub status_for : Option Refused → ℕ
+abbrev pub status_for : Option ClaimRefused → ℕ
 status_for None = 0
 status_for (Some why) = status_of why
 
 -- the whole text of a script was written
-pub record Writes (before : List ShardLine) (why : Option Refused) (old new : Option (List ℕ)) : Type 0 where
+pub record Writes (before : List ShardLine) (why : Option ClaimRefused) (old new : Option (List ℕ)) : Type 0 where
   pub text : List ℕ
   pub is : IsTextOf before why text
   pub written : Appends old new text
 
 -- a front of it was written
-pub record WritesFront (before : List ShardLine) (why : Option Refused) (old new : Option (List ℕ)) : Type 0 where
+pub record WritesFront (before : List ShardLine) (why : Option ClaimRefused) (old new : Option (List ℕ)) : Type 0 where
   pub text : List ℕ
   pub is : IsTextOf before why text
   pub written : AppendsFront old new text

@@ -1,4 +1,3 @@
-pub mod Left
 pub mod Lines
 pub mod ClaimTexts
 pub mod Said
@@ -6,10 +5,8 @@ pub mod Kinds
 pub mod Keeps
 pub mod Refusals
 pub mod Verdicts
-pub mod Comes
 pub mod Fits
 pub mod Short
-pub mod Ends
 pub mod Following
 pub mod Calling
 pub mod Running

@@ -3,33 +3,35 @@
 ghost use Rattle.std.specs.Prelude.{◌≡◌, ◌⊎◌, ◌<◌, ◌≤◌, List, [], None, Some, length, IfSome};
 ghost use Rattle.std.specs.Io.KnownBytes.{Appends, IsAtEnd};
 ghost use Rattle.aim_io.specs.Causes.{Rose};
+ghost use Rattle.aim_script_reading.specs.Short.{TakesAtMost};
 ghost use Rattle.aim_shards_command.specs.declared.lines.ShardLine.{ShardLine};
-ghost use Rattle.aim_shards_command.specs.Short.{StopsShort};
+ghost use Rattle.aim_shards_command.specs.Short.{LastNeeded, StopsShort};
 ghost use Rattle.aim_shards_command.specs.ClaimTexts.{status_of};
 ghost use Rattle.aim_shards_command.specs.Commands.{Completes, Shows, ShowsFront};
 ghost use Rattle.aim_shards_command.specs.Puts.{Puts, status_after};
 
 use crate::running::run_script;
 use crate::texts::text_of;
-use crate::{Refused, Script, ScriptRead, Stop, read_script, refused_line};
+use crate::{ClaimKind, ClaimLimit, Script, ScriptRead, read_claims, refused_line};
 use aim_io::{Sink, Source, put_all};
+use aim_script_reading::{Refused, Stop};
 use aim_shards::Hold;
-use std::alloc::Global;
+use std::alloc::{AllocError, Global};
 use std::sync::Wait;
 use std::thread::Threads;
 
 // The status of a script that isn't whole.
-fn status_of(refused: Refused) -> u8
+fn status_of(refused: Refused<ClaimKind, ClaimLimit>) -> u8
     ensures { result ≡ status_of refused }
 {
     match refused {
         Refused::Bad(..) => 3,
-        Refused::ClaimLimit(_) => 6,
+        Refused::Limit(_) => 6,
     }
 }
 
 // Writes why a script isn't whole, and answers the status.
-fn put_refused<K: Sink>(sink: &mut K, refused: Refused) -> u8
+fn put_refused<K: Sink>(sink: &mut K, refused: Refused<ClaimKind, ClaimLimit>) -> u8
     ensures puts { (lines : List ShardLine) → Puts lines (Some refused) (K.held sink.old) (K.held sink.new) (K.faults sink.old) (K.faults sink.new) result }
     ensures memory { result ≡ 7 → ⊥ }
 {
@@ -86,12 +88,12 @@ fn put_read<R: Threads + Wait + Sync, K: Sink, H: Hold>(
 }
 
 // The status where a script isn't read to the line that decides.
-fn status_after(stop: Stop) -> u8
+fn status_after(stop: Stop<AllocError>) -> u8
     ensures { result ≡ status_after stop }
 {
     match stop {
         Stop::Read => 4,
-        Stop::NoMemory => 7,
+        Stop::Halt(_) => 7,
     }
 }
 
@@ -120,6 +122,11 @@ pub fn shards<R: Threads + Wait + Sync, S: Source, K: Sink, H: Hold>(
     ensures short { result ≡ 4 → StopsShort (S.left source.old) (S.left source.new) }
     ensures nothing { (result ≡ 4) ⊎ (result ≡ 7) → Appends (K.held sink.old) (K.held sink.new) [] }
 
+    // Whatever the status, no more than one byte past the greatest input is taken, and nothing is read behind bytes that
+    // decide.
+    ensures most { TakesAtMost 67108865 (S.left source.old) (S.left source.new) }
+    ensures needed { (source.new ≡ source.old) ⊎ LastNeeded (S.left source.old) (S.left source.new) (S.last_read source.new) }
+
     // Each status has its cause.
     ensures read { result ≡ 4 → Rose (S.faults source.old) (S.faults source.new) }
     ensures write { result ≡ 5 → Rose (K.faults sink.old) (K.faults sink.new) }
@@ -128,7 +135,7 @@ pub fn shards<R: Threads + Wait + Sync, S: Source, K: Sink, H: Hold>(
     ensures statuses { (result ≡ 0) ⊎ ((result ≡ 3) ⊎ ((result ≡ 4) ⊎ ((result ≡ 5) ⊎ ((result ≡ 6) ⊎ (result ≡ 7))))) }
     ensures complete { IfSome (S.left source.old) (λ bytes. Completes bytes (S.faults source.old) (S.faults source.new) (K.faults sink.old) (K.faults sink.new) result) }
 {
-    match read_script(alloc, source) {
+    match read_claims(alloc, source) {
         Ok(read) => put_read(rt, alloc, &read, workers, sink, hold),
         Err(stop) => status_after(stop),
     }

@@ -3,17 +3,14 @@
 ghost use Rattle.std.specs.Prelude.{◌≡◌, ◌≤◌, [], length, take};
 ghost use Rattle.aim_messages.specs.Texts.{spaced};
 ghost use Rattle.aim_messages.specs.Writing.{added};
-ghost use Rattle.aim_shards_command.specs.ClaimTexts.{kind_text, limit_text, printed, refused_words};
+ghost use Rattle.aim_shards_command.specs.ClaimTexts.{kind_text, limit_text, printed, refused_words, why_text};
 
 use aim_messages::{LineKind, Text};
+use aim_script_reading::{Bound, Refused, Why};
 
-/// Why a line of a script is at fault.
+/// Why a line of a script is at fault behind those before it.
 #[derive(Clone, Copy)]
 pub enum ClaimKind {
-    /// It has more than 400 bytes.
-    Long,
-    /// The input is at its end, and no `end` line came.
-    End,
     /// It spells no line.
     Spelling(LineKind),
     /// A line of that form may not stand at that place.
@@ -26,23 +23,9 @@ pub enum ClaimKind {
     Call,
 }
 
-/// What a script goes past.
+/// A script of claims has no limits of its own.
 #[derive(Clone, Copy)]
-pub enum ClaimLimit {
-    /// So many bytes.
-    Bytes,
-    /// So many lines.
-    Lines,
-}
-
-/// Why a script isn't whole.
-#[derive(Clone, Copy)]
-pub enum Refused {
-    /// The line of this number, counted from 1, is the first at fault.
-    Bad(u32, ClaimKind),
-    /// The input goes past a limit.
-    ClaimLimit(ClaimLimit),
-}
+pub enum ClaimLimit {}
 
 // The word for a kind of line that can't be read.
 fn spelling_text(kind: LineKind) -> &'static [u8]
@@ -63,8 +46,6 @@ fn kind_text(kind: ClaimKind) -> &'static [u8]
     ensures short { length result.now ≤ 11 }
 {
     match kind {
-        ClaimKind::Long => b"long",
-        ClaimKind::End => b"end",
         ClaimKind::Spelling(kind) => spelling_text(kind),
         ClaimKind::Order => b"order",
         ClaimKind::Shards => b"shards",
@@ -73,31 +54,44 @@ fn kind_text(kind: ClaimKind) -> &'static [u8]
     }
 }
 
+// The word for why a line is at fault.
+fn why_text(why: Why<ClaimKind>) -> &'static [u8]
+    ensures text { result.now ≡ why_text why }
+    ensures short { length result.now ≤ 11 }
+{
+    match why {
+        Why::Long => b"long",
+        Why::End => b"end",
+        Why::Fault(kind) => kind_text(kind),
+    }
+}
+
 // The word for a limit.
-fn limit_text(limit: ClaimLimit) -> &'static [u8]
+fn limit_text(limit: Bound<ClaimLimit>) -> &'static [u8]
     ensures text { result.now ≡ limit_text limit }
     ensures short { length result.now ≤ 11 }
 {
     match limit {
-        ClaimLimit::Bytes => b"bytes",
-        ClaimLimit::Lines => b"lines",
+        Bound::Bytes => b"bytes",
+        Bound::Lines => b"lines",
+        Bound::Further(none) => match none {},
     }
 }
 
 // Adds the words of the line.
-fn put_refused(text: &mut Text, refused: Refused)
+fn put_refused(text: &mut Text, refused: Refused<ClaimKind, ClaimLimit>)
     requires { text.old ≡ [] }
     ensures words { text.new ≡ added [] (refused_words refused) }
     ensures fits { length text.new ≤ 50 }
 {
     match refused {
-        Refused::Bad(number, kind) => {
+        Refused::Bad(number, why) => {
             text.word(b"bad");
             text.word(b"line");
             text.number(number);
-            text.word(kind_text(kind));
+            text.word(why_text(why));
         }
-        Refused::ClaimLimit(limit) => {
+        Refused::Limit(limit) => {
             text.word(b"limit");
             text.word(limit_text(limit));
         }
@@ -106,7 +100,7 @@ fn put_refused(text: &mut Text, refused: Refused)
 
 /// Puts the line that says why a script isn't whole at the front of `line`, its byte 10 included, and says how long it is.
 /// Takes no memory.
-pub fn refused_line(refused: Refused, line: &mut [u8; 400]) -> usize
+pub fn refused_line(refused: Refused<ClaimKind, ClaimLimit>, line: &mut [u8; 400]) -> usize
     ensures text { take result line.new ≡ printed (spaced (refused_words refused)) }
     ensures fits { result ≤ 400 }
 {

@@ -1,13 +1,14 @@
 //! The lines of scripts of claims.
 
 ghost use Rattle.std.specs.Prelude.{◌≡◌, ◌≤◌, ◌==◌, Some, None, count_by, length, map, MatchResult};
-ghost use Rattle.aim_text_words.specs.Faults.{value_of, words_of};
+ghost use Rattle.aim_text_words.specs.Faults.{number_fault, value_of, words_of};
+ghost use Rattle.aim_text_words.specs.Reading.{unless};
 ghost use Rattle.aim_shards_command.specs.Lines.{form_of, line_of, numbers_fault, numbers_of, shard_line_at};
 
-use crate::numbers::number;
-use crate::words::Words;
 use aim_messages::LineKind;
+use aim_text_words::numbers::number as number_within;
 use aim_text_words::tables::look_up;
+use aim_text_words::words::Words;
 use arrayvec::ArrayVec;
 
 /// A line of a script of claims, with its numbers in their order.
@@ -63,6 +64,14 @@ fn numbers_of(form: ShardForm) -> usize
     }
 }
 
+/// The number of 32 bits that the word spells.
+pub fn number(word: &[u8]) -> Result<u32, LineKind>
+    ensures { result ≡ unless (value_of word.now) (number_fault 0 4294967295 word.now) }
+{
+    let n = number_within(word, 0, u64::from(u32::MAX))?;
+    Ok(n as u32)
+}
+
 // How many spaces the line has.
 fn spaces(line: &[u8]) -> usize
     ensures { result ≡ count_by (λ b. b == 32) line.now }
@@ -71,7 +80,7 @@ fn spaces(line: &[u8]) -> usize
 }
 
 // How many words the line has.
-#[tactic(auto, using(crate::proofs::Digits::words_counted))]
+#[tactic(auto, using(crate::proofs::Counting::words_counted))]
 fn count(line: &[u8]) -> usize
     ensures { result ≡ length (words_of line.now) }
 {

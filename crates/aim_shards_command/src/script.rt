@@ -9,8 +9,9 @@ ghost use Rattle.aim_shards_command.specs.Kinds.{IsScript, are_terms, belongs, k
 ghost use Rattle.aim_shards_command.specs.Refusals.{Refuses};
 ghost use Rattle.aim_shards_command.specs.Said.{asked_of, set_in, sets_of, rectangle_of, terms_in, terms_of};
 
-use crate::decisions::ClaimKind;
-use crate::lines::ShardLine;
+use crate::decisions::{ClaimKind, ClaimLimit};
+use crate::lines::{ShardLine, read_shard_line};
+use aim_script_reading::{LineTaker, Refusal};
 use aim_shards::Rectangle;
 use std::alloc::{AllocError, Global};
 use std::marker::Model;
@@ -48,14 +49,6 @@ pub enum ClaimAsk {
     Claim(u32),
     /// To free the ticket that the caller's call of this number drew.
     Free(u32),
-}
-
-/// Why a line was not taken.
-pub(crate) enum Refusal {
-    /// It is at fault.
-    Bad(ClaimKind),
-    /// Memory has run out.
-    NoMemory,
 }
 
 // The part that goes on after a line, or at the beginning.
@@ -308,8 +301,8 @@ impl Script {
         }
     }
 
-    /// Takes the next line, unless it is at fault.
-    pub(crate) fn take(&mut self, line: ShardLine) -> Result<(), Refusal>
+    // Takes the next line, unless it is at fault.
+    fn add(&mut self, line: ShardLine) -> Result<(), Refusal<ClaimKind, ClaimLimit, AllocError>>
         ensures taken { MatchResult result (λ _. kind_of_fault self.old line ≡ None) (λ why. Refuses self.old line why) }
         ensures new { MatchResult result (λ _. self.new ≡ self.old ++ line ∷ []) (λ _. self.new ≡ self.old) }
     {
@@ -317,9 +310,47 @@ impl Script {
             return Err(Refusal::Bad(kind));
         }
         let Ok(()) = self.lines.push(line) else {
-            return Err(Refusal::NoMemory);
+            return Err(Refusal::Halt(AllocError));
         };
         count(&mut self.sets, &mut self.counts, &line);
         Ok(())
     }
+}
+
+impl LineTaker for Script {
+    ghost use Rattle.std.specs.Prelude.{◌≡◌};
+    ghost use Rattle.aim_shards_command.specs.Verdicts.{claim_rules};
+
+    type Line = ShardLine;
+
+    type Kind = ClaimKind;
+
+    type Limit = ClaimLimit;
+
+    type Halt = AllocError;
+
+    ghost rules = { claim_rules };
+
+    ghost stands = { λ first before s. s ≡ before };
+
+    ghost rests = { λ first before s. s ≡ before };
+
+    ghost halts = { λ first before s why. Unit {0} };
+
+    fn take(
+        &mut self,
+        _alloc: Global,
+        bytes: &[u8],
+    ) -> Result<(), Refusal<ClaimKind, ClaimLimit, AllocError>> {
+        match read_shard_line(bytes) {
+            Ok(line) => self.add(line),
+            Err(kind) => Err(Refusal::Bad(ClaimKind::Spelling(kind))),
+        }
+    }
+
+    fn is_whole(&self) -> bool {
+        matches!(self.lines.last(), Some(ShardLine::End))
+    }
+
+    ghost stands_rests = { λ first before s e. e };
 }

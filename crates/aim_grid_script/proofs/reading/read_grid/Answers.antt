@@ -1,32 +1,38 @@
-use Rattle.aim_grid_script.proofs.Reaching.{ends, ends_at, ends_fit, ends_not_read, is_read}
+use Rattle.std.proofs.Common.{refl}
+use Rattle.aim_grid_script.proofs.Telling.{end_whole, never_read, refused_told, whole_told}
 use Rattle.aim_grid_script.proofs.reading.read_grid.Goals as goal
 
-pub returns-in-Ok-clause-reads : goal.returns-in-Ok-clause-reads
-returns-in-Ok-clause-reads g c = ends _ _ _ c.ended.result c.in-Ok.ensures.comes.0 c.ended.ensures
+pub finished-requires : goal.finished-requires
+finished-requires g c =
+    let comes = (rw c.in-Ok-None.field-0-is at c.in-Ok-None.ensures).comes in
+    (comes.before, comes.stands refl, end_whole comes.before (comes.whole refl))
 
-pub returns-in-Ok-clause-fits : goal.returns-in-Ok-clause-fits
-returns-in-Ok-clause-fits g c = ends_fit _ _ _ c.ended.result c.in-Ok.ensures.comes.0 c.ended.ensures
+pub returns-in-Ok-None : goal.returns-in-Ok-None
+returns-in-Ok-None g c =
+    let e = rw c.in-Ok-None.field-0-is at c.in-Ok-None.ensures in
+    let comes = e.comes in
+    let whole = end_whole comes.before (comes.whole refl) in
+    let routes = c.finished.ensures comes.before (comes.stands refl) whole in record {
+      reads = record { lines = comes.before; grid = comes.script; whole = whole; is = routes.0; verdict = whole_told _ comes.before comes.verdict };
+      fits = routes.1;
+      ended = e.ended refl;
+      short = λ is. absurd cc;
+      read = λ is. absurd cc;
+      source = e.source;
+      most = e.most;
+      needed = e.needed;
+    }
 
-pub returns-in-Ok-clause-ended : goal.returns-in-Ok-clause-ended
-returns-in-Ok-clause-ended g c = ends_at c.ended.result _ c.in-Ok.ensures.comes.1
-
-pub returns-in-Ok-clause-short : goal.returns-in-Ok-clause-short
-returns-in-Ok-clause-short g c is = absurd (ends_not_read _ _ _ c.ended.result c.in-Ok.ensures.comes.0 c.ended.ensures is)
-
-pub returns-in-Ok-clause-read : goal.returns-in-Ok-clause-read
-returns-in-Ok-clause-read g c is = absurd (ends_not_read _ _ _ c.ended.result c.in-Ok.ensures.comes.0 c.ended.ensures is)
-
-pub returns-in-Ok-clause-most : goal.returns-in-Ok-clause-most
-returns-in-Ok-clause-most g c = c.read_lines.ensures.taken.most
-
-pub returns-in-Err-clause-reads : goal.returns-in-Err-clause-reads
-returns-in-Err-clause-reads g c = c.in-Err.ensures.comes.reads
-
-pub returns-in-Err-clause-short : goal.returns-in-Err-clause-short
-returns-in-Err-clause-short g c is = c.in-Err.ensures.comes.short (is_read c.in-Err.ending is)
-
-pub returns-in-Err-clause-read : goal.returns-in-Err-clause-read
-returns-in-Err-clause-read g c is = c.in-Err.ensures.comes.rose (is_read c.in-Err.ending is)
-
-pub returns-in-Err-clause-most : goal.returns-in-Err-clause-most
-returns-in-Err-clause-most g c = c.read_lines.ensures.taken.most
+pub returns-in-Ok-Some : goal.returns-in-Ok-Some
+returns-in-Ok-Some g c =
+    let e = rw c.in-Ok-Some.field-0-is at c.in-Ok-Some.ensures in
+    let comes = e.comes in record {
+      reads = rw c.ending_of.ensures (refused_told _ comes.before c.in-Ok-Some.refused comes.verdict);
+      fits = tt;
+      ended = tt;
+      short = λ is. absurd (never_read c.in-Ok-Some.refused c.ending_of.result c.ending_of.ensures is);
+      read = λ is. absurd (never_read c.in-Ok-Some.refused c.ending_of.result c.ending_of.ensures is);
+      source = e.source;
+      most = e.most;
+      needed = e.needed;
+    }

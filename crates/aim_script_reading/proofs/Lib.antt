@@ -1,0 +1,4 @@
+pub mod Behind
+pub mod Placing
+pub mod Between
+pub mod First

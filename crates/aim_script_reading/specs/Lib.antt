@@ -1,0 +1,6 @@
+pub mod Rules
+pub mod Verdicts
+pub mod Short
+pub mod First
+pub mod Taking
+pub mod Reads
