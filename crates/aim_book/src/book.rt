@@ -289,12 +289,7 @@ impl<L: Ledger> Book<L> {
         ensures claimed { (col : ℕ) → col < 64 → has_bit result.1 col
             ≡ (not (nat_lt step (now_of self.now.journal 0)) && is_claimed_by_some self.now.layout self.now.journal (cell_at step row col)) }
     {
-        let desk = &self.desk;
-        if step < desk.reservations.now() {
-            return (0, 0);
-        }
-        let claims = desk.timeline.claims(&self.layout, step, None);
-        (desk.reservations.mask(step, row), claims[row as usize])
+        self.desk.chart_row(&self.layout, row, step)
     }
 
     /// How many sheets are kept for the vehicle: 1 where it has a fresh Confirm, past or not, that no later fresh CANCEL or

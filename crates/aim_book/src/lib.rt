@@ -5,6 +5,7 @@
 mod answers;
 mod at_once;
 mod book;
+mod charts;
 mod conflicts;
 mod desks;
 mod idle;

@@ -1,0 +1,4 @@
+pub mod SheetLemmas
+pub mod ServerLemmas
+pub mod SessionLemmas
+pub mod NameLemmas

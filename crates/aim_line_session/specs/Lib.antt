@@ -1,0 +1,3 @@
+pub mod Servers
+pub mod Sessions
+pub mod Charted

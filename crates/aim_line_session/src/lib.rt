@@ -1,0 +1,10 @@
+//! Sessions of script lines: a manager without a journal in memory, and what each line comes to.
+#![tactic(auto)]
+
+mod progress;
+mod servers;
+mod sessions;
+
+pub use progress::{Answered, Progress, Unopened, Untaken};
+pub use servers::DeskServer;
+pub use sessions::LineSession;
