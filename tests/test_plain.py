@@ -55,10 +55,12 @@ def test_rows(checks):
 
 
 def test_rows_of_the_program(program, checks):
-    """The same rows, where the program reads version 4."""
-    for case in folders("tests/plain/rows/version4") if reads_version_four(program) else []:
+    """The same rows, where the program reads version 4. Else it has to refuse that version."""
+    rows = folders("tests/plain/rows/version4") if reads_version_four(program) else []
+    for case in rows:
         checks(case.name, texts.ran_otherwise(program.run(*case_words(case), script=(case / "input").read_bytes()), *wanted(case)))
-    checks.same("version 5", "bad line 1 version\n", program.run("replay", script="aim 5\n").text)
+    for version in (5,) if rows else (4, 5):
+        checks.same(f"version {version}", "bad line 1 version\n", program.run("replay", script=f"aim {version}\n").text)
 
 
 def test_examples(checks):
