@@ -92,6 +92,8 @@ nobody_there : (i : Intersection) (vehicles : ℕ) → IsCrossing i vehicles [] 
 nobody_there i vehicles = record {
   legal = record { well_formed = λ k d l. absurd (omega arith); answered = λ k d l. absurd (omega arith) };
   others = λ n ne. refl;
+  crosses = λ k x t ex. none_some x ex;
+  reserved = λ k x c ex. none_some x ex;
   apart = λ j k x y ex. none_some x ex;
   clear = λ k x t c ex. none_some x ex;
 }
