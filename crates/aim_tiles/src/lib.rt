@@ -6,6 +6,7 @@
 #![tactic(auto)]
 
 mod checks;
+mod counted;
 mod counters;
 mod idle;
 mod lanes;

@@ -16,7 +16,7 @@ use std::sync::ledger::Ledger;
 pub(crate) fn mark_spans<L: Ledger>(pages: &mut Pages<L>, spans: &[Span], steps: &mut Steps<L>)
     requires marked { AreMarked spans.now }
     requires tiles { AreTiles pages.old.size spans.now }
-    ensures marks { (now : ℕ) → AreAhead now pages.old.horizon spans.now → (cell : Cell) → in_box pages.old.size pages.old.horizon now cell ≡ true → has_mark pages.new.words.items pages.old.size pages.old.horizon cell ≡ (has_mark pages.old.words.items pages.old.size pages.old.horizon cell || in_spans spans.now cell) }
+    ensures marks { (now : ℕ) → AreAhead now pages.old.horizon spans.now → (cell : Cell) → in_box pages.old.size pages.old.horizon now cell ≡ true → has_mark pages.new.words.items.items pages.old.size pages.old.horizon cell ≡ (has_mark pages.old.words.items.items pages.old.size pages.old.horizon cell || in_spans spans.now cell) }
     ensures size { pages.new.size ≡ pages.old.size }
     ensures horizon { pages.new.horizon ≡ pages.old.horizon }
     ensures cost { steps.new ≡ steps.old + length spans.now }
@@ -35,7 +35,7 @@ pub(crate) fn mark_spans<L: Ledger>(pages: &mut Pages<L>, spans: &[Span], steps:
 fn unmark_span<L: Ledger>(pages: &mut Pages<L>, now: u32, span: Span, steps: &mut Steps<L>)
     requires row { span.row < pages.old.size }
     requires last { now ≤ 1073741824 }
-    ensures marks { (cell : Cell) → in_box pages.old.size pages.old.horizon now cell ≡ true → has_mark pages.new.words.items pages.old.size pages.old.horizon cell ≡ (has_mark pages.old.words.items pages.old.size pages.old.horizon cell && not (in_span span cell)) }
+    ensures marks { (cell : Cell) → in_box pages.old.size pages.old.horizon now cell ≡ true → has_mark pages.new.words.items.items pages.old.size pages.old.horizon cell ≡ (has_mark pages.old.words.items.items pages.old.size pages.old.horizon cell && not (in_span span cell)) }
     ensures size { pages.new.size ≡ pages.old.size }
     ensures horizon { pages.new.horizon ≡ pages.old.horizon }
     ensures cost { steps.new ≤ steps.old + 1 }
@@ -57,7 +57,7 @@ pub(crate) fn unmark_spans<L: Ledger>(
     requires marked { AreMarked spans.now }
     requires tiles { AreTiles pages.old.size spans.now }
     requires last { now ≤ 1073741824 }
-    ensures marks { (cell : Cell) → in_box pages.old.size pages.old.horizon now cell ≡ true → has_mark pages.new.words.items pages.old.size pages.old.horizon cell ≡ (has_mark pages.old.words.items pages.old.size pages.old.horizon cell && not (in_spans spans.now cell)) }
+    ensures marks { (cell : Cell) → in_box pages.old.size pages.old.horizon now cell ≡ true → has_mark pages.new.words.items.items pages.old.size pages.old.horizon cell ≡ (has_mark pages.old.words.items.items pages.old.size pages.old.horizon cell && not (in_spans spans.now cell)) }
     ensures size { pages.new.size ≡ pages.old.size }
     ensures horizon { pages.new.horizon ≡ pages.old.horizon }
     ensures cost { steps.new ≤ steps.old + length spans.now }
@@ -77,7 +77,7 @@ pub(crate) fn clear_pages<L: Ledger>(
 )
     requires few { leaving ≤ pages.old.horizon }
     requires last { now ≤ 1073741824 }
-    ensures marks { (cell : Cell) → in_box pages.old.size pages.old.horizon now cell ≡ true → has_mark pages.new.words.items pages.old.size pages.old.horizon cell ≡ (has_mark pages.old.words.items pages.old.size pages.old.horizon cell && nat_le (now + leaving) cell.step) }
+    ensures marks { (cell : Cell) → in_box pages.old.size pages.old.horizon now cell ≡ true → has_mark pages.new.words.items.items pages.old.size pages.old.horizon cell ≡ (has_mark pages.old.words.items.items pages.old.size pages.old.horizon cell && nat_le (now + leaving) cell.step) }
     ensures size { pages.new.size ≡ pages.old.size }
     ensures horizon { pages.new.horizon ≡ pages.old.horizon }
     ensures cost { steps.new ≡ steps.old + pages.old.size * leaving }

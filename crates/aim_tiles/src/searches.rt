@@ -62,8 +62,8 @@ fn first_in_run<L: Ledger>(
     requires run { IsRun run.now masks.now (length run.now) }
     requires tiles { AreTiles pages.now.size run.now }
     requires marked { AreMarked run.now }
-    ensures found { IfSome result (λ r. IsFirstHit (is_hit pages.now.words.items pages.now.size pages.now.horizon now (spans_of (option_copied own.entry))) run.now (cell_at r.0 r.1 r.2)) }
-    ensures none { IfNone result ((k : ℕ) (d : Span) → k < length run.now → IsClear (is_hit pages.now.words.items pages.now.size pages.now.horizon now (spans_of (option_copied own.entry))) (slice_index_or run.now k d)) }
+    ensures found { IfSome result (λ r. IsFirstHit (is_hit pages.now.words.items.items pages.now.size pages.now.horizon now (spans_of (option_copied own.entry))) run.now (cell_at r.0 r.1 r.2)) }
+    ensures none { IfNone result ((k : ℕ) (d : Span) → k < length run.now → IsClear (is_hit pages.now.words.items.items pages.now.size pages.now.horizon now (spans_of (option_copied own.entry))) (slice_index_or run.now k d)) }
     ensures cost { steps.new ≤ steps.old + length run.now }
     ensures counted { steps.old ≤ steps.new }
 {
@@ -95,8 +95,8 @@ pub(crate) fn first_in_spans<L: Ledger>(
     requires last { now ≤ 1073741824 }
     requires tiles { AreTiles pages.now.size spans.now }
     requires marked { AreMarked spans.now }
-    ensures found { IfSome result (λ r. IsFirstHit (is_hit pages.now.words.items pages.now.size pages.now.horizon now (spans_of (option_copied own.entry))) spans.now (cell_at r.0 r.1 r.2)) }
-    ensures none { IfNone result ((k : ℕ) (d : Span) → k < length spans.now → IsClear (is_hit pages.now.words.items pages.now.size pages.now.horizon now (spans_of (option_copied own.entry))) (slice_index_or spans.now k d)) }
+    ensures found { IfSome result (λ r. IsFirstHit (is_hit pages.now.words.items.items pages.now.size pages.now.horizon now (spans_of (option_copied own.entry))) spans.now (cell_at r.0 r.1 r.2)) }
+    ensures none { IfNone result ((k : ℕ) (d : Span) → k < length spans.now → IsClear (is_hit pages.now.words.items.items pages.now.size pages.now.horizon now (spans_of (option_copied own.entry))) (slice_index_or spans.now k d)) }
     ensures cost { steps.new ≤ steps.old + length spans.now }
     ensures counted { steps.old ≤ steps.new }
 {

@@ -38,7 +38,7 @@ impl<L: Ledger> Model for Table<L> {
 
     ghost use Rattle.aim_tiles.specs.Pages.{marked_cells};
 
-    ghost view = { λ t. record { size = t.pages.size; horizon = t.pages.horizon; current = t.current; cells = marked_cells t.pages.words.items t.pages.size t.pages.horizon t.current } };
+    ghost view = { λ t. record { size = t.pages.size; horizon = t.pages.horizon; current = t.current; cells = marked_cells t.pages.words.items.items t.pages.size t.pages.horizon t.current } };
 
     ghost invariant = { λ t. t.current ≤ 1073741824 };
 }

@@ -9,6 +9,6 @@ invariant-loop-gone g l = record {
   size : l.pages.size ≡ l.fn.pages.size;
   horizon : l.pages.horizon ≡ l.fn.pages.horizon;
   marks : (cell : Cell) → in_box l.fn.pages.size l.fn.pages.horizon l.now cell ≡ true
-      → has_mark l.pages.words.items l.fn.pages.size l.fn.pages.horizon cell ≡ (has_mark l.fn.pages.words.items l.fn.pages.size l.fn.pages.horizon cell && nat_le (l.now + l.gone) cell.step);
+      → has_mark l.pages.words.items.items l.fn.pages.size l.fn.pages.horizon cell ≡ (has_mark l.fn.pages.words.items.items l.fn.pages.size l.fn.pages.horizon cell && nat_le (l.now + l.gone) cell.step);
   cost : l.steps ≡ l.fn.steps + l.fn.pages.size * l.gone;
 }

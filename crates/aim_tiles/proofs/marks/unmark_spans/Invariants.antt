@@ -10,7 +10,7 @@ invariant-loop-span g l = record {
   size : l.pages.size ≡ l.fn.pages.size;
   horizon : l.pages.horizon ≡ l.fn.pages.horizon;
   marks : (cell : Cell) → in_box l.fn.pages.size l.fn.pages.horizon l.now cell ≡ true
-      → has_mark l.pages.words.items l.fn.pages.size l.fn.pages.horizon cell ≡ (has_mark l.fn.pages.words.items l.fn.pages.size l.fn.pages.horizon cell && not (in_spans (take l.span-index l.spans) cell));
+      → has_mark l.pages.words.items.items l.fn.pages.size l.fn.pages.horizon cell ≡ (has_mark l.fn.pages.words.items.items l.fn.pages.size l.fn.pages.horizon cell && not (in_spans (take l.span-index l.spans) cell));
   cost : l.steps ≤ l.fn.steps + l.span-index;
   counted : l.fn.steps ≤ l.steps;
 }

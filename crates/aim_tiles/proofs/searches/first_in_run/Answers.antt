@@ -19,27 +19,27 @@ meeting_from-requires-clause-same g c = c.requires.masks ∙ sym c.read_rows-wor
 pub loop-place-init : goal.loop-place-init
 loop-place-init g c = record {
   within = at_least_0 _;
-  clear = none_clear (is_hit c.args.pages.now.words.items c.args.pages.now.size c.args.pages.now.horizon c.args.now (spans_of (option_copied c.args.own))) c.args.run.now;
+  clear = none_clear (is_hit c.args.pages.now.words.items.items c.args.pages.now.size c.args.pages.now.horizon c.args.now (spans_of (option_copied c.args.own))) c.args.run.now;
 }
 
 pub loop-place-preserved : goal.loop-place-preserved
 loop-place-preserved g c = record {
   within = next_within_same c.in-Some.place (length c.args.masks.now) (length c.args.run.now) c.in-Some.ensures.found.0 c.requires.masks;
-  clear = clear_past c.args.pages.now.words.items c.args.pages.now.size c.args.pages.now.horizon (place_of c.args.pages.now.size c.args.pages.now.horizon (get_or c.args.run.now 0 none).step (get_or c.args.run.now 0 none).row) c.args.run.now c.args.masks.now c.requires.run none refl
+  clear = clear_past c.args.pages.now.words.items.items c.args.pages.now.size c.args.pages.now.horizon (place_of c.args.pages.now.size c.args.pages.now.horizon (get_or c.args.run.now 0 none).step (get_or c.args.run.now 0 none).row) c.args.run.now c.args.masks.now c.requires.run none refl
       c.args.now c.args.pages.now.few (spans_of (option_copied c.args.own)) c.read_rows-words.result.now c.read_rows-words.ensures.words c.loop-place.at c.loop-place.invariant.clear
       c.in-Some.place (length c.args.masks.now) c.in-Some.ensures.found.0 c.requires.masks c.in-Some.ensures.first c.own_mask.result c.own_mask.type_inv c.own_mask.ensures c.if-hit-ne0.false;
 }
 
 pub returns-then-hit-ne0-clause-found : goal.returns-then-hit-ne0-clause-found
-returns-then-hit-ne0-clause-found g c = hit_from c.args.pages.now.words.items c.args.pages.now.size c.args.pages.now.horizon (place_of c.args.pages.now.size c.args.pages.now.horizon (get_or c.args.run.now 0 none).step (get_or c.args.run.now 0 none).row) c.args.run.now c.args.masks.now c.requires.run none refl
+returns-then-hit-ne0-clause-found g c = hit_from c.args.pages.now.words.items.items c.args.pages.now.size c.args.pages.now.horizon (place_of c.args.pages.now.size c.args.pages.now.horizon (get_or c.args.run.now 0 none).step (get_or c.args.run.now 0 none).row) c.args.run.now c.args.masks.now c.requires.run none refl
     c.args.now c.args.pages.now.few (spans_of (option_copied c.args.own)) c.read_rows-words.result.now c.read_rows-words.ensures.words c.loop-place.at c.loop-place.invariant.clear
     c.in-Some.place (length c.args.masks.now) c.in-Some.ensures.found.0 c.requires.masks c.in-Some.ensures.first c.own_mask.result c.own_mask.type_inv c.own_mask.ensures c.if-hit-ne0.true (c.type_inv.masks c.in-Some.place).fits c.requires.tiles (sym c.has_page.ensures ∙ c.if-not-has_page.false)
 
 pub returns-clause-none : goal.returns-clause-none
-returns-clause-none g c = clear_to c.args.pages.now.words.items c.args.pages.now.size c.args.pages.now.horizon (place_of c.args.pages.now.size c.args.pages.now.horizon (get_or c.args.run.now 0 none).step (get_or c.args.run.now 0 none).row) c.args.run.now c.args.masks.now c.requires.run none refl
+returns-clause-none g c = clear_to c.args.pages.now.words.items.items c.args.pages.now.size c.args.pages.now.horizon (place_of c.args.pages.now.size c.args.pages.now.horizon (get_or c.args.run.now 0 none).step (get_or c.args.run.now 0 none).row) c.args.run.now c.args.masks.now c.requires.run none refl
     c.args.now c.args.pages.now.few (spans_of (option_copied c.args.own)) c.read_rows-words.result.now c.read_rows-words.ensures.words c.loop-place.at c.loop-place.invariant.clear
     (length c.args.run.now) (length c.args.masks.now) (same_most _) c.requires.masks c.in_default.ensures.none
 
 pub returns-then-not-has_page-clause-none : goal.returns-then-not-has_page-clause-none
-returns-then-not-has_page-clause-none g c = run_outside c.args.pages.now.words.items c.args.pages.now.size c.args.pages.now.horizon c.args.now (spans_of (option_copied c.args.own)) c.args.run.now c.args.masks.now c.requires.run none
+returns-then-not-has_page-clause-none g c = run_outside c.args.pages.now.words.items.items c.args.pages.now.size c.args.pages.now.horizon c.args.now (spans_of (option_copied c.args.own)) c.args.run.now c.args.masks.now c.requires.run none
     (no_range c.has_page.result c.args.now c.args.pages.now.horizon (get_or c.args.run.now 0 none).step c.has_page.ensures c.if-not-has_page.true)

@@ -7,7 +7,7 @@ use Rattle.aim_tiles.proofs.searches.first_in_run.Given as goal
 abbrev pub invariant-loop-place : goal.invariant-loop-place
 invariant-loop-place g l = record {
   within : l.at ≤ length l.run;
-  clear : (k : ℕ) (d : Span) → k < l.at → IsClear (is_hit l.pages.words.items l.pages.size l.pages.horizon l.now (spans_of (option_copied l.own))) (slice_index_or l.run k d);
+  clear : (k : ℕ) (d : Span) → k < l.at → IsClear (is_hit l.pages.words.items.items l.pages.size l.pages.horizon l.now (spans_of (option_copied l.own))) (slice_index_or l.run k d);
 }
 
 abbrev pub decreases-loop-place : goal.decreases-loop-place

@@ -17,9 +17,9 @@ first_in_run-found-requires-clause-tiles g c = run_tiles c.args.spans.now c.loop
 
 pub returns-then-is_some-clause-found : goal.returns-then-is_some-clause-found
 returns-then-is_some-clause-found g c =
-    some_then c.first_in_run-found.result _ (λ r. IsFirstHit (is_hit c.args.pages.now.words.items c.args.pages.now.size c.args.pages.now.horizon c.args.now (spans_of (option_copied c.args.own))) c.args.spans.now (cell_at r.0 r.1 r.2))
+    some_then c.first_in_run-found.result _ (λ r. IsFirstHit (is_hit c.args.pages.now.words.items.items c.args.pages.now.size c.args.pages.now.horizon c.args.now (spans_of (option_copied c.args.own))) c.args.spans.now (cell_at r.0 r.1 r.2))
     (λ r. hit_of_run c.args.spans.now c.loop-at.at c.loop-at.invariant.within c.gather-count.result c.gather-count.ensures.within
-    (is_hit c.args.pages.now.words.items c.args.pages.now.size c.args.pages.now.horizon c.args.now (spans_of (option_copied c.args.own))) c.loop-at.invariant.clear (cell_at r.0 r.1 r.2))
+    (is_hit c.args.pages.now.words.items.items c.args.pages.now.size c.args.pages.now.horizon c.args.now (spans_of (option_copied c.args.own))) c.loop-at.invariant.clear (cell_at r.0 r.1 r.2))
     c.first_in_run-found.ensures.found
 
 pub loop-at-preserved : goal.loop-at-preserved
@@ -27,7 +27,7 @@ loop-at-preserved g c = record {
   within = run_within c.args.spans.now c.loop-at.at c.loop-at.invariant.within c.gather-count.result c.gather-count.ensures.within;
   len = c.gather-count.array_long;
   clear = clear_of_run c.args.spans.now c.loop-at.at c.loop-at.invariant.within c.gather-count.result c.gather-count.ensures.within
-      (is_hit c.args.pages.now.words.items c.args.pages.now.size c.args.pages.now.horizon c.args.now (spans_of (option_copied c.args.own))) c.loop-at.invariant.clear
+      (is_hit c.args.pages.now.words.items.items c.args.pages.now.size c.args.pages.now.horizon c.args.now (spans_of (option_copied c.args.own))) c.loop-at.invariant.clear
       (none_then c.first_in_run-found.result _ (sym c.if-is_some.ensures) c.first_in_run-found.ensures.none);
   cost = run_cost c.args.spans.now c.loop-at.at c.loop-at.invariant.within c.gather-count.result c.gather-count.ensures.within c.first_in_run-found.new.steps c.loop-at.steps c.args.steps.now c.first_in_run-found.ensures.cost c.loop-at.invariant.cost;
   counted = at_most c.args.steps.now c.loop-at.steps c.first_in_run-found.new.steps c.loop-at.invariant.counted c.first_in_run-found.ensures.counted;
@@ -37,13 +37,13 @@ pub loop-at-init : goal.loop-at-init
 loop-at-init g c = record {
   within = at_least_0 _;
   len = refl;
-  clear = none_clear (is_hit c.args.pages.now.words.items c.args.pages.now.size c.args.pages.now.horizon c.args.now (spans_of (option_copied c.args.own))) c.args.spans.now;
+  clear = none_clear (is_hit c.args.pages.now.words.items.items c.args.pages.now.size c.args.pages.now.horizon c.args.now (spans_of (option_copied c.args.own))) c.args.spans.now;
   cost = no_more c.args.steps.now;
   counted = same_most c.args.steps.now;
 }
 
 pub returns-clause-none : goal.returns-clause-none
-returns-clause-none g c = all_clear (is_hit c.args.pages.now.words.items c.args.pages.now.size c.args.pages.now.horizon c.args.now (spans_of (option_copied c.args.own))) c.args.spans.now c.loop-at.at c.loop-at-test.false c.loop-at.invariant.clear
+returns-clause-none g c = all_clear (is_hit c.args.pages.now.words.items.items c.args.pages.now.size c.args.pages.now.horizon c.args.now (spans_of (option_copied c.args.own))) c.args.spans.now c.loop-at.at c.loop-at-test.false c.loop-at.invariant.clear
 
 pub first_in_run-found-requires-clause-marked : goal.first_in_run-found-requires-clause-marked
 first_in_run-found-requires-clause-marked g c = run_marked c.args.spans.now c.loop-at.at c.loop-at.invariant.within c.gather-count.result c.gather-count.ensures.within c.requires.marked

@@ -8,7 +8,7 @@ abbrev pub invariant-loop-at : goal.invariant-loop-at
 invariant-loop-at g l = record {
   within : l.at ≤ length l.spans;
   len : length l.masks ≡ 64;
-  clear : (k : ℕ) (d : Span) → k < l.at → IsClear (is_hit l.pages.words.items l.pages.size l.pages.horizon l.now (spans_of (option_copied l.own))) (slice_index_or l.spans k d);
+  clear : (k : ℕ) (d : Span) → k < l.at → IsClear (is_hit l.pages.words.items.items l.pages.size l.pages.horizon l.now (spans_of (option_copied l.own))) (slice_index_or l.spans k d);
   cost : l.steps ≤ l.fn.steps + l.at;
   counted : l.fn.steps ≤ l.steps;
 }
