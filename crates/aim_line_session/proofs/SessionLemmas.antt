@@ -34,22 +34,22 @@ use Rattle.aim_line_session.specs.Servers.{IsNext, Serves}
 use Rattle.aim_line_session.specs.Sessions.{Comes, IsOrdered, IsPlayed, LeadTo, Makes, Opens, Stands, event_kind, journal_so_far, order_call}
 
 -- a line without a kind and a limit goes on
-goes : (before : List Line) (l : Line) → kind_of_fault before l ≡ None → limit_of before l ≡ None → of_read before (Ok l) ≡ goes_on l
+pub goes : (before : List Line) (l : Line) → kind_of_fault before l ≡ None → limit_of before l ≡ None → of_read before (Ok l) ≡ goes_on l
 goes before l no_kind no_limit = rw (no_kind, no_limit) refl
 
 -- a line with a kind decides
-falls : (before : List Line) (l : Line) (kind : Kind) → kind_of_fault before l ≡ Some kind → of_read before (Ok l) ≡ decides (decision.Bad (number_after before) kind)
+pub falls : (before : List Line) (l : Line) (kind : Kind) → kind_of_fault before l ≡ Some kind → of_read before (Ok l) ≡ decides (decision.Bad (number_after before) kind)
 falls before l kind is = rw is refl
 
 -- a line that says nothing of the layout, of its version, of its names and of the number of vehicles
-record IsQuiet (l : Line) : Type 0 where
-  version : version_in l ≡ None
-  vehicles : vehicles_in l ≡ None
-  name : name_in l ≡ None
-  silent : IsSilent l
+pub record IsQuiet (l : Line) : Type 0 where
+  pub version : version_in l ≡ None
+  pub vehicles : vehicles_in l ≡ None
+  pub name : name_in l ≡ None
+  pub silent : IsSilent l
 
 -- the journal stays with a line that makes no call
-same_journal : (before : List Line) (l : Line) → IsQuiet l → call_in (names_of before) l ≡ None → journal_so_far (before ++ l ∷ []) ≡ journal_so_far before
+pub same_journal : (before : List Line) (l : Line) → IsQuiet l → call_in (names_of before) l ≡ None → journal_so_far (before ++ l ∷ []) ≡ journal_so_far before
 same_journal before l quiet none = ap (λ i. journal i (calls_of (before ++ l ∷ []))) (layout_same before l quiet.silent) ∙ ap (journal (layout_of before)) (calls_same before l quiet.name none)
 
 -- it gets the entry of a line that makes a call

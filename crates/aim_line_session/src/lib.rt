@@ -5,6 +5,6 @@ mod progress;
 mod servers;
 mod sessions;
 
-pub use progress::{Answered, Progress, Unopened, Untaken};
+pub use progress::{Answered, Progress, Unopened, Untaken, vehicles_limit};
 pub use servers::DeskServer;
 pub use sessions::LineSession;

@@ -56,8 +56,8 @@ pub enum Untaken {
 // The most spans in the sheets of all vehicles, one sheet for each.
 const MOST_SPANS: u64 = 16_777_216;
 
-// The limit that so many vehicles go past, where a vehicle's sheet has so many spans.
-fn vehicles_limit(spans: u32, vehicles: u32) -> Option<Limit>
+/// The limit that so many vehicles go past, where a vehicle's sheet has so many spans.
+pub fn vehicles_limit(spans: u32, vehicles: u32) -> Option<Limit>
     ensures { result ≡ limit_on spans vehicles }
 {
     if vehicles > MOST_VEHICLES {

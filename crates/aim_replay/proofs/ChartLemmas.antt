@@ -15,8 +15,8 @@ use Rattle.aim_layout.specs.Intersection.{Intersection}
 use Rattle.aim_rules.specs.History.{fresh, now_of}
 use Rattle.aim_rules.specs.Holds.{reservations}
 use Rattle.aim_rules.specs.Charts.{mark, blank_row, chart_row, chart}
-use Rattle.aim_book.specs.State.{State}
-use Rattle.aim_replay.specs.Charted.{MarksRow, mark_of, row_text}
+use Rattle.aim_line_session.specs.Charted.{Marks}
+use Rattle.aim_replay.specs.Charted.{mark_of, row_text}
 use Rattle.aim_book.specs.Charted.{is_claimed_by_some, is_held}
 
 map_same : (f g : ℕ → ℕ) (a n : ℕ) → ((x : ℕ) → x < a + n → f x ≡ g x) → map f (range_with_len a n) ≡ map g (range_with_len a n)
@@ -24,25 +24,22 @@ map_same f g a zero same = refl
 map_same f g a (suc n) same = rw (same a (omega arith), map_same f g (a + 1) n (λ x below. same x (omega arith))) refl
 
 -- masks that mark a row give its characters
-pub marks_are : (s : State) (row step held claimed : ℕ) → s.layout.grid.n ≤ 64 → MarksRow s row step held claimed → map (mark_of held claimed) (range_with_len 0 s.layout.grid.n) ++ 10 ∷ [] ≡ row_text s.layout s.journal step row
-marks_are s row step held claimed few m =
-    ap (λ (xs : List ℕ). xs ++ 10 ∷ []) (go (nat_lt step (now_of s.journal 0)) m.held_columns m.claimed_columns) ∙ sym (joined (nat_lt step (now_of s.journal 0)))
+pub marks_are : (i : Intersection) (h : List Entry) (row step held claimed : ℕ) → i.grid.n ≤ 64 → Marks i h row step held claimed → map (mark_of held claimed) (range_with_len 0 i.grid.n) ++ 10 ∷ [] ≡ row_text i h step row
+marks_are i h row step held claimed few m =
+    ap (λ (xs : List ℕ). xs ++ 10 ∷ []) (go (nat_lt step (now_of h 0)) m.held_columns m.claimed_columns) ∙ sym (joined (nat_lt step (now_of h 0)))
   where
-    i : Intersection
-    i = s.layout
-
     at : ℕ → Cell
     at col = record { row = row; col = col; step = step }
 
     chars : Bool → ℕ → ℕ
-    chars past col = if past then 46 else mark i s.journal (reservations i (fresh s.journal) (now_of s.journal 0)) (at col)
+    chars past col = if past then 46 else mark i h (reservations i (fresh h) (now_of h 0)) (at col)
 
-    go : (past : Bool) → ((col : ℕ) → has_bit held col ≡ (not past && is_held i s.journal (at col))) → ((col : ℕ) → col < 64 → has_bit claimed col ≡ (not past && is_claimed_by_some i s.journal (at col)))
+    go : (past : Bool) → ((col : ℕ) → has_bit held col ≡ (not past && is_held i h (at col))) → ((col : ℕ) → col < 64 → has_bit claimed col ≡ (not past && is_claimed_by_some i h (at col)))
         → map (mark_of held claimed) (range_with_len 0 i.grid.n) ≡ map (chars past) (range_with_len 0 i.grid.n)
-    go true h c = map_same (mark_of held claimed) (chars true) 0 i.grid.n (λ col below. rw (h col, c col (omega arith)) refl)
-    go false h c = map_same (mark_of held claimed) (chars false) 0 i.grid.n (λ col below. rw (h col, c col (omega arith)) refl)
+    go true k c = map_same (mark_of held claimed) (chars true) 0 i.grid.n (λ col below. rw (k col, c col (omega arith)) refl)
+    go false k c = map_same (mark_of held claimed) (chars false) 0 i.grid.n (λ col below. rw (k col, c col (omega arith)) refl)
 
-    joined : (past : Bool) → (if past then blank_row i else chart_row i s.journal (reservations i (fresh s.journal) (now_of s.journal 0)) step row) ≡ map (chars past) (range_with_len 0 i.grid.n) ++ 10 ∷ []
+    joined : (past : Bool) → (if past then blank_row i else chart_row i h (reservations i (fresh h) (now_of h 0)) step row) ≡ map (chars past) (range_with_len 0 i.grid.n) ++ 10 ∷ []
     joined true = refl
     joined false = refl
 

@@ -1,3 +1,2 @@
-pub mod SheetLemmas
 pub mod ChartLemmas
 pub mod StageLemmas

@@ -1,4 +1,4 @@
--- What a row of masks says of a row of a chart, and the texts of rows.
+-- The texts of the rows of a chart.
 -- No public clause cites it: only contracts of private functions.
 use Rattle.std.specs.Prelude.{◌≡◌, ◌<◌, ℕ, ◌&&◌, not, nat_lt, List, if◌then◌else◌}
 use Rattle.aim_messages.specs.declared.entries.Entry.{Entry}
@@ -9,11 +9,6 @@ use Rattle.aim_rules.specs.Holds.{reservations}
 use Rattle.aim_rules.specs.Charts.{blank_row, chart_row}
 use Rattle.aim_book.specs.State.{State}
 use Rattle.aim_book.specs.Charted.{is_claimed_by_some, is_held}
-
--- the masks have the bits of the columns that a vehicle holds and that a lane claims, of a step that isn't past
-pub record MarksRow (s : State) (row step held claimed : ℕ) : Type 0 where
-  pub held_columns : (col : ℕ) → has_bit held col ≡ (not (nat_lt step (now_of s.journal 0)) && is_held s.layout s.journal (record { row = row; col = col; step = step }))
-  pub claimed_columns : (col : ℕ) → col < 64 → has_bit claimed col ≡ (not (nat_lt step (now_of s.journal 0)) && is_claimed_by_some s.layout s.journal (record { row = row; col = col; step = step }))
 
 -- the character of a column of a row
 abbrev pub mark_of : ℕ → ℕ → ℕ → ℕ

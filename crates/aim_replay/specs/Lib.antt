@@ -1,4 +1,3 @@
-pub mod Servers
 pub mod Charted
 pub mod Whole
 pub mod Stages

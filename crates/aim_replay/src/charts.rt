@@ -1,17 +1,19 @@
 //! The chart of a step, row by row.
 
-ghost use Rattle.std.specs.Prelude.{◌≡◌, ◌<◌, ◌≤◌, ◌++◌, ◌∷◌, [], map, take, OnOk, OnErr};
+ghost use Rattle.std.specs.Prelude.{◌≡◌, ◌<◌, ◌≤◌, ◌++◌, ◌∷◌, [], List, map, take, OnOk, OnErr};
 ghost use Rattle.std.specs.List.{range_with_len};
 ghost use Rattle.std.specs.Io.KnownBytes.{Appends};
 ghost use Rattle.aim_io.specs.Causes.{HasCause};
 ghost use Rattle.aim_io.specs.Known.{AppendsFront};
 ghost use Rattle.aim_geometry.specs.Rects.{has_bit as bit_of};
+ghost use Rattle.aim_messages.specs.declared.script.Line.{Line};
 ghost use Rattle.aim_rules.specs.Charts.{chart};
+ghost use Rattle.aim_line_session.specs.Sessions.{Stands, journal_so_far};
 ghost use Rattle.aim_replay.specs.Charted.{mark_of, row_text};
 
 use crate::lines::put_line;
-use crate::servers::ScriptServer;
 use aim_io::{Failed, Sink};
+use aim_line_session::LineSession;
 use std::sync::ledger::Ledger;
 
 // Whether the bit of a column is set.
@@ -53,17 +55,17 @@ fn put_marks(n: u8, held: u64, claimed: u64, line: &mut [u8; 65]) -> usize
 // Writes a row of the chart of a step.
 fn put_row<L: Ledger, K: Sink>(
     sink: &mut K,
-    server: &ScriptServer<L>,
+    session: &LineSession<L>,
     row: u8,
     step: u32,
 ) -> Result<(), Failed>
-    requires { row < server.now.layout.grid.n }
-    ensures ok { OnOk result (Appends (K.held sink.old) (K.held sink.new) (row_text server.now.layout server.now.journal step row)) }
-    ensures err { OnErr result (AppendsFront (K.held sink.old) (K.held sink.new) (row_text server.now.layout server.now.journal step row)) }
+    requires { row < session.now.server.layout.grid.n }
+    ensures ok { (before : List Line) → Stands before session.now → OnOk result (Appends (K.held sink.old) (K.held sink.new) (row_text session.now.server.layout (journal_so_far before) step row)) }
+    ensures err { (before : List Line) → Stands before session.now → OnErr result (AppendsFront (K.held sink.old) (K.held sink.new) (row_text session.now.server.layout (journal_so_far before) step row)) }
     ensures cause { HasCause (K.faults sink.old) (K.faults sink.new) result }
 {
-    let n = server.layout().ground().grid().n as u8;
-    let (held, claimed) = server.chart_row(row, step);
+    let n = session.layout().ground().grid().n as u8;
+    let (held, claimed) = session.chart_row(row, step);
     let mut line = [0; 65];
     let len = put_marks(n, held, claimed, &mut line);
     put_line(sink, &line[..len])
@@ -72,16 +74,16 @@ fn put_row<L: Ledger, K: Sink>(
 /// Writes the chart of a step, the north row first.
 pub fn put_chart<L: Ledger, K: Sink>(
     sink: &mut K,
-    server: &ScriptServer<L>,
+    session: &LineSession<L>,
     step: u32,
 ) -> Result<(), Failed>
-    ensures ok { OnOk result (Appends (K.held sink.old) (K.held sink.new) (chart server.now.layout server.now.journal step)) }
-    ensures err { OnErr result (AppendsFront (K.held sink.old) (K.held sink.new) (chart server.now.layout server.now.journal step)) }
+    ensures ok { (before : List Line) → Stands before session.now → OnOk result (Appends (K.held sink.old) (K.held sink.new) (chart session.now.server.layout (journal_so_far before) step)) }
+    ensures err { (before : List Line) → Stands before session.now → OnErr result (AppendsFront (K.held sink.old) (K.held sink.new) (chart session.now.server.layout (journal_so_far before) step)) }
     ensures cause { HasCause (K.faults sink.old) (K.faults sink.new) result }
 {
-    let n = server.layout().ground().grid().n as u8;
+    let n = session.layout().ground().grid().n as u8;
     for k in 0..n {
-        match put_row(sink, server, n - 1 - k, step) {
+        match put_row(sink, session, n - 1 - k, step) {
             Ok(()) => {}
             Err(failed) => return Err(failed),
         }

@@ -8,6 +8,7 @@ use Rattle.aim_io.specs.declared.lines.LineFault.{LineFault}
 use Rattle.aim_io.specs.declared.lines.LineFault.TheVariants as fault
 use Rattle.aim_io.specs.Lines.{LongLine, TooManyBytes, TooManyLines, ShowsNothing}
 use Rattle.aim_io.specs.Reader.{Reader, input, taken_by, Answers, KnowsEnd, IsSound, after_call}
+use Rattle.aim_messages.specs.declared.script.Line.{Line}
 use Rattle.aim_script.specs.declared.decisions.Decision.{Decision}
 use Rattle.aim_script.specs.declared.decisions.Decision.TheVariants as decision
 use Rattle.aim_script.specs.declared.decisions.Kind.TheVariants as why
@@ -28,7 +29,7 @@ use Rattle.aim_replay_command.specs.declared.session.Stop.{Stop}
 use Rattle.aim_replay_command.specs.declared.session.Stop.TheVariants as stop
 use Rattle.aim_replay_command.specs.Texts.{text_by}
 use Rattle.aim_replay_command.specs.Replays.{ReplaysBy, Writes, WritesFront}
-use Rattle.aim_replay_command.specs.Written.{Puts}
+use Rattle.aim_replay_command.specs.Written.{HasPutCause, Puts}
 use Rattle.aim_replay_command.specs.Sessions.{Reached, Responds, Comes, Ran, Came, Caused, IsSettled, at_fault, cut_by, halted, status_for, ending_text}
 use Rattle.aim_replay_command.proofs.SessionLemmas.{Gives, front_reached, short_reached, fault_told, fault_written, end_told, end_written, bad_told, bad_written, limit_told, stops_inside, memory_front, memory_nothing, most_between, most_call, most_fault, left_at_end, all_written, front_first, front_second, front_of_text, front_written}
 
@@ -162,7 +163,7 @@ came_stop w asked e start after held now ran = record {
 }
 
 -- the ending wasn't written whole
-pub came_cut : {L : Type 0} (w : Spelled) (asked : Option ℕ) (f : Finish L) (why : Unwritten) (start after held mid now : Option (List ℕ)) → Ran w (Ok f) start after held mid → AppendsFront mid now (ending_text w asked f)
+pub came_cut : {L : Type 0} (w : Spelled) (asked : Option ℕ) (f : Finish L) (why : Unwritten) (start after held mid now : Option (List ℕ)) → Ran w (Ok f) start after held mid → ((before : List Line) → IsOfLines before f → AppendsFront mid now (ending_text w asked before f))
     → (why ≡ unwritten.NoMemory → w.takes_memory ≡ true) → Came w asked (Err (cut_by why)) start after held now
 came_cut w asked f unwritten.Write start after held mid now ran part memory = record {
   verdict = tt;
@@ -188,7 +189,7 @@ decided w f None comes = tt
 decided w f (Some bytes) comes = comes.decision
 
 -- the whole text was written
-pub came_whole : {L : Type 0} (w : Spelled) (asked : Option ℕ) (f : Finish L) (start after held mid now : Option (List ℕ)) → Ran w (Ok f) start after held mid → Appends mid now (ending_text w asked f) → Came w asked (Ok (decision_of f)) start after held now
+pub came_whole : {L : Type 0} (w : Spelled) (asked : Option ℕ) (f : Finish L) (start after held mid now : Option (List ℕ)) → Ran w (Ok f) start after held mid → ((before : List Line) → IsOfLines before f → Appends mid now (ending_text w asked before f)) → Came w asked (Ok (decision_of f)) start after held now
 came_whole w asked f start after held mid now ran last = record {
   verdict = decided w f start ran.verdict;
   written = all_written w asked start held mid now f ran.verdict ran.written last;
@@ -306,6 +307,15 @@ puts_second w x (Err why) old mid now faults_old faults_mid faults_new first sec
   memory = more.memory;
   write = λ is. rose_later faults_old faults_mid faults_new puts.later (more.write is);
   later = omega (arith, puts.later);
+}
+
+-- why the second of two texts isn't written whole
+pub cause_second : {S T : Type 0} (w : Spelled) (x : S) (r : Result T Unwritten) (old mid now : Option (List ℕ)) (faults_old faults_mid faults_new : ℕ) (text : List ℕ) → HasPutCause {T = S} w (Ok x) faults_old faults_mid
+    → Puts w r mid now faults_mid faults_new text → HasPutCause w r faults_old faults_new
+cause_second w x r old mid now faults_old faults_mid faults_new text first more = let later = more.later in record {
+  memory = more.memory;
+  write = λ is. rose_later faults_old faults_mid faults_new first.later (more.write is);
+  later = omega (arith, first.later);
 }
 
 -- the causes of a fault of the input, and of a line that isn't answered

@@ -13,14 +13,16 @@ use Rattle.aim_io.specs.Lines.{InputFault, LongLine, TooManyBytes, TooManyLines,
 use Rattle.aim_io.specs.Reader.{Reader, fresh, input, coming, taken_by, Needed, Answers, Stops, KnowsEnd, IsSound, after_call}
 use Rattle.aim_messages.specs.declared.entries.Entry.{Entry}
 use Rattle.aim_messages.specs.declared.script.Line.{Line}
-use Rattle.aim_rules.specs.Journals.{journal}
+use Rattle.aim_rules.specs.Charts.{chart}
 use Rattle.aim_script.specs.declared.decisions.Decision.{Decision}
 use Rattle.aim_script.specs.declared.decisions.Decision.TheVariants as decision
 use Rattle.aim_script.specs.declared.decisions.Kind.{Kind}
-use Rattle.aim_replay.specs.declared.stages.Made.{Made}
+use Rattle.aim_line_session.specs.declared.progress.Answered.{Answered}
+use Rattle.aim_line_session.specs.Sessions.{LeadTo, Makes, Stands as StandsAsSession, journal_so_far}
 use Rattle.aim_replay.specs.declared.stages.Stage.{Stage}
 use Rattle.aim_replay.specs.declared.stages.Stage.TheVariants as stage
-use Rattle.aim_script.specs.Said.{layout_of, calls_of, names_of}
+use Rattle.aim_script.specs.Said.{layout_of, last_of}
+use Rattle.aim_script.specs.Order.{part_after}
 use Rattle.aim_script.specs.Verdicts.{Judgement, Verdict, journal_of, number_after, judge, decides, goes_on, of_fault, at_end, verdict_from, verdict}
 use Rattle.aim_replay_command.specs.Texts.{chart_lines, entry_lines, ending, text_by}
 use Rattle.aim_script.specs.Decided.{printed}
@@ -32,43 +34,30 @@ use Rattle.aim_script.specs.Headers.{Says, Stands as StandsAsHeader}
 use Rattle.aim_script.specs.declared.decisions.Limit.{Limit}
 use Rattle.aim_replay.specs.declared.stages.Finish.{Finish}
 use Rattle.aim_replay.specs.declared.stages.Finish.TheVariants as finish
-use Rattle.aim_replay.specs.Stages.{Stands, IsOfLines, Makes, MayTake, decision_of, journal_at}
+use Rattle.aim_replay.specs.Stages.{Stands, IsOfLines, MayTake, decision_of}
+use Rattle.aim_replay.proofs.StageLemmas.{quiet_header, quiet_set}
 use Rattle.aim_replay_command.specs.Replays.{LastNeededBy, StopsShortBy, TakesAtMost, Writes, WritesFront, script_after, unless_decided, entries_text}
 use Rattle.aim_replay_command.specs.Sessions.{Decides, Placed, Took, Reached, Judged, Responds, Comes, chart_text, ending_text, made_line}
-use Rattle.aim_replay_command.proofs.TextLemmas.{entry_lines-append, Begins, journal_of_begins, nothing_begins}
+use Rattle.aim_replay_command.proofs.TextLemmas.{entry_lines-append, Begins, is_past, journal_of_begins, nothing_begins}
 
 -- the line of the entry that was made comes behind those of the journal
-pub made_after : (w : Spelled) (old new : List Entry) (made : Option Made) → Makes old new made → entry_lines w 0 new ≡ entry_lines w 0 old ++ made_line w made
+pub made_after : (w : Spelled) (old new : List Entry) (made : Option Answered) → Makes old new made → entry_lines w 0 new ≡ entry_lines w 0 old ++ made_line w made
 made_after w old new None same = rw same (sym (append-nil (entry_lines w 0 old)))
 made_after w old new (Some m) (at, more) =
     let place : 0 + length old ≡ m.position = omega arith in
     rw more (entry_lines-append w 0 old (m.entry ∷ []) ∙ ap (λ n. entry_lines w 0 old ++ entry_lines w n (m.entry ∷ [])) place
     ∙ ap (λ (t : List ℕ). entry_lines w 0 old ++ t) (append-nil (printed (w.entry_text m.position m.entry))))
 
--- the journal of the lines is that of the stage
-quiet_journal : (before : List Line) → calls_of before ≡ [] → journal (layout_of before) (calls_of before) ≡ []
-quiet_journal before none = ap (journal (layout_of before)) none
-
-header_calls : (before : List Line) (p : Place) → Says before p → calls_of before ≡ []
-header_calls before place.Version says = rw says refl
-header_calls before place.Grid says = says.no_calls (names_of before)
-header_calls before (place.Times g) says = says.0.no_calls (names_of before)
-header_calls before (place.Lanes g) says = says.no_calls (names_of before)
-header_calls before (place.Moves b) says = says.0.header.no_calls (names_of before)
-header_calls before (place.Policies b names) says = says.header.no_calls (names_of before)
-
-pub journal_is : {L : Type 0} (before : List Line) (s : Stage L) → Stands before s → journal (layout_of before) (calls_of before) ≡ journal_at s
-journal_is before (stage.Header h) st = quiet_journal before (header_calls before h.place st.place.says)
-journal_is before (stage.Begin x) st = quiet_journal before (st.0.no_calls (names_of before))
-journal_is before (stage.Body p) st = rw st.2.layout st.2.journal
-journal_is before (stage.Over p) st = rw st.2.layout st.2.journal
+-- the lines of a session stand behind that of the vehicles
+past_vehicles : (before : List Line) (ended : Bool) → LeadTo before ended → is_past (part_after (last_of before)) ≡ true
+past_vehicles before true lead = rw lead.0 refl
+past_vehicles before false lead = rw lead.0 refl
 
 -- the journal so far is the first of that of the whole script
-begins : {L : Type 0} (w : Spelled) (before : List Line) (s : Stage L) (os : List Outcome) → Stands before s → Begins (journal_at s) (verdict_from w.reads before os)
-begins w before (stage.Header h) os st = nothing_begins (verdict_from w.reads before os)
-begins w before (stage.Begin x) os st = nothing_begins (verdict_from w.reads before os)
-begins w before (stage.Body p) os st = journal_of_begins w.reads before os p.server.journal (rw st.0 refl) (rw st.2.layout st.2.journal)
-begins w before (stage.Over p) os st = journal_of_begins w.reads before os p.server.journal (rw st.0 refl) (rw st.2.layout st.2.journal)
+begins : {L : Type 0} (w : Spelled) (before : List Line) (s : Stage L) (os : List Outcome) → Stands before s → Begins (journal_so_far before) (verdict_from w.reads before os)
+begins w before (stage.Header h) os st = rw (quiet_header before h st) (nothing_begins (verdict_from w.reads before os))
+begins w before (stage.Begin x) os st = rw (quiet_set before x st.0) (nothing_begins (verdict_from w.reads before os))
+begins w before (stage.Body p) os st = journal_of_begins w.reads before os (journal_so_far before) (past_vehicles before p.ended st.lead) refl
 
 -- a verdict is made, behind these lines
 abbrev pub IsVerdict : Spelled → List Line → Decision → Option (List ℕ) → Type 0
@@ -129,21 +118,21 @@ told w before f (Some bytes) is lines = record {
 }
 
 -- all entries' lines were written
-pub written_all : {L : Type 0} (w : Spelled) (before : List Line) (s : Stage L) (d : Decision) (bytes old new : Option (List ℕ)) → Stands before s → IsVerdict w before d bytes → Appends old new (entry_lines w 0 (journal_at s)) → Writes bytes old new (entries_text w)
+pub written_all : {L : Type 0} (w : Spelled) (before : List Line) (s : Stage L) (d : Decision) (bytes old new : Option (List ℕ)) → Stands before s → IsVerdict w before d bytes → Appends old new (entry_lines w 0 (journal_so_far before)) → Writes bytes old new (entries_text w)
 written_all w before s d None old new st is written = tt
 written_all w before s d (Some bytes) old new st is written =
-    subst (Appends old new) (sym (ap (λ v. entry_lines w 0 (journal_of v)) is ∙ ap (entry_lines w 0) (journal_is before s st))) written
+    subst (Appends old new) (sym (ap (λ v. entry_lines w 0 (journal_of v)) is)) written
 
 -- what was written is a front of the entries' lines
-pub stops : {L : Type 0} (w : Spelled) (before : List Line) (s : Stage L) (reader : Reader) (bytes rest old new : Option (List ℕ)) (done todo : List ℕ) → Stands before s → Decides w before reader bytes rest → entry_lines w 0 (journal_at s) ≡ done ++ todo → Appends old new done
+pub stops : {L : Type 0} (w : Spelled) (before : List Line) (s : Stage L) (reader : Reader) (bytes rest old new : Option (List ℕ)) (done todo : List ℕ) → Stands before s → Decides w before reader bytes rest → entry_lines w 0 (journal_so_far before) ≡ done ++ todo → Appends old new done
     → WritesFront bytes old new (entries_text w)
 stops w before s reader None rest old new done todo st decided split written = tt
 stops w before s reader (Some bytes) None old new done todo st decided split written = absurd decided
 stops w before s reader (Some bytes) (Some rest) old new done todo st decided split written =
     let b = begins w before s (coming reader rest) st in
-    let more = entry_lines w (length (journal_at s)) b.rest in
-    let text : entries_text w bytes ≡ entry_lines w 0 (journal_at s) ++ more =
-    ap (λ v. entry_lines w 0 (journal_of v)) (sym decided) ∙ ap (entry_lines w 0) b.all ∙ entry_lines-append w 0 (journal_at s) b.rest ∙ ap (λ n. entry_lines w 0 (journal_at s) ++ entry_lines w n b.rest) (omega arith) in
+    let more = entry_lines w (length (journal_so_far before)) b.rest in
+    let text : entries_text w bytes ≡ entry_lines w 0 (journal_so_far before) ++ more =
+    ap (λ v. entry_lines w 0 (journal_of v)) (sym decided) ∙ ap (entry_lines w 0) b.all ∙ entry_lines-append w 0 (journal_so_far before) b.rest ∙ ap (λ n. entry_lines w 0 (journal_so_far before) ++ entry_lines w n b.rest) (omega arith) in
     record {
       front = done;
       rest = todo ++ more;
@@ -151,16 +140,16 @@ stops w before s reader (Some bytes) (Some rest) old new done todo st decided sp
       added = written;
     }
 
-pub stops_whole : {L : Type 0} (w : Spelled) (before : List Line) (s : Stage L) (reader : Reader) (bytes rest old new : Option (List ℕ)) → Stands before s → Decides w before reader bytes rest → Appends old new (entry_lines w 0 (journal_at s)) → WritesFront bytes old new (entries_text w)
-stops_whole w before s reader bytes rest old new st decided written = stops w before s reader bytes rest old new (entry_lines w 0 (journal_at s)) [] st decided (sym (append-nil (entry_lines w 0 (journal_at s)))) written
+pub stops_whole : {L : Type 0} (w : Spelled) (before : List Line) (s : Stage L) (reader : Reader) (bytes rest old new : Option (List ℕ)) → Stands before s → Decides w before reader bytes rest → Appends old new (entry_lines w 0 (journal_so_far before)) → WritesFront bytes old new (entries_text w)
+stops_whole w before s reader bytes rest old new st decided written = stops w before s reader bytes rest old new (entry_lines w 0 (journal_so_far before)) [] st decided (sym (append-nil (entry_lines w 0 (journal_so_far before)))) written
 
 -- what was written of a line whose entry's line the sink didn't take whole
-pub stops_inside : {L : Type 0} (w : Spelled) (before : List Line) (s : Stage L) (old new : Reader) (bytes rest left start mid now : Option (List ℕ)) → Decides w before old bytes rest → Answers old new rest left (Ok true) → Appends start mid (entry_lines w 0 (journal_at s))
-    → (next : Stage L) × Judged {L = L} w before new.line (Ok next) × (made : Option Made) × Makes (journal_at s) (journal_at next) made × AppendsFront mid now (made_line w made) → WritesFront bytes start now (entries_text w)
+pub stops_inside : {L : Type 0} (w : Spelled) (before : List Line) (s : Stage L) (old new : Reader) (bytes rest left start mid now : Option (List ℕ)) → Decides w before old bytes rest → Answers old new rest left (Ok true) → Appends start mid (entry_lines w 0 (journal_so_far before))
+    → (next : Stage L) × (j : Judged {L = L} w before new.line (Ok next)) × (made : Option Answered) × Makes (journal_so_far before) (journal_so_far (before ++ j.0 ∷ [])) made × AppendsFront mid now (made_line w made) → WritesFront bytes start now (entries_text w)
 stops_inside w before s old new bytes rest left start mid now decided step written (next, (l, is, st), made, makes, front) =
     let done = Appends-trans start mid now _ _ written front.added in
-    let first = entry_lines w 0 (journal_at s) in
-    let split = made_after w (journal_at s) (journal_at next) made makes ∙ ap (λ (t : List ℕ). first ++ t) front.whole ∙ sym (append_assoc first front.front front.rest) in
+    let first = entry_lines w 0 (journal_so_far before) in
+    let split = made_after w (journal_so_far before) (journal_so_far (before ++ l ∷ [])) made makes ∙ ap (λ (t : List ℕ). first ++ t) front.whole ∙ sym (append_assoc first front.front front.rest) in
     stops w (before ++ l ∷ []) next new bytes left start now (first ++ front.front) front.rest st (decides_more w before l old new bytes rest left is decided step) split done
 
 all_more : (lines : List (List ℕ)) (line : List ℕ) → AllByRecursion IsOpen lines → IsOpen line → AllByRecursion IsOpen (lines ++ line ∷ [])
@@ -280,7 +269,6 @@ pub reached_more : {L : Type 0} (w : Spelled) (bytes rest left start mid now : O
 reached_more w bytes rest left start mid now old new s next r gives responds =
     let l = responds.0.0 in
     let is = responds.0.1 in
-    let first = entry_lines w 0 (journal_at s) in
     record {
       before = r.before ++ l ∷ [];
       stands = responds.0.2;
@@ -288,7 +276,7 @@ reached_more w bytes rest left start mid now old new s next r gives responds =
       decides = decides_more w r.before l old new bytes rest left is r.decides gives.step;
       placed = placed_call bytes rest left old new true r.placed gives.taken gives.after;
       took = λ going. took_more w r.before l old new bytes rest left is gives going (r.took gives.going);
-      written = subst (Appends start now) (sym (made_after w (journal_at s) (journal_at next) responds.1 responds.2)) (Appends-trans start mid now _ _ r.written responds.3);
+      written = subst (Appends start now) (sym (made_after w (journal_so_far r.before) (journal_so_far (r.before ++ l ∷ [])) responds.1 responds.2)) (Appends-trans start mid now _ _ r.written responds.3);
     }
 
 pub reached_start : {L : Type 0} (w : Spelled) (h : Header) (bytes held : Option (List ℕ)) → StandsAsHeader [] h → Reached {L = L} w bytes (input fresh bytes) held held fresh (stage.Header h)
@@ -328,24 +316,13 @@ stops_short w bytes rest left start now old new s r going given place shows kept
       undecided = λ some. rw (took.count, ← given) (shows.few some);
       before = r.before;
       whole = took.whole;
-      written = subst (λ (h : List Entry). Appends start now (entry_lines w 0 h)) (sym (journal_is r.before s r.stands)) r.written;
+      written = r.written;
     }
-
-few_entries : {L : Type 0} (before : List Line) (s : Stage L) → Stands before s → length (journal_at s) ≤ length before
-few_entries before (stage.Header h) st = omega arith
-few_entries before (stage.Begin x) st = omega arith
-few_entries before (stage.Body p) st = st.2.few
-few_entries before (stage.Over p) st = st.2.few
-
--- the journal has no more entries than lines were given
-pub few_reached : {L : Type 0} (w : Spelled) (bytes rest start now : Option (List ℕ)) (reader : Reader) (s : Stage L) → Reached w bytes rest start now reader s → length (journal_at s) ≤ reader.given
-few_reached w bytes rest start now reader s r = omega (arith, few_entries r.before s r.stands, r.count)
 
 may_take : {L : Type 0} (before : List Line) (s : Stage L) → Stands before s → length before < 262144 → MayTake s
 may_take before (stage.Header h) st few = tt
-may_take before (stage.Begin x) st few = st.1
-may_take before (stage.Body p) st few = let least = st.2.few in (omega arith, st.2.numbered)
-may_take before (stage.Over p) st few = tt
+may_take before (stage.Begin x) st few = (st.1, (before, st.0))
+may_take before (stage.Body p) st few = let entries = st.played.few in let orders = st.played.few_orders in (omega arith, omega arith)
 
 pub may_reached : {L : Type 0} (w : Spelled) (bytes rest start now : Option (List ℕ)) (reader : Reader) (s : Stage L) → Reached w bytes rest start now reader s → reader.given < 262144 → MayTake s
 may_reached w bytes rest start now reader s r few = may_take r.before s r.stands (omega (arith, r.count))
@@ -430,13 +407,13 @@ limit_told {L = L} w bytes rest left start now old new s which r step is = told 
 pub bad_written : {L : Type 0} (w : Spelled) (bytes rest left start mid now : Option (List ℕ)) (old new : Reader) (s : Stage L) (d : Decision) (r : Reached w bytes rest start mid old s) → Answers old new rest left (Ok true) → judge w.reads r.before (LineOf new.line) ≡ decides d → Appends mid now []
     → Writes bytes start now (entries_text w)
 bad_written w bytes rest left start mid now old new s d r step is none =
-    written_all w r.before s d bytes start now r.stands (ends_line w r.before d old new bytes rest left is r.decides step) (written_kept start mid now (entry_lines w 0 (journal_at s)) r.written none)
+    written_all w r.before s d bytes start now r.stands (ends_line w r.before d old new bytes rest left is r.decides step) (written_kept start mid now (entry_lines w 0 (journal_so_far r.before)) r.written none)
 
 pub memory_front : {L : Type 0} (w : Spelled) (bytes rest start mid now : Option (List ℕ)) (reader : Reader) (s : Stage L) → Reached w bytes rest start mid reader s → Appends mid now [] → WritesFront bytes start now (entries_text w)
-memory_front w bytes rest start mid now reader s r none = stops_whole w r.before s reader bytes rest start now r.stands r.decides (written_kept start mid now (entry_lines w 0 (journal_at s)) r.written none)
+memory_front w bytes rest start mid now reader s r none = stops_whole w r.before s reader bytes rest start now r.stands r.decides (written_kept start mid now (entry_lines w 0 (journal_so_far r.before)) r.written none)
 
 -- where memory runs out, nothing was written
-pub memory_nothing : {L : Type 0} (w : Spelled) (bytes rest start mid now : Option (List ℕ)) (reader : Reader) (s : Stage L) → Reached w bytes rest start mid reader s → journal_at s ≡ [] → Appends mid now [] → Appends start now []
+pub memory_nothing : {L : Type 0} (w : Spelled) (bytes rest start mid now : Option (List ℕ)) (reader : Reader) (s : Stage L) (r : Reached w bytes rest start mid reader s) → journal_so_far r.before ≡ [] → Appends mid now [] → Appends start now []
 memory_nothing w bytes rest start mid now reader s r empty none = Appends-trans start mid now [] [] (rw empty at r.written) none
 
 -- a front of the first of two texts is a front of both
@@ -461,36 +438,38 @@ pub on_err : {T E : Type 0} (r : Result T E) (P Q : Type 0) → (P → Q) → On
 on_err (Ok x) P Q f h = tt
 on_err (Err e) P Q f h = f h
 
--- the chart of the verdict is that of the manager
-chart_same : {L : Type 0} (asked : Option ℕ) (f : Finish L) (v : Verdict) → IsOfLines v.before f → chart_lines asked (decision_of f) (layout_of v.before) (journal_of v) ≡ chart_text asked f
+-- the chart of the verdict is that of the session
+chart_same : {L : Type 0} (asked : Option ℕ) (f : Finish L) (v : Verdict) → IsOfLines v.before f → chart_lines asked (decision_of f) (layout_of v.before) (journal_of v) ≡ chart_text asked v.before f
 chart_same None (finish.Whole x) v lines = refl
 chart_same None (finish.Bad number kind) v lines = refl
 chart_same None (finish.Limit which) v lines = refl
-chart_same (Some step) (finish.Whole x) v lines = rw (lines.0, lines.1) refl
+chart_same (Some step) (finish.Whole x) v lines = ap (λ i. chart i (journal_so_far v.before) step) lines.played.layout
 chart_same (Some step) (finish.Bad number kind) v lines = refl
 chart_same (Some step) (finish.Limit which) v lines = refl
 
 -- the text is the entries' lines, the chart and the last line
-text_is : {L : Type 0} (w : Spelled) (asked : Option ℕ) (bytes : List ℕ) (f : Finish L) → Comes w f (Some bytes) → text_by w asked bytes ≡ entries_text w bytes ++ ending_text w asked f
+text_is : {L : Type 0} (w : Spelled) (asked : Option ℕ) (bytes : List ℕ) (f : Finish L) → Comes w f (Some bytes) → text_by w asked bytes ≡ entries_text w bytes ++ ending_text w asked (verdict w.reads bytes).before f
 text_is w asked bytes f comes =
     let v = verdict w.reads bytes in
     ap (λ (d : Decision). entries_text w bytes ++ (chart_lines asked d (layout_of v.before) (journal_of v) ++ printed (w.last_text d))) comes.decision
     ∙ ap (λ (t : List ℕ). entries_text w bytes ++ (t ++ printed (w.last_text (decision_of f)))) (chart_same asked f v comes.lines)
 
 -- the ending was written behind the entries' lines
-pub all_written : {L : Type 0} (w : Spelled) (asked : Option ℕ) (bytes start mid now : Option (List ℕ)) (f : Finish L) → Comes w f bytes → Writes bytes start mid (entries_text w) → Appends mid now (ending_text w asked f) → Writes bytes start now (text_by w asked)
+pub all_written : {L : Type 0} (w : Spelled) (asked : Option ℕ) (bytes start mid now : Option (List ℕ)) (f : Finish L) → Comes w f bytes → Writes bytes start mid (entries_text w) → ((before : List Line) → IsOfLines before f → Appends mid now (ending_text w asked before f)) → Writes bytes start now (text_by w asked)
 all_written w asked None start mid now f comes first last = tt
-all_written w asked (Some bytes) start mid now f comes first last = subst (Appends start now) (sym (text_is w asked bytes f comes)) (Appends-trans start mid now _ _ first last)
+all_written w asked (Some bytes) start mid now f comes first last = subst (Appends start now) (sym (text_is w asked bytes f comes)) (Appends-trans start mid now _ _ first (last (verdict w.reads bytes).before comes.lines))
 
 -- a front of the ending was written behind them
-pub front_written : {L : Type 0} (w : Spelled) (asked : Option ℕ) (bytes start mid now : Option (List ℕ)) (f : Finish L) → Comes w f bytes → Writes bytes start mid (entries_text w) → AppendsFront mid now (ending_text w asked f) → WritesFront bytes start now (text_by w asked)
+pub front_written : {L : Type 0} (w : Spelled) (asked : Option ℕ) (bytes start mid now : Option (List ℕ)) (f : Finish L) → Comes w f bytes → Writes bytes start mid (entries_text w) → ((before : List Line) → IsOfLines before f → AppendsFront mid now (ending_text w asked before f)) → WritesFront bytes start now (text_by w asked)
 front_written w asked None start mid now f comes first last = tt
-front_written w asked (Some bytes) start mid now f comes first last = record {
-  front = entries_text w bytes ++ last.front;
-  rest = last.rest;
-  whole = text_is w asked bytes f comes ∙ ap (λ (t : List ℕ). entries_text w bytes ++ t) last.whole ∙ sym (append_assoc (entries_text w bytes) last.front last.rest);
-  added = Appends-trans start mid now _ _ first last.added;
-}
+front_written w asked (Some bytes) start mid now f comes first last =
+    let part = last (verdict w.reads bytes).before comes.lines in
+    record {
+      front = entries_text w bytes ++ part.front;
+      rest = part.rest;
+      whole = text_is w asked bytes f comes ∙ ap (λ (t : List ℕ). entries_text w bytes ++ t) part.whole ∙ sym (append_assoc (entries_text w bytes) part.front part.rest);
+      added = Appends-trans start mid now _ _ first part.added;
+    }
 
 -- a front of the entries' lines is a front of the text
 pub front_of_text : (w : Spelled) (asked : Option ℕ) (bytes start now : Option (List ℕ)) → WritesFront bytes start now (entries_text w) → WritesFront bytes start now (text_by w asked)

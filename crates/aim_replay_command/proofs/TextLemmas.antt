@@ -41,7 +41,7 @@ journal_begins i calls more =
         (e ∷ found.0, found.1 ∙ append_assoc h (e ∷ []) found.0)
 
 -- whether a part stands behind the line of the vehicles
-abbrev is_past : Part → Bool
+abbrev pub is_past : Part → Bool
 is_past to_begin = true
 is_past in_body = true
 is_past nothing = true

@@ -17,13 +17,15 @@ use Rattle.aim_script.specs.declared.decisions.Limit.TheVariants as limit
 use Rattle.aim_script.specs.Verdicts.{Verdict, decides, goes_on, judge, number_after, verdict_from, verdict}
 use Rattle.aim_script.specs.Decided.{printed, status_of}
 use Rattle.aim_script.specs.Spellings.{Spelled}
-use Rattle.aim_replay.specs.declared.stages.Made.{Made}
+use Rattle.aim_line_session.specs.declared.progress.Answered.{Answered}
+use Rattle.aim_line_session.specs.Sessions.{Makes, journal_so_far}
 use Rattle.aim_replay.specs.declared.stages.Stage.{Stage}
+use Rattle.aim_replay.specs.declared.stages.Taken.{Taken}
 use Rattle.aim_replay.specs.declared.stages.Refusal.{Refusal}
 use Rattle.aim_replay.specs.declared.stages.Refusal.TheVariants as refusal
 use Rattle.aim_replay.specs.declared.stages.Finish.{Finish}
 use Rattle.aim_replay.specs.declared.stages.Finish.TheVariants as finish
-use Rattle.aim_replay.specs.Stages.{IsOfLines, Stands, Makes, decision_of, journal_at}
+use Rattle.aim_replay.specs.Stages.{IsOfLines, Stands, decision_of}
 use Rattle.aim_replay_command.specs.declared.faults.Unwritten.{Unwritten}
 use Rattle.aim_replay_command.specs.declared.faults.Unwritten.TheVariants as unwritten
 use Rattle.aim_replay_command.specs.declared.session.Halt.{Halt}
@@ -34,7 +36,7 @@ use Rattle.aim_replay_command.specs.Texts.{entry_lines, text_by}
 use Rattle.aim_replay_command.specs.Replays.{AreWhole, StopsShortBy, TakesAtMost, Writes, WritesFront, entries_text}
 
 -- the line of an entry that was made, if one was
-abbrev pub made_line : Spelled → Option Made → List ℕ
+abbrev pub made_line : Spelled → Option Answered → List ℕ
 made_line w None = []
 made_line w (Some m) = printed (w.entry_text m.position m.entry)
 
@@ -44,6 +46,11 @@ Judged w before bytes (Ok next) = (l : Line) × (judge w.reads before (LineOf by
 Judged w before bytes (Err (refusal.Bad why)) = judge w.reads before (LineOf bytes) ≡ decides (decision.Bad (number_after before) why)
 Judged w before bytes (Err (refusal.Limit which)) = judge w.reads before (LineOf bytes) ≡ decides (decision.Limit which)
 Judged w before bytes (Err refusal.NoMemory) = Unit {0}
+
+-- what further bytes come to, and the entry that they make behind the journal of the lines
+abbrev pub IsTaken : {L : Type 0} → Spelled → List Line → List ℕ → Result (Taken L) Refusal → Type 0
+IsTaken {L = L} w before bytes (Ok t) = (j : Judged {L = L} w before bytes (Ok t.stage)) × Makes (journal_so_far before) (journal_so_far (before ++ j.0 ∷ [])) t.made
+IsTaken {L = L} w before bytes (Err why) = Judged {L = L} w before bytes (Err why)
 
 -- what is still to come decides the same as all
 abbrev pub Decides : Spelled → List Line → Reader → Option (List ℕ) → Option (List ℕ) → Type 0
@@ -73,16 +80,16 @@ pub record Reached {L : Type 0} (w : Spelled) (bytes rest old now : Option (List
   pub decides : Decides w before reader bytes rest
   pub placed : Placed bytes rest reader.place
   pub took : reader.ended ≡ false → Took w before reader bytes rest
-  pub written : Appends old now (entry_lines w 0 (journal_at s))
+  pub written : Appends old now (entry_lines w 0 (journal_so_far before))
 
 -- what a line comes to, and what was written of it
 abbrev pub Responds : {L : Type 0} → Spelled → List Line → Stage L → List ℕ → Option (List ℕ) → Option (List ℕ) → Result (Stage L) Halt → Type 0
 Responds {L = L} w before s line old new (Ok next) =
-    Judged {L = L} w before line (Ok next) × (made : Option Made) × Makes (journal_at s) (journal_at next) made × Appends old new (made_line w made)
+    (j : Judged {L = L} w before line (Ok next)) × (made : Option Answered) × Makes (journal_so_far before) (journal_so_far (before ++ j.0 ∷ [])) made × Appends old new (made_line w made)
 Responds {L = L} w before s line old new (Err (halt.Refused why)) =
-    Judged {L = L} w before line (Err why) × (why ≡ refusal.NoMemory → w.takes_memory ≡ false → journal_at s ≡ []) × Appends old new []
+    Judged {L = L} w before line (Err why) × (why ≡ refusal.NoMemory → w.takes_memory ≡ false → journal_so_far before ≡ []) × Appends old new []
 Responds {L = L} w before s line old new (Err (halt.Unwritten why)) =
-    (next : Stage L) × Judged {L = L} w before line (Ok next) × (made : Option Made) × Makes (journal_at s) (journal_at next) made × AppendsFront old new (made_line w made) × (why ≡ unwritten.NoMemory → w.takes_memory ≡ true)
+    (next : Stage L) × (j : Judged {L = L} w before line (Ok next)) × (made : Option Answered) × Makes (journal_so_far before) (journal_so_far (before ++ j.0 ∷ [])) made × AppendsFront old new (made_line w made) × (why ≡ unwritten.NoMemory → w.takes_memory ≡ true)
 
 -- where the source tells its bytes, they come to this: the decision is theirs, and the manager that of their lines
 pub record IsTold {L : Type 0} (f : Finish L) (v : Verdict) : Type 0 where
@@ -162,11 +169,11 @@ status_for (Err stop.Read) = 4
 status_for (Err stop.Write) = 5
 status_for (Err stop.NoMemory) = 7
 
--- the chart of the manager's history, if one is asked for and the script is whole
-abbrev pub chart_text : {L : Type 0} → Option ℕ → Finish L → List ℕ
-chart_text (Some step) (finish.Whole s) = chart s.layout s.journal step
-chart_text _ _ = []
+-- the chart of the lines' journal, if one is asked for and the script is whole
+abbrev pub chart_text : {L : Type 0} → Option ℕ → List Line → Finish L → List ℕ
+chart_text (Some step) before (finish.Whole p) = chart p.server.layout (journal_so_far before) step
+chart_text _ before _ = []
 
 -- what stands behind the lines of the entries
-abbrev pub ending_text : {L : Type 0} → Spelled → Option ℕ → Finish L → List ℕ
-ending_text w asked f = chart_text asked f ++ printed (w.last_text (decision_of f))
+abbrev pub ending_text : {L : Type 0} → Spelled → Option ℕ → List Line → Finish L → List ℕ
+ending_text w asked before f = chart_text asked before f ++ printed (w.last_text (decision_of f))

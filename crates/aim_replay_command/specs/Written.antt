@@ -14,3 +14,9 @@ pub record Puts {T : Type 0} (w : Spelled) (result : Result T Unwritten) (old no
   pub memory : result ≡ Err unwritten.NoMemory → w.takes_memory ≡ true
   pub write : result ≡ Err unwritten.Write → Rose faults_old faults_new
   pub later : faults_old ≤ faults_new
+
+-- why it isn't, whatever the text
+pub record HasPutCause {T : Type 0} (w : Spelled) (result : Result T Unwritten) (faults_old faults_new : ℕ) : Type 0 where
+  pub memory : result ≡ Err unwritten.NoMemory → w.takes_memory ≡ true
+  pub write : result ≡ Err unwritten.Write → Rose faults_old faults_new
+  pub later : faults_old ≤ faults_new

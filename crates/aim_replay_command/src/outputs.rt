@@ -1,15 +1,18 @@
 //! The lines that a replay writes.
 
-ghost use Rattle.std.specs.Prelude.{◌≡◌, [], OnOk};
+ghost use Rattle.std.specs.Prelude.{◌≡◌, List, [], OnOk};
+ghost use Rattle.aim_messages.specs.declared.script.Line.{Line};
+ghost use Rattle.aim_replay.specs.Stages.{IsOfLines};
 ghost use Rattle.aim_script.specs.Decided.{printed};
 ghost use Rattle.aim_script.specs.Spellings.{Spelled};
 ghost use Rattle.aim_replay_command.specs.Sessions.{chart_text, ending_text, made_line};
-ghost use Rattle.aim_replay_command.specs.Written.{Puts};
+ghost use Rattle.aim_replay_command.specs.Written.{HasPutCause, Puts};
 
 use crate::faults::Unwritten;
 use crate::spellings::Spelling;
 use aim_io::Sink;
-use aim_replay::{Finish, Made, put_chart};
+use aim_line_session::Answered;
+use aim_replay::{Finish, put_chart};
 use aim_script::Decision;
 use std::alloc::Global;
 use std::sync::ledger::Ledger;
@@ -18,12 +21,12 @@ use std::sync::ledger::Ledger;
 pub(crate) fn put_made<P: Spelling, K: Sink>(
     alloc: Global,
     sink: &mut K,
-    made: Option<Made>,
+    made: Option<Answered>,
 ) -> Result<(), Unwritten>
     ensures { Puts P.spelled result (K.held sink.old) (K.held sink.new) (K.faults sink.old) (K.faults sink.new) (made_line P.spelled made) }
 {
     match made {
-        Some(Made { position, entry }) => P::put_entry(alloc, sink, position, &entry),
+        Some(Answered { position, entry }) => P::put_entry(alloc, sink, position, &entry),
         None => Ok(()),
     }
 }
@@ -34,10 +37,11 @@ fn put_asked<K: Sink, L: Ledger>(
     finish: &Finish<L>,
     chart: Option<u32>,
 ) -> Result<(), Unwritten>
-    ensures { (w : Spelled) → Puts w result (K.held sink.old) (K.held sink.new) (K.faults sink.old) (K.faults sink.new) (chart_text chart finish.now) }
+    ensures puts { (w : Spelled) (before : List Line) → IsOfLines before finish.now → Puts w result (K.held sink.old) (K.held sink.new) (K.faults sink.old) (K.faults sink.new) (chart_text chart before finish.now) }
+    ensures cause { (w : Spelled) → HasPutCause w result (K.faults sink.old) (K.faults sink.new) }
 {
     match (finish, chart) {
-        (Finish::Whole(server), Some(step)) => match put_chart(sink, server, step) {
+        (Finish::Whole(session), Some(step)) => match put_chart(sink, session, step) {
             Ok(()) => Ok(()),
             Err(_) => Err(Unwritten::Write),
         },
@@ -70,7 +74,8 @@ pub(crate) fn put_ending<P: Spelling, K: Sink, L: Ledger>(
     finish: &Finish<L>,
     chart: Option<u32>,
 ) -> Result<(), Unwritten>
-    ensures puts { Puts P.spelled result (K.held sink.old) (K.held sink.new) (K.faults sink.old) (K.faults sink.new) (ending_text P.spelled chart finish.now) }
+    ensures puts { (before : List Line) → IsOfLines before finish.now → Puts P.spelled result (K.held sink.old) (K.held sink.new) (K.faults sink.old) (K.faults sink.new) (ending_text P.spelled chart before finish.now) }
+    ensures cause { HasPutCause P.spelled result (K.faults sink.old) (K.faults sink.new) }
     ensures settled { OnOk result (K.kept_back sink.new ≡ []) }
 {
     match put_asked(sink, finish, chart) {

@@ -6,10 +6,11 @@ ghost use Rattle.aim_io.specs.Causes.{HasCause, Rose};
 ghost use Rattle.aim_io.specs.Lines.{IsOpen};
 ghost use Rattle.aim_io.specs.Reader.{fresh};
 ghost use Rattle.aim_messages.specs.declared.script.Line.{Line};
-ghost use Rattle.aim_replay.specs.Stages.{Makes, MayTake, Stands, journal_at, stage_of};
+ghost use Rattle.aim_line_session.specs.Sessions.{journal_so_far};
+ghost use Rattle.aim_replay.specs.Stages.{MayTake, Stands};
 ghost use Rattle.aim_replay_command.specs.Texts.{text_by};
 ghost use Rattle.aim_replay_command.specs.Replays.{LastNeededBy, ReplaysBy, StopsShortBy, TakesAtMost, WritesFront};
-ghost use Rattle.aim_replay_command.specs.Sessions.{Came, Caused, IsSettled, Judged, Played, Responds, at_fault, cut_by, halted, status_for};
+ghost use Rattle.aim_replay_command.specs.Sessions.{Came, Caused, IsSettled, IsTaken, Played, Responds, at_fault, cut_by, halted, status_for};
 
 use crate::faults::{Unread, Unwritten};
 use crate::outputs::{put_ending, put_made};
@@ -48,9 +49,8 @@ fn take_line<P: Spelling, L: Ledger>(
     steps: &mut Steps<L>,
 ) -> Result<Taken<L>, Refusal>
     requires { MayTake stage }
-    ensures judged { (before : List Line) → Stands before stage → Judged P.spelled before bytes.now (stage_of result) }
-    ensures makes { IfOk result (λ t. Makes (journal_at stage) (journal_at t.stage) t.made) }
-    ensures memory { result ≡ Err Refusal.NoMemory → P.spelled.takes_memory ≡ false → journal_at stage ≡ [] }
+    ensures taken { (before : List Line) → Stands before stage → IsTaken P.spelled before bytes.now result }
+    ensures memory { (before : List Line) → Stands before stage → result ≡ Err Refusal.NoMemory → P.spelled.takes_memory ≡ false → journal_so_far before ≡ [] }
 {
     match P::read(alloc, bytes, stage.version()) {
         Ok(line) => stage.take(alloc, &line, steps),

@@ -1,5 +1,8 @@
-use Rattle.aim_replay.proofs.StageLemmas.{end_taken}
+use Rattle.aim_replay.proofs.StageLemmas.{body_taken, body_made}
 use Rattle.aim_replay.proofs.stages.played.Goals as goal
 
-pub returns-in-End-clause-takes : goal.returns-in-End-clause-takes
-returns-in-End-clause-takes g c before st = rw c.in-End.is (end_taken before c.args.play st)
+pub returns-in-Ok-clause-takes : goal.returns-in-Ok-clause-takes
+returns-in-Ok-clause-takes g c before st = body_taken before c.args.line.now c.args.session _ _ (c.in-Ok.ensures before st)
+
+pub returns-in-Ok-clause-makes : goal.returns-in-Ok-clause-makes
+returns-in-Ok-clause-makes g c before st = body_made before c.args.line.now c.args.session _ _ (c.in-Ok.ensures before st)
