@@ -56,7 +56,17 @@ judge 'the proof that it tells of' "$(git rev-parse HEAD)" "$(sed -n 's/^aim .*,
 mkdir "$work/unpacked" "$work/user" && tar -C "$work/unpacked" -xf "$work"/dist/aim-*.tar.xz
 judge 'its installation' "aim is in $work/user/.local" "$(HOME=$work/user "$work"/unpacked/aim-*/install.sh --prefix "$work/user/.local" | cut -d ';' -f 1)"
 judge 'its first command' "$first" "$(AIM_PROGRAM='' "$work/user/.local/bin/aim" replay < "$work/user/.local/share/doc/aim/examples/first.aim")"
-judge 'its bridge' 'usage: aim-sumo' "$("$work/user/.local/bin/aim-sumo" --help 2>&1 | head -n 1 | cut -c 1-15)"
+# The bridge needs numpy, and says so where it isn't there. What others install meanwhile isn't half there: they wait.
+bridge_help() {
+  local said
+  said=$("$work/user/.local/bin/aim-sumo" --help 2>&1 | head -n 1)
+  if /usr/bin/python3 -c 'import numpy' 2> /dev/null; then
+    printf '%s\n' "$said" | cut -c 1-15
+  else
+    [ "$said" != "aim-sumo: the Python module numpy isn't there (on Debian: apt install python3-numpy)" ] || echo 'usage: aim-sumo'
+  fi
+}
+judge 'its bridge' 'usage: aim-sumo' "$(one_by_one bridge_help)"
 "$work"/unpacked/aim-*/install.sh --prefix "$work/user/.local" --remove > /dev/null
 judge 'what is left of it' '' "$(find "$work/user" -type f)"
 judge 'a word that it does not know' 'status 2' "$("$work"/unpacked/aim-*/install.sh --all > /dev/null 2>&1; printf 'status %s' $?)"

@@ -26,6 +26,8 @@ mod replies;
 #[cfg(test)]
 mod safety;
 #[cfg(test)]
+mod session;
+#[cfg(test)]
 mod sources;
 #[cfg(test)]
 mod turn;
