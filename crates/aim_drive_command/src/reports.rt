@@ -66,6 +66,13 @@ fn logs_fit(logs: &[Logged])
     }
 }
 
+// Each layout is valid. This is a law: the call does nothing.
+fn layout_is_valid(layout: &Layout)
+    ensures { IsValid layout.now }
+{
+    let _ = layout.ground();
+}
+
 /// The text that reports a drive of so many vehicles. The drive's entries and items have the values of their types, so the
 /// text tells them.
 pub(crate) fn report_of(
@@ -83,7 +90,7 @@ pub(crate) fn report_of(
 {
     entries_fit(&drove.journal);
     logs_fit(&drove.logs);
-    let _ground = layout.ground();
+    layout_is_valid(layout);
     let mut text = Vec::new(alloc);
     put_entries(&mut text, &drove.journal)?;
     put_logs(&mut text, vehicles, &drove.logs)?;

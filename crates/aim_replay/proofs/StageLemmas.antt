@@ -30,7 +30,7 @@ use Rattle.aim_line_session.specs.Sessions.{Comes, IsFull, Makes, Opens, Stands 
 use Rattle.aim_line_session.proofs.SessionLemmas.{IsQuiet, goes, same_journal}
 use Rattle.aim_replay.specs.declared.stages.Stage.{Stage}
 use Rattle.aim_replay.specs.declared.stages.Stage.TheVariants as stage
-use Rattle.aim_replay.specs.declared.stages.Refusal.TheVariants as refusal
+use Rattle.aim_replay.specs.declared.stages.StageRefusal.TheVariants as refusal
 use Rattle.aim_replay.specs.Stages.{IsOfLines, MayTake, Stands, Takes, version_at}
 
 -- a line without a kind that goes past a limit

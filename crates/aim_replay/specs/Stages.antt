@@ -13,8 +13,8 @@ use Rattle.aim_line_session.specs.Sessions.{Stands as StandsAsSession}
 use Rattle.aim_replay.specs.declared.stages.Stage.{Stage}
 use Rattle.aim_replay.specs.declared.stages.Stage.TheVariants as stage
 use Rattle.aim_replay.specs.declared.stages.Taken.{Taken}
-use Rattle.aim_replay.specs.declared.stages.Refusal.{Refusal}
-use Rattle.aim_replay.specs.declared.stages.Refusal.TheVariants as refusal
+use Rattle.aim_replay.specs.declared.stages.StageRefusal.{StageRefusal}
+use Rattle.aim_replay.specs.declared.stages.StageRefusal.TheVariants as refusal
 use Rattle.aim_replay.specs.declared.stages.Finish.{Finish}
 use Rattle.aim_replay.specs.declared.stages.Finish.TheVariants as finish
 
@@ -42,14 +42,14 @@ version_at (stage.Begin s) = version_number s.version
 version_at (stage.Body p) = version_number p.version
 
 -- what a further line comes to
-abbrev pub Takes : {L : Type 0} → List Line → Line → Result (Stage L) Refusal → Type 0
+abbrev pub Takes : {L : Type 0} → List Line → Line → Result (Stage L) StageRefusal → Type 0
 Takes before l (Ok next) = (of_read before (Ok l) ≡ goes_on l) × Stands (before ++ l ∷ []) next
 Takes before l (Err (refusal.Bad why)) = of_read before (Ok l) ≡ decides (decision.Bad (number_after before) why)
 Takes before l (Err (refusal.Limit which)) = of_read before (Ok l) ≡ decides (decision.Limit which)
 Takes before l (Err refusal.NoMemory) = Unit {0}
 
 -- the stage that is reached
-abbrev pub stage_of : {L : Type 0} → Result (Taken L) Refusal → Result (Stage L) Refusal
+abbrev pub stage_of : {L : Type 0} → Result (Taken L) StageRefusal → Result (Stage L) StageRefusal
 stage_of (Ok t) = Ok t.stage
 stage_of (Err why) = Err why
 

@@ -8,4 +8,4 @@ mod stages;
 
 pub use charts::put_chart;
 pub use lines::put_line;
-pub use stages::{Finish, Refusal, Stage, Taken};
+pub use stages::{Finish, Stage, StageRefusal, Taken};

@@ -33,7 +33,7 @@ pub struct Taken<L: Ledger> {
 }
 
 /// Why a line isn't taken.
-pub enum Refusal {
+pub enum StageRefusal {
     /// It is at fault.
     Bad(Kind),
     /// It goes past a limit.
@@ -54,7 +54,7 @@ pub enum Finish<L: Ledger> {
 }
 
 // What a line that makes no entry comes to.
-fn without_entry<L: Ledger>(next: Result<Stage<L>, Refusal>) -> Result<Taken<L>, Refusal>
+fn without_entry<L: Ledger>(next: Result<Stage<L>, StageRefusal>) -> Result<Taken<L>, StageRefusal>
     ensures stage { stage_of result ≡ next }
     ensures none { IfOk result (λ t. t.made ≡ None) }
 {
@@ -65,7 +65,7 @@ fn without_entry<L: Ledger>(next: Result<Stage<L>, Refusal>) -> Result<Taken<L>,
 }
 
 // Takes a line of the header.
-fn headed<L: Ledger>(header: Header, alloc: Global, line: &Line) -> Result<Stage<L>, Refusal>
+fn headed<L: Ledger>(header: Header, alloc: Global, line: &Line) -> Result<Stage<L>, StageRefusal>
     requires { HasName line.now }
     ensures takes { (before : List Line) → StandsAsHeader before header → Takes before line.now result }
     ensures quiet { (before : List Line) → StandsAsHeader before header → IfOk result (λ next. journal_so_far (before ++ line.now ∷ []) ≡ journal_so_far before) }
@@ -77,18 +77,18 @@ fn headed<L: Ledger>(header: Header, alloc: Global, line: &Line) -> Result<Stage
             match vehicles_limit(spans, setting.vehicles) {
                 Some(limit) => {
                     drop(setting);
-                    Err(Refusal::Limit(limit))
+                    Err(StageRefusal::Limit(limit))
                 }
                 None => Ok(Stage::Begin(setting)),
             }
         }
-        Err(aim_script::HeaderRefusal::Bad(kind)) => Err(Refusal::Bad(kind)),
-        Err(aim_script::HeaderRefusal::NoMemory) => Err(Refusal::NoMemory),
+        Err(aim_script::HeaderRefusal::Bad(kind)) => Err(StageRefusal::Bad(kind)),
+        Err(aim_script::HeaderRefusal::NoMemory) => Err(StageRefusal::NoMemory),
     }
 }
 
 // Takes the line behind that of the vehicles.
-fn begun<L: Ledger>(setting: Setting, alloc: Global, line: &Line) -> Result<Stage<L>, Refusal>
+fn begun<L: Ledger>(setting: Setting, alloc: Global, line: &Line) -> Result<Stage<L>, StageRefusal>
     requires within { IsOpen setting }
     requires set { (before : List Line) × IsSet before setting }
     ensures takes { (before : List Line) → IsSet before setting → Takes before line.now result }
@@ -97,12 +97,12 @@ fn begun<L: Ledger>(setting: Setting, alloc: Global, line: &Line) -> Result<Stag
     match line {
         Line::Begin => match LineSession::open(alloc, setting) {
             Ok(session) => Ok(Stage::Body(session)),
-            Err(Unopened::NoMemory) => Err(Refusal::NoMemory),
+            Err(Unopened::NoMemory) => Err(StageRefusal::NoMemory),
             Err(Unopened::Limit(_)) => unreachable!(),
         },
         _ => {
             drop(setting);
-            Err(Refusal::Bad(Kind::Order))
+            Err(StageRefusal::Bad(Kind::Order))
         }
     }
 }
@@ -112,12 +112,12 @@ fn played<L: Ledger>(
     mut session: LineSession<L>,
     line: &Line,
     steps: &mut Steps<L>,
-) -> Result<Taken<L>, Refusal>
+) -> Result<Taken<L>, StageRefusal>
     requires may { MayTake (Stage.Body session) }
     requires name { HasName line.now }
     ensures takes { (before : List Line) → StandsAsSession before session → Takes before line.now (stage_of result) }
     ensures makes { (before : List Line) → StandsAsSession before session → IfOk result (λ t. Makes (journal_so_far before) (journal_so_far (before ++ line.now ∷ [])) t.made) }
-    ensures memory { result ≡ Err Refusal.NoMemory → ⊥ }
+    ensures memory { result ≡ Err StageRefusal.NoMemory → ⊥ }
 {
     match session.take(line, steps) {
         Ok(made) => Ok(Taken {
@@ -126,7 +126,7 @@ fn played<L: Ledger>(
         }),
         Err(Untaken::Bad(kind)) => {
             drop(session);
-            Err(Refusal::Bad(kind))
+            Err(StageRefusal::Bad(kind))
         }
         Err(Untaken::Full) => unreachable!(),
     }
@@ -158,14 +158,19 @@ impl<L: Ledger> Stage<L> {
     }
 
     /// Takes the next line of a script, and answers its event or order, if it is one.
-    pub fn take(self, alloc: Global, line: &Line, steps: &mut Steps<L>) -> Result<Taken<L>, Refusal>
+    pub fn take(
+        self,
+        alloc: Global,
+        line: &Line,
+        steps: &mut Steps<L>,
+    ) -> Result<Taken<L>, StageRefusal>
         requires may { MayTake self }
         requires name { HasName line.now }
         ensures takes { (before : List Line) → Stands before self → Takes before line.now (stage_of result) }
         ensures makes { (before : List Line) → Stands before self → IfOk result (λ t. Makes (journal_so_far before) (journal_so_far (before ++ line.now ∷ [])) t.made) }
 
         // Memory is taken before the first event alone.
-        ensures memory { (before : List Line) → Stands before self → result ≡ Err Refusal.NoMemory → journal_so_far before ≡ [] }
+        ensures memory { (before : List Line) → Stands before self → result ≡ Err StageRefusal.NoMemory → journal_so_far before ≡ [] }
     {
         match self {
             Stage::Header(header) => without_entry(headed(header, alloc, line)),

@@ -19,7 +19,7 @@ use Rattle.aim_script.specs.Spellings.{Spelled}
 use Rattle.aim_replay.specs.declared.stages.Stage.{Stage}
 use Rattle.aim_replay.specs.declared.stages.Finish.{Finish}
 use Rattle.aim_replay.specs.declared.stages.Finish.TheVariants as finish
-use Rattle.aim_replay.specs.declared.stages.Refusal.TheVariants as refusal
+use Rattle.aim_replay.specs.declared.stages.StageRefusal.TheVariants as refusal
 use Rattle.aim_replay.specs.Stages.{IsOfLines, decision_of}
 use Rattle.aim_replay_command.specs.declared.faults.Unwritten.{Unwritten}
 use Rattle.aim_replay_command.specs.declared.faults.Unwritten.TheVariants as unwritten

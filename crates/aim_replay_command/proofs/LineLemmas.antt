@@ -13,8 +13,8 @@ use Rattle.aim_script.specs.Verdicts.{judge, decides, number_after}
 use Rattle.aim_script.specs.Headers.{HasName}
 use Rattle.aim_script.specs.Spellings.{Spelled}
 use Rattle.aim_replay.specs.declared.stages.Stage.{Stage}
-use Rattle.aim_replay.specs.declared.stages.Refusal.{Refusal}
-use Rattle.aim_replay.specs.declared.stages.Refusal.TheVariants as refusal
+use Rattle.aim_replay.specs.declared.stages.StageRefusal.{StageRefusal}
+use Rattle.aim_replay.specs.declared.stages.StageRefusal.TheVariants as refusal
 use Rattle.aim_replay.specs.declared.stages.Taken.{Taken}
 use Rattle.aim_replay.specs.Stages.{Stands, Takes, stage_of, version_at}
 use Rattle.aim_line_session.specs.Sessions.{Makes, journal_so_far}
@@ -22,14 +22,14 @@ use Rattle.aim_replay.proofs.StageLemmas.{version_is}
 use Rattle.aim_replay_command.specs.Sessions.{IsTaken, Judged}
 
 -- what bytes come to is what their line comes to
-pub judged : {L : Type 0} (w : Spelled) (before : List Line) (s : Stage L) (bytes : List ℕ) (n : ℕ) (l : Line) (r : Result (Stage L) Refusal) → Stands before s → n ≡ version_at s → w.reads n bytes ≡ Ok l → Takes before l r → Judged w before bytes r
+pub judged : {L : Type 0} (w : Spelled) (before : List Line) (s : Stage L) (bytes : List ℕ) (n : ℕ) (l : Line) (r : Result (Stage L) StageRefusal) → Stands before s → n ≡ version_at s → w.reads n bytes ≡ Ok l → Takes before l r → Judged w before bytes r
 judged w before s bytes n l (Ok next) st version is takes = (l, rw (version_is before s st, ← version, is) takes.0, takes.1)
 judged w before s bytes n l (Err (refusal.Bad kind)) st version is takes = rw (version_is before s st, ← version, is) takes
 judged w before s bytes n l (Err (refusal.Limit which)) st version is takes = rw (version_is before s st, ← version, is) takes
 judged w before s bytes n l (Err refusal.NoMemory) st version is takes = tt
 
 -- and so is the entry that they make
-pub taken : {L : Type 0} (w : Spelled) (before : List Line) (s : Stage L) (bytes : List ℕ) (n : ℕ) (l : Line) (r : Result (Taken L) Refusal) → Stands before s → n ≡ version_at s → w.reads n bytes ≡ Ok l → Takes before l (stage_of r)
+pub taken : {L : Type 0} (w : Spelled) (before : List Line) (s : Stage L) (bytes : List ℕ) (n : ℕ) (l : Line) (r : Result (Taken L) StageRefusal) → Stands before s → n ≡ version_at s → w.reads n bytes ≡ Ok l → Takes before l (stage_of r)
     → IfOk r (λ t. Makes (journal_so_far before) (journal_so_far (before ++ l ∷ [])) t.made) → IsTaken w before bytes r
 taken w before s bytes n l (Ok t) st version is takes makes = ((l, rw (version_is before s st, ← version, is) takes.0, takes.1), makes)
 taken w before s bytes n l (Err why) st version is takes makes = judged w before s bytes n l (Err why) st version is takes

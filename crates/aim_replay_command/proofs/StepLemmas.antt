@@ -21,7 +21,7 @@ use Rattle.aim_replay_command.specs.declared.session.Halt.{Halt}
 use Rattle.aim_replay_command.specs.declared.session.Halt.TheVariants as halt
 use Rattle.aim_replay_command.specs.declared.session.Stop.{Stop}
 use Rattle.aim_replay_command.specs.declared.session.Stop.TheVariants as stop
-use Rattle.aim_replay.specs.declared.stages.Refusal.TheVariants as refusal
+use Rattle.aim_replay.specs.declared.stages.StageRefusal.TheVariants as refusal
 use Rattle.aim_replay_command.specs.Replays.{LastNeededBy}
 use Rattle.aim_replay_command.specs.Sessions.{Played, Reached, Responds, at_fault, halted}
 use Rattle.aim_replay_command.proofs.SessionLemmas.{Gives, knows_start, may_reached, needed_call, reached_more, reached_settled, reached_start, sound_start}

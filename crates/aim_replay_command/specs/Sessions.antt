@@ -21,8 +21,8 @@ use Rattle.aim_line_session.specs.declared.progress.Answered.{Answered}
 use Rattle.aim_line_session.specs.Sessions.{Makes, journal_so_far}
 use Rattle.aim_replay.specs.declared.stages.Stage.{Stage}
 use Rattle.aim_replay.specs.declared.stages.Taken.{Taken}
-use Rattle.aim_replay.specs.declared.stages.Refusal.{Refusal}
-use Rattle.aim_replay.specs.declared.stages.Refusal.TheVariants as refusal
+use Rattle.aim_replay.specs.declared.stages.StageRefusal.{StageRefusal}
+use Rattle.aim_replay.specs.declared.stages.StageRefusal.TheVariants as refusal
 use Rattle.aim_replay.specs.declared.stages.Finish.{Finish}
 use Rattle.aim_replay.specs.declared.stages.Finish.TheVariants as finish
 use Rattle.aim_replay.specs.Stages.{IsOfLines, Stands, decision_of}
@@ -41,14 +41,14 @@ made_line w None = []
 made_line w (Some m) = printed (w.entry_text m.position m.entry)
 
 -- what further bytes come to
-abbrev pub Judged : {L : Type 0} → Spelled → List Line → List ℕ → Result (Stage L) Refusal → Type 0
+abbrev pub Judged : {L : Type 0} → Spelled → List Line → List ℕ → Result (Stage L) StageRefusal → Type 0
 Judged w before bytes (Ok next) = (l : Line) × (judge w.reads before (LineOf bytes) ≡ goes_on l) × Stands (before ++ l ∷ []) next
 Judged w before bytes (Err (refusal.Bad why)) = judge w.reads before (LineOf bytes) ≡ decides (decision.Bad (number_after before) why)
 Judged w before bytes (Err (refusal.Limit which)) = judge w.reads before (LineOf bytes) ≡ decides (decision.Limit which)
 Judged w before bytes (Err refusal.NoMemory) = Unit {0}
 
 -- what further bytes come to, and the entry that they make behind the journal of the lines
-abbrev pub IsTaken : {L : Type 0} → Spelled → List Line → List ℕ → Result (Taken L) Refusal → Type 0
+abbrev pub IsTaken : {L : Type 0} → Spelled → List Line → List ℕ → Result (Taken L) StageRefusal → Type 0
 IsTaken {L = L} w before bytes (Ok t) = (j : Judged {L = L} w before bytes (Ok t.stage)) × Makes (journal_so_far before) (journal_so_far (before ++ j.0 ∷ [])) t.made
 IsTaken {L = L} w before bytes (Err why) = Judged {L = L} w before bytes (Err why)
 

@@ -16,7 +16,7 @@ use crate::faults::{Unread, Unwritten};
 use crate::outputs::{put_ending, put_made};
 use crate::spellings::Spelling;
 use aim_io::{Failed, LineFault, LineReader, Sink, Source};
-use aim_replay::{Finish, Refusal, Stage, Taken};
+use aim_replay::{Finish, Stage, StageRefusal, Taken};
 use aim_script::{Decision, Header, Kind, Limit};
 use aim_tiles::Steps;
 use std::alloc::Global;
@@ -26,7 +26,7 @@ use std::sync::ledger::{Blank, Ledger};
 /// Why a line isn't answered.
 enum Halt {
     /// It isn't taken.
-    Refused(Refusal),
+    Refused(StageRefusal),
     /// It was taken, and the line of its entry wasn't written whole.
     Unwritten(Unwritten),
 }
@@ -47,20 +47,20 @@ fn take_line<P: Spelling, L: Ledger>(
     alloc: Global,
     bytes: &[u8],
     steps: &mut Steps<L>,
-) -> Result<Taken<L>, Refusal>
+) -> Result<Taken<L>, StageRefusal>
     requires { MayTake stage }
     ensures taken { (before : List Line) → Stands before stage → IsTaken P.spelled before bytes.now result }
-    ensures memory { (before : List Line) → Stands before stage → result ≡ Err Refusal.NoMemory → P.spelled.takes_memory ≡ false → journal_so_far before ≡ [] }
+    ensures memory { (before : List Line) → Stands before stage → result ≡ Err StageRefusal.NoMemory → P.spelled.takes_memory ≡ false → journal_so_far before ≡ [] }
 {
     match P::read(alloc, bytes, stage.version()) {
         Ok(line) => stage.take(alloc, &line, steps),
         Err(Unread::Bad(kind)) => {
             drop(stage);
-            Err(Refusal::Bad(kind))
+            Err(StageRefusal::Bad(kind))
         }
         Err(Unread::NoMemory) => {
             drop(stage);
-            Err(Refusal::NoMemory)
+            Err(StageRefusal::NoMemory)
         }
     }
 }
@@ -118,9 +118,9 @@ fn after_halt<L: Ledger>(number: u32, halt: Halt) -> Result<Finish<L>, Stop>
     ensures { result ≡ halted number halt }
 {
     match halt {
-        Halt::Refused(Refusal::Bad(kind)) => Ok(Finish::Bad(number, kind)),
-        Halt::Refused(Refusal::Limit(limit)) => Ok(Finish::Limit(limit)),
-        Halt::Refused(Refusal::NoMemory) => Err(Stop::NoMemory),
+        Halt::Refused(StageRefusal::Bad(kind)) => Ok(Finish::Bad(number, kind)),
+        Halt::Refused(StageRefusal::Limit(limit)) => Ok(Finish::Limit(limit)),
+        Halt::Refused(StageRefusal::NoMemory) => Err(Stop::NoMemory),
         Halt::Unwritten(why) => Err(after_cut(why)),
     }
 }
