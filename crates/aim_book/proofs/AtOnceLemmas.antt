@@ -1,5 +1,5 @@
 -- What is known of a message before the cells of its crossing are.
-use Rattle.std.proofs.Common.{◌≡◌, ℕ, ◌+◌, ◌≤◌, Bool, true, false, [], length, Option, Some, None, Result, Ok, Err, refl, sym, ◌∙◌, ap, arith, subst}
+use Rattle.std.proofs.Common.{◌≡◌, ℕ, zero, suc, ◌+◌, ◌≤◌, Bool, true, false, List, [], ◌∷◌, take, length, Option, Some, None, Result, Ok, Err, refl, sym, ◌∙◌, ap, arith, subst}
 use Rattle.std.specs.Prelude.{is_none, option_and_then, if◌then◌else◌, IfOk}
 use Rattle.std.specs.Option.{option_or}
 use Rattle.aim_messages.specs.declared.messages.Body.{Body}
@@ -8,11 +8,13 @@ use Rattle.aim_messages.specs.declared.messages.Params.{Params}
 use Rattle.aim_messages.specs.declared.replies.Field.{Field}
 use Rattle.aim_messages.specs.declared.replies.Reason.{Reason}
 use Rattle.aim_messages.specs.declared.replies.Reply.{Reply}
+use Rattle.aim_geometry.specs.Bounded.{find_map}
 use Rattle.aim_layout.specs.Intersection.{Intersection}
 use Rattle.aim_requests.specs.Requests.{IsPreparedFor, Request}
 use Rattle.aim_rules.specs.Bad.{bad, is_fast_made, span_count}
 use Rattle.aim_rules.specs.History.{params_of}
-use Rattle.aim_rules.specs.Known.{Known, answer_asking_by, answer_free_by, answer_fresh_by, first_reason_by, own_refusal_by, refusal_by, refused_or_by}
+use Rattle.aim_rules.specs.Known.{Known}
+use Rattle.aim_rules.specs.Answer.{answer_asking, answer_free, answer_fresh, first_reason, own_refusal, refusal, refused_or}
 use Rattle.aim_book.specs.Costs.{asked_spans}
 use Rattle.aim_reservations.specs.Keeping.{is_named, row_count}
 use Rattle.aim_reservations.specs.Rows.{spans_in}
@@ -24,19 +26,29 @@ pub if_ok : {A E : Type 0} {P Q : A → Type 0} (r : Result A E) → ((a : A) �
 if_ok (Ok a) f p = f a p
 if_ok (Err e) f p = p
 
--- a refusal for a reason that comes before the cells
-refused_asking : (i : Intersection) (k : Known) (b : Body) (p : Params) (why : Reason) (r : Reply) → option_or (own_refusal_by i k b) (first_reason_by i k p) ≡ Some why → r ≡ refusal_by i k p.arrive why → r ≡ answer_asking_by i k b p
-refused_asking i k b p why r first is = is ∙ sym (ap (λ o. refused_or_by i k p o (answer_free_by i k p)) first)
+-- the first that a beginning of a list gives is the first that the list gives
+pub find_map-take : {X Y : Type 0} (f : X → Option Y) (n : ℕ) (xs : List X) (y : Y) → find_map f (take n xs) ≡ Some y → find_map f xs ≡ Some y
+find_map-take f zero xs y h = absurd (cc)
+find_map-take f (suc n) [] y h = h
+find_map-take f (suc n) (x ∷ xs) y h = go (f x) (λ r. find_map-take f n xs y r) h
+  where
+    go : (o : Option _) → (find_map f (take n xs) ≡ Some y → find_map f xs ≡ Some y) → option_or o (find_map f (take n xs)) ≡ Some y → option_or o (find_map f xs) ≡ Some y
+    go None behind h = behind h
+    go (Some z) behind h = h
 
-pub refused_fresh : (i : Intersection) (k : Known) (b : Body) (p : Params) (why : Reason) (r : Reply) → k.stopped ≡ false → params_of b ≡ Some p → option_or (own_refusal_by i k b) (first_reason_by i k p) ≡ Some why → r ≡ refusal_by i k p.arrive why → r ≡ answer_fresh_by i k b
+-- a refusal for a reason that comes before the cells
+refused_asking : (i : Intersection) (k : Known) (b : Body) (p : Params) (why : Reason) (r : Reply) → option_or (own_refusal i k b) (first_reason i k p) ≡ Some why → r ≡ refusal i k p.arrive why → r ≡ answer_asking i k b p
+refused_asking i k b p why r first is = is ∙ sym (ap (λ o. refused_or i k p o (answer_free i k p)) first)
+
+pub refused_fresh : (i : Intersection) (k : Known) (b : Body) (p : Params) (why : Reason) (r : Reply) → k.stopped ≡ false → params_of b ≡ Some p → option_or (own_refusal i k b) (first_reason i k p) ≡ Some why → r ≡ refusal i k p.arrive why → r ≡ answer_fresh i k b
 refused_fresh i k (body.Cancel id) p why r going asks first is = absurd (cc)
 refused_fresh i k (body.Done id) p why r going asks first is = absurd (cc)
 refused_fresh i k (body.Request q) p why r going asks first is =
     let s : q ≡ p = cc in
-    rw going (subst (λ u. r ≡ answer_asking_by i k (body.Request q) u) (sym s) (refused_asking i k (body.Request q) p why r first is))
+    rw going (subst (λ u. r ≡ answer_asking i k (body.Request q) u) (sym s) (refused_asking i k (body.Request q) p why r first is))
 refused_fresh i k (body.Change id q) p why r going asks first is =
     let s : q ≡ p = cc in
-    rw going (subst (λ u. r ≡ answer_asking_by i k (body.Change id q) u) (sym s) (refused_asking i k (body.Change id q) p why r first is))
+    rw going (subst (λ u. r ≡ answer_asking i k (body.Change id q) u) (sym s) (refused_asking i k (body.Change id q) p why r first is))
 
 -- a reservation that is given up, as it is named
 pub given_count : (id : Option ℕ) (row : Option Reservation) → (if is_named id row then 1 else 0) + row_count (if is_named id row then None else row) ≡ row_count row

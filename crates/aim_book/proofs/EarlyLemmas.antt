@@ -15,10 +15,10 @@ use Rattle.aim_layout.specs.declared.policies.PolicyKind.{PolicyKind}
 use Rattle.aim_requests.specs.Cells.{HaveCells}
 use Rattle.aim_sessions.specs.Distances.{exceeded}
 use Rattle.aim_sheets.specs.declared.spans.Span.{Span}
-use Rattle.aim_rules.specs.Answer.{exceeds, gives_way, where_so}
+use Rattle.aim_rules.specs.Answer.{exceeds, gives_way, where_so, comes, in_the_way, bad_field, too_distant, too_far, too_late, too_soon}
 use Rattle.aim_rules.specs.Cells.{cells}
 use Rattle.aim_rules.specs.Distance.{asked_from}
-use Rattle.aim_rules.specs.Known.{Known, comes, first_reason_by, in_the_way_by, too_distant_by, too_far_by, too_late_by}
+use Rattle.aim_rules.specs.Known.{Known}
 use Rattle.aim_rules.proofs.CellLemmas.{cells_has, cells_needed}
 use Rattle.aim_rules.proofs.Lists.{IsIn-test, some_passes}
 use Rattle.aim_requests.specs.Requests.{Request, prepared_params, steady_sheet}
@@ -52,13 +52,13 @@ distant_from d (Some least) = go (nat_lt least d)
     go false = refl
 
 module _ {L : Type 0} (i : Intersection) (v place : ℕ) (k : Known) (p : Params) (d : Desk L) (tells : Tells i v place k d) where
-  pub late_is : too_late_by i k p ≡ where_so (nat_le p.arrive (d.reservations.table.current + i.times.edge)) (reason.Late d.reservations.table.current)
+  pub late_is : too_late i k p ≡ where_so (nat_le p.arrive (d.reservations.table.current + i.times.edge)) (reason.Late d.reservations.table.current)
   late_is = λ j. where_so (nat_le p.arrive (tells.now j + i.times.edge)) (reason.Late (tells.now j))
 
-  pub far_by : too_far_by i k p ≡ where_so (list_any (λ c. nat_le (d.reservations.table.current + i.times.horizon) c.step) (cells i p false)) (reason.Far (d.reservations.table.current + i.times.horizon))
+  pub far_by : too_far i k p ≡ where_so (list_any (λ c. nat_le (d.reservations.table.current + i.times.horizon) c.step) (cells i p false)) (reason.Far (d.reservations.table.current + i.times.horizon))
   far_by = λ j. where_so (list_any (λ c. nat_le (tells.now j + i.times.horizon) c.step) (cells i p false)) (reason.Far (tells.now j + i.times.horizon))
 
-  pub distant_is : p.lane < 16 → too_distant_by i k p ≡ option_map (λ least. reason.Distance least) (exceeded (asked_from d.reservations.table.current p) (slice_index_or d.distances p.lane None))
+  pub distant_is : p.lane < 16 → too_distant i k p ≡ option_map (λ least. reason.Distance least) (exceeded (asked_from d.reservations.table.current p) (slice_index_or d.distances p.lane None))
   distant_is l =
       (λ j. where_so (exceeds (asked_from (tells.now j) p) (tells.distance p.lane l j)) (reason.Distance (unwrap_or (tells.distance p.lane l j) 0)))
       ∙ distant_from (asked_from d.reservations.table.current p) (slice_index_or d.distances p.lane None)
@@ -66,7 +66,7 @@ module _ {L : Type 0} (i : Intersection) (v place : ℕ) (k : Known) (p : Params
 -- the lane to give way to, where the policy is such a one
 pub way_is : (i : Intersection) (k : Known) (p : Params) (lanes : ℕ) (kind : PolicyKind) → option_map (λ q. q.kind) (slice_get i.policies (k.policy p.arrive).policy) ≡ Some kind → gives_way (Some kind) ≡ true →
     ((lane : ℕ) → has_lane lanes lane ≡ comes i k p lane) →
-    in_the_way_by i k p ≡ (if has_lane lanes p.lane then None else option_map (λ lane. reason.Emergency lane) (least_below (length i.lanes) (has_lane lanes)))
+    in_the_way i k p ≡ (if has_lane lanes p.lane then None else option_map (λ lane. reason.Emergency lane) (least_below (length i.lanes) (has_lane lanes)))
 way_is i k p lanes kind is gives all =
     (λ j. option_and_then (λ lane. where_so (gives_way (is j) && not (sym (all p.lane) j)) (reason.Emergency lane)) (least_below (length i.lanes) (λ lane. sym (all lane) j)))
     ∙ ap (λ b. option_and_then (λ lane. where_so (b && not (has_lane lanes p.lane)) (reason.Emergency lane)) (least_below (length i.lanes) (has_lane lanes))) gives
@@ -82,7 +82,7 @@ way_is i k p lanes kind is gives all =
 pub way_found : {L : Type 0} (i : Intersection) (v place : ℕ) (k : Known) (p : Params) (d : Desk L) (policy from lanes now horizon : ℕ) (kind : PolicyKind) → Tells i v place k d → AreCalling i k p d.approaches →
     record { policy = policy; from = from } ≡ policy_in d.timeline.pushed p.arrive → option_map (λ q. q.kind) (slice_get i.policies policy) ≡ Some kind → gives_way (Some kind) ≡ true →
     now ≡ d.reservations.table.current → horizon ≡ i.times.horizon → ((lane : ℕ) → has_lane lanes lane ≡ list_any (is_call_in now horizon lane) d.approaches) →
-    in_the_way_by i k p ≡ (if has_lane lanes p.lane then None else option_map (λ lane. reason.Emergency lane) (least_below (length i.lanes) (has_lane lanes)))
+    in_the_way i k p ≡ (if has_lane lanes p.lane then None else option_map (λ lane. reason.Emergency lane) (least_below (length i.lanes) (has_lane lanes)))
 way_found i v place k p d policy from lanes now horizon kind tells calling in_force is gives now_is horizon_is all =
     let same : k.policy p.arrive ≡ record { policy = policy; from = from } = tells.policy p.arrive ∙ sym in_force in
     way_is i k p lanes kind (ap (λ f. option_map (λ q. q.kind) (slice_get i.policies f.policy)) same ∙ is) gives
@@ -107,35 +107,27 @@ steady_some i p r asking good at =
     let e : steady_sheet r ≡ Some r.second = ap (λ o. option_and_then (λ p. Some r.second) o) (good_params i p r asking good) in
     let q : None ≡ Some r.second = at ∙ e in cc
 
-or_nothing : (late far distant way : Option Reason) → option_or late (option_or far (option_or distant (option_or way None))) ≡ option_or late (option_or far (option_or distant way))
-or_nothing late far distant way = ap (λ o. option_or late (option_or far (option_or distant o))) (go way)
-  where
-    go : (o : Option Reason) → option_or o None ≡ o
-    go None = refl
-    go (Some r) = refl
+pub or_none : (o : Option Reason) → option_or o None ≡ o
+or_none None = refl
+or_none (Some why) = refl
 
 -- what the tests of a good request give, one after the other
-pub timely_is : {L : Type 0} (i : Intersection) (v place : ℕ) (k : Known) (p : Params) (d : Desk L) (now edge horizon : ℕ) (late far : Bool) → Tells i v place k d → now ≡ d.reservations.table.current → edge ≡ i.times.edge → horizon ≡ i.times.horizon → p.lane < 16 →
+pub timely_is : {L : Type 0} (i : Intersection) (v place : ℕ) (k : Known) (p : Params) (d : Desk L) (now edge horizon : ℕ) (late far : Bool) (way : Option Reason) → Tells i v place k d → now ≡ d.reservations.table.current → edge ≡ i.times.edge → horizon ≡ i.times.horizon → p.lane < 16 →
     nat_le p.arrive (now + edge) ≡ late → list_any (λ c. nat_le (now + horizon) c.step) (cells i p false) ≡ far →
-    option_or (too_late_by i k p) (option_or (too_far_by i k p) (option_or (too_distant_by i k p) (in_the_way_by i k p)))
-    ≡ option_or (where_so late (reason.Late now)) (option_or (where_so far (reason.Far (now + horizon))) (option_or (option_map (λ least. reason.Distance least) (exceeded (asked_from now p) (slice_index_or d.distances p.lane None))) (in_the_way_by i k p)))
-timely_is i v place k p d now edge horizon late far tells now_is edge_is horizon_is lane is_late is_far =
-    (λ j. option_or (late_is i v place k p d tells j) (option_or (far_by i v place k p d tells j) (option_or (distant_is i v place k p d tells lane j) (in_the_way_by i k p))))
+    option_or (too_late i k p) (option_or (too_far i k p) (option_or (too_distant i k p) way))
+    ≡ option_or (where_so late (reason.Late now)) (option_or (where_so far (reason.Far (now + horizon))) (option_or (option_map (λ least. reason.Distance least) (exceeded (asked_from now p) (slice_index_or d.distances p.lane None))) way))
+timely_is i v place k p d now edge horizon late far way tells now_is edge_is horizon_is lane is_late is_far =
+    (λ j. option_or (late_is i v place k p d tells j) (option_or (far_by i v place k p d tells j) (option_or (distant_is i v place k p d tells lane j) way)))
     ∙ (λ j. option_or (where_so (nat_le p.arrive (sym now_is j + sym edge_is j)) (reason.Late (sym now_is j))) (option_or (where_so (list_any (λ c. nat_le (sym now_is j + sym horizon_is j) c.step) (cells i p false)) (reason.Far (sym now_is j + sym horizon_is j)))
-    (option_or (option_map (λ least. reason.Distance least) (exceeded (asked_from (sym now_is j) p) (slice_index_or d.distances p.lane None))) (in_the_way_by i k p))))
-    ∙ (λ j. option_or (where_so (is_late j) (reason.Late now)) (option_or (where_so (is_far j) (reason.Far (now + horizon))) (option_or (option_map (λ least. reason.Distance least) (exceeded (asked_from now p) (slice_index_or d.distances p.lane None))) (in_the_way_by i k p))))
+    (option_or (option_map (λ least. reason.Distance least) (exceeded (asked_from (sym now_is j) p) (slice_index_or d.distances p.lane None))) way)))
+    ∙ (λ j. option_or (where_so (is_late j) (reason.Late now)) (option_or (where_so (is_far j) (reason.Far (now + horizon))) (option_or (option_map (λ least. reason.Distance least) (exceeded (asked_from now p) (slice_index_or d.distances p.lane None))) way)))
 
 -- a vehicle that may ask, with a good request
-pub early_is : {L : Type 0} (i : Intersection) (v place : ℕ) (k : Known) (p : Params) (d : Desk L) (now next : ℕ) (o : Option Reason) → Tells i v place k d → now ≡ d.reservations.table.current → next ≡ (slice_index_or d.sessions v no_session).next → nat_lt now next ≡ false → bad i p ≡ None →
-    o ≡ option_or (too_late_by i k p) (option_or (too_far_by i k p) (option_or (too_distant_by i k p) (in_the_way_by i k p))) → o ≡ first_reason_by i k p
-early_is i v place k p d now next o tells now_is next_is may good is =
-    is
-    ∙ sym (or_nothing (too_late_by i k p) (too_far_by i k p) (too_distant_by i k p) (in_the_way_by i k p))
-    ∙ sym (ap (λ f. option_or (option_map (λ field. reason.Bad field) f) rest) good)
+pub early_is : {L : Type 0} (i : Intersection) (v place : ℕ) (k : Known) (p : Params) (d : Desk L) (now next : ℕ) (rest : Option Reason) → Tells i v place k d → now ≡ d.reservations.table.current → next ≡ (slice_index_or d.sessions v no_session).next → nat_lt now next ≡ false → bad i p ≡ None →
+    rest ≡ option_or (too_soon i k p) (option_or (bad_field i k p) rest)
+early_is i v place k p d now next rest tells now_is next_is may good =
+    sym (ap (λ f. option_or (option_map (λ field. reason.Bad field) f) rest) good)
     ∙ sym (ap (λ b. option_or (where_so b (reason.TooSoon k.next)) (option_or (option_map (λ field. reason.Bad field) (bad i p)) rest)) soon)
   where
-    rest : Option Reason
-    rest = option_or (too_late_by i k p) (option_or (too_far_by i k p) (option_or (too_distant_by i k p) (option_or (in_the_way_by i k p) None)))
-
     soon : nat_lt k.now k.next ≡ false
     soon = (λ j. nat_lt ((tells.now ∙ sym now_is) j) ((tells.next ∙ sym next_is) j)) ∙ may

@@ -21,7 +21,8 @@ use Rattle.aim_requests.specs.declared.requests.TrialSteps.{TrialSteps}
 use Rattle.aim_requests.proofs.SpanLemmas.{some_steps}
 use Rattle.aim_rules.specs.Bad.{bad, is_fast_made, needs_too_many_spans}
 use Rattle.aim_rules.specs.Footprint.{crossing_steps}
-use Rattle.aim_rules.specs.Known.{Known, answer_asking_by, answer_free_by, confirmation_by, first_blocked_by, first_reason_by, own_refusal_by, refusal_by}
+use Rattle.aim_rules.specs.Known.{Known}
+use Rattle.aim_rules.specs.Answer.{answer_asking, answer_free, confirmation, first_blocked, first_reason, own_refusal, refusal}
 use Rattle.aim_rules.proofs.CellLemmas.{cells_inside}
 use Rattle.aim_rules.proofs.GoodLemmas.{good_params as good_bounds}
 use Rattle.aim_book.specs.Asking.{IsAsking}
@@ -90,20 +91,20 @@ ends_within i p fast good =
 pub asked_of : {L : Type 0} (i : Intersection) (v place : ℕ) (k : Known) (p : Params) (fast : Bool) (spans : List Span) (d : Desk L) → Tells i v place k d → HaveCells i p fast spans → nat_le p.arrive (d.reservations.table.current + i.times.edge) ≡ false → AreAsked i k p fast spans
 asked_of i v place k p fast spans d tells have ahead = record { cells = have; ahead = rw tells.now ahead }
 
-pub free_fast : (i : Intersection) (k : Known) (p : Params) (b : Bool) (r : Reply) → b ≡ (is_fast_made p && is_none (first_blocked_by i k p true)) → b ≡ true → r ≡ confirmation_by i k p true → r ≡ answer_free_by i k p
+pub free_fast : (i : Intersection) (k : Known) (p : Params) (b : Bool) (r : Reply) → b ≡ (is_fast_made p && is_none (first_blocked i k p true)) → b ≡ true → r ≡ confirmation i k p true → r ≡ answer_free i k p
 free_fast i k p b r told free is = rw (← told, free) is
 
-pub free_refused : (i : Intersection) (k : Known) (p : Params) (b : Bool) (r : Reply) (why : Reason) (o : Option Reason) → b ≡ (is_fast_made p && is_none (first_blocked_by i k p true)) → b ≡ false → o ≡ first_blocked_by i k p false → o ≡ Some why → r ≡ refusal_by i k p.arrive why → r ≡ answer_free_by i k p
+pub free_refused : (i : Intersection) (k : Known) (p : Params) (b : Bool) (r : Reply) (why : Reason) (o : Option Reason) → b ≡ (is_fast_made p && is_none (first_blocked i k p true)) → b ≡ false → o ≡ first_blocked i k p false → o ≡ Some why → r ≡ refusal i k p.arrive why → r ≡ answer_free i k p
 free_refused i k p b r why o told not found some is = rw (← told, not, ← found, some) is
 
-pub free_steady : (i : Intersection) (k : Known) (p : Params) (b : Bool) (r : Reply) (o : Option Reason) → b ≡ (is_fast_made p && is_none (first_blocked_by i k p true)) → b ≡ false → o ≡ first_blocked_by i k p false → o ≡ None → r ≡ confirmation_by i k p false → r ≡ answer_free_by i k p
+pub free_steady : (i : Intersection) (k : Known) (p : Params) (b : Bool) (r : Reply) (o : Option Reason) → b ≡ (is_fast_made p && is_none (first_blocked i k p true)) → b ≡ false → o ≡ first_blocked i k p false → o ≡ None → r ≡ confirmation i k p false → r ≡ answer_free i k p
 free_steady i k p b r o told not found none is = rw (← told, not, ← found, none) is
 
-pub asked_own : (i : Intersection) (k : Known) (b : Body) (p : Params) (o : Option Reason) (why : Reason) (r : Reply) → o ≡ own_refusal_by i k b → o ≡ Some why → r ≡ refusal_by i k p.arrive why → r ≡ answer_asking_by i k b p
+pub asked_own : (i : Intersection) (k : Known) (b : Body) (p : Params) (o : Option Reason) (why : Reason) (r : Reply) → o ≡ own_refusal i k b → o ≡ Some why → r ≡ refusal i k p.arrive why → r ≡ answer_asking i k b p
 asked_own i k b p o why r own some is = rw (← own, some) is
 
-pub asked_early : (i : Intersection) (k : Known) (b : Body) (p : Params) (o e : Option Reason) (why : Reason) (r : Reply) → o ≡ own_refusal_by i k b → o ≡ None → e ≡ first_reason_by i k p → e ≡ Some why → r ≡ refusal_by i k p.arrive why → r ≡ answer_asking_by i k b p
+pub asked_early : (i : Intersection) (k : Known) (b : Body) (p : Params) (o e : Option Reason) (why : Reason) (r : Reply) → o ≡ own_refusal i k b → o ≡ None → e ≡ first_reason i k p → e ≡ Some why → r ≡ refusal i k p.arrive why → r ≡ answer_asking i k b p
 asked_early i k b p o e why r own none early some is = rw (← own, none, ← early, some) is
 
-pub asked_free : (i : Intersection) (k : Known) (b : Body) (p : Params) (o e : Option Reason) (r : Reply) → o ≡ own_refusal_by i k b → o ≡ None → e ≡ first_reason_by i k p → e ≡ None → r ≡ answer_free_by i k p → r ≡ answer_asking_by i k b p
+pub asked_free : (i : Intersection) (k : Known) (b : Body) (p : Params) (o e : Option Reason) (r : Reply) → o ≡ own_refusal i k b → o ≡ None → e ≡ first_reason i k p → e ≡ None → r ≡ answer_free i k p → r ≡ answer_asking i k b p
 asked_free i k b p o e r own none early free is = rw (← own, none, ← early, free) is

@@ -9,12 +9,12 @@ use Rattle.aim_messages.specs.declared.messages.Body.TheVariants as body
 use Rattle.aim_messages.specs.declared.replies.Reason.TheVariants as reason
 use Rattle.aim_layout.specs.Intersection.{Intersection}
 use Rattle.aim_sheets.specs.Spans.{in_spans}
-use Rattle.aim_rules.specs.Answer.{first_step, where_so}
+use Rattle.aim_rules.specs.Answer.{first_step, where_so, own_refusal}
 use Rattle.aim_rules.specs.Cells.{IsIn}
 use Rattle.aim_rules.specs.History.{Fresh, params_at}
 use Rattle.aim_rules.specs.Holds.{granted, granted_with, is_fast, is_granted, is_granted_with}
 use Rattle.aim_rules.specs.Kept.{lasts}
-use Rattle.aim_rules.specs.Known.{Known, own_refusal_by}
+use Rattle.aim_rules.specs.Known.{Known}
 use Rattle.aim_rules.proofs.CellLemmas.{cells_has, cells_needed}
 use Rattle.aim_rules.proofs.Lists.{IsIn-test, some_passes}
 use Rattle.aim_book.specs.Desk.{IsHeld, Tells}
@@ -90,10 +90,10 @@ reaches_lasts i now x r of t =
 -- a change of the reservation that is held
 pub begun_is : {L : Type 0} (i : Intersection) (v place : ℕ) (k : Known) (d : Desk L) (own : Reservation) (id first : ℕ) (p : Params) → i.times.early ≤ i.times.edge → i.times.late ≤ i.times.edge →
     Tells i v place k d → row_of d.reservations.rows.items v ≡ Some own → Reaches own.sheet.spans d.reservations.table.current → own.id ≡ id → IsFirstStep own.sheet.spans first →
-    own_refusal_by i k (body.Change id p) ≡ where_so (nat_le first d.reservations.table.current) (reason.Begun first)
+    own_refusal i k (body.Change id p) ≡ where_so (nat_le first d.reservations.table.current) (reason.Begun first)
 begun_is i v place k d own id first p before after tells row reach same is_first = go k.holds refl tells.holds
   where
-    go : (o : Option Fresh) → k.holds ≡ o → IsHeld i k.now o (row_of d.reservations.rows.items v) → own_refusal_by i k (body.Change id p) ≡ where_so (nat_le first d.reservations.table.current) (reason.Begun first)
+    go : (o : Option Fresh) → k.holds ≡ o → IsHeld i k.now o (row_of d.reservations.rows.items v) → own_refusal i k (body.Change id p) ≡ where_so (nat_le first d.reservations.table.current) (reason.Begun first)
     go None e none = absurd (none (rw (row, tells.now) reach))
     go (Some x) e held =
         let r : held.0 ≡ own = (let q : Some held.0 ≡ Some own = sym held.1 ∙ row in cc) in

@@ -1,6 +1,6 @@
 -- What the desk of a history tells for an answer.
 use Rattle.std.proofs.Common.{◌≡◌, ℕ, ◌<◌, ◌≤◌, Bool, true, false, ◌&&◌, not, nat_le, List, [], ◌∷◌, ◌++◌, length, Option, Some, None, refl, sym, ◌∙◌, ap, arith, le-leb, unwrap_or, zero, suc, subst}
-use Rattle.std.specs.Prelude.{◌==◌, is_some, option_map, if◌then◌else◌, slice_set, slice_index_or}
+use Rattle.std.specs.Prelude.{◌==◌, ◌||◌, is_some, option_map, if◌then◌else◌, slice_set, slice_index_or}
 use Rattle.aim_geometry.specs.Bounded.{least_below}
 use Rattle.aim_geometry.specs.Cells.{Cell}
 use Rattle.aim_messages.specs.declared.entries.Act.{Act}
@@ -17,22 +17,22 @@ use Rattle.aim_sheets.specs.Spans.{in_spans}
 use Rattle.aim_tiles.specs.Cells.{has_cell as has_taken}
 use Rattle.aim_sessions.specs.Calls.{call_of}
 use Rattle.aim_sessions.proofs.CallLaws.{lanes_approached}
-use Rattle.aim_rules.specs.Answer.{answer, is_stopped}
+use Rattle.aim_rules.specs.Answer.{answer, answer_fresh, refusal}
+use Rattle.aim_rules.specs.Approach.{is_coming}
 use Rattle.aim_rules.specs.Asking.{standing_next}
 use Rattle.aim_rules.specs.Distance.{reservation_distance}
-use Rattle.aim_rules.specs.History.{Fresh, fresh, is_fresh, now_of}
-use Rattle.aim_rules.specs.Kept.{AreApart, has_cell, if_lasts, in_force, is_above_all, is_coming_in, is_owned, kept, last_of, lasts, owner, owns, policy_in}
-use Rattle.aim_rules.specs.Known.{IsKnown, Known, answer_fresh_by, exchange_of, refusal_by, seq_in}
+use Rattle.aim_rules.specs.History.{Fresh, fresh, is_fresh, now_of, last_of}
+use Rattle.aim_rules.specs.Kept.{AreApart, has_cell, if_lasts, in_force, is_coming_in, is_owned, kept, lasts, owner, owns, policy_in, IsKnown}
+use Rattle.aim_rules.specs.Known.{is_stopped, is_above_all, Known, exchange_of, seq_in}
 use Rattle.aim_rules.specs.Legal.{IsLegal, IsOfLayout}
 use Rattle.aim_rules.specs.Timeline.{change_with, policy_at}
-use Rattle.aim_rules.proofs.AnswerLaws.{answer-kept, seq_said-of}
-use Rattle.aim_rules.proofs.HistoryLaws.{now_of-max}
-use Rattle.aim_rules.proofs.LaneLaws.{approached-each}
+use Rattle.aim_rules.proofs.AnswerLaws.{answer-kept}
+use Rattle.aim_rules.proofs.HistoryLaws.{now_of-max, seq_said}
+use Rattle.aim_rules.proofs.LaneLaws.{others_come-each}
 use Rattle.aim_rules.proofs.LegalLemmas.{IsLegal-before}
 use Rattle.aim_rules.proofs.Lists.{from_front}
 use Rattle.aim_rules.proofs.PolicyLaws.{policy_at-changes, policy_at-snoc}
 use Rattle.aim_rules.proofs.TakenLaws.{AreApart-later, AreApart-legal, are_below-legal, is_owned-others, last_legal}
-use Rattle.aim_rules.proofs.TimeLaws.{is_fresh-message}
 use Rattle.aim_sessions.specs.declared.sessions.Look.TheVariants as look
 use Rattle.aim_sessions.specs.Kept.{no_session}
 use Rattle.aim_sessions.specs.Looks.{is_fresh_look, look_of}
@@ -192,7 +192,7 @@ module _ {L : Type 0} (i : Intersection) (n : ℕ) (h : List Entry) (v moment : 
   pub calling : (p : Params) → AreCalling i (known_of i n h v moment) p (slice_set d.approaches v (call_of i (Some p)))
   calling p = λ lane.
       lanes_approached i d.approaches (fresh h) v p (now_of h moment) lane m.desk.calls (rw m.desk.calls_many (are_below-legal i n h m.legal)) (let e = m.desk.calls_many in omega arith)
-      ∙ approached-each i n (fresh h) v p (now_of h moment) lane (are_below-legal i n h m.legal)
+      ∙ ap (λ b. is_coming i (now_of h moment) lane (Some p) || b) (others_come-each i n (fresh h) v (now_of h moment) lane (are_below-legal i n h m.legal))
 
   row_there : v < length d.sessions
   row_there = let e = m.desk.callers in omega arith
@@ -203,7 +203,7 @@ module _ {L : Type 0} (i : Intersection) (n : ℕ) (h : List Entry) (v moment : 
   pub look_repeat : (message : Message) (r : Reply) → look_of (slice_index_or d.sessions v no_session).last message ≡ look.Repeat r → answer i h v moment (act.Message message) ≡ r
   look_repeat message r is = subst (λ k. Says k (answer i h v moment (act.Message message)) (refusal_of i h v moment message)) is (look_says i d.sessions h v moment message m.desk.sessions row_there)
 
-  pub look_reused : (message : Message) → look_of (slice_index_or d.sessions v no_session).last message ≡ look.Reused → answer i h v moment (act.Message message) ≡ refusal_by i (known_of i n h v moment) 0 (reason.Reused message.seq)
+  pub look_reused : (message : Message) → look_of (slice_index_or d.sessions v no_session).last message ≡ look.Reused → answer i h v moment (act.Message message) ≡ refusal i (known_of i n h v moment) 0 (reason.Reused message.seq)
   look_reused message is =
       let said : answer i h v moment (act.Message message) ≡ refusal_of i h v moment message = subst (λ k. Says k (answer i h v moment (act.Message message)) (refusal_of i h v moment message)) is (look_says i d.sessions h v moment message m.desk.sessions row_there) in
       said ∙ ap (λ o. reply.Reject (reason.Reused message.seq) (standing_next (fresh h) v) (option_map (λ x. x.place) o)) (holding-kept i (fresh h) v (now_of h moment))
@@ -216,8 +216,8 @@ module _ {L : Type 0} (i : Intersection) (n : ℕ) (h : List Entry) (v moment : 
     fresh_now r = session_fresh d.sessions h (entry_of r) message m.desk.sessions (let e = m.desk.callers in omega arith) refl ∙ ap is_fresh_look is_new
 
     above_all : (r : Reply) → is_above_all (seq_in (exchange_of (last_of (fresh h) v))) message.seq ≡ true
-    above_all r = ap (λ o. is_above_all o message.seq) (seq_said-of (last_of (fresh h) v)) ∙ sym (is_fresh-message h (entry_of r) message refl) ∙ fresh_now r
+    above_all r = sym (seq_said h v message.seq) ∙ fresh_now r
 
     -- the answer to a fresh message by what is known
-    pub answer_new : answer i h v moment (act.Message message) ≡ answer_fresh_by i (known_of i n h v moment) message.body
+    pub answer_new : answer i h v moment (act.Message message) ≡ answer_fresh i (known_of i n h v moment) message.body
     answer_new = answer-kept i n h v moment (known_of i n h v moment) message m.valid.sound.times.early m.valid.sound.times.late m.legal (is_known i n h v moment) ∙ rw (above_all reply.Stopped) refl

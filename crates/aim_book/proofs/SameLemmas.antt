@@ -10,9 +10,9 @@ use Rattle.aim_layout.specs.Intersection.{Intersection}
 use Rattle.aim_tiles.specs.Cells.{has_cell as has_taken}
 use Rattle.aim_sessions.proofs.CallLaws.{calls_same}
 use Rattle.aim_sessions.proofs.DistanceLaws.{distances_same}
-use Rattle.aim_rules.specs.Answer.{is_stopped}
 use Rattle.aim_rules.specs.History.{fresh, is_fresh, is_stop, now_of}
 use Rattle.aim_rules.specs.Kept.{changes, is_owned}
+use Rattle.aim_rules.specs.Known.{is_stopped}
 use Rattle.aim_rules.specs.Legal.{IsLegal}
 use Rattle.aim_rules.specs.Timeline.{change_with}
 use Rattle.aim_rules.proofs.HistoryLaws.{fresh-none, now_of-max, now_of-snoc}

@@ -19,14 +19,15 @@ use Rattle.aim_sessions.specs.Calls.{call_of}
 use Rattle.aim_sessions.proofs.CallLaws.{calls_more}
 use Rattle.aim_sessions.specs.Distances.{distances_with}
 use Rattle.aim_sessions.proofs.DistanceLaws.{distances_entry}
-use Rattle.aim_rules.specs.Answer.{answer, is_stopped}
+use Rattle.aim_rules.specs.Answer.{answer, answer_fresh}
 use Rattle.aim_geometry.specs.Bounded.{min_with}
 use Rattle.aim_rules.specs.Distance.{asked_from, is_blocked_reply}
 use Rattle.aim_rules.specs.History.{Fresh, fresh, given_up, is_confirm, is_fresh, is_fresh_seq, now_of, params_at, params_of}
 use Rattle.aim_rules.specs.Holds.{is_fast, is_granted, is_granted_with}
 use Rattle.aim_rules.specs.Kept.{kept}
-use Rattle.aim_rules.specs.Known.{answer_fresh_by}
+use Rattle.aim_rules.specs.Known.{is_stopped}
 use Rattle.aim_rules.specs.Legal.{IsLegal}
+use Rattle.aim_rules.proofs.GrantLemmas.{confirmed_asks}
 use Rattle.aim_rules.proofs.CellLemmas.{cells_inside}
 use Rattle.aim_rules.proofs.HistoryLaws.{fresh-one}
 use Rattle.aim_rules.proofs.LegalLemmas.{IsLegal-append}
@@ -44,7 +45,7 @@ use Rattle.aim_book.specs.Reserved.{AreReserved, IsRowOf}
 use Rattle.aim_book.specs.declared.desks.Desk.{Desk}
 use Rattle.aim_reservations.specs.declared.reservations.Reservation.{Reservation}
 use Rattle.aim_reservations.specs.declared.reservations.Reservations.{Reservations}
-use Rattle.aim_book.proofs.GrantedLemmas.{confirmed_asks, granted_later, granted_tiles, granted_trial}
+use Rattle.aim_book.proofs.GrantedLemmas.{granted_later, granted_tiles, granted_trial}
 use Rattle.aim_reservations.proofs.KeepingLemmas.{cells_kept}
 use Rattle.aim_book.proofs.ManagedLemmas.{answer_new, apart, calling, fresh_now, known_of}
 use Rattle.aim_book.proofs.NextLemmas.{reserved_next}
@@ -85,7 +86,7 @@ or_nothing true = refl
 or_nothing false = refl
 
 module _ {L : Type 0} (i : Intersection) (n : ℕ) (h : List Entry) (v moment place : ℕ) (d : Desk L) (r : Request) (m : IsManaged i n h (now_of h moment) d) (l : v < n)
-    (is_new : look_of (slice_index_or d.sessions v no_session).last r.message ≡ look.Fresh) (reply : Reply) (is : reply ≡ answer_fresh_by i (known_of i n h v moment) r.message.body) (at_place : place ≡ length h) (late : moment ≤ LATEST_MOMENT) where
+    (is_new : look_of (slice_index_or d.sessions v no_session).last r.message ≡ look.Fresh) (reply : Reply) (is : reply ≡ answer_fresh i (known_of i n h v moment) r.message.body) (at_place : place ≡ length h) (late : moment ≤ LATEST_MOMENT) where
   abbrev more : Entry
   more = record { caller = v; moment = moment; act = act.Message r.message; reply = reply }
 
@@ -145,7 +146,7 @@ room_bare i m false = refl
 
 -- without a Confirm
 pub managed_without : {L : Type 0} (i : Intersection) (n : ℕ) (h : List Entry) (v moment : ℕ) (d : Desk L) (message : Message) (m : IsManaged i n h (now_of h moment) d) (l : v < n) →
-    look_of (slice_index_or d.sessions v no_session).last message ≡ look.Fresh → (reply : Reply) → reply ≡ answer_fresh_by i (known_of i n h v moment) message.body → moment ≤ LATEST_MOMENT → is_confirm reply ≡ false →
+    look_of (slice_index_or d.sessions v no_session).last message ≡ look.Fresh → (reply : Reply) → reply ≡ answer_fresh i (known_of i n h v moment) message.body → moment ≤ LATEST_MOMENT → is_confirm reply ≡ false →
     (next : Desk L) → next.approaches ≡ slice_set d.approaches v (call_of i (params_of message.body)) →
     next.sessions ≡ slice_set d.sessions v (session_after message reply (slice_index_or d.sessions v no_session).next) →
     next.distances ≡ distances_with d.distances d.reservations.table.current reply (params_of message.body) →
@@ -163,7 +164,7 @@ managed_without i n h v moment d message m l is_new reply is late other next cal
 module _ {L : Type 0} (i : Intersection) (n : ℕ) (h : List Entry) (v moment place : ℕ) (d : Desk L) (r : Request) (m : IsManaged i n h (now_of h moment) d) (l : v < n)
     (is_new : look_of (slice_index_or d.sessions v no_session).last r.message ≡ look.Fresh) (prepared : IsPreparedFor i r) where
   abbrev said : Reply
-  said = answer_fresh_by i (known_of i n h v moment) r.message.body
+  said = answer_fresh i (known_of i n h v moment) r.message.body
 
   new_seq : is_fresh_seq h v r.message.seq ≡ true
   new_seq = fresh_now i n h v moment d m l r.message is_new said

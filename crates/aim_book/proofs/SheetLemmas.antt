@@ -4,19 +4,18 @@ use Rattle.std.specs.Prelude.{◌==◌, option_and_then, if◌then◌else◌, fi
 use Rattle.aim_messages.specs.declared.entries.Act.{Act}
 use Rattle.aim_messages.specs.declared.entries.Act.TheVariants as act
 use Rattle.aim_messages.specs.declared.entries.Entry.{Entry}
-use Rattle.aim_messages.specs.declared.messages.Body.{Body}
-use Rattle.aim_messages.specs.declared.messages.Body.TheVariants as body
-use Rattle.aim_messages.specs.declared.messages.Params.{Params}
 use Rattle.aim_messages.specs.declared.replies.Reply.{Reply}
 use Rattle.aim_layout.specs.Intersection.{Intersection}
-use Rattle.aim_rules.specs.Answer.{Asked, answer, answer_fresh}
+use Rattle.aim_rules.specs.Answer.{answer}
+use Rattle.aim_rules.specs.Known.{known_after}
 use Rattle.aim_rules.specs.Cells.{IsIn}
-use Rattle.aim_rules.specs.History.{Fresh, fresh, is_confirm, is_fresh, is_fresh_seq, now_of, of_vehicle, params_of}
+use Rattle.aim_rules.specs.History.{Fresh, fresh, is_confirm, is_fresh, now_of, of_vehicle}
 use Rattle.aim_rules.specs.Holds.{is_given_up, last_confirm}
 use Rattle.aim_rules.specs.Kept.{changes, kept}
 use Rattle.aim_rules.specs.Legal.{IsLegal}
 use Rattle.aim_rules.specs.Timeline.{InForce, change_with}
-use Rattle.aim_rules.proofs.GrantLemmas.{fresh_grants}
+use Rattle.aim_rules.proofs.GrantLemmas.{confirmed_asks, fresh_grants}
+use Rattle.aim_rules.proofs.AheadLemmas.{fresh_answer}
 use Rattle.aim_rules.proofs.HistoryLaws.{fresh-none, fresh-one}
 use Rattle.aim_rules.proofs.LegalLemmas.{IsLegal-before}
 use Rattle.aim_rules.proofs.Lists.{from_front, IsIn-filter, IsIn-snoc, last-in, last-test}
@@ -27,23 +26,14 @@ use Rattle.aim_book.specs.Reserved.{IsRowOf}
 use Rattle.aim_book.specs.Sheets.{id_in, sheets_kept, sheets_with}
 use Rattle.aim_book.specs.Reservation.{Reservation}
 
-asks : (a : Asked) (b : Body) → is_confirm (answer_fresh a b) ≡ true → (p : Params) × (params_of b ≡ Some p)
-asks a (body.Cancel id) e = absurd (cc)
-asks a (body.Done id) e = absurd (cc)
-asks a (body.Request p) e = (p, refl)
-asks a (body.Change id p) e = (p, refl)
-
 -- a Confirm to a fresh message gives its place as the id
 id_of : (i : Intersection) (h : List Entry) (v moment : ℕ) (a : Act) (r : Reply) → r ≡ answer i h v moment a → is_fresh h (record { caller = v; moment = moment; act = a; reply = r }) ≡ true → is_confirm r ≡ true → id_in r ≡ Some (length h)
 id_of i h v moment (act.Order o) r is new confirmed = absurd (cc)
 id_of i h v moment (act.Message m) r is new confirmed =
-    let asked : Asked = record { layout = i; history = h; served = fresh h; vehicle = v; now = now_of h moment } in
-    let fresh_seq : is_fresh_seq h v m.seq ≡ true = new in
-    let said : answer i h v moment (act.Message m) ≡ answer_fresh (record { layout = i; history = h; served = fresh h; vehicle = v; now = now_of h moment }) m.body = rw fresh_seq refl in
-    let yes : is_confirm (answer_fresh (record { layout = i; history = h; served = fresh h; vehicle = v; now = now_of h moment }) m.body) ≡ true = sym (ap is_confirm (is ∙ said)) ∙ confirmed in
-    let p = asks (record { layout = i; history = h; served = fresh h; vehicle = v; now = now_of h moment }) m.body yes in
-    let grants = fresh_grants (record { layout = i; history = h; served = fresh h; vehicle = v; now = now_of h moment }) m.body p.0 p.1 yes in
-    ap id_in (is ∙ said) ∙ ap id_in grants.form
+    let said = fresh_answer i h v moment m new in
+    let yes = sym (ap is_confirm (is ∙ said)) ∙ confirmed in
+    let p = confirmed_asks i (known_after i h v moment) m.body yes in
+    ap id_in (is ∙ said) ∙ ap id_in (fresh_grants i (known_after i h v moment) m.body p.0 p.1 yes).form
 
 -- so it is for each fresh message of a legal history
 ids_are_places : (i : Intersection) (n : ℕ) (h : List Entry) → IsLegal i n h → (x : Fresh) → IsIn x (fresh h) → is_confirm x.entry.reply ≡ true → id_in x.entry.reply ≡ Some x.place

@@ -15,9 +15,9 @@ use Rattle.aim_sheets.specs.Spans.{in_spans}
 use Rattle.aim_sheets.specs.Sheets.{Spans}
 use Rattle.aim_tiles.specs.Sheets.{AreTiles}
 use Rattle.aim_requests.specs.Requests.{Request, steady_sheet, IsPreparedFor}
-use Rattle.aim_rules.specs.Answer.{where_so}
+use Rattle.aim_rules.specs.Answer.{where_so, bad_field, too_late, too_soon, answer_asking, answer_fresh}
 use Rattle.aim_rules.specs.Bad.{bad}
-use Rattle.aim_rules.specs.Known.{Known, too_late_by, first_reason_by, in_the_way_by, too_distant_by, too_far_by, answer_asking_by, answer_fresh_by}
+use Rattle.aim_rules.specs.Known.{Known}
 use Rattle.aim_rules.proofs.GoodLemmas.{good_params as good_bounds}
 use Rattle.aim_reservations.specs.Blocking.{IsLeastCell}
 use Rattle.aim_book.specs.Asking.{IsAsking}
@@ -40,7 +40,7 @@ call_range i p valid good =
 
 -- a request that comes too late is refused for that
 pub late_first : {L : Type 0} (i : Intersection) (v place : ℕ) (k : Known) (p : Params) (d : Desk L) (now edge : ℕ) (rest : Option Reason) → Tells i v place k d → now ≡ d.reservations.table.current → edge ≡ i.times.edge → p.arrive ≤ now + edge →
-    Some (reason.Late now) ≡ option_or (too_late_by i k p) rest
+    Some (reason.Late now) ≡ option_or (too_late i k p) rest
 late_first i v place k p d now edge rest tells now_is edge_is late =
     sym (ap (λ o. option_or o rest)
     (late_is i v place k p d tells
@@ -72,34 +72,31 @@ both_cost after mid before first sheet second same a b =
     omega arith
 
 -- a vehicle that may not ask yet, and one that may, with a bad field
-module _ {L : Type 0} (i : Intersection) (v place : ℕ) (k : Known) (p : Params) (d : Desk L) (now next : ℕ) (tells : Tells i v place k d) (now_is : now ≡ d.reservations.table.current) (next_is : next ≡ (slice_index_or d.sessions v no_session).next) where
-  abbrev rest : Option Reason
-  rest = option_or (too_late_by i k p) (option_or (too_far_by i k p) (option_or (too_distant_by i k p) (option_or (in_the_way_by i k p) None)))
-
+module _ {L : Type 0} (i : Intersection) (v place : ℕ) (k : Known) (p : Params) (d : Desk L) (now next : ℕ) (tells : Tells i v place k d) (now_is : now ≡ d.reservations.table.current) (next_is : next ≡ (slice_index_or d.sessions v no_session).next) (rest : Option Reason) where
   abbrev fields : Option Field → Option Reason
   fields o = option_or (option_map (λ field. reason.Bad field) o) rest
 
   soon : where_so (nat_lt k.now k.next) (reason.TooSoon k.next) ≡ where_so (nat_lt now next) (reason.TooSoon next)
   soon = (λ j. where_so (nat_lt ((tells.now ∙ sym now_is) j) ((tells.next ∙ sym next_is) j)) (reason.TooSoon ((tells.next ∙ sym next_is) j)))
 
-  pub soon_first : now < next → Some (reason.TooSoon next) ≡ first_reason_by i k p
+  pub soon_first : now < next → Some (reason.TooSoon next) ≡ option_or (too_soon i k p) (option_or (bad_field i k p) rest)
   soon_first l = sym (ap (λ o. option_or o (fields (bad i p))) (soon ∙ ap (λ b. where_so b (reason.TooSoon next)) (lt-ltb now next l)))
 
-  pub bad_first : (f : Field) → nat_lt now next ≡ false → bad i p ≡ Some f → Some (reason.Bad f) ≡ first_reason_by i k p
+  pub bad_first : (f : Field) → nat_lt now next ≡ false → bad i p ≡ Some f → Some (reason.Bad f) ≡ option_or (too_soon i k p) (option_or (bad_field i k p) rest)
   bad_first f may is =
       sym (ap fields is)
       ∙ sym (ap (λ o. option_or o (fields (bad i p))) (soon ∙ ap (λ b. where_so b (reason.TooSoon next)) may))
 
 -- what is asked where no Stop stands
-pub fresh_asked : (i : Intersection) (k : Known) (b : Body) (p : Params) (r : Reply) → k.stopped ≡ false → params_of b ≡ Some p → r ≡ answer_asking_by i k b p → r ≡ answer_fresh_by i k b
+pub fresh_asked : (i : Intersection) (k : Known) (b : Body) (p : Params) (r : Reply) → k.stopped ≡ false → params_of b ≡ Some p → r ≡ answer_asking i k b p → r ≡ answer_fresh i k b
 fresh_asked i k (body.Cancel id) p r going asks is = absurd (cc)
 fresh_asked i k (body.Done id) p r going asks is = absurd (cc)
 fresh_asked i k (body.Request q) p r going asks is =
     let s : q ≡ p = cc in
-    rw going (subst (λ u. r ≡ answer_asking_by i k (body.Request q) u) (sym s) is)
+    rw going (subst (λ u. r ≡ answer_asking i k (body.Request q) u) (sym s) is)
 fresh_asked i k (body.Change id q) p r going asks is =
     let s : q ≡ p = cc in
-    rw going (subst (λ u. r ≡ answer_asking_by i k (body.Change id q) u) (sym s) is)
+    rw going (subst (λ u. r ≡ answer_asking i k (body.Change id q) u) (sym s) is)
 
 none_is : {X : Type 0} (o : Option X) → is_some o ≡ false → o ≡ None
 none_is None is = refl

@@ -8,10 +8,9 @@ use Rattle.aim_layout.specs.Intersection.{Intersection}
 use Rattle.aim_layout.specs.Valid.{IsValid}
 use Rattle.aim_sheets.specs.Spans.{in_spans}
 use Rattle.aim_tiles.specs.Cells.{has_cell}
-use Rattle.aim_rules.specs.Answer.{is_stopped}
 use Rattle.aim_rules.specs.History.{Fresh, fresh}
 use Rattle.aim_rules.specs.Kept.{changes, policy_in}
-use Rattle.aim_rules.specs.Known.{Known}
+use Rattle.aim_rules.specs.Known.{is_stopped, Known}
 use Rattle.aim_sessions.specs.Calls.{AreCalls}
 use Rattle.aim_sessions.specs.Distances.{AreDistances}
 use Rattle.aim_sessions.specs.Kept.{AreSessions, no_session}

@@ -7,7 +7,8 @@ ghost use Rattle.aim_rules.specs.Bad.{bad, is_fast_made};
 ghost use Rattle.aim_rules.specs.Footprint.{crossing_steps};
 ghost use Rattle.aim_rules.specs.History.{params_of};
 ghost use Rattle.aim_rules.specs.Kept.{policy_in};
-ghost use Rattle.aim_rules.specs.Known.{Known, answer_asking_by, answer_free_by, answer_fresh_by, confirmation_by, first_blocked_by};
+ghost use Rattle.aim_rules.specs.Known.{Known};
+ghost use Rattle.aim_rules.specs.Answer.{answer_asking, answer_free, answer_fresh, confirmation, first_blocked};
 ghost use Rattle.aim_book.specs.Asking.{AreCalling, IsAsking};
 ghost use Rattle.aim_reservations.specs.Blocking.{is_lit};
 ghost use Rattle.aim_book.specs.Desk.{Tells};
@@ -23,7 +24,7 @@ use std::sync::ledger::Ledger;
 fn confirm(layout: &Layout, place: u32, params: &Params, accelerate: bool, steps: u32) -> Reply
     requires good { bad layout.now params.now ≡ None }
     requires steps { steps ≡ crossing_steps layout.now params.now accelerate }
-    ensures { (k : Known) → k.place ≡ place → result ≡ confirmation_by layout.now k params.now accelerate }
+    ensures { (k : Known) → k.place ≡ place → result ≡ confirmation layout.now k params.now accelerate }
 {
     let times = layout.ground().times();
     Reply::Confirm {
@@ -52,7 +53,7 @@ impl<L: Ledger> Desk<L> {
         requires asking { IsAsking layout.now params.now prepared.now }
         requires good { bad layout.now params.now ≡ None }
         requires ahead { nat_le params.now.arrive (self.now.reservations.table.current + layout.now.times.edge) ≡ false }
-        ensures free { (k : Known) (place : ℕ) → Tells layout.now vehicle place k self.now → result ≡ (is_fast_made params.now && is_none (first_blocked_by layout.now k params.now true)) }
+        ensures free { (k : Known) (place : ℕ) → Tells layout.now vehicle place k self.now → result ≡ (is_fast_made params.now && is_none (first_blocked layout.now k params.now true)) }
         ensures made { result ≡ true → is_fast_made params.now ≡ true }
         ensures cost { steps.new ≤ steps.old + length prepared.now.first.spans }
         ensures counted { steps.old ≤ steps.new }
@@ -82,7 +83,7 @@ impl<L: Ledger> Desk<L> {
         requires asking { IsAsking layout.now params.now prepared.now }
         requires good { bad layout.now params.now ≡ None }
         requires ahead { nat_le params.now.arrive (self.now.reservations.table.current + layout.now.times.edge) ≡ false }
-        ensures reply { (k : Known) → Tells layout.now vehicle place k self.now → result ≡ answer_free_by layout.now k params.now }
+        ensures reply { (k : Known) → Tells layout.now vehicle place k self.now → result ≡ answer_free layout.now k params.now }
         ensures cost { steps.new ≤ steps.old + length prepared.now.first.spans + length prepared.now.second.spans }
         ensures counted { steps.old ≤ steps.new }
     {
@@ -115,7 +116,7 @@ impl<L: Ledger> Desk<L> {
         requires size { self.now.reservations.table.size ≡ layout.now.grid.n }
         requires there { (s : ℕ) → (policy_in self.now.timeline.pushed s).policy < length layout.now.policies }
         requires asking { IsAsking layout.now params.now prepared.now }
-        ensures reply { (k : Known) → Tells layout.now vehicle place k self.now → AreCalling layout.now k params.now self.now.approaches → result ≡ answer_asking_by layout.now k prepared.now.message.body params.now }
+        ensures reply { (k : Known) → Tells layout.now vehicle place k self.now → AreCalling layout.now k params.now self.now.approaches → result ≡ answer_asking layout.now k prepared.now.message.body params.now }
         ensures cost { steps.new ≤ steps.old + length prepared.now.first.spans + length prepared.now.second.spans }
         ensures counted { steps.old ≤ steps.new }
     {
@@ -146,7 +147,7 @@ impl<L: Ledger> Desk<L> {
         requires there { (s : ℕ) → (policy_in self.now.timeline.pushed s).policy < length layout.now.policies }
         requires prepared { IsPreparedFor layout.now prepared.now }
         ensures reply { (k : Known) → Tells layout.now vehicle place k self.now → ((p : Params) → params_of prepared.now.message.body ≡ Some p → AreCalling layout.now k p self.now.approaches) →
-            result ≡ answer_fresh_by layout.now k prepared.now.message.body }
+            result ≡ answer_fresh layout.now k prepared.now.message.body }
         ensures cost { steps.new ≤ steps.old + length prepared.now.first.spans + length prepared.now.second.spans }
         ensures counted { steps.old ≤ steps.new }
     {

@@ -1,20 +1,22 @@
 //! Messages that are answered before the cells of a crossing are prepared.
 
-ghost use Rattle.std.specs.Prelude.{◌≡◌, ℕ, ◌+◌, ◌<◌, ◌≤◌, ◌++◌, ◌∷◌, [], List, length, Some, None, IfOk, IfSome, OnErr, false, slice_index_or};
+ghost use Rattle.std.specs.Prelude.{◌≡◌, ℕ, ◌+◌, ◌<◌, ◌≤◌, ◌++◌, ◌∷◌, [], List, length, drop, Some, None, IfOk, IfSome, OnErr, false, slice_index_or};
 ghost use Rattle.std.specs.Option.{option_or};
 ghost use Rattle.aim_messages.specs.declared.entries.Act.{Act};
 ghost use Rattle.aim_messages.specs.declared.entries.Entry.{Entry};
 ghost use Rattle.aim_messages.specs.declared.entries.TheConstants.{LATEST_MOMENT};
+ghost use Rattle.aim_geometry.specs.Bounded.{find_map};
 ghost use Rattle.aim_layout.specs.Valid.{IsValid};
 ghost use Rattle.aim_sessions.specs.Calls.{call_of};
-ghost use Rattle.aim_rules.specs.Answer.{answer};
+ghost use Rattle.aim_rules.specs.Answer.{answer, answer_fresh, first_reason, own_refusal};
 ghost use Rattle.aim_requests.specs.Shapes.{ArePreparedFor};
 ghost use Rattle.aim_rules.specs.Bad.{bad};
 ghost use Rattle.aim_rules.specs.History.{is_confirm, now_of, params_of};
-ghost use Rattle.aim_rules.specs.Known.{Known, answer_fresh_by, first_reason_by, in_the_way_by, own_refusal_by, too_distant_by, too_far_by, too_late_by};
+ghost use Rattle.aim_rules.specs.Known.{Known};
 ghost use Rattle.aim_sessions.specs.declared.sessions.Look.{Look};
 ghost use Rattle.aim_sessions.specs.Kept.{no_session};
 ghost use Rattle.aim_sessions.specs.Looks.{look_of};
+ghost use Rattle.aim_book.specs.Asking.{tests_at_once};
 ghost use Rattle.aim_book.specs.Desk.{Tells};
 ghost use Rattle.aim_reservations.specs.Keeping.{row_count};
 ghost use Rattle.aim_book.specs.Managed.{IsManaged};
@@ -52,11 +54,10 @@ fn call_at_once(
 }
 
 impl<L: Ledger> Desk<L> {
-    // Why a vehicle whose params are good is refused, if its arrival or its distance says so.
+    // Why a vehicle that may ask, and whose params are good, is refused, if its arrival or its distance says so.
     fn timely_at_once(&self, layout: &Layout, params: &Params) -> Result<Reason, NeedsCells>
         requires good { bad layout.now params.now ≡ None }
-        ensures { IfOk result (λ why. (k : Known) (vehicle place : ℕ) → Tells layout.now vehicle place k self.now →
-            option_or (too_late_by layout.now k params.now) (option_or (too_far_by layout.now k params.now) (option_or (too_distant_by layout.now k params.now) (in_the_way_by layout.now k params.now))) ≡ Some why) }
+        ensures { IfOk result (λ why. (k : Known) (vehicle place : ℕ) → Tells layout.now vehicle place k self.now → find_map (λ test. test layout.now k params.now) (drop 2 tests_at_once) ≡ Some why) }
     {
         let times = layout.ground().times();
         let now = self.reservations.now();
@@ -82,7 +83,7 @@ impl<L: Ledger> Desk<L> {
     ) -> Result<Reason, NeedsCells>
         requires known { ArePreparedFor layout.now shapes.now }
         requires caller { vehicle < length self.now.sessions }
-        ensures { IfOk result (λ why. (k : Known) (place : ℕ) → Tells layout.now vehicle place k self.now → first_reason_by layout.now k params.now ≡ Some why) }
+        ensures { IfOk result (λ why. (k : Known) (place : ℕ) → Tells layout.now vehicle place k self.now → find_map (λ test. test layout.now k params.now) tests_at_once ≡ Some why) }
     {
         let now = self.reservations.now();
         let next = self.sessions.standing(vehicle);
@@ -108,7 +109,7 @@ impl<L: Ledger> Desk<L> {
         requires caller { vehicle < length self.now.sessions }
         requires row { vehicle < length self.now.reservations.rows.items }
         ensures { IfOk result (λ why. (k : Known) (place : ℕ) → Tells layout.now vehicle place k self.now →
-            option_or (own_refusal_by layout.now k body.now) (first_reason_by layout.now k params.now) ≡ Some why) }
+            option_or (own_refusal layout.now k body.now) (first_reason layout.now k params.now) ≡ Some why) }
     {
         match self.own_refusal(vehicle, body) {
             Some(reason) => Ok(reason),
@@ -130,7 +131,7 @@ impl<L: Ledger> Desk<L> {
         requires row { vehicle < length self.now.reservations.rows.items }
         requires asks { params_of body.now ≡ Some params.now }
         requires going { self.now.stopped ≡ false }
-        ensures reply { IfOk result (λ reply. (k : Known) (place : ℕ) → Tells layout.now vehicle place k self.now → reply ≡ answer_fresh_by layout.now k body.now) }
+        ensures reply { IfOk result (λ reply. (k : Known) (place : ℕ) → Tells layout.now vehicle place k self.now → reply ≡ answer_fresh layout.now k body.now) }
         ensures refused { IfOk result (λ reply. (k : Known) (place : ℕ) → Tells layout.now vehicle place k self.now → is_confirm reply ≡ false) }
     {
         let reason = self.reason_at_once(layout, shapes, vehicle, body, params)?;
@@ -148,7 +149,7 @@ impl<L: Ledger> Desk<L> {
         requires known { ArePreparedFor layout.now shapes.now }
         requires caller { vehicle < length self.now.sessions }
         requires row { vehicle < length self.now.reservations.rows.items }
-        ensures reply { IfOk result (λ reply. (k : Known) (place : ℕ) → Tells layout.now vehicle place k self.now → reply ≡ answer_fresh_by layout.now k body.now) }
+        ensures reply { IfOk result (λ reply. (k : Known) (place : ℕ) → Tells layout.now vehicle place k self.now → reply ≡ answer_fresh layout.now k body.now) }
         ensures refused { IfOk result (λ reply. (k : Known) (place : ℕ) → Tells layout.now vehicle place k self.now → is_confirm reply ≡ false) }
     {
         match body {

@@ -4,7 +4,8 @@ ghost use Rattle.std.specs.Prelude.{◌≡◌, ℕ, ◌+◌, ◌<◌, ◌≤◌,
 ghost use Rattle.aim_geometry.specs.Cells.{cell_at};
 ghost use Rattle.aim_messages.specs.declared.messages.Params.{Params};
 ghost use Rattle.aim_tiles.specs.Sheets.{AreTiles};
-ghost use Rattle.aim_rules.specs.Known.{Known, blocked_in, first_blocked_by};
+ghost use Rattle.aim_rules.specs.Known.{Known};
+ghost use Rattle.aim_rules.specs.Answer.{blocked_by, first_blocked};
 ghost use Rattle.aim_reservations.specs.Blocking.{AreAsked, is_lit};
 ghost use Rattle.aim_book.specs.Desk.{Tells};
 
@@ -28,7 +29,7 @@ impl<L: Ledger> Desk<L> {
         requires row { cell.1 < layout.now.grid.n }
         requires col { cell.2 < layout.now.grid.n }
         requires few { length self.now.reservations.rows.items ≤ 65536 }
-        ensures { (k : Known) (p : Params) (place : ℕ) → Tells layout.now vehicle place k self.now → p.lane ≡ lane → k.now ≤ cell.0 → result ≡ blocked_in layout.now k p (cell_at cell.0 cell.1 cell.2) }
+        ensures { (k : Known) (p : Params) (place : ℕ) → Tells layout.now vehicle place k self.now → p.lane ≡ lane → k.now ≤ cell.0 → result ≡ blocked_by layout.now k p (cell_at cell.0 cell.1 cell.2) }
     {
         let (step, row, col) = cell;
         if let Some(lane) = green_lane(layout, &self.timeline, lane, step, row, col) {
@@ -58,7 +59,7 @@ impl<L: Ledger> Desk<L> {
         requires lights { self.now.has_lights ≡ is_lit layout.now }
         requires size { self.now.reservations.table.size ≡ layout.now.grid.n }
         requires tiles { AreTiles layout.now.grid.n sheet.now.spans }
-        ensures free { (k : Known) (p : Params) (fast : Bool) (place : ℕ) → Tells layout.now vehicle place k self.now → AreAsked layout.now k p fast sheet.now.spans → p.lane ≡ lane → result ≡ is_none (first_blocked_by layout.now k p fast) }
+        ensures free { (k : Known) (p : Params) (fast : Bool) (place : ℕ) → Tells layout.now vehicle place k self.now → AreAsked layout.now k p fast sheet.now.spans → p.lane ≡ lane → result ≡ is_none (first_blocked layout.now k p fast) }
         ensures cost { steps.new ≤ steps.old + length sheet.now.spans }
         ensures counted { steps.old ≤ steps.new }
     {
@@ -92,7 +93,7 @@ impl<L: Ledger> Desk<L> {
         requires lights { self.now.has_lights ≡ is_lit layout.now }
         requires size { self.now.reservations.table.size ≡ layout.now.grid.n }
         requires tiles { AreTiles layout.now.grid.n sheet.now.spans }
-        ensures reason { (k : Known) (p : Params) (fast : Bool) (place : ℕ) → Tells layout.now vehicle place k self.now → AreAsked layout.now k p fast sheet.now.spans → p.lane ≡ lane → result ≡ first_blocked_by layout.now k p fast }
+        ensures reason { (k : Known) (p : Params) (fast : Bool) (place : ℕ) → Tells layout.now vehicle place k self.now → AreAsked layout.now k p fast sheet.now.spans → p.lane ≡ lane → result ≡ first_blocked layout.now k p fast }
         ensures cost { steps.new ≤ steps.old + length sheet.now.spans }
         ensures counted { steps.old ≤ steps.new }
     {

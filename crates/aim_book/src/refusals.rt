@@ -1,15 +1,15 @@
 //! Why a vehicle is refused before the cells of its crossing are looked at.
 
-ghost use Rattle.std.specs.Prelude.{◌≡◌, ℕ, ◌+◌, ◌<◌, ◌≤◌, false, nat_le, length, IfNone, Some, None, option_map};
+ghost use Rattle.std.specs.Prelude.{◌≡◌, ℕ, ◌+◌, ◌<◌, ◌≤◌, false, nat_le, length, drop, IfNone, Some, None, option_map};
 ghost use Rattle.std.specs.List.{list_any};
-ghost use Rattle.std.specs.Option.{option_or};
 ghost use Rattle.aim_messages.specs.declared.messages.Params.{Params};
+ghost use Rattle.aim_geometry.specs.Bounded.{find_map};
 ghost use Rattle.aim_layout.specs.Intersection.{Intersection};
 ghost use Rattle.aim_rules.specs.Bad.{bad};
-ghost use Rattle.aim_rules.specs.Answer.{gives_way as gives_way_of};
+ghost use Rattle.aim_rules.specs.Answer.{first_reason, gives_way as gives_way_of, in_the_way, next_for, own_refusal, refusal, tests};
 ghost use Rattle.aim_rules.specs.Cells.{cells};
 ghost use Rattle.aim_rules.specs.Kept.{policy_in};
-ghost use Rattle.aim_rules.specs.Known.{Known, first_reason_by, in_the_way_by, next_by, own_refusal_by, refusal_by, too_distant_by, too_far_by, too_late_by};
+ghost use Rattle.aim_rules.specs.Known.{Known};
 ghost use Rattle.aim_book.specs.Asking.{AreCalling, IsAsking};
 ghost use Rattle.aim_book.specs.Desk.{Tells};
 
@@ -37,7 +37,7 @@ impl<L: Ledger> Desk<L> {
     // When the vehicle may ask again, where it is refused for the reason.
     fn next_after(&self, layout: &Layout, vehicle: u32, arrive: u32, reason: &Reason) -> u32
         requires { vehicle < length self.now.sessions }
-        ensures { (k : Known) (place : ℕ) → Tells layout.now vehicle place k self.now → result ≡ next_by layout.now k arrive reason.now }
+        ensures { (k : Known) (place : ℕ) → Tells layout.now vehicle place k self.now → result ≡ next_for layout.now k arrive reason.now }
     {
         match reason {
             Reason::Holds(_)
@@ -56,7 +56,7 @@ impl<L: Ledger> Desk<L> {
     pub(crate) fn refuse(&self, layout: &Layout, vehicle: u32, arrive: u32, reason: Reason) -> Reply
         requires there { vehicle < length self.now.sessions }
         requires row { vehicle < length self.now.reservations.rows.items }
-        ensures { (k : Known) (place : ℕ) → Tells layout.now vehicle place k self.now → result ≡ refusal_by layout.now k arrive reason }
+        ensures { (k : Known) (place : ℕ) → Tells layout.now vehicle place k self.now → result ≡ refusal layout.now k arrive reason }
     {
         Reply::Reject {
             next: self.next_after(layout, vehicle, arrive, &reason),
@@ -68,7 +68,7 @@ impl<L: Ledger> Desk<L> {
     /// Why the vehicle may not ask so, by what it holds: it has a reservation, or it has none to change, or the one has begun.
     pub(crate) fn own_refusal(&self, vehicle: u32, body: &Body) -> Option<Reason>
         requires { vehicle < length self.now.reservations.rows.items }
-        ensures { (i : Intersection) (k : Known) (place : ℕ) → Tells i vehicle place k self.now → result ≡ own_refusal_by i k body.now }
+        ensures { (i : Intersection) (k : Known) (place : ℕ) → Tells i vehicle place k self.now → result ≡ own_refusal i k body.now }
     {
         let own = self.reservations.lasting(vehicle);
         match (body, own) {
@@ -90,7 +90,7 @@ impl<L: Ledger> Desk<L> {
     fn in_the_way(&self, layout: &Layout, params: &Params) -> Option<Reason>
         requires there { (s : ℕ) → (policy_in self.now.timeline.pushed s).policy < length layout.now.policies }
         requires lane { params.now.lane < 16 }
-        ensures { (k : Known) (vehicle place : ℕ) → Tells layout.now vehicle place k self.now → AreCalling layout.now k params.now self.now.approaches → result ≡ in_the_way_by layout.now k params.now }
+        ensures { (k : Known) (vehicle place : ℕ) → Tells layout.now vehicle place k self.now → AreCalling layout.now k params.now self.now.approaches → result ≡ in_the_way layout.now k params.now }
     {
         let (policy, _) = self.timeline.policy_at(params.arrive);
         if !gives_way(layout.kind(policy)) {
@@ -119,7 +119,7 @@ impl<L: Ledger> Desk<L> {
         requires caller { vehicle < length self.now.sessions }
         requires there { (s : ℕ) → (policy_in self.now.timeline.pushed s).policy < length layout.now.policies }
         requires asking { IsAsking layout.now params.now prepared.now }
-        ensures reason { (k : Known) (place : ℕ) → Tells layout.now vehicle place k self.now → AreCalling layout.now k params.now self.now.approaches → result ≡ first_reason_by layout.now k params.now }
+        ensures reason { (k : Known) (place : ℕ) → Tells layout.now vehicle place k self.now → AreCalling layout.now k params.now self.now.approaches → result ≡ first_reason layout.now k params.now }
         ensures good { IfNone result (bad layout.now params.now ≡ None) }
         ensures ahead { IfNone result (nat_le params.now.arrive (self.now.reservations.table.current + layout.now.times.edge) ≡ false) }
     {
@@ -134,13 +134,14 @@ impl<L: Ledger> Desk<L> {
         self.timely_reason(layout, prepared, params)
     }
 
-    // Why a vehicle whose params are good is refused before the cells of its crossing are looked at, if it is.
+    // Why a vehicle that may ask, and whose params are good, is refused before the cells of its crossing are looked at, if it
+    // is: the first of the other tests that gives a reason.
     fn timely_reason(&self, layout: &Layout, prepared: &Prepared, params: &Params) -> Option<Reason>
         requires good { bad layout.now params.now ≡ None }
         requires there { (s : ℕ) → (policy_in self.now.timeline.pushed s).policy < length layout.now.policies }
         requires asking { IsAsking layout.now params.now prepared.now }
         ensures reason { (k : Known) (vehicle place : ℕ) → Tells layout.now vehicle place k self.now → AreCalling layout.now k params.now self.now.approaches →
-            result ≡ option_or (too_late_by layout.now k params.now) (option_or (too_far_by layout.now k params.now) (option_or (too_distant_by layout.now k params.now) (in_the_way_by layout.now k params.now))) }
+            result ≡ find_map (λ test. test layout.now k params.now) (drop 2 tests) }
         ensures ahead { IfNone result (nat_le params.now.arrive (self.now.reservations.table.current + layout.now.times.edge) ≡ false) }
     {
         let times = layout.ground().times();

@@ -18,13 +18,12 @@ use Rattle.aim_layout.specs.Policies.{has_lane}
 use Rattle.aim_layout.specs.LaneTiles.{in_lane_tiles}
 use Rattle.aim_layout.specs.Valid.{IsValid}
 use Rattle.aim_geometry.specs.Cells.{Cell}
-use Rattle.aim_rules.specs.Claims.{green, is_claimed}
+use Rattle.aim_rules.specs.Claims.{green, is_claimed, is_claimed_by}
 use Rattle.aim_rules.specs.History.{now_of}
 use Rattle.aim_rules.specs.Kept.{changes, policy_in}
-use Rattle.aim_rules.specs.Known.{is_claimed_by}
 use Rattle.aim_rules.specs.Legal.{IsAnswered, IsLegal}
 use Rattle.aim_rules.specs.Lights.{green_at, green_lanes}
-use Rattle.aim_rules.specs.Timeline.{InForce, change_with}
+use Rattle.aim_rules.specs.Timeline.{InForce, change_with, policy_at}
 use Rattle.aim_rules.proofs.HistoryLaws.{now_of-max, now_of-snoc}
 use Rattle.aim_rules.proofs.LegalLemmas.{IsLegal-before}
 use Rattle.aim_rules.proofs.Lists.{from_front, list_any-range_same, some_below-same}
@@ -37,7 +36,7 @@ use Rattle.aim_policies.proofs.Instants.{policy_in-same, policy_in-since}
 
 pub claimed_by : (i : Intersection) (h : List Entry) (lane : ℕ) (c : Cell) → is_claimed_by i (policy_in (changes h)) lane c ≡ is_claimed i h lane c
 claimed_by i h lane c = ap (λ b. in_lane_tiles i lane c.row c.col && b)
-    (list_any-range_same (c.step - i.times.clearance) (c.step + 1 - (c.step - i.times.clearance)) (λ s. has_lane (green_in i (changes h) s) lane) (λ s. has_lane (green_at i h s) lane)
+    (list_any-range_same (c.step - i.times.clearance) (c.step + 1 - (c.step - i.times.clearance)) (λ s. has_lane (green_in i (changes h) s) lane) (λ s. has_lane (green_at i (policy_at h) s) lane)
     (λ s a b. ap (λ f. has_lane (green_lanes (slice_get i.policies f.policy) (s - f.from)) lane) (sym (policy_at-changes h s))))
 
 pub some_least : (n : ℕ) (test : ℕ → Bool) → is_some (least_below n test) ≡ some_below n test

@@ -8,11 +8,11 @@ use Rattle.aim_layout.specs.Policies.{has_lane, has_lights}
 use Rattle.aim_layout.specs.LaneTiles.{in_lane_tiles}
 use Rattle.aim_layout.specs.Valid.{IsValid}
 use Rattle.aim_geometry.specs.Cells.{Cell}
-use Rattle.aim_rules.specs.Known.{is_claimed_by}
 use Rattle.aim_rules.proofs.Lists.{some_below-same}
 use Rattle.aim_rules.specs.Timeline.{InForce}
 use Rattle.aim_rules.specs.Lights.{green_lanes, lit, round}
 use Rattle.aim_rules.specs.Kept.{policy_in}
+use Rattle.aim_rules.specs.Claims.{is_claimed_by}
 use Rattle.aim_policies.proofs.Rounds.{both_ways, has_lane-none, range_found, range_has}
 use Rattle.aim_policies.proofs.Greens.{green_there}
 use Rattle.aim_policies.specs.Claimed.{is_other, is_tile_of}

@@ -1,12 +1,12 @@
 -- What contracts see of a timeline.
-use Rattle.std.specs.Prelude.{ℕ, ◌-◌, Bool, ◌&&◌, List, length, slice_get, slice_index_or, Option}
+use Rattle.std.specs.Prelude.{ℕ, ◌-◌, Bool, ◌&&◌, List, length, slice_index_or, Option}
 use Rattle.aim_geometry.specs.Bounded.{some_below}
 use Rattle.aim_layout.specs.Intersection.{Intersection}
 use Rattle.aim_geometry.specs.Cells.{Cell}
 use Rattle.aim_rules.specs.Timeline.{InForce}
-use Rattle.aim_rules.specs.Lights.{green_lanes}
+use Rattle.aim_rules.specs.Lights.{green_at}
 use Rattle.aim_rules.specs.Kept.{policy_in}
-use Rattle.aim_rules.specs.Known.{is_claimed_by}
+use Rattle.aim_rules.specs.Claims.{is_claimed_by}
 use Rattle.aim_policies.specs.Claimed.{is_other}
 
 -- the changes of policy that were pushed, in their order, and how many may be
@@ -24,7 +24,7 @@ latest fs = (slice_index_or fs (length fs - 1) start).from
 
 -- the set of lanes that are green at a step, by the changes
 abbrev pub green_in : Intersection → List InForce → ℕ → ℕ
-green_in i fs s = let f = policy_in fs s in green_lanes (slice_get i.policies f.policy) (s - f.from)
+green_in i fs s = green_at i (policy_in fs) s
 
 -- whether a lane, other than the one that may be excepted, claims the cell, where policies are in force so
 abbrev pub is_claimed_for : Intersection → (ℕ → InForce) → Option ℕ → Cell → Bool

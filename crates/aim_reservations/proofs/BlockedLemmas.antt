@@ -12,7 +12,7 @@ use Rattle.aim_sheets.specs.Spans.{in_spans}
 use Rattle.aim_tiles.specs.Cells.{TakenCells}
 use Rattle.aim_tiles.specs.Searches.{IsFirst, is_taken}
 use Rattle.aim_rules.specs.Kept.{policy_in}
-use Rattle.aim_rules.specs.Known.{is_claimed_by}
+use Rattle.aim_rules.specs.Claims.{is_claimed_by}
 use Rattle.aim_rules.specs.Lights.{green_lanes, lit, round}
 use Rattle.aim_rules.specs.Timeline.{InForce}
 use Rattle.aim_policies.specs.Claimed.{is_other}

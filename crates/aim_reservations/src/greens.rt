@@ -8,7 +8,7 @@ ghost use Rattle.aim_layout.specs.Policies.{has_lane};
 ghost use Rattle.aim_layout.specs.Valid.{IsValid};
 ghost use Rattle.aim_sheets.specs.Spans.{in_spans};
 ghost use Rattle.aim_rules.specs.Kept.{policy_in};
-ghost use Rattle.aim_rules.specs.Known.{green_by};
+ghost use Rattle.aim_rules.specs.Claims.{green_by};
 ghost use Rattle.aim_rules.specs.Timeline.{InForce};
 ghost use Rattle.aim_tiles.specs.Searches.{IsFirst};
 ghost use Rattle.aim_tiles.specs.Sheets.{AreTiles};

@@ -1,5 +1,5 @@
 -- Where in time a granted cell lies.
-use Rattle.std.proofs.Common.{◌≡◌, ℕ, ◌+◌, ◌<◌, ◌≤◌, Bool, true, false, ◌&&◌, ◌||◌, nat_le, List, [], ◌∷◌, Some, None, arith, refl, inl, inr}
+use Rattle.std.proofs.Common.{◌≡◌, ℕ, ◌+◌, ◌<◌, ◌≤◌, Bool, true, false, ◌&&◌, ◌||◌, nat_le, List, [], ◌∷◌, Some, None, arith, refl, sym, subst, ◌∙◌, ap, inl, inr}
 use Rattle.std.specs.List.{list_any}
 use Rattle.aim_messages.specs.declared.messages.Params.{Params}
 use Rattle.aim_messages.specs.declared.messages.Message.{Message}
@@ -13,12 +13,14 @@ use Rattle.aim_rules.specs.Bad.{bad}
 use Rattle.aim_rules.specs.History.{is_fresh_seq, is_confirm, now_of, params_of, fresh, Fresh}
 use Rattle.aim_rules.specs.Holds.{is_fast, reservations, is_granted}
 use Rattle.aim_rules.specs.Answer.{answer, answer_fresh}
+use Rattle.aim_rules.specs.Known.{known_after}
 use Rattle.aim_geometry.proofs.BoundedLemmas.{some_below_found}
 use Rattle.aim_rules.proofs.TestLemmas.{and_left, more_than}
 use Rattle.aim_rules.proofs.CellLemmas.{cells_has, kept_within}
 use Rattle.aim_rules.proofs.GrantLemmas.{IsGranted, fresh_grants}
 use Rattle.aim_rules.proofs.FreeLemmas.{free-disjoint}
 use Rattle.aim_rules.proofs.SlowerLemmas.{slower}
+use Rattle.aim_rules.proofs.HistoryLaws.{seq_said}
 use Rattle.std.specs.Prelude.{◌==◌}
 
 -- a needed cell comes after a time that the arrival is later than by more than the edge buffer
@@ -62,17 +64,16 @@ needed_below i p true reach c spaced before after good near needed =
     omega arith
 
 -- the answer to a fresh message
-fresh_answer : (i : Intersection) (h : List Entry) (v moment : ℕ) (m : Message) → is_fresh_seq h v m.seq ≡ true →
-    answer i h v moment (act.Message m) ≡ answer_fresh (record { layout = i; history = h; served = fresh h; vehicle = v; now = now_of h moment }) m.body
-fresh_answer i h v moment m new = rw new refl
+pub fresh_answer : (i : Intersection) (h : List Entry) (v moment : ℕ) (m : Message) → is_fresh_seq h v m.seq ≡ true →
+    answer i h v moment (act.Message m) ≡ answer_fresh i (known_after i h v moment) m.body
+fresh_answer i h v moment m new = rw (← seq_said h v m.seq, new) refl
 
 -- what a Confirm to a fresh message rests on, with the params that it carries
 grants_of : (i : Intersection) (h : List Entry) (v moment : ℕ) (m : Message) (p : Params) → is_fresh_seq h v m.seq ≡ true → params_of m.body ≡ Some p →
-    is_confirm (answer i h v moment (act.Message m)) ≡ true →
-    IsGranted (record { layout = i; history = h; served = fresh h; vehicle = v; now = now_of h moment }) p (answer i h v moment (act.Message m))
+    is_confirm (answer i h v moment (act.Message m)) ≡ true → IsGranted i (known_after i h v moment) p (answer i h v moment (act.Message m))
 grants_of i h v moment m p new asks confirmed =
-    rw (fresh_answer i h v moment m new)
-    (fresh_grants (record { layout = i; history = h; served = fresh h; vehicle = v; now = now_of h moment }) m.body p asks (rw (fresh_answer i h v moment m new) at confirmed))
+    let said = fresh_answer i h v moment m new in
+    subst (IsGranted i (known_after i h v moment) p) (sym said) (fresh_grants i (known_after i h v moment) m.body p asks (ap is_confirm (sym said) ∙ confirmed))
 
 pub granted_ahead : (i : Intersection) (h : List Entry) (v moment : ℕ) (m : Message) (p : Params) (c : Cell) → 0 < i.grid.spacing → i.times.early ≤ i.times.edge → i.times.late ≤ i.times.edge →
     is_fresh_seq h v m.seq ≡ true → params_of m.body ≡ Some p → is_confirm (answer i h v moment (act.Message m)) ≡ true →
@@ -88,5 +89,5 @@ pub granted_free : (i : Intersection) (h : List Entry) (v moment : ℕ) (m : Mes
     in_cells i p (is_fast (answer i h v moment (act.Message m))) c ≡ true → IsIn x (reservations i (fresh h) (now_of h moment)) → ((x.entry.caller == v) ≡ false) → is_granted i x c ≡ false
 granted_free i h v moment m p c x before after new asks confirmed needed holds other =
     let g = grants_of i h v moment m p new asks confirmed in
-    free-disjoint (record { layout = i; history = h; served = fresh h; vehicle = v; now = now_of h moment }) p (is_fast (answer i h v moment (act.Message m))) c x g.free
+    free-disjoint i h v moment p (is_fast (answer i h v moment (act.Message m))) c x g.free
     (cells_has i p (is_fast (answer i h v moment (act.Message m))) c before after needed) holds other

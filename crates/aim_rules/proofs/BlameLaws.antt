@@ -23,15 +23,16 @@ use Rattle.aim_rules.specs.Bad.{bad, is_fast_made}
 use Rattle.aim_rules.specs.Blame.{IsClaimedBy, IsHeldBy, IsYielded, Yielded, cell_blamed}
 use Rattle.aim_rules.specs.Kept.{kept}
 use Rattle.aim_rules.specs.Timeline.{change_with}
-use Rattle.aim_rules.specs.Claims.{green, is_claimed}
+use Rattle.aim_rules.specs.Claims.{green, green_by, is_claimed}
 use Rattle.aim_rules.specs.History.{Fresh, fresh, given_up, is_confirm, is_fresh, is_fresh_seq, message_of, now_of, params_of}
 use Rattle.aim_rules.specs.Legal.{IsAnswered, IsLegal}
 use Rattle.aim_rules.specs.Holds.{reservations, taken_by, is_granted}
-use Rattle.aim_rules.specs.Answer.{Asked, answer, answer_fresh, answer_asking, answer_free, refused_or, refusal, confirmation, blocked_by, first_blocked, first_reason, own_refusal, where_so, is_stopped, too_soon, bad_field, too_late, too_far, too_distant, in_the_way}
+use Rattle.aim_rules.specs.Answer.{answer, answer_fresh, answer_asking, answer_free, refused_or, refusal, confirmation, blocked_by, first_blocked, first_reason, own_refusal, where_so, too_soon, bad_field, too_late, too_far, too_distant, in_the_way}
+use Rattle.aim_rules.specs.Known.{Known, known_after}
 use Rattle.aim_rules.proofs.CellLemmas.{cells_needed}
 use Rattle.std.proofs.Math.Seq.{append_snoc}
 use Rattle.aim_geometry.proofs.BoundedLemmas.{least_below_found}
-use Rattle.aim_rules.proofs.AheadLemmas.{needed_after}
+use Rattle.aim_rules.proofs.AheadLemmas.{fresh_answer, needed_after}
 use Rattle.aim_rules.proofs.GrantLemmas.{tests_passed}
 use Rattle.aim_rules.proofs.HistoryLemmas.{served}
 use Rattle.aim_rules.proofs.HistoryLaws.{fresh-one, now_of-max}
@@ -76,68 +77,65 @@ no_cell-change : (b c : Bool) (step : ℕ) → IsNoCell (if b then Some reason.N
 no_cell-change true c step w h = ap cell_blamed (sym (some_same reason.NoReservation w h))
 no_cell-change false c step w h = no_cell-where c (reason.Begun step) refl w h
 
-no_cell-own : (a : Asked) (b : Body) → IsNoCell (own_refusal a b)
-no_cell-own a (body.Request p) = no_cell-holds _
-no_cell-own a (body.Change id p) = no_cell-change _ _ _
-no_cell-own a (body.Cancel id) = no_cell-none
-no_cell-own a (body.Done id) = no_cell-none
+no_cell-own : (i : Intersection) (k : Known) (b : Body) → IsNoCell (own_refusal i k b)
+no_cell-own i k (body.Request p) = no_cell-holds _
+no_cell-own i k (body.Change id p) = no_cell-change _ _ _
+no_cell-own i k (body.Cancel id) = no_cell-none
+no_cell-own i k (body.Done id) = no_cell-none
 
-no_cell-tests : (a : Asked) (p : Params) → IsNoCell (first_reason a p)
-no_cell-tests a p =
-    no_cell-or (too_soon a p) _ (no_cell-where _ _ refl)
-    (no_cell-or (bad_field a p) _ (no_cell-field (bad a.layout p))
-    (no_cell-or (too_late a p) _ (no_cell-where _ _ refl)
-    (no_cell-or (too_far a p) _ (no_cell-where _ _ refl)
-    (no_cell-or (too_distant a p) _ (no_cell-where _ _ refl)
-    (no_cell-or (in_the_way a p) _ (no_cell-way _ _) no_cell-none)))))
+no_cell-tests : (i : Intersection) (k : Known) (p : Params) → IsNoCell (first_reason i k p)
+no_cell-tests i k p =
+    no_cell-or (too_soon i k p) _ (no_cell-where _ _ refl)
+    (no_cell-or (bad_field i k p) _ (no_cell-field (bad i p))
+    (no_cell-or (too_late i k p) _ (no_cell-where _ _ refl)
+    (no_cell-or (too_far i k p) _ (no_cell-where _ _ refl)
+    (no_cell-or (too_distant i k p) _ (no_cell-where _ _ refl)
+    (no_cell-or (in_the_way i k p) _ (no_cell-way _ _) no_cell-none)))))
 
 -- A refusal for a cell comes where no test gives a reason, and its reason is that of the least blocked cell.
-pub record IsBlocked (a : Asked) (p : Params) (why : Reason) : Type 0 where
-  pub passed : first_reason a p ≡ None
-  pub blocked : first_blocked a p false ≡ Some why
+pub record IsBlocked (i : Intersection) (k : Known) (p : Params) (why : Reason) : Type 0 where
+  pub passed : first_reason i k p ≡ None
+  pub blocked : first_blocked i k p false ≡ Some why
 
 reason_said : (v w : Reason) (m n : ℕ) (x y : Option ℕ) → reply.Reject v m x ≡ reply.Reject w n y → v ≡ w
 reason_said v w m n x y h = cc
 
-free_blocked : (a : Asked) (p : Params) (b : Bool) (o : Option Reason) (why : Reason) (next : ℕ) (held : Option ℕ) →
-    (if b then confirmation a p true else refused_or a p o (confirmation a p false)) ≡ reply.Reject why next held → o ≡ Some why
-free_blocked a p true o why next held h = absurd (cc)
-free_blocked a p false None why next held h = absurd (cc)
-free_blocked a p false (Some w) why next held h = ap Some (reason_said w why _ next _ held h)
+free_blocked : (i : Intersection) (k : Known) (p : Params) (b : Bool) (o : Option Reason) (why : Reason) (next : ℕ) (held : Option ℕ) →
+    (if b then confirmation i k p true else refused_or i k p o (confirmation i k p false)) ≡ reply.Reject why next held → o ≡ Some why
+free_blocked i k p true o why next held h = absurd (cc)
+free_blocked i k p false None why next held h = absurd (cc)
+free_blocked i k p false (Some w) why next held h = ap Some (reason_said w why _ next _ held h)
 
-asking_blocked : (a : Asked) (b : Body) (p : Params) (why : Reason) (next : ℕ) (held : Option ℕ) (c : Cell) → cell_blamed why ≡ Some c →
-    answer_asking a b p ≡ reply.Reject why next held → IsBlocked a p why
-asking_blocked a b p why next held c blames h = go (own_refusal a b) (first_reason a p) refl refl h
+asking_blocked : (i : Intersection) (k : Known) (b : Body) (p : Params) (why : Reason) (next : ℕ) (held : Option ℕ) (c : Cell) → cell_blamed why ≡ Some c →
+    answer_asking i k b p ≡ reply.Reject why next held → IsBlocked i k p why
+asking_blocked i k b p why next held c blames h = go (own_refusal i k b) (first_reason i k p) refl refl h
   where
-    named : (o : Option Reason) → IsNoCell o → (w : Reason) → o ≡ Some w → refusal a p.arrive w ≡ reply.Reject why next held → IsBlocked a p why
+    named : (o : Option Reason) → IsNoCell o → (w : Reason) → o ≡ Some w → refusal i k p.arrive w ≡ reply.Reject why next held → IsBlocked i k p why
     named o none w s h = absurd (let n = none w s in let e = reason_said w why _ next _ held h in cc)
 
-    go : (x o : Option Reason) → own_refusal a b ≡ x → first_reason a p ≡ o → refused_or a p (option_or x o) (answer_free a p) ≡ reply.Reject why next held → IsBlocked a p why
-    go (Some w) o x y h = named (own_refusal a b) (no_cell-own a b) w x h
-    go None (Some w) x y h = named (first_reason a p) (no_cell-tests a p) w y h
-    go None None x y h = record { passed = y; blocked = free_blocked a p (is_fast_made p && is_none (first_blocked a p true)) (first_blocked a p false) why next held h }
+    go : (x o : Option Reason) → own_refusal i k b ≡ x → first_reason i k p ≡ o → refused_or i k p (option_or x o) (answer_free i k p) ≡ reply.Reject why next held → IsBlocked i k p why
+    go (Some w) o x y h = named (own_refusal i k b) (no_cell-own i k b) w x h
+    go None (Some w) x y h = named (first_reason i k p) (no_cell-tests i k p) w y h
+    go None None x y h = record { passed = y; blocked = free_blocked i k p (is_fast_made p && is_none (first_blocked i k p true)) (first_blocked i k p false) why next held h }
 
 stopped_reject : (b : Bool) (r : Reply) (why : Reason) (next : ℕ) (held : Option ℕ) → (if b then reply.EmergencyStop else r) ≡ reply.Reject why next held → r ≡ reply.Reject why next held
 stopped_reject true r why next held h = absurd (cc)
 stopped_reject false r why next held h = h
 
-fresh_blocked : (a : Asked) (b : Body) (p : Params) (why : Reason) (next : ℕ) (held : Option ℕ) (c : Cell) → params_of b ≡ Some p → cell_blamed why ≡ Some c →
-    answer_fresh a b ≡ reply.Reject why next held → IsBlocked a p why
-fresh_blocked a (body.Cancel id) p why next held c e blames h = absurd (cc)
-fresh_blocked a (body.Done id) p why next held c e blames h = absurd (cc)
-fresh_blocked a (body.Request q) p why next held c e blames h =
-    subst (λ x. IsBlocked a x why) (some_same q p e) (asking_blocked a (body.Request q) q why next held c blames (stopped_reject (is_stopped a.history) _ why next held h))
-fresh_blocked a (body.Change id q) p why next held c e blames h =
-    subst (λ x. IsBlocked a x why) (some_same q p e) (asking_blocked a (body.Change id q) q why next held c blames (stopped_reject (is_stopped a.history) _ why next held h))
-
-abbrev pub asked : Intersection → List Entry → ℕ → ℕ → Asked
-asked i h v moment = record { layout = i; history = h; served = fresh h; vehicle = v; now = now_of h moment }
+fresh_blocked : (i : Intersection) (k : Known) (b : Body) (p : Params) (why : Reason) (next : ℕ) (held : Option ℕ) (c : Cell) → params_of b ≡ Some p → cell_blamed why ≡ Some c →
+    answer_fresh i k b ≡ reply.Reject why next held → IsBlocked i k p why
+fresh_blocked i k (body.Cancel id) p why next held c e blames h = absurd (cc)
+fresh_blocked i k (body.Done id) p why next held c e blames h = absurd (cc)
+fresh_blocked i k (body.Request q) p why next held c e blames h =
+    subst (λ x. IsBlocked i k x why) (some_same q p e) (asking_blocked i k (body.Request q) q why next held c blames (stopped_reject k.stopped _ why next held h))
+fresh_blocked i k (body.Change id q) p why next held c e blames h =
+    subst (λ x. IsBlocked i k x why) (some_same q p e) (asking_blocked i k (body.Change id q) q why next held c blames (stopped_reject k.stopped _ why next held h))
 
 pub blocked_of : (i : Intersection) (h : List Entry) (v moment : ℕ) (m : Message) (p : Params) (why : Reason) (next : ℕ) (held : Option ℕ) (c : Cell) →
     is_fresh_seq h v m.seq ≡ true → params_of m.body ≡ Some p → cell_blamed why ≡ Some c →
-    answer i h v moment (act.Message m) ≡ reply.Reject why next held → IsBlocked (asked i h v moment) p why
+    answer i h v moment (act.Message m) ≡ reply.Reject why next held → IsBlocked i (known_after i h v moment) p why
 blocked_of i h v moment m p why next held c new asks blames said =
-    fresh_blocked (asked i h v moment) m.body p why next held c asks blames (rw new at said)
+    fresh_blocked i (known_after i h v moment) m.body p why next held c asks blames (sym (fresh_answer i h v moment m new) ∙ said)
 
 -- the cell of the first reason
 
@@ -151,13 +149,13 @@ find_map-where f (x ∷ xs) y h = go (f x) refl (λ r. find_map-where f xs y r) 
 
 -- the cell of the first reason is the one that the reason names
 
-blocked_taken : (a : Asked) (p : Params) (c : Cell) (row col step by : ℕ) → blocked_by a (reservations a.layout a.served a.now) p c ≡ Some (reason.Taken row col step by) →
-    (c ≡ cell_at step row col) × (green a.layout a.history c p.lane ≡ None) × (taken_by (reservations a.layout a.served a.now) a.layout a.vehicle c ≡ Some by)
-blocked_taken a p c row col step by h = go (green a.layout a.history c p.lane) refl (taken_by (reservations a.layout a.served a.now) a.layout a.vehicle c) refl h
+blocked_taken : (i : Intersection) (k : Known) (p : Params) (c : Cell) (row col step by : ℕ) → blocked_by i k p c ≡ Some (reason.Taken row col step by) →
+    (c ≡ cell_at step row col) × (green_by i k.policy c p.lane ≡ None) × (k.taken c ≡ Some by)
+blocked_taken i k p c row col step by h = go (green_by i k.policy c p.lane) refl (k.taken c) refl h
   where
-    go : (g : Option ℕ) → green a.layout a.history c p.lane ≡ g → (t : Option ℕ) → taken_by (reservations a.layout a.served a.now) a.layout a.vehicle c ≡ t →
+    go : (g : Option ℕ) → green_by i k.policy c p.lane ≡ g → (t : Option ℕ) → k.taken c ≡ t →
         option_or (option_map (λ lane. reason.Green c.row c.col c.step lane) g) (option_map (λ by. reason.Taken c.row c.col c.step by) t) ≡ Some (reason.Taken row col step by) →
-        (c ≡ cell_at step row col) × (green a.layout a.history c p.lane ≡ None) × (taken_by (reservations a.layout a.served a.now) a.layout a.vehicle c ≡ Some by)
+        (c ≡ cell_at step row col) × (green_by i k.policy c p.lane ≡ None) × (k.taken c ≡ Some by)
     go (Some l) e t f h = absurd (cc)
     go None e None f h = absurd (cc)
     go None e (Some w) f h =
@@ -167,13 +165,13 @@ blocked_taken a p c row col step by h = go (green a.layout a.history c p.lane) r
         let b : w ≡ by = cc in
         ((λ j. record { row = x j; col = y j; step = z j }), e, f ∙ ap Some b)
 
-blocked_green : (a : Asked) (p : Params) (c : Cell) (row col step by : ℕ) → blocked_by a (reservations a.layout a.served a.now) p c ≡ Some (reason.Green row col step by) →
-    (c ≡ cell_at step row col) × (green a.layout a.history c p.lane ≡ Some by)
-blocked_green a p c row col step by h = go (green a.layout a.history c p.lane) refl (taken_by (reservations a.layout a.served a.now) a.layout a.vehicle c) h
+blocked_green : (i : Intersection) (k : Known) (p : Params) (c : Cell) (row col step by : ℕ) → blocked_by i k p c ≡ Some (reason.Green row col step by) →
+    (c ≡ cell_at step row col) × (green_by i k.policy c p.lane ≡ Some by)
+blocked_green i k p c row col step by h = go (green_by i k.policy c p.lane) refl (k.taken c) h
   where
-    go : (g : Option ℕ) → green a.layout a.history c p.lane ≡ g → (t : Option ℕ) →
+    go : (g : Option ℕ) → green_by i k.policy c p.lane ≡ g → (t : Option ℕ) →
         option_or (option_map (λ lane. reason.Green c.row c.col c.step lane) g) (option_map (λ by. reason.Taken c.row c.col c.step by) t) ≡ Some (reason.Green row col step by) →
-        (c ≡ cell_at step row col) × (green a.layout a.history c p.lane ≡ Some by)
+        (c ≡ cell_at step row col) × (green_by i k.policy c p.lane ≡ Some by)
     go (Some l) e t h =
         let x : c.row ≡ row = cc in
         let y : c.col ≡ col = cc in
@@ -209,8 +207,8 @@ pub taken_blames : (i : Intersection) (h : List Entry) (v moment : ℕ) (m : Mes
 taken_blames i h v moment m p row col step by next held new asks said =
     let rs = reservations i (fresh h) (now_of h moment) in
     let b = blocked_of i h v moment m p (reason.Taken row col step by) next held (cell_at step row col) new asks refl said in
-    let w = find_map-where (blocked_by (asked i h v moment) rs p) (cells i p false) (reason.Taken row col step by) b.blocked in
-    let t = blocked_taken (asked i h v moment) p w.0 row col step by w.2 in
+    let w = find_map-where (blocked_by i (known_after i h v moment) p) (cells i p false) (reason.Taken row col step by) b.blocked in
+    let t = blocked_taken i (known_after i h v moment) p w.0 row col step by w.2 in
     let d = held_by rs i v w.0 by t.2 in
     let other : by ≡ v → ⊥ = λ s. apart d.0.entry.caller v d.3 (d.2 ∙ s) in
     (subst (λ c. in_cells i p false c ≡ true) t.0 (cells_needed i p false w.0 w.1), d.0, record { other = other; held = d.1; own = d.2; cell = subst (λ c. is_granted i d.0 c ≡ true) t.0 d.4 })
@@ -221,8 +219,8 @@ pub green_blames : (i : Intersection) (h : List Entry) (v moment : ℕ) (m : Mes
     (in_cells i p false (cell_at step row col) ≡ true) × IsClaimedBy i h p.lane lane (cell_at step row col)
 green_blames i h v moment m p row col step lane next held new asks said =
     let b = blocked_of i h v moment m p (reason.Green row col step lane) next held (cell_at step row col) new asks refl said in
-    let w = find_map-where (blocked_by (asked i h v moment) (reservations i (fresh h) (now_of h moment)) p) (cells i p false) (reason.Green row col step lane) b.blocked in
-    let t = blocked_green (asked i h v moment) p w.0 row col step lane w.2 in
+    let w = find_map-where (blocked_by i (known_after i h v moment) p) (cells i p false) (reason.Green row col step lane) b.blocked in
+    let t = blocked_green i (known_after i h v moment) p w.0 row col step lane w.2 in
     let l = least_below_is (length i.lanes) (λ other. not (other == p.lane) && is_claimed i h other (cell_at step row col)) lane (rw t.0 at t.1) in
     let c = and_parts (not (lane == p.lane)) (is_claimed i h lane (cell_at step row col)) l.1 in
     (rw t.0 at (cells_needed i p false w.0 w.1), record { other = apart lane p.lane (not_true (lane == p.lane) c.0); there = l.0; claimed = c.1 })
@@ -233,17 +231,17 @@ not_confirmed : (i : Intersection) (h : List Entry) (d : Entry) (id : ℕ) → I
     option_and_then (λ m. given_up m.body) (message_of d.act) ≡ Some id → is_confirm d.reply ≡ false
 not_confirmed i h d id answered new gives = go d.act refl
   where
-    body_of : (b : Body) (a : Asked) → given_up b ≡ Some id → is_confirm (answer_fresh a b) ≡ false
-    body_of (body.Request p) a g = absurd (cc)
-    body_of (body.Change id p) a g = absurd (cc)
-    body_of (body.Cancel id) a g = refl
-    body_of (body.Done id) a g = refl
+    body_of : (b : Body) (k : Known) → given_up b ≡ Some id → is_confirm (answer_fresh i k b) ≡ false
+    body_of (body.Request p) k g = absurd (cc)
+    body_of (body.Change id p) k g = absurd (cc)
+    body_of (body.Cancel id) k g = refl
+    body_of (body.Done id) k g = refl
 
     go : (x : Act) → d.act ≡ x → is_confirm d.reply ≡ false
     go (act.Order o) e = absurd (let n : None ≡ Some id = rw e at gives in cc)
     go (act.Message m) e =
         let f : is_fresh_seq h d.caller m.seq ≡ true = rw e at new in
-        ap is_confirm (rw (e, f) at answered) ∙ body_of m.body (asked i h d.caller d.moment) (rw e at gives)
+        ap is_confirm ((rw e at answered) ∙ fresh_answer i h d.caller d.moment m f) ∙ body_of m.body (known_after i h d.caller d.moment) (rw e at gives)
 
 no_change : (x : Act) (r : Reply) (id : ℕ) → option_and_then (λ m. given_up m.body) (message_of x) ≡ Some id → change_with x r ≡ None
 no_change (act.Order o) r id gives = absurd (cc)
@@ -294,22 +292,22 @@ over i n y k = record { ahead = ahead; clear = clear; apart = alone }
     answered : answer i h v y.refused.moment (act.Message y.message) ≡ reply.Reject (reason.Taken c.row c.col c.step y.by) k.reply.0 k.reply.1
     answered = sym (rw k.message at (last_legal i n h y.refused legal_before).0) ∙ k.reply.2
 
-    blocked : IsBlocked (asked i h v y.refused.moment) y.params (reason.Taken c.row c.col c.step y.by)
+    blocked : IsBlocked i (known_after i h v y.refused.moment) y.params (reason.Taken c.row c.col c.step y.by)
     blocked = blocked_of i h v y.refused.moment y.message y.params (reason.Taken c.row c.col c.step y.by) k.reply.0 k.reply.1 c k.fresh k.asks refl answered
 
     needed : in_cells i y.params false c ≡ true
     needed = (taken_blames i h v y.refused.moment y.message y.params c.row c.col c.step y.by k.reply.0 k.reply.1 k.fresh k.asks answered).0
 
     ahead : now_of h y.refused.moment < c.step
-    ahead = needed_after i y.params false (now_of h y.refused.moment) c k.early k.late (tests_passed (asked i h v y.refused.moment) y.params blocked.passed).1 needed
+    ahead = needed_after i y.params false (now_of h y.refused.moment) c k.early k.late (tests_passed i (known_after i h v y.refused.moment) y.params blocked.passed).1 needed
 
     first : is_fresh h y.refused ≡ true
     first = rw k.message k.fresh
 
     clear_h : green i h c y.params.lane ≡ None
     clear_h =
-        let w = find_map-where (blocked_by (asked i h v y.refused.moment) (reservations i (fresh h) (now_of h y.refused.moment)) y.params) (cells i y.params false) (reason.Taken c.row c.col c.step y.by) blocked.blocked in
-        let t = blocked_taken (asked i h v y.refused.moment) y.params w.0 c.row c.col c.step y.by w.2 in
+        let w = find_map-where (blocked_by i (known_after i h v y.refused.moment) y.params) (cells i y.params false) (reason.Taken c.row c.col c.step y.by) blocked.blocked in
+        let t = blocked_taken i (known_after i h v y.refused.moment) y.params w.0 c.row c.col c.step y.by w.2 in
         subst (λ c. green i h c y.params.lane ≡ None) t.0 t.1
 
     clear : green i (before ++ y.gone ∷ []) c y.params.lane ≡ None

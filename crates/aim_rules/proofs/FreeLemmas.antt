@@ -1,16 +1,19 @@
 -- Where a crossing is granted, no other vehicle holds a cell of it.
-use Rattle.std.proofs.Common.{◌≡◌, Bool, true, false, cond, ◌&&◌, not, List, [], ◌∷◌, Option, Some, None, refl, inl, inr}
+use Rattle.std.proofs.Common.{◌≡◌, ℕ, Bool, true, false, cond, ◌&&◌, not, List, [], ◌∷◌, Option, Some, None, refl, inl, inr}
 use Rattle.std.specs.Prelude.{find, option_map, ◌==◌}
 use Rattle.std.specs.Option.{option_or}
 use Rattle.aim_messages.specs.declared.messages.Params.{Params}
 use Rattle.aim_messages.specs.declared.replies.Reason.TheVariants as reason
+use Rattle.aim_messages.specs.declared.entries.Entry.{Entry}
 use Rattle.aim_geometry.specs.Bounded.{find_map}
+use Rattle.aim_layout.specs.Intersection.{Intersection}
 use Rattle.aim_geometry.specs.Cells.{Cell}
 use Rattle.aim_rules.specs.Cells.{IsIn, cells}
 use Rattle.aim_rules.specs.Claims.{green}
-use Rattle.aim_rules.specs.History.{Fresh}
+use Rattle.aim_rules.specs.History.{Fresh, fresh, now_of}
 use Rattle.aim_rules.specs.Holds.{reservations, taken_by, is_granted}
-use Rattle.aim_rules.specs.Answer.{Asked, blocked_by, first_blocked}
+use Rattle.aim_rules.specs.Answer.{blocked_by, first_blocked}
+use Rattle.aim_rules.specs.Known.{known_after}
 
 pub first_none : {Y : Type 0} (a b : Option Y) → option_or a b ≡ None → (a ≡ None) × (b ≡ None)
 first_none None b h = (refl, h)
@@ -38,11 +41,12 @@ find-each p (y ∷ xs) x h (inl e) = rw e (find_none p y xs h).0
 find-each p (y ∷ xs) x h (inr m) = find-each p xs x (find_none p y xs h).1 m
 
 -- Where a crossing is granted, no other vehicle holds a cell of it.
-pub free-disjoint : (a : Asked) (p : Params) (fast : Bool) (c : Cell) (x : Fresh) → first_blocked a p fast ≡ None → IsIn c (cells a.layout p fast) → IsIn x (reservations a.layout a.served a.now) →
-    ((x.entry.caller == a.vehicle) ≡ false) → is_granted a.layout x c ≡ false
-free-disjoint a p fast c x h m n other =
-    let b = find_map-each (blocked_by a (reservations a.layout a.served a.now) p) (cells a.layout p fast) c h m in
-    let t = (first_none (option_map (λ lane. reason.Green c.row c.col c.step lane) (green a.layout a.history c p.lane)) (option_map (λ by. reason.Taken c.row c.col c.step by) (taken_by (reservations a.layout a.served a.now) a.layout a.vehicle c)) b).1 in
-    let f = map_none (λ x. x.entry.caller) (find (λ x. not (x.entry.caller == a.vehicle) && is_granted a.layout x c) (reservations a.layout a.served a.now)) (map_none (λ by. reason.Taken c.row c.col c.step by) (taken_by (reservations a.layout a.served a.now) a.layout a.vehicle c) t) in
-    let e = find-each (λ x. not (x.entry.caller == a.vehicle) && is_granted a.layout x c) (reservations a.layout a.served a.now) x f n in
+pub free-disjoint : (i : Intersection) (h : List Entry) (v moment : ℕ) (p : Params) (fast : Bool) (c : Cell) (x : Fresh) → first_blocked i (known_after i h v moment) p fast ≡ None → IsIn c (cells i p fast) →
+    IsIn x (reservations i (fresh h) (now_of h moment)) → ((x.entry.caller == v) ≡ false) → is_granted i x c ≡ false
+free-disjoint i h v moment p fast c x none m n other =
+    let rs = reservations i (fresh h) (now_of h moment) in
+    let b = find_map-each (blocked_by i (known_after i h v moment) p) (cells i p fast) c none m in
+    let t = (first_none (option_map (λ lane. reason.Green c.row c.col c.step lane) (green i h c p.lane)) (option_map (λ by. reason.Taken c.row c.col c.step by) (taken_by rs i v c)) b).1 in
+    let f = map_none (λ x. x.entry.caller) (find (λ x. not (x.entry.caller == v) && is_granted i x c) rs) (map_none (λ by. reason.Taken c.row c.col c.step by) (taken_by rs i v c) t) in
+    let e = find-each (λ x. not (x.entry.caller == v) && is_granted i x c) rs x f n in
     rw other at e

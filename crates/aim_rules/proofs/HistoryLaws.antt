@@ -1,6 +1,6 @@
 -- The time, the fresh messages and their numbers, after one more entry.
 use Rattle.std.proofs.Common.{◌≡◌, ℕ, Bool, true, false, ◌&&◌, List, [], ◌∷◌, ◌++◌, map, fold, max, Option, Some, None, arith, refl, sym, ◌∙◌, ap}
-use Rattle.std.specs.Prelude.{◌==◌, if◌then◌else◌, nat_lt, find, filter_map}
+use Rattle.std.specs.Prelude.{◌==◌, if◌then◌else◌, nat_lt, find, filter_map, option_map}
 use Rattle.std.specs.Option.{option_or}
 use Rattle.std.proofs.lemmas.List.{append-nil, map-append}
 use Rattle.std.proofs.lemmas.List.Elements.{filter_map-append}
@@ -10,12 +10,12 @@ use Rattle.std.proofs.lemmas.List.Folds.{find-append}
 use Rattle.aim_messages.specs.declared.messages.Message.{Message}
 use Rattle.aim_messages.specs.declared.entries.Entry.{Entry}
 use Rattle.aim_geometry.specs.Bounded.{greatest, max_with}
-use Rattle.aim_rules.specs.History.{Fresh, fresh, is_fresh, is_fresh_message, is_fresh_seq, is_above, message_from, message_of, message_at, messages_of, of_vehicle, now_of}
-use Rattle.aim_rules.specs.Answer.{is_seq}
+use Rattle.aim_rules.specs.History.{Fresh, fresh, is_fresh, is_fresh_message, is_fresh_seq, is_above, message_from, message_of, message_at, messages_of, of_vehicle, now_of, is_seq, last_of}
 use Rattle.aim_rules.proofs.VehicleLaws.{of_vehicle-own, of_vehicle-other}
 use Rattle.aim_rules.proofs.HistoryLemmas.{served, fresh-append}
 use Rattle.aim_rules.proofs.Lists.{from_front, last-snoc, greatest-snoc, list_all-snoc}
-use Rattle.aim_rules.specs.Kept.{last_of, seq_of, is_above_all}
+use Rattle.aim_rules.specs.Kept.{seq_of}
+use Rattle.aim_rules.specs.Known.{is_above_all, exchange_of, seq_in}
 
 some_same : {X : Type 0} (a b : X) → Some a ≡ Some b → a ≡ b
 some_same a b p = cc
@@ -106,6 +106,19 @@ is_fresh_seq-last h v seq = from_front (λ h. (seq : ℕ) → is_fresh_seq h v s
             (is_fresh_seq h v seq && is_above seq (if b then message_of e.act else None)) ≡ is_above_all (seq_of (if b && is_fresh h e then Some (served h e) else last_of (fresh h) v)) seq
         go true c = let own : e.caller ≡ v = eqb-true e.caller v c in rw (ap (λ u. is_fresh_message h u (message_of e.act)) own) (message h e earlier seq own (message_of e.act) refl)
         go false c = other (is_fresh_seq h v seq) ∙ earlier seq
+
+-- the number of what is known of a vehicle's last fresh message
+pub seq_said-of : (o : Option Fresh) → seq_in (exchange_of o) ≡ seq_of o
+seq_said-of None = refl
+seq_said-of (Some x) = go (message_at x)
+  where
+    go : (m : Option Message) → seq_in (option_map (λ m. record { message = m; reply = x.entry.reply }) m) ≡ option_map (λ m. m.seq) m
+    go None = refl
+    go (Some m) = refl
+
+-- So whether a number is fresh is told by what is known.
+pub seq_said : (h : List Entry) (v seq : ℕ) → is_fresh_seq h v seq ≡ is_above_all (seq_in (exchange_of (last_of (fresh h) v))) seq
+seq_said h v seq = is_fresh_seq-last h v seq ∙ ap (λ o. is_above_all o seq) (sym (seq_said-of (last_of (fresh h) v)))
 
 -- the greatest number, with one more
 most_next : (o : Option ℕ) (n : ℕ) → Some (max_with n o) ≡ (if is_above_all o n then Some n else o)

@@ -9,14 +9,14 @@ use Rattle.std.proofs.lemmas.List.Elements.{filter-append, filter_map-append}
 use Rattle.aim_messages.specs.declared.messages.Params.{Params}
 use Rattle.aim_geometry.specs.Bounded.{least, since_last, some_below, min_with}
 use Rattle.aim_layout.specs.Intersection.{Intersection}
-use Rattle.aim_rules.specs.History.{Fresh, params_at, is_confirm, last_of_each}
+use Rattle.aim_rules.specs.History.{Fresh, params_at, is_confirm, last_of_each, last_of}
 use Rattle.aim_rules.specs.Distance.{reservation_distance, in_lane, asked_from, asked_at, is_blocked_reply, is_lane}
-use Rattle.aim_rules.specs.Approach.{is_coming, is_approached}
+use Rattle.aim_rules.specs.Approach.{is_coming, others_come}
 use Rattle.aim_rules.proofs.HistoryLemmas.{since_last-append, last_of_each-append}
 use Rattle.aim_geometry.proofs.BoundedLemmas.{some_below_none}
 use Rattle.aim_rules.proofs.Lists.{from_front, least-snoc, list_all-snoc, find-test, list_any-filter, some_below-same, some_below-split}
 use Rattle.aim_rules.proofs.HistoryLaws.{last_of-snoc}
-use Rattle.aim_rules.specs.Kept.{last_of, passes, distance_with, distance_next, is_coming_by, is_coming_in, are_below}
+use Rattle.aim_rules.specs.Kept.{passes, distance_with, distance_next, is_coming_by, is_coming_in, are_below}
 
 abbrev distance_in : List Fresh → Option ℕ
 distance_in ys = least (filter_map asked_at (filter (λ x. is_blocked_reply x.entry.reply) (since_last (λ x. is_confirm x.entry.reply) ys)))
@@ -99,13 +99,11 @@ last_of_each-each n xs q below = from_front Each none step xs q below
         other w None e = nobody (x.entry.caller == w)
         other w (Some y) e = let c = last_of-caller xs w y e in ap (λ u. not (x.entry.caller == u) && q y) c ∙ some (x.entry.caller == w) y
 
--- Whether an emergency comes in a lane, by each vehicle's last fresh message.
-pub approached-each : (i : Intersection) (n : ℕ) (xs : List Fresh) (v : ℕ) (p : Params) (now lane : ℕ) → are_below n xs ≡ true →
-    is_approached i xs v p now lane ≡ (is_coming i now lane (Some p) || is_coming_in i n xs v now lane)
-approached-each i n xs v p now lane below =
-    ap (λ b. is_coming i now lane (Some p) || b)
-    (last_of_each-each n xs (λ x. not (x.entry.caller == v) && is_coming i now lane (params_at x)) below
-    ∙ some_below-same n (λ w. passes (λ x. not (x.entry.caller == v) && is_coming i now lane (params_at x)) (last_of xs w)) (λ w. not (w == v) && is_coming_by i now lane (last_of xs w)) (λ w l. each w (last_of xs w) refl))
+-- Whether another vehicle's emergency comes in a lane, by each vehicle's last fresh message.
+pub others_come-each : (i : Intersection) (n : ℕ) (xs : List Fresh) (v now lane : ℕ) → are_below n xs ≡ true → others_come i xs v now lane ≡ is_coming_in i n xs v now lane
+others_come-each i n xs v now lane below =
+    last_of_each-each n xs (λ x. not (x.entry.caller == v) && is_coming i now lane (params_at x)) below
+    ∙ some_below-same n (λ w. passes (λ x. not (x.entry.caller == v) && is_coming i now lane (params_at x)) (last_of xs w)) (λ w. not (w == v) && is_coming_by i now lane (last_of xs w)) (λ w l. each w (last_of xs w) refl)
   where
     nobody : (b : Bool) → false ≡ (b && false)
     nobody true = refl

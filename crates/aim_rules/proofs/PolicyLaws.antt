@@ -14,11 +14,10 @@ use Rattle.aim_rules.specs.Timeline.{InForce, change_with, is_from_at, policy_at
 use Rattle.aim_layout.specs.Policies.{has_lane}
 use Rattle.aim_rules.specs.Lights.{green_lanes}
 use Rattle.aim_layout.specs.LaneTiles.{in_lane_tiles}
-use Rattle.aim_rules.specs.Claims.{green}
-use Rattle.aim_rules.specs.Answer.{is_stopped}
+use Rattle.aim_rules.specs.Claims.{green, is_claimed_by, green_by}
 use Rattle.aim_rules.proofs.Lists.{from_front, last-snoc, list_any-range_same}
 use Rattle.aim_rules.specs.Kept.{changes, policy_in, in_force, pruned}
-use Rattle.aim_rules.specs.Known.{is_claimed_by, green_by}
+use Rattle.aim_rules.specs.Known.{is_stopped}
 
 -- the policy at a step, with one more entry
 pub policy_at-snoc : (h : List Entry) (e : Entry) (s : ℕ) → policy_at (h ++ e ∷ []) s ≡ unwrap_or (in_force (change_with e.act e.reply) s) (policy_at h s)

@@ -10,24 +10,22 @@ use Rattle.aim_geometry.specs.Bounded.{least_below}
 use Rattle.aim_geometry.proofs.BoundedLemmas.{least_below_none, least_below_at, least_below_found}
 use Rattle.aim_layout.specs.Intersection.{Intersection}
 use Rattle.aim_geometry.specs.Cells.{Cell}
-use Rattle.aim_rules.specs.History.{Fresh, fresh, is_fresh, is_fresh_message, now_of, message_of, message_at, params_of, params_at, is_stop}
+use Rattle.aim_rules.specs.History.{Fresh, fresh, is_fresh, is_fresh_message, now_of, message_of, message_at, params_of, params_at, is_stop, last_of}
 use Rattle.aim_rules.specs.Timeline.{policy_at, change_with}
 use Rattle.aim_rules.specs.Approach.{is_coming}
 use Rattle.aim_rules.specs.Asking.{standing_next, next_with}
 use Rattle.aim_rules.specs.Distance.{reservation_distance}
-use Rattle.aim_rules.specs.Answer.{is_stopped}
 use Rattle.aim_rules.specs.Legal.{IsLegal}
 use Rattle.aim_rules.proofs.LegalLemmas.{IsLegal-before}
 use Rattle.aim_rules.proofs.HistoryLemmas.{served}
 use Rattle.aim_rules.proofs.Lists.{differ, least_below_is, some_below-same}
-use Rattle.aim_rules.proofs.HistoryLaws.{fresh-one, fresh-none, now_of-max, now_of-snoc, is_fresh_seq-last, last_of-snoc}
+use Rattle.aim_rules.proofs.HistoryLaws.{fresh-one, fresh-none, now_of-max, now_of-snoc, seq_said, last_of-snoc}
 use Rattle.aim_rules.proofs.VehicleLaws.{kept-snoc, standing_next-snoc}
 use Rattle.aim_rules.proofs.LaneLaws.{reservation_distance-snoc}
 use Rattle.aim_rules.proofs.PolicyLaws.{policy_in-snoc, policy_in-pruned, policy_at-snoc, is_stopped-snoc}
 use Rattle.aim_rules.proofs.TakenLaws.{last_legal, AreApart-legal, AreApart-later}
-use Rattle.aim_rules.proofs.AnswerLaws.{seq_said-of}
-use Rattle.aim_rules.specs.Kept.{last_of, is_above_all, kept, kept_next, if_lasts, has_cell, owns, holder, owner, other_than, is_coming_by, distance_next, policy_in, pruned, in_force, AreApart}
-use Rattle.aim_rules.specs.Known.{exchange_at, exchange_of, seq_in, IsKnown}
+use Rattle.aim_rules.specs.Kept.{kept, kept_next, if_lasts, has_cell, owns, holder, owner, other_than, is_coming_by, distance_next, policy_in, pruned, in_force, AreApart, IsKnown}
+use Rattle.aim_rules.specs.Known.{is_stopped, is_above_all, exchange_at, exchange_of, seq_in}
 use Rattle.aim_rules.specs.Tables.{Tables, AreTables, empty, params_in, known_by, is_fresh_after, is_fresh_by, served_by, taken_next, tables_with, tables_next}
 
 -- the vehicle that keeps a cell
@@ -148,9 +146,7 @@ is_fresh-by i n h t e legal f = go e.act refl
   where
     go : (a : Act) → e.act ≡ a → is_fresh_after (t.last e.caller) (message_of a) ≡ is_fresh_message h e.caller (message_of a)
     go (act.Message m) is =
-        ap (λ o. is_above_all (seq_in o) m.seq) (f.last e.caller (caller_below i n h e m legal is))
-        ∙ ap (λ o. is_above_all o m.seq) (seq_said-of (last_of (fresh h) e.caller))
-        ∙ sym (is_fresh_seq-last h e.caller m.seq)
+        ap (λ o. is_above_all (seq_in o) m.seq) (f.last e.caller (caller_below i n h e m legal is)) ∙ sym (seq_said h e.caller m.seq)
     go (act.Order o) is = refl
 
 fresh_below : (i : Intersection) (n : ℕ) (h : List Entry) (e : Entry) → IsLegal i n (h ++ e ∷ []) → is_fresh h e ≡ true → e.caller < n

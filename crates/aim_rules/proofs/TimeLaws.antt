@@ -15,7 +15,7 @@ use Rattle.aim_geometry.specs.Bounded.{greatest, max_with}
 use Rattle.aim_layout.specs.Intersection.{Intersection}
 use Rattle.aim_geometry.specs.Cells.{Cell}
 use Rattle.aim_rules.specs.Bad.{bad}
-use Rattle.aim_rules.specs.History.{Fresh, fresh, is_fresh, is_fresh_seq, is_confirm, params_of, given_up_at, message_of, now_of}
+use Rattle.aim_rules.specs.History.{Fresh, fresh, is_fresh, is_fresh_seq, is_confirm, params_of, given_up_at, message_of, now_of, last_of}
 use Rattle.aim_rules.specs.Holds.{is_number, granted, is_granted, is_granted_with, holding}
 use Rattle.aim_rules.specs.Claims.{green}
 use Rattle.aim_rules.specs.Approach.{is_coming}
@@ -29,7 +29,8 @@ use Rattle.aim_rules.proofs.HistoryLaws.{fresh-one, fresh-none, now_of-max, now_
 use Rattle.aim_rules.proofs.VehicleLaws.{kept-snoc, holding-kept}
 use Rattle.aim_rules.proofs.PolicyLaws.{green-before, green-none}
 use Rattle.aim_rules.proofs.TakenLaws.{last_legal, keeps_less, granted-lasts}
-use Rattle.aim_rules.specs.Kept.{kept, kept_next, without, lasts, if_lasts, has_cell, owns, reaches, last_of, seq_of, is_above_all}
+use Rattle.aim_rules.specs.Kept.{kept, kept_next, without, lasts, if_lasts, has_cell, owns, reaches, seq_of}
+use Rattle.aim_rules.specs.Known.{is_above_all}
 
 -- an order is no fresh message, and a message is one where its number is above that of its vehicle's last one
 pub is_fresh-order : (h : List Entry) (e : Entry) → message_of e.act ≡ None → is_fresh h e ≡ false

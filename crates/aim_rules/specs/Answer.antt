@@ -1,5 +1,6 @@
--- What the manager answers. The lines are those of the table in docs/ANSWERS.md: the first that applies decides.
-use Rattle.std.specs.Prelude.{ℕ, ◌+◌, ◌-◌, Bool, true, false, ◌&&◌, ◌==◌, not, nat_lt, nat_le, List, [], ◌∷◌, map, length, find, Option, Some, None, option_map, option_and_then, is_none, unwrap_or, slice_get, if◌then◌else◌}
+-- What the manager answers, by what is known. The lines are those of the table in docs/ANSWERS.md: the first that applies
+-- decides.
+use Rattle.std.specs.Prelude.{ℕ, ◌+◌, ◌-◌, Bool, true, false, ◌&&◌, ◌||◌, not, nat_lt, nat_le, List, [], ◌∷◌, map, length, Option, Some, None, option_map, option_and_then, is_none, unwrap_or, slice_get, if◌then◌else◌}
 use Rattle.std.specs.List.{list_any}
 use Rattle.std.specs.Option.{option_or}
 use Rattle.aim_messages.specs.declared.messages.Params.{Params}
@@ -9,52 +10,43 @@ use Rattle.aim_messages.specs.declared.messages.Body.TheVariants as body
 use Rattle.aim_messages.specs.declared.entries.Act.{Act}
 use Rattle.aim_messages.specs.declared.entries.Act.TheVariants as act
 use Rattle.aim_messages.specs.declared.entries.Order.TheVariants as order
+use Rattle.aim_messages.specs.declared.entries.Entry.{Entry}
 use Rattle.aim_messages.specs.declared.replies.Reason.{Reason}
 use Rattle.aim_messages.specs.declared.replies.Reason.TheVariants as reason
 use Rattle.aim_messages.specs.declared.replies.Reply.{Reply}
 use Rattle.aim_messages.specs.declared.replies.Reply.TheVariants as reply
-use Rattle.aim_messages.specs.declared.entries.Entry.{Entry}
 use Rattle.aim_messages.specs.Same.{same_message}
 use Rattle.aim_layout.specs.declared.policies.PolicyKind.{PolicyKind}
 use Rattle.aim_layout.specs.declared.policies.PolicyKind.TheVariants as kind
-use Rattle.aim_geometry.specs.Bounded.{least, greatest, find_map}
+use Rattle.aim_geometry.specs.Bounded.{least, least_below, find_map}
 use Rattle.aim_layout.specs.Intersection.{Intersection}
 use Rattle.aim_rules.specs.Footprint.{crossing_steps}
 use Rattle.aim_geometry.specs.Cells.{Cell}
 use Rattle.aim_rules.specs.Cells.{cells}
 use Rattle.aim_rules.specs.Bad.{bad, is_fast_made}
-use Rattle.aim_rules.specs.History.{Fresh, fresh, of_vehicle, now_of, messages_of, is_fresh_seq, message_at, is_stop}
-use Rattle.aim_rules.specs.Holds.{holds, holding, reservations, taken_by, granted, is_number}
-use Rattle.aim_rules.specs.Timeline.{policy_at}
-use Rattle.aim_rules.specs.Claims.{green}
-use Rattle.aim_rules.specs.Asking.{next_allowed, standing_next}
-use Rattle.aim_rules.specs.Distance.{asked_from, reservation_distance}
-use Rattle.aim_rules.specs.Approach.{approached, is_approached}
-
--- what an answer depends on: the layout, the history, its fresh messages, the vehicle, and the time
-pub record Asked : Type 0 where
-  pub layout : Intersection
-  pub history : List Entry
-  pub served : List Fresh
-  pub vehicle : ℕ
-  pub now : ℕ
+use Rattle.aim_rules.specs.History.{Fresh}
+use Rattle.aim_rules.specs.Holds.{granted, is_number}
+use Rattle.aim_rules.specs.Claims.{green_by}
+use Rattle.aim_rules.specs.Asking.{next_allowed}
+use Rattle.aim_rules.specs.Distance.{asked_from}
+use Rattle.aim_rules.specs.Approach.{is_coming}
+use Rattle.aim_rules.specs.Known.{Exchange, Known, seq_in, is_above_all, known_after}
 
 -- when the vehicle may ask again
-abbrev pub next_for : Asked → ℕ → Reason → ℕ
-next_for a arrive (reason.Holds id) = standing_next a.served a.vehicle
-next_for a arrive reason.NoReservation = standing_next a.served a.vehicle
-next_for a arrive (reason.Begun step) = standing_next a.served a.vehicle
-next_for a arrive (reason.TooSoon next) = standing_next a.served a.vehicle
-next_for a arrive (reason.Reused seq) = standing_next a.served a.vehicle
-next_for a arrive _ = next_allowed a.now arrive a.layout.times.longest
+abbrev pub next_for : Intersection → Known → ℕ → Reason → ℕ
+next_for i k arrive (reason.Holds id) = k.next
+next_for i k arrive reason.NoReservation = k.next
+next_for i k arrive (reason.Begun step) = k.next
+next_for i k arrive (reason.TooSoon next) = k.next
+next_for i k arrive (reason.Reused seq) = k.next
+next_for i k arrive _ = next_allowed k.now arrive i.times.longest
 
-abbrev pub refusal : Asked → ℕ → Reason → Reply
-refusal a arrive why = reply.Reject why (next_for a arrive why) (holds a.layout a.served a.vehicle a.now)
+abbrev pub refusal : Intersection → Known → ℕ → Reason → Reply
+refusal i k arrive why = reply.Reject why (next_for i k arrive why) (option_map (λ x. x.place) k.holds)
 
-abbrev pub confirmation : Asked → Params → Bool → Reply
-confirmation a p fast =
-    reply.Confirm (length a.history) p.arrive a.layout.times.early a.layout.times.late fast
-    (p.arrive + crossing_steps a.layout p fast - 1)
+abbrev pub confirmation : Intersection → Known → Params → Bool → Reply
+confirmation i k p fast =
+    reply.Confirm k.place p.arrive i.times.early i.times.late fast (p.arrive + crossing_steps i p fast - 1)
 
 -- a reason where the test holds
 abbrev pub where_so : Bool → Reason → Option Reason
@@ -66,20 +58,20 @@ first_step i None = 0
 first_step i (Some x) = unwrap_or (least (map (λ c. c.step) (granted i x))) 0
 
 -- lines 6 to 8: a vehicle has at most one reservation, changes that one alone, and only before its first cell
-abbrev pub own_refusal : Asked → Body → Option Reason
-own_refusal a (body.Request p) = option_map (λ id. reason.Holds id) (holds a.layout a.served a.vehicle a.now)
-own_refusal a (body.Change id p) =
-    let mine = holding a.layout a.served a.vehicle a.now in
-    if not (is_number (option_map (λ x. x.place) mine) id) then Some reason.NoReservation
-    else where_so (nat_le (first_step a.layout mine) a.now) (reason.Begun (first_step a.layout mine))
-own_refusal a (body.Cancel id) = None
-own_refusal a (body.Done id) = None
+abbrev pub own_refusal : Intersection → Known → Body → Option Reason
+own_refusal i k (body.Request p) = option_map (λ id. reason.Holds id) (option_map (λ x. x.place) k.holds)
+own_refusal i k (body.Change id p) =
+    if not (is_number (option_map (λ x. x.place) k.holds) id) then Some reason.NoReservation
+    else where_so (nat_le (first_step i k.holds) k.now) (reason.Begun (first_step i k.holds))
+own_refusal i k (body.Cancel id) = None
+own_refusal i k (body.Done id) = None
 
 -- whether a number exceeds the one that may be there
 abbrev pub exceeds : ℕ → Option ℕ → Bool
 exceeds n None = false
 exceeds n (Some most) = nat_lt most n
 
+-- whether vehicles give way to emergencies under a policy of that kind
 abbrev pub gives_way : Option PolicyKind → Bool
 gives_way (Some kind.Emerg) = true
 gives_way (Some kind.LightEmerg) = true
@@ -87,120 +79,97 @@ gives_way (Some kind.Fcfs) = false
 gives_way (Some kind.Light) = false
 gives_way None = false
 
--- whether a policy under which vehicles give way to emergencies is in force at the step
-abbrev pub is_giving_way : Asked → ℕ → Bool
-is_giving_way a s = gives_way (option_map (λ p. p.kind) (slice_get a.layout.policies (policy_at a.history s).policy))
+-- whether an emergency comes in the lane, where the vehicle asks with these params
+abbrev pub comes : Intersection → Known → Params → ℕ → Bool
+comes i k p lane = is_coming i k.now lane (Some p) || k.coming lane
 
--- whether the vehicle has to give way at its arrival: none approaches in its own lane
-abbrev pub must_give_way : Asked → Params → Bool
-must_give_way a p =
-    is_giving_way a p.arrive && not (is_approached a.layout a.served a.vehicle p a.now p.lane)
+-- whether the vehicle has to give way at its arrival: none comes in its own lane
+abbrev pub must_give_way : Intersection → Known → Params → Bool
+must_give_way i k p =
+    gives_way (option_map (λ p. p.kind) (slice_get i.policies (k.policy p.arrive).policy)) && not (comes i k p p.lane)
 
 -- lines 9 to 14, a test and a reason each
-abbrev pub too_soon : Asked → Params → Option Reason
-too_soon a p = where_so (nat_lt a.now (standing_next a.served a.vehicle)) (reason.TooSoon (standing_next a.served a.vehicle))
+abbrev pub too_soon : Intersection → Known → Params → Option Reason
+too_soon i k p = where_so (nat_lt k.now k.next) (reason.TooSoon k.next)
 
-abbrev pub bad_field : Asked → Params → Option Reason
-bad_field a p = option_map (λ field. reason.Bad field) (bad a.layout p)
+abbrev pub bad_field : Intersection → Known → Params → Option Reason
+bad_field i k p = option_map (λ field. reason.Bad field) (bad i p)
 
-abbrev pub too_late : Asked → Params → Option Reason
-too_late a p = where_so (nat_le p.arrive (a.now + a.layout.times.edge)) (reason.Late a.now)
+abbrev pub too_late : Intersection → Known → Params → Option Reason
+too_late i k p = where_so (nat_le p.arrive (k.now + i.times.edge)) (reason.Late k.now)
 
-abbrev pub too_far : Asked → Params → Option Reason
-too_far a p =
-    where_so (list_any (λ c. nat_le (a.now + a.layout.times.horizon) c.step) (cells a.layout p false))
-    (reason.Far (a.now + a.layout.times.horizon))
+abbrev pub too_far : Intersection → Known → Params → Option Reason
+too_far i k p =
+    where_so (list_any (λ c. nat_le (k.now + i.times.horizon) c.step) (cells i p false)) (reason.Far (k.now + i.times.horizon))
 
-abbrev pub too_distant : Asked → Params → Option Reason
-too_distant a p =
-    let most = reservation_distance a.served p.lane in
-    where_so (exceeds (asked_from a.now p) most) (reason.Distance (unwrap_or most 0))
+abbrev pub too_distant : Intersection → Known → Params → Option Reason
+too_distant i k p =
+    where_so (exceeds (asked_from k.now p) (k.distance p.lane)) (reason.Distance (unwrap_or (k.distance p.lane) 0))
 
-abbrev pub in_the_way : Asked → Params → Option Reason
-in_the_way a p =
-    option_and_then (λ lane. where_so (must_give_way a p) (reason.Emergency lane))
-    (approached a.layout a.served a.vehicle p a.now)
+abbrev pub in_the_way : Intersection → Known → Params → Option Reason
+in_the_way i k p =
+    option_and_then (λ lane. where_so (must_give_way i k p) (reason.Emergency lane)) (least_below (length i.lanes) (comes i k p))
 
-abbrev pub tests : List (Asked → Params → Option Reason)
+abbrev pub tests : List (Intersection → Known → Params → Option Reason)
 tests = too_soon ∷ bad_field ∷ too_late ∷ too_far ∷ too_distant ∷ in_the_way ∷ []
 
 -- what the first of the tests gives that gives a reason
-abbrev pub first_reason : Asked → Params → Option Reason
-first_reason a p = find_map (λ test. test a p) tests
+abbrev pub first_reason : Intersection → Known → Params → Option Reason
+first_reason i k p = find_map (λ test. test i k p) tests
 
 -- why a cell can't be had: a lane that claims it, or else a vehicle that holds it
-abbrev pub blocked_by : Asked → List Fresh → Params → Cell → Option Reason
-blocked_by a rs p c =
-    option_or (option_map (λ lane. reason.Green c.row c.col c.step lane) (green a.layout a.history c p.lane))
-    (option_map (λ by. reason.Taken c.row c.col c.step by) (taken_by rs a.layout a.vehicle c))
+abbrev pub blocked_by : Intersection → Known → Params → Cell → Option Reason
+blocked_by i k p c =
+    option_or (option_map (λ lane. reason.Green c.row c.col c.step lane) (green_by i k.policy c p.lane))
+    (option_map (λ by. reason.Taken c.row c.col c.step by) (k.taken c))
 
 -- why the least cell of a crossing can't be had that can't, by step, row and column
-abbrev pub first_blocked : Asked → Params → Bool → Option Reason
-first_blocked a p fast =
-    let rs = reservations a.layout a.served a.now in find_map (blocked_by a rs p) (cells a.layout p fast)
+abbrev pub first_blocked : Intersection → Known → Params → Bool → Option Reason
+first_blocked i k p fast = find_map (blocked_by i k p) (cells i p fast)
 
 -- a refusal where there is a reason
-abbrev pub refused_or : Asked → Params → Option Reason → Reply → Reply
-refused_or a p None r = r
-refused_or a p (Some why) r = refusal a p.arrive why
+abbrev pub refused_or : Intersection → Known → Params → Option Reason → Reply → Reply
+refused_or i k p None r = r
+refused_or i k p (Some why) r = refusal i k p.arrive why
 
 -- lines 15 to 17: the fast crossing where it is free, or else the steady one where that is, or else neither
-abbrev pub answer_free : Asked → Params → Reply
-answer_free a p =
-    if is_fast_made p && is_none (first_blocked a p true) then confirmation a p true
-    else refused_or a p (first_blocked a p false) (confirmation a p false)
+abbrev pub answer_free : Intersection → Known → Params → Reply
+answer_free i k p =
+    if is_fast_made p && is_none (first_blocked i k p true) then confirmation i k p true
+    else refused_or i k p (first_blocked i k p false) (confirmation i k p false)
 
 -- lines 6 to 17
-abbrev pub answer_asking : Asked → Body → Params → Reply
-answer_asking a b p =
-    let later = first_reason a p in
-    let free = answer_free a p in
-    refused_or a p (option_or (own_refusal a b) later) free
-
--- line 5: whether a Stop stands in the history
-abbrev pub is_stopped : List Entry → Bool
-is_stopped h = list_any (λ e. is_stop e.act) h
+abbrev pub answer_asking : Intersection → Known → Body → Params → Reply
+answer_asking i k b p =
+    let later = first_reason i k p in
+    let free = answer_free i k p in
+    refused_or i k p (option_or (own_refusal i k b) later) free
 
 -- lines 4 to 17
-abbrev pub answer_fresh : Asked → Body → Reply
-answer_fresh a (body.Cancel id) = reply.Ack id
-answer_fresh a (body.Done id) = reply.Ack id
-answer_fresh a (body.Request p) =
-    if is_stopped a.history then reply.EmergencyStop else answer_asking a (body.Request p) p
-answer_fresh a (body.Change id p) =
-    if is_stopped a.history then reply.EmergencyStop else answer_asking a (body.Change id p) p
+abbrev pub answer_fresh : Intersection → Known → Body → Reply
+answer_fresh i k (body.Cancel id) = reply.Ack id
+answer_fresh i k (body.Done id) = reply.Ack id
+answer_fresh i k (body.Request p) =
+    if k.stopped then reply.EmergencyStop else answer_asking i k (body.Request p) p
+answer_fresh i k (body.Change id p) =
+    if k.stopped then reply.EmergencyStop else answer_asking i k (body.Change id p) p
 
-abbrev pub is_seq : ℕ → Option Message → Bool
-is_seq seq None = false
-is_seq seq (Some m) = m.seq == seq
+-- lines 1 to 3: the number is that of the vehicle's last fresh message, which is its greatest, or below it
+abbrev pub answer_known : Intersection → Known → Message → Option Exchange → Reply
+answer_known i k m None = refusal i k 0 (reason.Reused m.seq)
+answer_known i k m (Some s) =
+    if nat_lt m.seq s.message.seq then reply.Stale s.message.seq
+    else if same_message m s.message then s.reply else refusal i k 0 (reason.Reused m.seq)
 
-abbrev pub is_same : Message → Option Message → Bool
-is_same m None = false
-is_same m (Some n) = same_message m n
+abbrev pub answer_message : Intersection → Known → Message → Reply
+answer_message i k m =
+    if is_above_all (seq_in k.last) m.seq then answer_fresh i k m.body else answer_known i k m k.last
 
--- lines 2 and 3, after the fresh message of that number
-abbrev pub answer_again : Asked → Message → Option Fresh → Reply
-answer_again a m None = refusal a 0 (reason.Reused m.seq)
-answer_again a m (Some x) =
-    if is_same m (message_at x) then x.entry.reply else refusal a 0 (reason.Reused m.seq)
-
--- lines 1 to 3: the number is the vehicle's greatest, or below it
-abbrev pub answer_known : Asked → Message → ℕ → Reply
-answer_known a m most =
-    if nat_lt m.seq most then reply.Stale most
-    else answer_again a m (find (λ x. is_seq m.seq (message_at x)) (of_vehicle a.vehicle a.served))
-
-abbrev pub answer_message : Asked → Message → Reply
-answer_message a m =
-    if is_fresh_seq a.history a.vehicle m.seq then answer_fresh a m.body
-    else answer_known a m (unwrap_or (greatest (map (λ n. n.seq) (messages_of a.vehicle a.history))) 0)
-
-abbrev pub answer_act : Asked → Act → Reply
-answer_act a (act.Message m) = answer_message a m
-answer_act a (act.Order (order.Switch policy)) = reply.Switched (a.now + a.layout.times.horizon)
-answer_act a (act.Order order.Stop) = reply.Stopped
+abbrev pub answer_act : Intersection → Known → Act → Reply
+answer_act i k (act.Message m) = answer_message i k m
+answer_act i k (act.Order (order.Switch policy)) = reply.Switched (k.now + i.times.horizon)
+answer_act i k (act.Order order.Stop) = reply.Stopped
 
 -- the answer to a caller's act after a history
 abbrev pub answer : Intersection → List Entry → ℕ → ℕ → Act → Reply
-answer i h caller moment what =
-    answer_act (record { layout = i; history = h; served = fresh h; vehicle = caller; now = now_of h moment }) what
+answer i h caller moment what = answer_act i (known_after i h caller moment) what

@@ -8,14 +8,22 @@ use Rattle.aim_layout.specs.Policies.{has_lane}
 use Rattle.aim_layout.specs.LaneTiles.{in_lane_tiles}
 use Rattle.aim_geometry.specs.Cells.{Cell}
 use Rattle.aim_rules.specs.Lights.{green_at}
+use Rattle.aim_rules.specs.Timeline.{InForce, policy_at}
 
--- whether the lane claims the cell: the cell's tile is the lane's, and the lane is green in its step or was green at most
--- the clearance before
-abbrev pub is_claimed : Intersection → List Entry → ℕ → Cell → Bool
-is_claimed i h lane c =
+-- Whether the lane claims the cell, where the policies in force are these: the cell's tile is the lane's, and the lane is
+-- green in its step or was green at most the clearance before.
+abbrev pub is_claimed_by : Intersection → (ℕ → InForce) → ℕ → Cell → Bool
+is_claimed_by i policy lane c =
     in_lane_tiles i lane c.row c.col
-    && list_any (λ s. has_lane (green_at i h s) lane) (range_with_len (c.step - i.times.clearance) (c.step + 1 - (c.step - i.times.clearance)))
+    && list_any (λ s. has_lane (green_at i policy s) lane) (range_with_len (c.step - i.times.clearance) (c.step + 1 - (c.step - i.times.clearance)))
 
 -- the least lane, other than one, that claims the cell
+abbrev pub green_by : Intersection → (ℕ → InForce) → Cell → ℕ → Option ℕ
+green_by i policy c except = least_below (length i.lanes) (λ lane. not (lane == except) && is_claimed_by i policy lane c)
+
+-- both by the policies of a history
+abbrev pub is_claimed : Intersection → List Entry → ℕ → Cell → Bool
+is_claimed i h = is_claimed_by i (policy_at h)
+
 abbrev pub green : Intersection → List Entry → Cell → ℕ → Option ℕ
-green i h c except = least_below (length i.lanes) (λ lane. not (lane == except) && is_claimed i h lane c)
+green i h = green_by i (policy_at h)

@@ -11,6 +11,7 @@ use Rattle.aim_messages.specs.declared.entries.Order.TheVariants as order
 use Rattle.aim_messages.specs.declared.replies.Reply.{Reply}
 use Rattle.aim_messages.specs.declared.replies.Reply.TheVariants as reply
 use Rattle.aim_messages.specs.declared.entries.Entry.{Entry}
+use Rattle.aim_geometry.specs.Bounded.{last}
 
 -- the params that a REQUEST or a CHANGE-REQUEST carries
 abbrev pub params_of : Body → Option Params
@@ -92,8 +93,17 @@ fresh h = fresh_after [] h
 abbrev pub of_vehicle : ℕ → List Fresh → List Fresh
 of_vehicle v xs = filter (λ x. x.entry.caller == v) xs
 
+-- the vehicle's last fresh message
+abbrev pub last_of : List Fresh → ℕ → Option Fresh
+last_of xs v = last (λ x. x.entry.caller == v) xs
+
 abbrev pub message_at : Fresh → Option Message
 message_at x = message_of x.entry.act
+
+-- whether the message has that number
+abbrev pub is_seq : ℕ → Option Message → Bool
+is_seq seq None = false
+is_seq seq (Some m) = m.seq == seq
 
 abbrev pub params_at : Fresh → Option Params
 params_at x = option_and_then (λ m. params_of m.body) (message_at x)

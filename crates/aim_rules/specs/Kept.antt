@@ -1,6 +1,6 @@
 -- What a manager keeps of a history, and how one more fresh message changes it. No rule is said here: these are words
 -- of the laws in `growth`, and no other public clause cites them.
-use Rattle.std.specs.Prelude.{◌≡◌, ◌≤◌, ℕ, Bool, true, false, ◌==◌, ◌&&◌, not, nat_lt, nat_le, List, [], ◌∷◌, filter_map, Option, Some, None, option_map, option_and_then, if◌then◌else◌, unwrap_or}
+use Rattle.std.specs.Prelude.{◌≡◌, ◌<◌, ◌≤◌, ℕ, ◌+◌, Bool, true, false, ◌==◌, ◌&&◌, not, nat_lt, nat_le, List, [], ◌∷◌, filter_map, length, Option, Some, None, option_map, option_and_then, if◌then◌else◌, unwrap_or}
 use Rattle.std.specs.List.{list_any, list_all}
 use Rattle.aim_messages.specs.declared.messages.Params.{Params}
 use Rattle.aim_messages.specs.declared.entries.Entry.{Entry}
@@ -8,24 +8,17 @@ use Rattle.aim_messages.specs.declared.replies.Reply.{Reply}
 use Rattle.aim_geometry.specs.Bounded.{last, min_with, least_below, some_below}
 use Rattle.aim_layout.specs.Intersection.{Intersection}
 use Rattle.aim_geometry.specs.Cells.{Cell}
-use Rattle.aim_rules.specs.History.{Fresh, message_at, params_at, given_up_at, is_confirm}
+use Rattle.aim_rules.specs.History.{Fresh, fresh, last_of, now_of, message_at, params_at, given_up_at, is_confirm}
 use Rattle.aim_rules.specs.Holds.{is_number, granted, is_granted, last_confirm, is_given_up}
-use Rattle.aim_rules.specs.Distance.{is_blocked_reply, asked_from}
+use Rattle.aim_rules.specs.Asking.{standing_next}
+use Rattle.aim_rules.specs.Distance.{is_blocked_reply, asked_from, reservation_distance}
 use Rattle.aim_rules.specs.Approach.{is_coming}
-use Rattle.aim_rules.specs.Timeline.{InForce, change_with}
-
--- the vehicle's last fresh message
-abbrev pub last_of : List Fresh → ℕ → Option Fresh
-last_of xs v = last (λ x. x.entry.caller == v) xs
+use Rattle.aim_rules.specs.Timeline.{InForce, change_with, policy_at}
+use Rattle.aim_rules.specs.Known.{Known, exchange_of, is_stopped}
 
 -- the sequence number of a fresh message
 abbrev pub seq_of : Option Fresh → Option ℕ
 seq_of o = option_and_then (λ x. option_map (λ m. m.seq) (message_at x)) o
-
--- whether a number is above the one that may be there
-abbrev pub is_above_all : Option ℕ → ℕ → Bool
-is_above_all None seq = true
-is_above_all (Some most) seq = nat_lt most seq
 
 -- the vehicle's last Confirm, if no later CANCEL or DONE names it, whether or not its cells are past
 abbrev pub kept : List Fresh → ℕ → Option Fresh
@@ -127,3 +120,17 @@ abbrev pub pruned : ℕ → List InForce → List InForce
 pruned before [] = []
 pruned before (f ∷ []) = f ∷ []
 pruned before (f ∷ g ∷ fs) = if nat_le g.from before then pruned before (g ∷ fs) else f ∷ g ∷ fs
+
+-- What is known by what is kept of a history of vehicles below n. It gives the answers of that history's own `known_after`:
+-- what no answer asks is left open.
+pub record IsKnown (i : Intersection) (n : ℕ) (h : List Entry) (v moment : ℕ) (k : Known) : Type 0 where
+  pub place : k.place ≡ length h
+  pub now : k.now ≡ now_of h moment
+  pub stopped : k.stopped ≡ is_stopped h
+  pub last : k.last ≡ exchange_of (last_of (fresh h) v)
+  pub next : k.next ≡ standing_next (fresh h) v
+  pub holds : k.holds ≡ if_lasts i (now_of h moment) (kept (fresh h) v)
+  pub policy : (s : ℕ) → now_of h moment < s + i.times.clearance → k.policy s ≡ policy_at h s
+  pub distance : (lane : ℕ) → lane < length i.lanes → k.distance lane ≡ reservation_distance (fresh h) lane
+  pub coming : (lane : ℕ) → lane < length i.lanes → k.coming lane ≡ is_coming_in i n (fresh h) v (now_of h moment) lane
+  pub taken : (c : Cell) → c.row < i.grid.n → c.col < i.grid.n → now_of h moment ≤ c.step → k.taken c ≡ owner i n (fresh h) v c

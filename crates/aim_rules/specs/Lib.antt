@@ -10,11 +10,11 @@ pub mod Claims
 pub mod Asking
 pub mod Distance
 pub mod Approach
+pub mod Known
 pub mod Answer
 pub mod Blame
 pub mod Legal
 pub mod Journals
 pub mod Charts
 pub mod Kept
-pub mod Known
 pub mod Tables

@@ -5,22 +5,19 @@ use Rattle.aim_messages.specs.declared.messages.Params.{Params}
 use Rattle.aim_messages.specs.declared.messages.Message.{Message}
 use Rattle.aim_messages.specs.declared.entries.Entry.{Entry}
 use Rattle.aim_messages.specs.declared.entries.Act.{Act}
-use Rattle.aim_messages.specs.declared.entries.Act.TheVariants as act
-use Rattle.aim_messages.specs.declared.entries.Order.TheVariants as order
 use Rattle.aim_messages.specs.declared.replies.Reply.{Reply}
-use Rattle.aim_messages.specs.declared.replies.Reply.TheVariants as reply
 use Rattle.aim_rules.specs.Journals.{Call}
 use Rattle.aim_geometry.specs.Bounded.{some_below}
 use Rattle.aim_layout.specs.Intersection.{Intersection}
 use Rattle.aim_geometry.specs.Cells.{Cell}
-use Rattle.aim_rules.specs.History.{Fresh, fresh, now_of, params_of, params_at, message_of, is_stop}
+use Rattle.aim_rules.specs.History.{Fresh, fresh, last_of, now_of, params_of, params_at, message_of, is_stop}
 use Rattle.aim_rules.specs.Timeline.{InForce, change_with, policy_at}
 use Rattle.aim_rules.specs.Approach.{is_coming}
 use Rattle.aim_rules.specs.Asking.{standing_next, next_with}
 use Rattle.aim_rules.specs.Distance.{reservation_distance}
-use Rattle.aim_rules.specs.Answer.{is_stopped}
-use Rattle.aim_rules.specs.Kept.{last_of, is_above_all, kept, kept_next, if_lasts, has_cell, holder, other_than, distance_next, policy_in}
-use Rattle.aim_rules.specs.Known.{Exchange, exchange_at, exchange_of, seq_in, Known, answer_by}
+use Rattle.aim_rules.specs.Answer.{answer_act}
+use Rattle.aim_rules.specs.Kept.{kept, kept_next, if_lasts, has_cell, holder, other_than, distance_next, policy_in}
+use Rattle.aim_rules.specs.Known.{Exchange, exchange_at, exchange_of, seq_in, is_above_all, is_stopped, Known}
 
 pub record Tables : Type 0 where
   pub place : ℕ
@@ -113,9 +110,7 @@ tables_next i t e = tables_with i t e (is_fresh_by t e)
 
 -- the answer to an act, by the tables
 abbrev pub act_by : Intersection → ℕ → Tables → ℕ → ℕ → Act → Reply
-act_by i n t v moment (act.Message m) = answer_by i (known_by i n t v moment) m
-act_by i n t v moment (act.Order (order.Switch policy)) = reply.Switched (max t.now moment + i.times.horizon)
-act_by i n t v moment (act.Order order.Stop) = reply.Stopped
+act_by i n t v moment what = answer_act i (known_by i n t v moment) what
 
 -- the entry that a call makes, by the tables
 abbrev pub entry_by : Intersection → ℕ → Tables → Call → Entry

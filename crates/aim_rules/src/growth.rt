@@ -5,10 +5,10 @@ ghost use Rattle.std.specs.List.{list_any};
 ghost use Rattle.aim_messages.specs.declared.entries.Entry.{Entry};
 ghost use Rattle.aim_layout.specs.Intersection.{Intersection, Policy};
 ghost use Rattle.aim_rules.specs.Lights.{green_lanes, round};
-ghost use Rattle.aim_rules.specs.History.{Fresh, fresh, is_fresh, is_fresh_seq, is_stop, params_at, message_at, message_of, messages_of, of_vehicle, now_of};
+ghost use Rattle.aim_rules.specs.History.{Fresh, fresh, is_fresh, is_fresh_seq, is_stop, params_at, message_at, message_of, messages_of, of_vehicle, now_of, is_seq, last_of};
 ghost use Rattle.aim_rules.specs.Asking.{next_with, standing_next};
 ghost use Rattle.aim_rules.specs.Distance.{reservation_distance};
-ghost use Rattle.aim_rules.specs.Approach.{is_approached, is_coming};
+ghost use Rattle.aim_rules.specs.Approach.{is_coming, others_come};
 ghost use Rattle.aim_rules.specs.Holds.{holding, granted, is_granted, reservations, taken_by};
 ghost use Rattle.aim_geometry.specs.Cells.{Cell};
 ghost use Rattle.aim_rules.specs.Cells.{IsIn};
@@ -18,12 +18,12 @@ ghost use Rattle.aim_messages.specs.declared.messages.Params.{Params};
 ghost use Rattle.aim_rules.specs.Legal.{IsLegal, IsAnswered, MayAct};
 ghost use Rattle.aim_rules.specs.Journals.{MayCall, Call, journal};
 ghost use Rattle.aim_geometry.specs.Bounded.{some_below, greatest};
-ghost use Rattle.aim_rules.specs.Answer.{answer, is_seq, is_stopped};
+ghost use Rattle.aim_rules.specs.Answer.{answer, answer_message};
 ghost use Rattle.aim_messages.specs.declared.messages.Message.{Message};
 ghost use Rattle.aim_messages.specs.declared.entries.Act.{Act};
-ghost use Rattle.aim_rules.specs.Known.{Known, IsKnown, answer_by};
+ghost use Rattle.aim_rules.specs.Known.{Known, is_above_all, is_stopped, known_after, seq_in};
 ghost use Rattle.aim_rules.specs.Tables.{act_by, run, IsNear, IsRing, cleared, taken_next, Tables, AreTables, empty, tables_next, known_by};
-ghost use Rattle.aim_rules.specs.Kept.{holder, other_than, pruned, reaches, has_cell, owns, is_owned, owner, AreApart, distance_next, are_below, is_coming_in, policy_in, changes, last_of, seq_of, is_above_all, lasts, kept, kept_next, if_lasts};
+ghost use Rattle.aim_rules.specs.Kept.{IsKnown, holder, other_than, pruned, reaches, has_cell, owns, is_owned, owner, AreApart, distance_next, are_below, is_coming_in, policy_in, changes, seq_of, lasts, kept, kept_next, if_lasts};
 
 /// The time after one more entry.
 pub fn time_of_one_more()
@@ -46,8 +46,10 @@ pub fn what_is_held_is_kept()
     ensures { (i : Intersection) (xs : List Fresh) (v now : ℕ) → holding i xs v now ≡ if_lasts i now (kept xs v) }
 {}
 
-/// Whether a number is fresh, the greatest number, and the message that has it, by the vehicle's last fresh message.
+/// Whether a number is fresh, the greatest number, and the message that has it, by the vehicle's last fresh message. So
+/// what is known for an answer tells whether a number is fresh.
 pub fn numbers_by_the_last_fresh_message()
+    ensures known { (i : Intersection) (h : List Entry) (v moment seq : ℕ) → is_fresh_seq h v seq ≡ is_above_all (seq_in (known_after i h v moment).last) seq }
     ensures fresh { (h : List Entry) (v seq : ℕ) → is_fresh_seq h v seq ≡ is_above_all (seq_of (last_of (fresh h) v)) seq }
     ensures most { (h : List Entry) (v : ℕ) → greatest (map (λ m. m.seq) (messages_of v h)) ≡ seq_of (last_of (fresh h) v) }
     ensures found { (h : List Entry) (v seq : ℕ) → seq_of (last_of (fresh h) v) ≡ Some seq →
@@ -62,8 +64,7 @@ pub fn reservation_distance_of_one_more()
 /// Whether an emergency comes in a lane, by each vehicle's last fresh message.
 pub fn approaches_by_the_last_fresh_messages()
     ensures last { (xs : List Fresh) (x : Fresh) (v : ℕ) → last_of (xs ++ x ∷ []) v ≡ (if x.entry.caller == v then Some x else last_of xs v) }
-    ensures each { (i : Intersection) (n : ℕ) (xs : List Fresh) (v : ℕ) (p : Params) (now lane : ℕ) → are_below n xs ≡ true →
-        is_approached i xs v p now lane ≡ (is_coming i now lane (Some p) || is_coming_in i n xs v now lane) }
+    ensures each { (i : Intersection) (n : ℕ) (xs : List Fresh) (v now lane : ℕ) → are_below n xs ≡ true → others_come i xs v now lane ≡ is_coming_in i n xs v now lane }
 {}
 
 /// The policies by their changes, what an entry that changes none leaves, and what one that changes the policy leaves.
@@ -103,7 +104,7 @@ pub fn taken_cells_of_one_more()
 /// The answer to a message by what is kept.
 pub fn answer_by_what_is_kept()
     ensures { (i : Intersection) (n : ℕ) (h : List Entry) (v moment : ℕ) (k : Known) (m : Message) → i.times.early ≤ i.times.edge → i.times.late ≤ i.times.edge → IsLegal i n h → IsKnown i n h v moment k →
-        answer i h v moment (Act.Message m) ≡ answer_by i k m }
+        answer i h v moment (Act.Message m) ≡ answer_message i k m }
 {}
 
 /// Which entry is a fresh message, and what it changes in the list of these.

@@ -15,17 +15,18 @@ use Rattle.aim_layout.specs.Intersection.{Intersection}
 use Rattle.aim_rules.specs.Footprint.{crossing_steps}
 use Rattle.aim_rules.specs.History.{Fresh, fresh, is_fresh, is_fresh_seq, is_confirm, params_of, given_up, given_up_at, now_of}
 use Rattle.aim_rules.specs.Holds.{holds, is_fast}
-use Rattle.aim_rules.specs.Answer.{Asked, answer_fresh}
+use Rattle.aim_rules.specs.Answer.{answer_fresh}
+use Rattle.aim_rules.specs.Known.{Known, known_after}
 use Rattle.aim_rules.specs.Kept.{kept, kept_next, lasts, if_lasts}
 use Rattle.aim_rules.specs.Legal.{IsLegal}
 use Rattle.aim_rules.proofs.HistoryLemmas.{served}
-use Rattle.aim_rules.proofs.GrantLemmas.{IsGranted, fresh_grants}
+use Rattle.aim_rules.proofs.GrantLemmas.{IsGranted, confirmed_asks, fresh_grants}
 use Rattle.aim_rules.proofs.VehicleLaws.{holding-kept}
 use Rattle.aim_driver.specs.declared.logs.Window.{Window}
 use Rattle.aim_driver.specs.Fits as fits
 use Rattle.aim_driver.specs.Crossings.{Tells, Told, Granted}
 use Rattle.aim_safety.proofs.PlaceLemmas.{kept_same, kept_fresh}
-use Rattle.aim_safety.proofs.AnswerLemmas.{Says, asked, says_fresh, First, Again, origin, first_answer}
+use Rattle.aim_safety.proofs.AnswerLemmas.{Says, says_fresh, First, Again, origin, first_answer}
 
 -- an entry that grants the reservation, and the window that it says
 pub record Grants (i : Intersection) (h : List Entry) (v id : ℕ) (w : Window) : Type 0 where
@@ -38,18 +39,11 @@ pub record Grants (i : Intersection) (h : List Entry) (v id : ℕ) (w : Window) 
   pub asks : params_of message.body ≡ Some params
   pub new : is_fresh_seq (take id h) v message.seq ≡ true
   pub confirms : is_confirm entry.reply ≡ true
-  pub rests : IsGranted (asked i (take id h) v entry.moment) params entry.reply
+  pub rests : IsGranted i (known_after i (take id h) v entry.moment) params entry.reply
   pub start : w.start ≡ params.arrive
   pub early : w.early ≡ i.times.early
   pub late : w.late ≡ i.times.late
   pub last : w.last ≡ params.arrive + crossing_steps i params (is_fast entry.reply) - 1
-
--- a Confirm answers a message with params
-params_there : (a : Asked) (b : Body) (o : Option Params) → params_of b ≡ o → is_confirm (answer_fresh a b) ≡ true → (p : Params) × (params_of b ≡ Some p)
-params_there a (body.Request q) o e h = (q, refl)
-params_there a (body.Change id q) o e h = (q, refl)
-params_there a (body.Cancel id) o e h = absurd (cc)
-params_there a (body.Done id) o e h = absurd (cc)
 
 -- the numbers of a Confirm
 record SameConfirm (k start early late last l s e t m : ℕ) : Type 0 where
@@ -63,7 +57,7 @@ confirm_same : (k start early late last l s e t m : ℕ) (f g : Bool) → reply.
 confirm_same k start early late last l s e t m f g p = record { same_id = cc; same_start = cc; same_early = cc; same_late = cc; same_last = cc }
 
 grants_at : (i : Intersection) (h : List Entry) (v k id : ℕ) (w : Window) (e : Entry) (m : Message) (p : Params) (fast : Bool) → k ≡ id → slice_get h k ≡ Some e → e.caller ≡ v → e.act ≡ act.Message m → params_of m.body ≡ Some p →
-    is_fresh_seq (take k h) v m.seq ≡ true → e.reply ≡ reply.Confirm id w.start w.early w.late fast w.last → IsGranted (asked i (take k h) v e.moment) p e.reply →
+    is_fresh_seq (take k h) v m.seq ≡ true → e.reply ≡ reply.Confirm id w.start w.early w.late fast w.last → IsGranted i (known_after i (take k h) v e.moment) p e.reply →
     w.start ≡ p.arrive → w.early ≡ i.times.early → w.late ≡ i.times.late → w.last ≡ p.arrive + crossing_steps i p fast - 1 → Grants i h v id w
 grants_at i h v k id w e m p fast q stands own carried asks new told rests start early late last = record {
   entry = e;
@@ -85,23 +79,23 @@ grants_at i h v k id w e m p fast q stands own carried asks new told rests start
 first_grants : (i : Intersection) (vehicles : ℕ) (h : List Entry) (v seq id : ℕ) (w : Window) (fast : Bool) → IsLegal i vehicles h → First h v seq (reply.Confirm id w.start w.early w.late fast w.last) → Grants i h v id w
 first_grants i vehicles h v seq id w fast legal f = at_place (sym n.same_id)
   where
-    a : Asked
-    a = asked i (take f.place h) v f.entry.moment
+    k : Known
+    k = known_after i (take f.place h) v f.entry.moment
 
     r : Reply
     r = reply.Confirm id w.start w.early w.late fast w.last
 
-    answered : r ≡ answer_fresh a f.message.body
+    answered : r ≡ answer_fresh i k f.message.body
     answered = first_answer i vehicles h v seq r legal f
 
-    confirmed : is_confirm (answer_fresh a f.message.body) ≡ true
+    confirmed : is_confirm (answer_fresh i k f.message.body) ≡ true
     confirmed = ap is_confirm (sym answered)
 
     p : (p : Params) × (params_of f.message.body ≡ Some p)
-    p = params_there a f.message.body (params_of f.message.body) refl confirmed
+    p = confirmed_asks i k f.message.body confirmed
 
-    g : IsGranted a p.0 r
-    g = let P : Reply → Type 0 = λ r. IsGranted a p.0 r in subst P (sym answered) (fresh_grants a f.message.body p.0 p.1 confirmed)
+    g : IsGranted i k p.0 r
+    g = let P : Reply → Type 0 = λ r. IsGranted i k p.0 r in subst P (sym answered) (fresh_grants i k f.message.body p.0 p.1 confirmed)
 
     within : f.place < length h
     within = slice_get_within h f.place f.entry f.stands
@@ -112,7 +106,7 @@ first_grants i vehicles h v seq id w fast legal f = at_place (sym n.same_id)
     at_place : length (take f.place h) ≡ id → Grants i h v id w
     at_place e =
         let l = within in
-        let P : Reply → Type 0 = λ r. IsGranted a p.0 r in
+        let P : Reply → Type 0 = λ r. IsGranted i k p.0 r in
         grants_at i h v f.place id w f.entry f.message p.0 fast (omega (arith, length-take f.place h)) f.stands f.own f.carried p.1 f.new f.told (subst P (sym f.told) g) n.same_start n.same_early n.same_late n.same_last
 
 -- a Confirm that was heard is one that the history grants
@@ -136,15 +130,15 @@ pub record Held (h : List Entry) (v seq id : ℕ) : Type 0 where
   pub keeps : kept (fresh (take (place + 1) h)) v ≡ Some reservation
 
 -- a reply that tells of a reservation confirms it or says that it is held
-tells_cases : (a : Asked) (r : Reply) (id : ℕ) → Says a r → Tells r id → ((length a.history ≡ id) × (is_confirm r ≡ true)) ⊎ ((holds a.layout a.served a.vehicle a.now ≡ Some id) × (is_confirm r ≡ false))
-tells_cases a (reply.Confirm k start early late fast last) id says tells = inl (sym says ∙ tells, refl)
-tells_cases a (reply.Reject why next (Some k)) id says tells = inr (sym says ∙ ap (λ n. Some n) tells, refl)
-tells_cases a (reply.Reject why next None) id says tells = absurd tells
-tells_cases a (reply.Ack k) id says tells = absurd tells
-tells_cases a reply.EmergencyStop id says tells = absurd tells
-tells_cases a (reply.Stale most) id says tells = absurd tells
-tells_cases a (reply.Switched from) id says tells = absurd tells
-tells_cases a reply.Stopped id says tells = absurd tells
+tells_cases : (k : Known) (r : Reply) (id : ℕ) → Says k r → Tells r id → ((k.place ≡ id) × (is_confirm r ≡ true)) ⊎ ((option_map (λ x. x.place) k.holds ≡ Some id) × (is_confirm r ≡ false))
+tells_cases k (reply.Confirm place start early late fast last) id says tells = inl (sym says ∙ tells, refl)
+tells_cases k (reply.Reject why next (Some place)) id says tells = inr (sym says ∙ ap (λ n. Some n) tells, refl)
+tells_cases k (reply.Reject why next None) id says tells = absurd tells
+tells_cases k (reply.Ack place) id says tells = absurd tells
+tells_cases k reply.EmergencyStop id says tells = absurd tells
+tells_cases k (reply.Stale most) id says tells = absurd tells
+tells_cases k (reply.Switched from) id says tells = absurd tells
+tells_cases k reply.Stopped id says tells = absurd tells
 
 -- what is held is kept
 held_kept : (i : Intersection) (xs : List Fresh) (v now id : ℕ) → holds i xs v now ≡ Some id → (x : Fresh) × (kept xs v ≡ Some x) × (x.place ≡ id)
@@ -159,22 +153,22 @@ held_kept i xs v now id h = go (kept xs v) refl (ap (λ o. option_map (λ x. x.p
     go (Some x) e p = (x, e, lasting (lasts i now x) x p)
 
 -- a message that gives up is told of no reservation
-gives_nothing_up : (a : Asked) (b : Body) (r : Reply) (id : ℕ) → r ≡ answer_fresh a b → Tells r id → given_up b ≡ None
-gives_nothing_up a (body.Request p) r id e tells = refl
-gives_nothing_up a (body.Change k p) r id e tells = refl
-gives_nothing_up a (body.Cancel k) r id e tells = absurd (let P : Reply → Type 0 = λ r. Tells r id in subst P e tells)
-gives_nothing_up a (body.Done k) r id e tells = absurd (let P : Reply → Type 0 = λ r. Tells r id in subst P e tells)
+gives_nothing_up : (i : Intersection) (k : Known) (b : Body) (r : Reply) (id : ℕ) → r ≡ answer_fresh i k b → Tells r id → given_up b ≡ None
+gives_nothing_up i k (body.Request p) r id e tells = refl
+gives_nothing_up i k (body.Change place p) r id e tells = refl
+gives_nothing_up i k (body.Cancel place) r id e tells = absurd (let P : Reply → Type 0 = λ r. Tells r id in subst P e tells)
+gives_nothing_up i k (body.Done place) r id e tells = absurd (let P : Reply → Type 0 = λ r. Tells r id in subst P e tells)
 
 first_held : (i : Intersection) (vehicles : ℕ) (h : List Entry) (v seq id : ℕ) (r : Reply) → IsLegal i vehicles h → Tells r id → First h v seq r → Held h v seq id
-first_held i vehicles h v seq id r legal tells f = elim (tells_cases a r id (let P : Reply → Type 0 = λ r. Says a r in subst P (sym answered) (says_fresh a f.message.body)) tells) [
+first_held i vehicles h v seq id r legal tells f = elim (tells_cases k r id (let P : Reply → Type 0 = λ r. Says k r in subst P (sym answered) (says_fresh i k f.message.body)) tells) [
   | inl c ↦ confirmed c.0 c.1
-  | inr k ↦ refused (held_kept i (fresh (take f.place h)) v (now_of (take f.place h) f.entry.moment) id k.0) k.1
+  | inr c ↦ refused (held_kept i (fresh (take f.place h)) v (now_of (take f.place h) f.entry.moment) id c.0) c.1
 ]
   where
-    a : Asked
-    a = asked i (take f.place h) v f.entry.moment
+    k : Known
+    k = known_after i (take f.place h) v f.entry.moment
 
-    answered : r ≡ answer_fresh a f.message.body
+    answered : r ≡ answer_fresh i k f.message.body
     answered = first_answer i vehicles h v seq r legal f
 
     own : (f.entry.caller == v) ≡ true
@@ -187,18 +181,18 @@ first_held i vehicles h v seq id r legal tells f = elim (tells_cases a r id (let
     next = kept_fresh h f.place f.entry v f.stands is_new ∙ rw own refl
 
     with_kept : (x : Fresh) → x.place ≡ id → kept (fresh (take (f.place + 1) h)) v ≡ Some x → Held h v seq id
-    with_kept x e k = record { place = f.place; entry = f.entry; message = f.message; stands = f.stands; own = f.own; carried = f.carried; number = f.number; reservation = x; same = e; keeps = k }
+    with_kept x e keeps = record { place = f.place; entry = f.entry; message = f.message; stands = f.stands; own = f.own; carried = f.carried; number = f.number; reservation = x; same = e; keeps = keeps }
 
     confirmed : length (take f.place h) ≡ id → is_confirm r ≡ true → Held h v seq id
     confirmed e c = with_kept (served (take f.place h) f.entry) e (next ∙ rw (f.told, c) refl)
 
     refused : (x : Fresh) × (kept (fresh (take f.place h)) v ≡ Some x) × (x.place ≡ id) → is_confirm r ≡ false → Held h v seq id
-    refused k c =
-        let nothing : given_up_at (served (take f.place h) f.entry) ≡ None = rw f.carried (gives_nothing_up a f.message.body r id answered tells) in
-        with_kept k.0 k.2 (next ∙ rw (f.told, c, nothing, k.1) refl)
+    refused x c =
+        let nothing : given_up_at (served (take f.place h) f.entry) ≡ None = rw f.carried (gives_nothing_up i k f.message.body r id answered tells) in
+        with_kept x.0 x.2 (next ∙ rw (f.told, c, nothing, x.1) refl)
 
 again_held : (i : Intersection) (h : List Entry) (v seq id : ℕ) (r : Reply) → Tells r id → Again i h v seq r → Held h v seq id
-again_held i h v seq id r tells g = elim (tells_cases (asked i (take g.place h) v g.entry.moment) r id g.says tells) [
+again_held i h v seq id r tells g = elim (tells_cases (known_after i (take g.place h) v g.entry.moment) r id g.says tells) [
   | inl c ↦ absurd (let p = c.1 in let q = g.refuses in cc)
   | inr k ↦ (
       let x = held_kept i (fresh (take g.place h)) v (now_of (take g.place h) g.entry.moment) id k.0 in

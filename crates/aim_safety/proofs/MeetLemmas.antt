@@ -17,6 +17,7 @@ use Rattle.aim_rules.specs.History.{Fresh, fresh, is_fresh, is_fresh_seq, now_of
 use Rattle.aim_rules.specs.Holds.{is_fast, is_granted, is_granted_with}
 use Rattle.aim_rules.specs.Answer.{answer}
 use Rattle.aim_rules.specs.Kept.{kept, owns}
+use Rattle.aim_rules.specs.Known.{known_after}
 use Rattle.aim_rules.specs.Legal.{IsLegal}
 use Rattle.aim_rules.proofs.AheadLemmas.{granted_ahead}
 use Rattle.aim_rules.proofs.CellLemmas.{cells_has}
@@ -31,7 +32,6 @@ use Rattle.aim_driver.specs.Fits.{Fits}
 use Rattle.aim_safety.specs.Occupied.{Passage, params_in, grant_of, passage, is_on, is_occupied_by, is_occupied}
 use Rattle.aim_safety.specs.Reserved.{IsReserved}
 use Rattle.aim_safety.proofs.PlaceLemmas.{some_same, legal_at, legal_take, now_next, kept_fresh}
-use Rattle.aim_safety.proofs.AnswerLemmas.{asked}
 use Rattle.aim_safety.proofs.HeldLemmas.{Grants}
 use Rattle.aim_safety.proofs.CrossLemmas.{Crosses, crosses}
 use Rattle.aim_safety.proofs.OccupiedLemmas.{Lies, lies, passage_at, grant_is}
@@ -179,7 +179,7 @@ no_green i vehicles h v a x c valid legal rules fits at on =
     let needed = m.lies.needed in
     let near = (ahead i vehicles h v m.entrance c b legal m.crosses needed).1 in
     let listed = cells_has i g.params (is_fast g.entry.reply) c b.early b.late needed in
-    let then_free = free_green (asked i (take m.entrance.id h) v g.entry.moment) g.params (is_fast g.entry.reply) c g.rests.free listed in
+    let then_free = free_green i (known_after i (take m.entrance.id h) v g.entry.moment) g.params (is_fast g.entry.reply) c g.rests.free listed in
     ap (λ p. green i h c p.lane) m.params ∙ never_green i vehicles h c g.params.lane m.entrance.id g.entry legal g.stands near then_free
 
 -- a tile on which a driver is was reserved for it

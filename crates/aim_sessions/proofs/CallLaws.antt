@@ -10,13 +10,13 @@ use Rattle.aim_messages.specs.declared.messages.Message.{Message}
 use Rattle.aim_messages.specs.declared.messages.Params.{Params}
 use Rattle.aim_geometry.specs.Bounded.{some_below}
 use Rattle.aim_layout.specs.Intersection.{Intersection}
-use Rattle.aim_rules.specs.Approach.{is_approached, is_coming}
+use Rattle.aim_rules.specs.Approach.{is_coming, others_come}
 use Rattle.aim_rules.specs.Bad.{bad}
-use Rattle.aim_rules.specs.History.{Fresh, fresh, is_fresh, params_at, params_of}
-use Rattle.aim_rules.specs.Kept.{last_of, are_below, is_coming_by}
+use Rattle.aim_rules.specs.History.{Fresh, fresh, is_fresh, params_at, params_of, last_of}
+use Rattle.aim_rules.specs.Kept.{are_below, is_coming_by}
 use Rattle.aim_rules.proofs.HistoryLaws.{fresh-one, fresh-none, last_of-snoc}
 use Rattle.aim_rules.proofs.HistoryLemmas.{served}
-use Rattle.aim_rules.proofs.LaneLaws.{approached-each}
+use Rattle.aim_rules.proofs.LaneLaws.{others_come-each}
 use Rattle.aim_rules.proofs.Lists.{some_below-same, some_below-apart}
 use Rattle.aim_sessions.specs.Calls.{AreCalls, call_of, is_call_in}
 use Rattle.aim_sessions.proofs.Lists.{list_any-below}
@@ -61,14 +61,14 @@ call_coming i now lane (Some p) = go p.emergency (is_none (bad i p)) (p.lane == 
     go false b c d e f = refl
 
 pub lanes_approached : (i : Intersection) (calls : List (Option (ℕ × ℕ))) (xs : List Fresh) (v : ℕ) (p : Params) (now lane : ℕ) → AreCalls i calls xs → are_below (length calls) xs ≡ true → v < length calls →
-    list_any (is_call_in now i.times.horizon lane) (set calls v (call_of i (Some p))) ≡ is_approached i xs v p now lane
+    list_any (is_call_in now i.times.horizon lane) (set calls v (call_of i (Some p))) ≡ (is_coming i now lane (Some p) || others_come i xs v now lane)
 lanes_approached i calls xs v p now lane are below l =
     list_any-below noted test
     ∙ ap (λ n. some_below n at) (length-set calls v (call_of i (Some p)))
     ∙ some_below-apart (length calls) v at l
     ∙ ap (λ b. b || some_below (length calls) (λ w. not (w == v) && at w)) (ap test (get_or-set_same calls v (call_of i (Some p)) None l) ∙ call_coming i now lane (Some p))
-    ∙ ap (λ b. is_coming i now lane (Some p) || b) (some_below-same (length calls) (λ w. not (w == v) && at w) (λ w. not (w == v) && is_coming_by i now lane (last_of xs w)) others)
-    ∙ sym (approached-each i (length calls) xs v p now lane below)
+    ∙ ap (λ b. is_coming i now lane (Some p) || b) (some_below-same (length calls) (λ w. not (w == v) && at w) (λ w. not (w == v) && is_coming_by i now lane (last_of xs w)) others
+    ∙ sym (others_come-each i (length calls) xs v now lane below))
   where
     noted : List (Option (ℕ × ℕ))
     noted = set calls v (call_of i (Some p))

@@ -7,14 +7,13 @@ use Rattle.aim_messages.specs.declared.messages.Message.{Message}
 use Rattle.aim_messages.specs.declared.entries.Act.TheVariants as act
 use Rattle.aim_messages.specs.declared.entries.Entry.{Entry}
 use Rattle.aim_messages.specs.Same.{same_message}
-use Rattle.aim_rules.specs.History.{Fresh, fresh, is_fresh, message_of, message_at}
-use Rattle.aim_rules.specs.Kept.{last_of, is_above_all, seq_of}
-use Rattle.aim_rules.specs.Known.{exchange_of, seq_in}
+use Rattle.aim_rules.specs.History.{Fresh, fresh, is_fresh, message_of, message_at, last_of}
+use Rattle.aim_rules.specs.Kept.{seq_of}
+use Rattle.aim_rules.specs.Known.{is_above_all, exchange_of, seq_in}
 use Rattle.aim_rules.proofs.HistoryLemmas.{served}
-use Rattle.aim_rules.proofs.HistoryLaws.{fresh-one, fresh-none, last_of-snoc}
+use Rattle.aim_rules.proofs.HistoryLaws.{fresh-one, fresh-none, last_of-snoc, seq_said-of}
 use Rattle.aim_rules.proofs.VehicleLaws.{standing_next-snoc}
 use Rattle.aim_rules.proofs.TimeLaws.{is_fresh-message}
-use Rattle.aim_rules.proofs.AnswerLaws.{seq_said-of}
 use Rattle.aim_sessions.specs.declared.sessions.Exchange.{Exchange as Stored}
 use Rattle.aim_sessions.specs.declared.sessions.Look.TheVariants as look
 use Rattle.aim_sessions.specs.declared.sessions.Session.{Session}

@@ -3,8 +3,7 @@ use Rattle.std.specs.Prelude.{◌≡◌, ℕ, ◌+◌, ◌<◌, Bool, false, ◌
 use Rattle.aim_messages.specs.declared.messages.Params.{Params}
 use Rattle.aim_layout.specs.Intersection.{Intersection}
 use Rattle.aim_rules.specs.Bad.{bad}
-use Rattle.aim_rules.specs.History.{Fresh, params_at}
-use Rattle.aim_rules.specs.Kept.{last_of}
+use Rattle.aim_rules.specs.History.{Fresh, params_at, last_of}
 
 -- whether the call, a lane and an arrival, is of the lane and not past
 abbrev pub is_call_in : ℕ → ℕ → ℕ → Option (ℕ × ℕ) → Bool

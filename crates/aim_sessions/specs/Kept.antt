@@ -3,8 +3,7 @@ use Rattle.std.specs.Prelude.{◌≡◌, ℕ, ◌<◌, List, length, Some, None,
 use Rattle.aim_messages.specs.declared.messages.Message.{Message}
 use Rattle.aim_messages.specs.declared.replies.Reply.{Reply}
 use Rattle.aim_rules.specs.Asking.{next_with, standing_next}
-use Rattle.aim_rules.specs.History.{Fresh}
-use Rattle.aim_rules.specs.Kept.{last_of}
+use Rattle.aim_rules.specs.History.{Fresh, last_of}
 use Rattle.aim_rules.specs.Known.{Exchange as Known, exchange_of}
 use Rattle.aim_sessions.specs.declared.sessions.Exchange.{Exchange}
 use Rattle.aim_sessions.specs.declared.sessions.Session.{Session}

@@ -1,6 +1,6 @@
 //! Laws of sessions, calls, distances and histories. Each is the contract of a function that does nothing.
 
-ghost use Rattle.std.specs.Prelude.{◌≡◌, ℕ, ◌<◌, true, false, List, [], ◌∷◌, ◌++◌, length, Option, None, Some, replicate, slice_index_or, slice_set};
+ghost use Rattle.std.specs.Prelude.{◌≡◌, ℕ, ◌<◌, ◌||◌, true, false, List, [], ◌∷◌, ◌++◌, length, Option, None, Some, replicate, slice_index_or, slice_set};
 ghost use Rattle.std.specs.List.{list_any};
 ghost use Rattle.aim_messages.specs.declared.entries.Act.{Act};
 ghost use Rattle.aim_messages.specs.declared.entries.Entry.{Entry};
@@ -10,7 +10,7 @@ ghost use Rattle.aim_messages.specs.declared.replies.Reply.{Reply};
 ghost use Rattle.aim_messages.specs.declared.messages.Params.{Params};
 ghost use Rattle.aim_layout.specs.Intersection.{Intersection};
 ghost use Rattle.aim_rules.specs.Answer.{answer};
-ghost use Rattle.aim_rules.specs.Approach.{is_approached};
+ghost use Rattle.aim_rules.specs.Approach.{is_coming, others_come};
 ghost use Rattle.aim_rules.specs.Asking.{standing_next};
 ghost use Rattle.aim_rules.specs.History.{Fresh, fresh, is_fresh, now_of, params_of};
 ghost use Rattle.aim_rules.specs.Holds.{holds};
@@ -55,7 +55,7 @@ pub fn calls_are_those_of_the_history()
 /// The lanes of the calls, that of the message at hand noted, are those in which an emergency approaches.
 pub fn lanes_are_those_approached()
     ensures { (i : Intersection) (calls : List (Option (ℕ × ℕ))) (xs : List Fresh) (v : ℕ) (p : Params) (now lane : ℕ) → AreCalls i calls xs → are_below (length calls) xs ≡ true → v < length calls →
-        list_any (is_call_in now i.times.horizon lane) (slice_set calls v (call_of i (Some p))) ≡ is_approached i xs v p now lane }
+        list_any (is_call_in now i.times.horizon lane) (slice_set calls v (call_of i (Some p))) ≡ (is_coming i now lane (Some p) || others_come i xs v now lane) }
 {}
 
 /// Distances that go on with each fresh message are the reservation distances of the history.

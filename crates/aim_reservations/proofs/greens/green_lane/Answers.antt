@@ -5,7 +5,7 @@ use Rattle.aim_geometry.specs.Cells.{cell_at}
 use Rattle.aim_layout.specs.LaneTiles.{in_lane_tiles}
 use Rattle.aim_geometry.proofs.BoundedLemmas.{least_below_at, least_below_none}
 use Rattle.aim_rules.specs.Kept.{policy_in}
-use Rattle.aim_rules.specs.Known.{is_claimed_by}
+use Rattle.aim_rules.specs.Claims.{is_claimed_by}
 use Rattle.aim_reservations.proofs.greens.green_lane.Goals as goal
 
 pub returns-then-is_claimed-clause-lane : goal.returns-then-is_claimed-clause-lane

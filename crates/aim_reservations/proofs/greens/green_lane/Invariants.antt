@@ -2,7 +2,7 @@ use Rattle.std.proofs.Common.{◌≡◌, ℕ, ◌<◌, ◌&&◌, not, false}
 use Rattle.std.specs.Prelude.{◌==◌}
 use Rattle.aim_geometry.specs.Cells.{cell_at}
 use Rattle.aim_rules.specs.Kept.{policy_in}
-use Rattle.aim_rules.specs.Known.{is_claimed_by}
+use Rattle.aim_rules.specs.Claims.{is_claimed_by}
 use Rattle.aim_reservations.proofs.greens.green_lane.Given as goal
 
 abbrev pub invariant-loop-lane : goal.invariant-loop-lane

@@ -1,5 +1,8 @@
-use Rattle.aim_rules.proofs.HistoryLaws.{is_fresh_seq-last, greatest-last, find-last}
+use Rattle.aim_rules.proofs.HistoryLaws.{is_fresh_seq-last, greatest-last, find-last, seq_said}
 use Rattle.aim_rules.proofs.growth.numbers_by_the_last_fresh_message.Goals as goal
+
+pub returns-clause-known : goal.returns-clause-known
+returns-clause-known c i h v moment seq = seq_said h v seq
 
 pub returns-clause-fresh : goal.returns-clause-fresh
 returns-clause-fresh c = is_fresh_seq-last

@@ -1,21 +1,21 @@
 use Rattle.std.proofs.Common.{◌≡◌}
-use Rattle.aim_rules.specs.Known.{own_refusal_by}
+use Rattle.aim_rules.specs.Answer.{own_refusal}
 use Rattle.aim_book.proofs.FreeLemmas.{asked_early, asked_free, asked_own}
 use Rattle.aim_book.proofs.desks.Desk.answer_asking.Goals as goal
 
 pub returns-in-Some-clause-reply : goal.returns-in-Some-clause-reply
 returns-in-Some-clause-reply g c = λ k tells calling.
-    let own : c.own_refusal.result ≡ own_refusal_by c.args.layout.now k c.args.prepared.now.message.body = rw (← c.message.ensures.message) (c.own_refusal.ensures c.args.layout.now k c.args.place tells) in
+    let own : c.own_refusal.result ≡ own_refusal c.args.layout.now k c.args.prepared.now.message.body = rw (← c.message.ensures.message) (c.own_refusal.ensures c.args.layout.now k c.args.place tells) in
     asked_own c.args.layout.now k c.args.prepared.now.message.body c.args.params.now c.own_refusal.result c.in-Some.reason c.refuse.result own c.in-Some.is (c.refuse.ensures k c.args.place tells)
 
 pub returns-in-Some-early_reason-clause-reply : goal.returns-in-Some-early_reason-clause-reply
 returns-in-Some-early_reason-clause-reply g c = λ k tells calling.
-    let own : c.own_refusal.result ≡ own_refusal_by c.args.layout.now k c.args.prepared.now.message.body = rw (← c.message.ensures.message) (c.own_refusal.ensures c.args.layout.now k c.args.place tells) in
+    let own : c.own_refusal.result ≡ own_refusal c.args.layout.now k c.args.prepared.now.message.body = rw (← c.message.ensures.message) (c.own_refusal.ensures c.args.layout.now k c.args.place tells) in
     asked_early c.args.layout.now k c.args.prepared.now.message.body c.args.params.now c.own_refusal.result c.early_reason.result c.in-Some-early_reason.reason c.refuse-in-Some-early_reason.result own c.in_default.is (c.early_reason.ensures.reason k c.args.place tells calling) c.in-Some-early_reason.is (c.refuse-in-Some-early_reason.ensures k c.args.place tells)
 
 pub returns-in-None-clause-reply : goal.returns-in-None-clause-reply
 returns-in-None-clause-reply g c = λ k tells calling.
-    let own : c.own_refusal.result ≡ own_refusal_by c.args.layout.now k c.args.prepared.now.message.body = rw (← c.message.ensures.message) (c.own_refusal.ensures c.args.layout.now k c.args.place tells) in
+    let own : c.own_refusal.result ≡ own_refusal c.args.layout.now k c.args.prepared.now.message.body = rw (← c.message.ensures.message) (c.own_refusal.ensures c.args.layout.now k c.args.place tells) in
     asked_free c.args.layout.now k c.args.prepared.now.message.body c.args.params.now c.own_refusal.result c.early_reason.result c.answer_free.result own c.in_default.is (c.early_reason.ensures.reason k c.args.place tells calling) c.in-None.is (c.answer_free.ensures.reply k tells)
 
 pub early_reason-requires-clause-there : goal.early_reason-requires-clause-there

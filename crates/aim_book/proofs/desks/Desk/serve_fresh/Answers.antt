@@ -6,7 +6,7 @@ use Rattle.aim_sessions.specs.Distances.{distances_with}
 use Rattle.aim_sessions.specs.Kept.{no_session, session_after}
 use Rattle.aim_sessions.specs.Calls.{call_of}
 use Rattle.aim_rules.specs.History.{fresh, is_confirm, now_of, params_of}
-use Rattle.aim_rules.specs.Known.{answer_fresh_by}
+use Rattle.aim_rules.specs.Answer.{answer_fresh}
 use Rattle.aim_book.specs.Desk.{Tells}
 use Rattle.aim_reservations.specs.Keeping.{is_changed, row_next, spans_moved}
 use Rattle.aim_reservations.specs.Rows.{row_of}
@@ -30,7 +30,7 @@ returns-clause-reply g c = λ h moment m place.
     let k = known_of i n h c.args.vehicle moment in
     let noted : c.note.new.self ≡ slice_set c.args.self.now.approaches c.args.vehicle (call_of i (params_of r.message.body)) = c.note.ensures ∙ ap (λ o. slice_set c.args.self.now.approaches c.args.vehicle o) c.call_in.ensures.call in
     let told : Tells i c.args.vehicle c.args.place k c.args.self.now = subst (λ p. Tells i c.args.vehicle p k c.args.self.now) (sym place) (tells i n h c.args.vehicle moment c.args.self.now m c.requires.vehicle) in
-    let said : c.answer_fresh-reply.result ≡ answer_fresh_by i k r.message.body
+    let said : c.answer_fresh-reply.result ≡ answer_fresh i k r.message.body
     = c.answer_fresh-reply.ensures.reply k (tells_noted _ _ _ _ _ _ told) (calling_noted i n h c.args.vehicle moment c.args.place c.args.self.now r m c.requires.vehicle c.requires.fresh c.requires.prepared c.note.new.self noted) in
     said ∙ sym (answer_new i n h c.args.vehicle moment c.args.self.now m c.requires.vehicle r.message c.requires.fresh)
 
@@ -56,10 +56,10 @@ keep-requires-2-clause-tiles g c = λ confirmed.
     let k = known_of i n h c.args.vehicle moment in
     let noted : c.note.new.self ≡ slice_set c.args.self.now.approaches c.args.vehicle (call_of i (params_of r.message.body)) = c.note.ensures ∙ ap (λ o. slice_set c.args.self.now.approaches c.args.vehicle o) c.call_in.ensures.call in
     let told : Tells i c.args.vehicle c.args.place k c.args.self.now = subst (λ p. Tells i c.args.vehicle p k c.args.self.now) (sym managed.3) (tells i n h c.args.vehicle moment c.args.self.now m c.requires.vehicle) in
-    let said : c.answer_fresh-reply.result ≡ answer_fresh_by i k r.message.body
+    let said : c.answer_fresh-reply.result ≡ answer_fresh i k r.message.body
     = c.answer_fresh-reply.ensures.reply k (tells_noted _ _ _ _ _ _ told) (calling_noted i n h c.args.vehicle moment c.args.place c.args.self.now r m c.requires.vehicle c.requires.fresh c.requires.prepared c.note.new.self noted) in
     let size : c.args.self.now.reservations.table.size ≡ i.grid.n = m.desk.reserved.size in
-    let confirmed_so : is_confirm (answer_fresh_by i k r.message.body) ≡ true = sym (ap is_confirm said) ∙ confirmed in
+    let confirmed_so : is_confirm (answer_fresh i k r.message.body) ≡ true = sym (ap is_confirm said) ∙ confirmed in
     rw (c.keep_distance.ensures.rest, size, said) (tiles_granted i n h c.args.vehicle moment c.args.place c.args.self.now r m c.requires.vehicle c.requires.fresh c.requires.prepared confirmed_so)
 
 pub keep-requires-2-clause-ahead : goal.keep-requires-2-clause-ahead
@@ -74,9 +74,9 @@ keep-requires-2-clause-ahead g c = λ confirmed.
     let k = known_of i n h c.args.vehicle moment in
     let noted : c.note.new.self ≡ slice_set c.args.self.now.approaches c.args.vehicle (call_of i (params_of r.message.body)) = c.note.ensures ∙ ap (λ o. slice_set c.args.self.now.approaches c.args.vehicle o) c.call_in.ensures.call in
     let told : Tells i c.args.vehicle c.args.place k c.args.self.now = subst (λ p. Tells i c.args.vehicle p k c.args.self.now) (sym managed.3) (tells i n h c.args.vehicle moment c.args.self.now m c.requires.vehicle) in
-    let said : c.answer_fresh-reply.result ≡ answer_fresh_by i k r.message.body
+    let said : c.answer_fresh-reply.result ≡ answer_fresh i k r.message.body
     = c.answer_fresh-reply.ensures.reply k (tells_noted _ _ _ _ _ _ told) (calling_noted i n h c.args.vehicle moment c.args.place c.args.self.now r m c.requires.vehicle c.requires.fresh c.requires.prepared c.note.new.self noted) in
-    let confirmed_so : is_confirm (answer_fresh_by i k r.message.body) ≡ true = sym (ap is_confirm said) ∙ confirmed in
+    let confirmed_so : is_confirm (answer_fresh i k r.message.body) ≡ true = sym (ap is_confirm said) ∙ confirmed in
     let current : c.args.self.now.reservations.table.current ≡ now_of h moment = m.desk.reserved.current in
     let horizon : c.args.self.now.reservations.table.horizon ≡ i.times.horizon = m.desk.reserved.horizon in
     rw (c.keep_distance.ensures.rest, current, horizon, said) (later_granted i n h c.args.vehicle moment c.args.place c.args.self.now r m c.requires.vehicle c.requires.fresh c.requires.prepared confirmed_so)
@@ -89,7 +89,7 @@ returns-clause-managed g c = λ h moment m place late.
     let k = known_of i n h c.args.vehicle moment in
     let noted : c.note.new.self ≡ slice_set c.args.self.now.approaches c.args.vehicle (call_of i (params_of r.message.body)) = c.note.ensures ∙ ap (λ o. slice_set c.args.self.now.approaches c.args.vehicle o) c.call_in.ensures.call in
     let told : Tells i c.args.vehicle c.args.place k c.args.self.now = subst (λ p. Tells i c.args.vehicle p k c.args.self.now) (sym place) (tells i n h c.args.vehicle moment c.args.self.now m c.requires.vehicle) in
-    let said : c.answer_fresh-reply.result ≡ answer_fresh_by i k r.message.body
+    let said : c.answer_fresh-reply.result ≡ answer_fresh i k r.message.body
     = c.answer_fresh-reply.ensures.reply k (tells_noted _ _ _ _ _ _ told) (calling_noted i n h c.args.vehicle moment c.args.place c.args.self.now r m c.requires.vehicle c.requires.fresh c.requires.prepared c.note.new.self noted) in
     managed_next i n h c.args.vehicle moment c.args.place c.args.self.now r m c.requires.vehicle c.requires.fresh c.requires.prepared
     c.answer_fresh-reply.result said place late _
