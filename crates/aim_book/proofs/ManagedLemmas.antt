@@ -1,6 +1,6 @@
 -- What the desk of a history tells for an answer.
 use Rattle.std.proofs.Common.{◌≡◌, ℕ, ◌<◌, ◌≤◌, Bool, true, false, ◌&&◌, not, nat_le, List, [], ◌∷◌, ◌++◌, length, Option, Some, None, refl, sym, ◌∙◌, ap, arith, le-leb, unwrap_or, zero, suc, subst}
-use Rattle.std.specs.Prelude.{◌==◌, ◌||◌, is_some, option_map, if◌then◌else◌, slice_set, slice_index_or}
+use Rattle.std.specs.Prelude.{◌==◌, is_some, if◌then◌else◌, slice_set, slice_index_or}
 use Rattle.aim_geometry.specs.Bounded.{least_below}
 use Rattle.aim_geometry.specs.Cells.{Cell}
 use Rattle.aim_messages.specs.declared.entries.Act.{Act}
@@ -18,21 +18,18 @@ use Rattle.aim_tiles.specs.Cells.{has_cell as has_taken}
 use Rattle.aim_sessions.specs.Calls.{call_of}
 use Rattle.aim_sessions.proofs.CallLaws.{lanes_approached}
 use Rattle.aim_rules.specs.Answer.{answer, answer_fresh, refusal}
-use Rattle.aim_rules.specs.Approach.{is_coming}
-use Rattle.aim_rules.specs.Asking.{standing_next}
-use Rattle.aim_rules.specs.Distance.{reservation_distance}
-use Rattle.aim_rules.specs.History.{Fresh, fresh, is_fresh, now_of, last_of}
-use Rattle.aim_rules.specs.Kept.{AreApart, has_cell, if_lasts, in_force, is_coming_in, is_owned, kept, lasts, owner, owns, policy_in, IsKnown}
-use Rattle.aim_rules.specs.Known.{is_stopped, is_above_all, Known, exchange_of, seq_in}
+use Rattle.aim_rules.specs.History.{Fresh, fresh, is_fresh, now_of}
+use Rattle.aim_rules.specs.Holds.{reservations, taken_by}
+use Rattle.aim_rules.specs.Kept.{AreApart, are_below, has_cell, if_lasts, in_force, is_owned, kept, lasts, owner, owns, policy_in}
+use Rattle.aim_rules.specs.Known.{Known, known_after}
 use Rattle.aim_rules.specs.Legal.{IsLegal, IsOfLayout}
 use Rattle.aim_rules.specs.Timeline.{change_with, policy_at}
-use Rattle.aim_rules.proofs.AnswerLaws.{answer-kept}
-use Rattle.aim_rules.proofs.HistoryLaws.{now_of-max, seq_said}
-use Rattle.aim_rules.proofs.LaneLaws.{others_come-each}
+use Rattle.aim_rules.proofs.AheadLemmas.{fresh_answer}
+use Rattle.aim_rules.proofs.HistoryLaws.{now_of-max}
 use Rattle.aim_rules.proofs.LegalLemmas.{IsLegal-before}
 use Rattle.aim_rules.proofs.Lists.{from_front}
 use Rattle.aim_rules.proofs.PolicyLaws.{policy_at-changes, policy_at-snoc}
-use Rattle.aim_rules.proofs.TakenLaws.{AreApart-later, AreApart-legal, are_below-legal, is_owned-others, last_legal}
+use Rattle.aim_rules.proofs.TakenLaws.{AreApart-later, AreApart-legal, are_below-legal, is_owned-others, last_legal, taken_by-owner}
 use Rattle.aim_sessions.specs.declared.sessions.Look.TheVariants as look
 use Rattle.aim_sessions.specs.Kept.{no_session}
 use Rattle.aim_sessions.specs.Looks.{is_fresh_look, look_of}
@@ -49,35 +46,6 @@ use Rattle.aim_book.specs.Reserved.{IsRowOf}
 use Rattle.aim_book.specs.declared.desks.Desk.{Desk}
 use Rattle.aim_reservations.specs.declared.reservations.Reservation.{Reservation}
 use Rattle.aim_book.proofs.HeldLemmas.{lasts_reaches, reaches_lasts}
-
--- what is known of a history for the answer to a vehicle
-abbrev pub known_of : Intersection → ℕ → List Entry → ℕ → ℕ → Known
-known_of i n h v moment = record {
-  place = length h;
-  now = now_of h moment;
-  stopped = is_stopped h;
-  last = exchange_of (last_of (fresh h) v);
-  next = standing_next (fresh h) v;
-  holds = if_lasts i (now_of h moment) (kept (fresh h) v);
-  policy = policy_at h;
-  distance = reservation_distance (fresh h);
-  coming = is_coming_in i n (fresh h) v (now_of h moment);
-  taken = owner i n (fresh h) v;
-}
-
-pub is_known : (i : Intersection) (n : ℕ) (h : List Entry) (v moment : ℕ) → IsKnown i n h v moment (known_of i n h v moment)
-is_known i n h v moment = record {
-  place = refl;
-  now = refl;
-  stopped = refl;
-  last = refl;
-  next = refl;
-  holds = refl;
-  policy = λ s _. refl;
-  distance = λ lane _. refl;
-  coming = λ lane _. refl;
-  taken = λ c _ _ _. refl;
-}
 
 -- what is kept has the cells of its row
 pub row_has : (i : Intersection) (o : Option Fresh) (row : Option Reservation) (c : Cell) → IsRowOf i o row → has_cell i c o ≡ in_spans (spans_in row) c
@@ -170,29 +138,34 @@ module _ {L : Type 0} (i : Intersection) (n : ℕ) (h : List Entry) (v moment : 
       ∙ is_owned-others i n (fresh h) (now_of h moment) v c apart l k
       ∙ (λ j. sym (table_is c k) j && not (owns_is v c l j))
 
-  pub tells : Tells i v (length h) (known_of i n h v moment) d
+  below : are_below n (fresh h) ≡ true
+  below = are_below-legal i n h m.legal
+
+  others_is : (c : Cell) → now_of h moment ≤ c.step → taken_by (reservations i (fresh h) (now_of h moment)) i v c ≡ owner i n (fresh h) v c
+  others_is c k = taken_by-owner i n h (now_of h moment) v c m.valid.sound.times.early m.valid.sound.times.late below apart k
+
+  pub tells : Tells i v (length h) (known_after i h v moment) d
   tells = record {
     valid = m.valid;
     place_is = refl;
     now = sym m.desk.reserved.current;
     stopped = sym m.desk.stopped;
     next = sym (m.desk.sessions v (let e = m.desk.callers in omega arith)).next;
-    holds = held_is i (now_of h moment) (kept (fresh h) v) (row_of d.reservations.rows.items v) m.valid.sound.times.early m.valid.sound.times.late (m.desk.reserved.rows v l);
+    holds = subst (λ o. IsHeld i (now_of h moment) o (row_of d.reservations.rows.items v)) (sym (holding-kept i (fresh h) v (now_of h moment)))
+        (held_is i (now_of h moment) (kept (fresh h) v) (row_of d.reservations.rows.items v) m.valid.sound.times.early m.valid.sound.times.late (m.desk.reserved.rows v l));
     policy = λ s. policy_at-changes h s ∙ ap (λ fs. policy_in fs s) (sym m.desk.changes);
     there = λ s. (let t : (policy_at h s).policy < length i.policies = policies_there i n h s m.valid m.legal in rw (policy_at-changes h s, ← m.desk.changes) at t);
     distance = λ lane k. sym (m.desk.distances lane k);
     lights = m.desk.lights;
     many = (let e = m.desk.reserved.many in let f = m.few in omega arith);
     size = m.desk.reserved.size;
-    by = λ c _ _ _. owner_is c;
-    taken = λ c _ _ k. taken_is c k;
+    by = λ c _ _ k. others_is c k ∙ owner_is c;
+    taken = λ c _ _ k. ap is_some (others_is c k) ∙ taken_is c k;
   }
 
   -- the calls, with that of a request at hand, say where emergencies come
-  pub calling : (p : Params) → AreCalling i (known_of i n h v moment) p (slice_set d.approaches v (call_of i (Some p)))
-  calling p = λ lane.
-      lanes_approached i d.approaches (fresh h) v p (now_of h moment) lane m.desk.calls (rw m.desk.calls_many (are_below-legal i n h m.legal)) (let e = m.desk.calls_many in omega arith)
-      ∙ ap (λ b. is_coming i (now_of h moment) lane (Some p) || b) (others_come-each i n (fresh h) v (now_of h moment) lane (are_below-legal i n h m.legal))
+  pub calling : (p : Params) → AreCalling i (known_after i h v moment) p (slice_set d.approaches v (call_of i (Some p)))
+  calling p = λ lane. lanes_approached i d.approaches (fresh h) v p (now_of h moment) lane m.desk.calls (rw m.desk.calls_many below) (let e = m.desk.calls_many in omega arith)
 
   row_there : v < length d.sessions
   row_there = let e = m.desk.callers in omega arith
@@ -203,10 +176,8 @@ module _ {L : Type 0} (i : Intersection) (n : ℕ) (h : List Entry) (v moment : 
   pub look_repeat : (message : Message) (r : Reply) → look_of (slice_index_or d.sessions v no_session).last message ≡ look.Repeat r → answer i h v moment (act.Message message) ≡ r
   look_repeat message r is = subst (λ k. Says k (answer i h v moment (act.Message message)) (refusal_of i h v moment message)) is (look_says i d.sessions h v moment message m.desk.sessions row_there)
 
-  pub look_reused : (message : Message) → look_of (slice_index_or d.sessions v no_session).last message ≡ look.Reused → answer i h v moment (act.Message message) ≡ refusal i (known_of i n h v moment) 0 (reason.Reused message.seq)
-  look_reused message is =
-      let said : answer i h v moment (act.Message message) ≡ refusal_of i h v moment message = subst (λ k. Says k (answer i h v moment (act.Message message)) (refusal_of i h v moment message)) is (look_says i d.sessions h v moment message m.desk.sessions row_there) in
-      said ∙ ap (λ o. reply.Reject (reason.Reused message.seq) (standing_next (fresh h) v) (option_map (λ x. x.place) o)) (holding-kept i (fresh h) v (now_of h moment))
+  pub look_reused : (message : Message) → look_of (slice_index_or d.sessions v no_session).last message ≡ look.Reused → answer i h v moment (act.Message message) ≡ refusal i (known_after i h v moment) 0 (reason.Reused message.seq)
+  look_reused message is = subst (λ k. Says k (answer i h v moment (act.Message message)) (refusal_of i h v moment message)) is (look_says i d.sessions h v moment message m.desk.sessions row_there)
 
   module _ (message : Message) (is_new : look_of (slice_index_or d.sessions v no_session).last message ≡ look.Fresh) where
     abbrev pub entry_of : Reply → Entry
@@ -215,9 +186,6 @@ module _ {L : Type 0} (i : Intersection) (n : ℕ) (h : List Entry) (v moment : 
     pub fresh_now : (r : Reply) → is_fresh h (entry_of r) ≡ true
     fresh_now r = session_fresh d.sessions h (entry_of r) message m.desk.sessions (let e = m.desk.callers in omega arith) refl ∙ ap is_fresh_look is_new
 
-    above_all : (r : Reply) → is_above_all (seq_in (exchange_of (last_of (fresh h) v))) message.seq ≡ true
-    above_all r = sym (seq_said h v message.seq) ∙ fresh_now r
-
     -- the answer to a fresh message by what is known
-    pub answer_new : answer i h v moment (act.Message message) ≡ answer_fresh i (known_of i n h v moment) message.body
-    answer_new = answer-kept i n h v moment (known_of i n h v moment) message m.valid.sound.times.early m.valid.sound.times.late m.legal (is_known i n h v moment) ∙ rw (above_all reply.Stopped) refl
+    pub answer_new : answer i h v moment (act.Message message) ≡ answer_fresh i (known_after i h v moment) message.body
+    answer_new = fresh_answer i h v moment message (fresh_now reply.Stopped)

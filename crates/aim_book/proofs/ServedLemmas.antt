@@ -25,7 +25,7 @@ use Rattle.aim_rules.specs.Distance.{asked_from, is_blocked_reply}
 use Rattle.aim_rules.specs.History.{Fresh, fresh, given_up, is_confirm, is_fresh, is_fresh_seq, now_of, params_at, params_of}
 use Rattle.aim_rules.specs.Holds.{is_fast, is_granted, is_granted_with}
 use Rattle.aim_rules.specs.Kept.{kept}
-use Rattle.aim_rules.specs.Known.{is_stopped}
+use Rattle.aim_rules.specs.Known.{known_after, is_stopped}
 use Rattle.aim_rules.specs.Legal.{IsLegal}
 use Rattle.aim_rules.proofs.GrantLemmas.{confirmed_asks}
 use Rattle.aim_rules.proofs.CellLemmas.{cells_inside}
@@ -47,7 +47,7 @@ use Rattle.aim_reservations.specs.declared.reservations.Reservation.{Reservation
 use Rattle.aim_reservations.specs.declared.reservations.Reservations.{Reservations}
 use Rattle.aim_book.proofs.GrantedLemmas.{granted_later, granted_tiles, granted_trial}
 use Rattle.aim_reservations.proofs.KeepingLemmas.{cells_kept}
-use Rattle.aim_book.proofs.ManagedLemmas.{answer_new, apart, calling, fresh_now, known_of}
+use Rattle.aim_book.proofs.ManagedLemmas.{answer_new, apart, calling, fresh_now}
 use Rattle.aim_book.proofs.NextLemmas.{reserved_next}
 
 -- the cells of a reservation are of tiles of the table
@@ -86,7 +86,7 @@ or_nothing true = refl
 or_nothing false = refl
 
 module _ {L : Type 0} (i : Intersection) (n : ℕ) (h : List Entry) (v moment place : ℕ) (d : Desk L) (r : Request) (m : IsManaged i n h (now_of h moment) d) (l : v < n)
-    (is_new : look_of (slice_index_or d.sessions v no_session).last r.message ≡ look.Fresh) (reply : Reply) (is : reply ≡ answer_fresh i (known_of i n h v moment) r.message.body) (at_place : place ≡ length h) (late : moment ≤ LATEST_MOMENT) where
+    (is_new : look_of (slice_index_or d.sessions v no_session).last r.message ≡ look.Fresh) (reply : Reply) (is : reply ≡ answer_fresh i (known_after i h v moment) r.message.body) (at_place : place ≡ length h) (late : moment ≤ LATEST_MOMENT) where
   abbrev more : Entry
   more = record { caller = v; moment = moment; act = act.Message r.message; reply = reply }
 
@@ -146,7 +146,7 @@ room_bare i m false = refl
 
 -- without a Confirm
 pub managed_without : {L : Type 0} (i : Intersection) (n : ℕ) (h : List Entry) (v moment : ℕ) (d : Desk L) (message : Message) (m : IsManaged i n h (now_of h moment) d) (l : v < n) →
-    look_of (slice_index_or d.sessions v no_session).last message ≡ look.Fresh → (reply : Reply) → reply ≡ answer_fresh i (known_of i n h v moment) message.body → moment ≤ LATEST_MOMENT → is_confirm reply ≡ false →
+    look_of (slice_index_or d.sessions v no_session).last message ≡ look.Fresh → (reply : Reply) → reply ≡ answer_fresh i (known_after i h v moment) message.body → moment ≤ LATEST_MOMENT → is_confirm reply ≡ false →
     (next : Desk L) → next.approaches ≡ slice_set d.approaches v (call_of i (params_of message.body)) →
     next.sessions ≡ slice_set d.sessions v (session_after message reply (slice_index_or d.sessions v no_session).next) →
     next.distances ≡ distances_with d.distances d.reservations.table.current reply (params_of message.body) →
@@ -164,7 +164,7 @@ managed_without i n h v moment d message m l is_new reply is late other next cal
 module _ {L : Type 0} (i : Intersection) (n : ℕ) (h : List Entry) (v moment place : ℕ) (d : Desk L) (r : Request) (m : IsManaged i n h (now_of h moment) d) (l : v < n)
     (is_new : look_of (slice_index_or d.sessions v no_session).last r.message ≡ look.Fresh) (prepared : IsPreparedFor i r) where
   abbrev said : Reply
-  said = answer_fresh i (known_of i n h v moment) r.message.body
+  said = answer_fresh i (known_after i h v moment) r.message.body
 
   new_seq : is_fresh_seq h v r.message.seq ≡ true
   new_seq = fresh_now i n h v moment d m l r.message is_new said
@@ -173,15 +173,15 @@ module _ {L : Type 0} (i : Intersection) (n : ℕ) (h : List Entry) (v moment pl
   answered = answer_new i n h v moment d m l r.message is_new
 
   -- the calls that were noted say where emergencies come
-  pub calling_noted : (noted : List (Option (ℕ × ℕ))) → noted ≡ slice_set d.approaches v (call_of i (params_of r.message.body)) → (p : Params) → params_of r.message.body ≡ Some p → AreCalling i (known_of i n h v moment) p noted
+  pub calling_noted : (noted : List (Option (ℕ × ℕ))) → noted ≡ slice_set d.approaches v (call_of i (params_of r.message.body)) → (p : Params) → params_of r.message.body ≡ Some p → AreCalling i (known_after i h v moment) p noted
   calling_noted noted is p asks =
-      subst (λ cs. AreCalling i (known_of i n h v moment) p cs) (sym (is ∙ ap (λ o. slice_set d.approaches v (call_of i o)) asks)) (calling i n h v moment d m l p)
+      subst (λ cs. AreCalling i (known_after i h v moment) p cs) (sym (is ∙ ap (λ o. slice_set d.approaches v (call_of i o)) asks)) (calling i n h v moment d m l p)
 
   pub tiles_granted : is_confirm said ≡ true → AreTiles i.grid.n (granted_sheet r said).spans
-  tiles_granted e = granted_tiles i h v moment (known_of i n h v moment) r m.valid prepared new_seq answered e
+  tiles_granted e = granted_tiles i h v moment (known_after i h v moment) r m.valid prepared new_seq answered e
 
   pub later_granted : is_confirm said ≡ true → AreAhead (now_of h moment) i.times.horizon (granted_sheet r said).spans
-  later_granted e = granted_later i h v moment (known_of i n h v moment) r m.valid prepared new_seq answered e
+  later_granted e = granted_later i h v moment (known_after i h v moment) r m.valid prepared new_seq answered e
 
   room_granted : (b : Bool) → (if b then r.first else r.second).room ≡ i.grid.spans
   room_granted true = prepared.first_room
@@ -196,14 +196,14 @@ module _ {L : Type 0} (i : Intersection) (n : ℕ) (h : List Entry) (v moment pl
 
     granted_is : is_confirm reply ≡ true → (c : Cell) → in_spans (granted_sheet r reply).spans c ≡ is_granted i x c
     granted_is confirmed c =
-        let a = confirmed_asks i (known_of i n h v moment) r.message.body (rw (← is) confirmed) in
-        let trial = granted_trial i h v moment (known_of i n h v moment) r m.valid prepared new_seq answered (rw (← is) confirmed) a.0 a.1 in
+        let a = confirmed_asks i (known_after i h v moment) r.message.body (rw (← is) confirmed) in
+        let trial = granted_trial i h v moment (known_after i h v moment) r m.valid prepared new_seq answered (rw (← is) confirmed) a.0 a.1 in
         subst (λ q. in_spans (granted_sheet r q).spans c ≡ is_granted_with i q c (params_of r.message.body)) (sym is) (trial.cells c ∙ ap (is_granted_with i said c) (sym a.1))
 
     count_is : is_confirm reply ≡ true → length (granted_sheet r reply).spans ≡ granted_spans i x
     count_is confirmed =
-        let a = confirmed_asks i (known_of i n h v moment) r.message.body (rw (← is) confirmed) in
-        let trial = granted_trial i h v moment (known_of i n h v moment) r m.valid prepared new_seq answered (rw (← is) confirmed) a.0 a.1 in
+        let a = confirmed_asks i (known_after i h v moment) r.message.body (rw (← is) confirmed) in
+        let trial = granted_trial i h v moment (known_after i h v moment) r m.valid prepared new_seq answered (rw (← is) confirmed) a.0 a.1 in
         subst (λ q. length (granted_sheet r q).spans ≡ trial_spans i (is_fast q) (params_of r.message.body)) (sym is) (trial.count ∙ ap (trial_spans i (is_fast said)) (sym a.1))
 
     later_is : is_confirm reply ≡ true → (c : Cell) → in_spans (granted_sheet r reply).spans c ≡ true → now_of h moment ≤ c.step

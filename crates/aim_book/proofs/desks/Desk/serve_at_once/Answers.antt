@@ -2,7 +2,8 @@ use Rattle.std.proofs.Common.{◌≡◌, length, sym, ◌∙◌, ap, refl}
 use Rattle.std.specs.Prelude.{slice_set}
 use Rattle.aim_sessions.specs.Calls.{call_of}
 use Rattle.aim_rules.specs.History.{fresh, now_of, params_of}
-use Rattle.aim_book.proofs.ManagedLemmas.{answer_new, known_of, tells}
+use Rattle.aim_rules.specs.Known.{known_after}
+use Rattle.aim_book.proofs.ManagedLemmas.{answer_new, tells}
 use Rattle.aim_book.proofs.ServedLemmas.{managed_without, row_room, row_tiles}
 use Rattle.aim_book.proofs.GivenLemmas.{few_more, given_cost, given_sheets, no_less}
 use Rattle.aim_book.proofs.desks.Desk.serve_at_once.Goals as goal
@@ -23,7 +24,7 @@ returns-clause-reply g c = λ h moment m.
     let n = length c.args.self.now.sessions in
     let v = c.args.vehicle in
     let told = tells i n h v moment c.args.self.now m c.requires.vehicle in
-    c.in_ok-reply.ensures.reply (known_of i n h v moment) (length h) told
+    c.in_ok-reply.ensures.reply (known_after i h v moment) (length h) told
     ∙ sym (answer_new i n h v moment c.args.self.now m c.requires.vehicle c.args.message.now c.requires.fresh)
 
 pub returns-clause-managed : goal.returns-clause-managed
@@ -34,7 +35,7 @@ returns-clause-managed g c = λ h moment m late.
     let told = tells i n h v moment c.args.self.now m c.requires.vehicle in
     let noted : c.note.new.self ≡ slice_set c.args.self.now.approaches v (call_of i (params_of c.args.message.now.body)) = c.note.ensures ∙ ap (λ o. slice_set c.args.self.now.approaches v o) c.in_ok-call.ensures.call in
     managed_without i n h v moment c.args.self.now c.args.message.now m c.requires.vehicle c.requires.fresh
-    c.in_ok-reply.reply (c.in_ok-reply.ensures.reply (known_of i n h v moment) (length h) told) late (c.in_ok-reply.ensures.refused (known_of i n h v moment) (length h) told)
+    c.in_ok-reply.reply (c.in_ok-reply.ensures.reply (known_after i h v moment) (length h) told) late (c.in_ok-reply.ensures.refused (known_after i h v moment) (length h) told)
     _
     ((λ j. (c.keep_distance.ensures.rest j).approaches) ∙ noted)
     ((λ j. (c.keep_distance.ensures.rest j).sessions) ∙ c.keep.ensures)

@@ -7,12 +7,13 @@ use Rattle.aim_sessions.specs.Kept.{no_session, session_after}
 use Rattle.aim_sessions.specs.Calls.{call_of}
 use Rattle.aim_rules.specs.History.{fresh, is_confirm, now_of, params_of}
 use Rattle.aim_rules.specs.Answer.{answer_fresh}
+use Rattle.aim_rules.specs.Known.{known_after}
 use Rattle.aim_book.specs.Desk.{Tells}
 use Rattle.aim_reservations.specs.Keeping.{is_changed, row_next, spans_moved}
 use Rattle.aim_reservations.specs.Rows.{row_of}
 use Rattle.aim_book.specs.Reserved.{rows_exchanged}
 use Rattle.aim_book.proofs.MovedLemmas.{moved_fits}
-use Rattle.aim_book.proofs.ManagedLemmas.{answer_new, known_of, tells, tells_noted}
+use Rattle.aim_book.proofs.ManagedLemmas.{answer_new, tells, tells_noted}
 use Rattle.aim_book.proofs.ServedLemmas.{calling_noted, later_granted, managed_next, row_room, row_tiles, tiles_granted}
 use Rattle.aim_book.proofs.GivenLemmas.{kept_sheets, moved_cost}
 use Rattle.aim_book.proofs.desks.Desk.serve_fresh.Goals as goal
@@ -27,7 +28,7 @@ returns-clause-reply g c = λ h moment m place.
     let i = c.args.layout.now in
     let n = length c.args.self.now.sessions in
     let r = c.args.prepared in
-    let k = known_of i n h c.args.vehicle moment in
+    let k = known_after i h c.args.vehicle moment in
     let noted : c.note.new.self ≡ slice_set c.args.self.now.approaches c.args.vehicle (call_of i (params_of r.message.body)) = c.note.ensures ∙ ap (λ o. slice_set c.args.self.now.approaches c.args.vehicle o) c.call_in.ensures.call in
     let told : Tells i c.args.vehicle c.args.place k c.args.self.now = subst (λ p. Tells i c.args.vehicle p k c.args.self.now) (sym place) (tells i n h c.args.vehicle moment c.args.self.now m c.requires.vehicle) in
     let said : c.answer_fresh-reply.result ≡ answer_fresh i k r.message.body
@@ -53,7 +54,7 @@ keep-requires-2-clause-tiles g c = λ confirmed.
     let h = managed.0 in
     let moment = managed.1 in
     let m = managed.2 in
-    let k = known_of i n h c.args.vehicle moment in
+    let k = known_after i h c.args.vehicle moment in
     let noted : c.note.new.self ≡ slice_set c.args.self.now.approaches c.args.vehicle (call_of i (params_of r.message.body)) = c.note.ensures ∙ ap (λ o. slice_set c.args.self.now.approaches c.args.vehicle o) c.call_in.ensures.call in
     let told : Tells i c.args.vehicle c.args.place k c.args.self.now = subst (λ p. Tells i c.args.vehicle p k c.args.self.now) (sym managed.3) (tells i n h c.args.vehicle moment c.args.self.now m c.requires.vehicle) in
     let said : c.answer_fresh-reply.result ≡ answer_fresh i k r.message.body
@@ -71,7 +72,7 @@ keep-requires-2-clause-ahead g c = λ confirmed.
     let h = managed.0 in
     let moment = managed.1 in
     let m = managed.2 in
-    let k = known_of i n h c.args.vehicle moment in
+    let k = known_after i h c.args.vehicle moment in
     let noted : c.note.new.self ≡ slice_set c.args.self.now.approaches c.args.vehicle (call_of i (params_of r.message.body)) = c.note.ensures ∙ ap (λ o. slice_set c.args.self.now.approaches c.args.vehicle o) c.call_in.ensures.call in
     let told : Tells i c.args.vehicle c.args.place k c.args.self.now = subst (λ p. Tells i c.args.vehicle p k c.args.self.now) (sym managed.3) (tells i n h c.args.vehicle moment c.args.self.now m c.requires.vehicle) in
     let said : c.answer_fresh-reply.result ≡ answer_fresh i k r.message.body
@@ -86,7 +87,7 @@ returns-clause-managed g c = λ h moment m place late.
     let i = c.args.layout.now in
     let n = length c.args.self.now.sessions in
     let r = c.args.prepared in
-    let k = known_of i n h c.args.vehicle moment in
+    let k = known_after i h c.args.vehicle moment in
     let noted : c.note.new.self ≡ slice_set c.args.self.now.approaches c.args.vehicle (call_of i (params_of r.message.body)) = c.note.ensures ∙ ap (λ o. slice_set c.args.self.now.approaches c.args.vehicle o) c.call_in.ensures.call in
     let told : Tells i c.args.vehicle c.args.place k c.args.self.now = subst (λ p. Tells i c.args.vehicle p k c.args.self.now) (sym place) (tells i n h c.args.vehicle moment c.args.self.now m c.requires.vehicle) in
     let said : c.answer_fresh-reply.result ≡ answer_fresh i k r.message.body
