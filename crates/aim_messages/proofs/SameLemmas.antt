@@ -35,12 +35,14 @@ params p q is =
     let d = and_parts _ (p.accel == q.accel) c.0 in
     let e = and_parts _ (p.max_speed == q.max_speed) d.0 in
     let f = and_parts _ (p.speed == q.speed) e.0 in
-    let g = and_parts _ (p.arrive == q.arrive) f.0 in
+    let l = and_parts _ (p.latest == q.latest) f.0 in
+    let g = and_parts _ (p.arrive == q.arrive) l.0 in
     let h = and_parts (p.lane == q.lane) (same_turn p.turn q.turn) g.0 in
     λ i. record {
       lane = eqb-true p.lane q.lane h.0 i;
       turn = turns p.turn q.turn h.1 i;
       arrive = eqb-true p.arrive q.arrive g.1 i;
+      latest = eqb-true p.latest q.latest l.1 i;
       speed = eqb-true p.speed q.speed f.1 i;
       max_speed = eqb-true p.max_speed q.max_speed e.1 i;
       accel = eqb-true p.accel q.accel d.1 i;
@@ -80,7 +82,7 @@ same_test-self true = refl
 same_test-self false = refl
 
 same_params-self : (p : Params) → same_params p p ≡ true
-same_params-self p = rw (self p.lane, same_turn-self p.turn, self p.arrive, self p.speed, self p.max_speed, self p.accel, self p.length, self p.width, same_test-self p.emergency) refl
+same_params-self p = rw (self p.lane, same_turn-self p.turn, self p.arrive, self p.latest, self p.speed, self p.max_speed, self p.accel, self p.length, self p.width, same_test-self p.emergency) refl
 
 same_body-self : (a : Body) → same_body a a ≡ true
 same_body-self (Request p) = same_params-self p

@@ -24,7 +24,7 @@ use Rattle.aim_messages.specs.Lines.{line_text, all_lanes}
 
 -- a car that goes straight on from that lane and arrives at that step
 abbrev car : ℕ → ℕ → Params
-car lane arrive = record { lane = lane; turn = Straight; arrive = arrive; speed = 500; max_speed = 500; accel = 0; length = 1000; width = 700; emergency = false }
+car lane arrive = record { lane = lane; turn = Straight; arrive = arrive; latest = arrive; speed = 500; max_speed = 500; accel = 0; length = 1000; width = 700; emergency = false }
 
 abbrev message : ℕ → Body → Message
 message seq body = record { seq = seq; body = body }
@@ -45,6 +45,19 @@ pub ambulance_text : message_text (message 2 (body.Request (record (car 11 18) {
     ≡ codes "request 2 11 left 18 500 1000 250 1000 700 emergency"
 unfolding digits
 ambulance_text = refl
+
+pub windowed_request_text : message_text (message 1 (body.Request (record (car 0 10) { latest = 11 }))) ≡ codes "request 1 0 straight 10 500 500 0 1000 700 car 11"
+unfolding digits
+windowed_request_text = refl
+
+pub windowed_change_text : message_text (message 5 (body.Change 0 (record (car 0 40) { latest = 4294967295; emergency = true })))
+    ≡ codes "change 5 0 0 straight 40 500 500 0 1000 700 emergency 4294967295"
+unfolding digits
+windowed_change_text = refl
+
+pub request_with_an_early_latest_text : message_text (message 1 (body.Request (record (car 0 10) { latest = 9 }))) ≡ codes "request 1 0 straight 10 500 500 0 1000 700 car 9"
+unfolding digits
+request_with_an_early_latest_text = refl
 
 pub change_text : message_text (message 5 (body.Change 0 (record (car 0 40) { turn = Right }))) ≡ codes "change 5 0 0 right 40 500 500 0 1000 700 car"
 unfolding digits
@@ -144,6 +157,10 @@ pub bad_spans_text : reply_text (refused (reason.Bad field.Spans) 5 None) ≡ co
 unfolding digits
 bad_spans_text = refl
 
+pub bad_latest_text : reply_text (refused (reason.Bad field.Latest) 25 None) ≡ codes "reject bad latest next 25 held none"
+unfolding digits
+bad_latest_text = refl
+
 pub late_text : reply_text (refused (reason.Late 10) 11 None) ≡ codes "reject late 10 next 11 held none"
 unfolding digits
 late_text = refl
@@ -182,6 +199,11 @@ pub confirmed_entry_text : entry_text 0 (sent 0 0 1 (body.Request (car 0 10)) (r
     ≡ codes "0 0 0 request 1 0 straight 10 500 500 0 1000 700 car -> confirm 0 10 0 0 steady 20"
 unfolding digits
 confirmed_entry_text = refl
+
+pub windowed_entry_text : entry_text 0 (sent 0 0 1 (body.Request (record (car 0 10) { latest = 14 })) (reply.Confirm 0 12 0 0 false 22))
+    ≡ codes "0 0 0 request 1 0 straight 10 500 500 0 1000 700 car 14 -> confirm 0 12 0 0 steady 22"
+unfolding digits
+windowed_entry_text = refl
 
 pub refused_entry_text : entry_text 2 (sent 0 3 1 (body.Request (car 0 10)) (refused (reason.Taken 1 2 14 1) 6 None))
     ≡ codes "2 0 3 request 1 0 straight 10 500 500 0 1000 700 car -> reject taken 1 2 14 1 next 6 held none"
@@ -251,6 +273,9 @@ siren_policy_line = refl
 pub lights_policy_line : line_text 2 (line.Policy (named (codes "lights-2")) 2) ≡ codes "policy lights-2 light"
 lights_policy_line = refl
 
+pub yielding_policy_line_of_version_4 : line_text 4 (line.Policy (named (codes "both")) 3) ≡ codes "policy both light-emerg"
+yielding_policy_line_of_version_4 = refl
+
 pub yielding_policy_line : line_text 3 (line.Policy (named (codes "both")) 3) ≡ codes "policy both light-emerg"
 yielding_policy_line = refl
 
@@ -272,6 +297,10 @@ begin_line = refl
 pub event_line : line_text 1 (line.Event 1 8 (message 2 (body.Request (record (car 1 18) { emergency = true })))) ≡ codes "1 8 request 2 1 straight 18 500 500 0 1000 700 emergency"
 unfolding digits
 event_line = refl
+
+pub windowed_event_line : line_text 4 (line.Event 1 8 (message 2 (body.Request (record (car 1 18) { latest = 30 })))) ≡ codes "1 8 request 2 1 straight 18 500 500 0 1000 700 car 30"
+unfolding digits
+windowed_event_line = refl
 
 pub switch_line : line_text 1 (line.SwitchTo 5 (named (codes "lights"))) ≡ codes "operator 5 switch lights"
 unfolding digits
@@ -300,6 +329,10 @@ early_plan_line_of_version_3 = refl
 pub plan_line_of_version_3 : line_text 3 (line.PlanFor 0 0 10 3 (car 0 0) false) ≡ codes "plan 0 0 10 3 0 straight 500 500 0 1000 700 car start"
 unfolding digits
 plan_line_of_version_3 = refl
+
+pub plan_line_of_version_4 : line_text 4 (line.PlanFor 0 0 10 3 (car 0 0) true) ≡ codes "plan 0 0 10 3 0 straight 500 500 0 1000 700 car early"
+unfolding digits
+plan_line_of_version_4 = refl
 
 pub change_line : line_text 1 (line.ChangeAt 0 1 40) ≡ codes "change 0 1 40"
 unfolding digits

@@ -1,4 +1,5 @@
 pub mod Texts
+pub mod Windows
 pub mod Actors
 pub mod Lines
 pub mod Same

@@ -8,6 +8,7 @@ use Rattle.aim_messages.specs.declared.script.MoveShape.TheVariants as shape
 use Rattle.aim_messages.specs.declared.script.Name.{Name}
 use Rattle.aim_messages.specs.declared.script.FateList.{FateList}
 use Rattle.aim_messages.specs.Texts.{Words, spaced, turn_word, vehicle_words, message_words}
+use Rattle.aim_messages.specs.Windows.{HasWindow, HasOneStep}
 
 abbrev pub name_word : Name → List ℕ
 name_word n = take n.len n.bytes
@@ -25,9 +26,9 @@ kind_word k = if k == 0 then codes "fcfs" else if k == 1 then codes "emerg" else
 abbrev pub window_word : Bool → List ℕ
 window_word ahead = if ahead then codes "early" else codes "start"
 
--- the window's word, which only plans of version 3 have
+-- the window's word, which plans have from version 3 on
 abbrev pub window_words : ℕ → Bool → Words
-window_words version ahead = if version == 3 then window_word ahead ∷ [] else []
+window_words version ahead = if nat_le 3 version then window_word ahead ∷ [] else []
 
 -- whether a set of lanes has a lane: bit i is lane i
 abbrev pub has_lane : ℕ → ℕ → Bool
@@ -104,10 +105,11 @@ pub record IsFateList (fs : FateList) : Type 0 where
 abbrev pub KeepsRanges : ℕ → Line → Type 0
 KeepsRanges version (line.Times t) = version ≡ 1
 KeepsRanges version (line.Times6 t) = version ≢ 1
-KeepsRanges version (line.Policy name kind) = IsName name × (kind ≤ (if version == 3 then 3 else 2))
+KeepsRanges version (line.Policy name kind) = IsName name × (kind ≤ (if nat_le 3 version then 3 else 2))
 KeepsRanges version (line.Phase red green lanes) = 0 < lanes
+KeepsRanges version (line.Event vehicle moment message) = HasWindow message.body × (version < 4 → HasOneStep message.body)
 KeepsRanges version (line.SwitchTo moment name) = IsName name
-KeepsRanges version (line.PlanFor vehicle first lead resend params ahead) = (params.arrive ≡ 0) × (ahead ≡ true → version ≡ 3)
+KeepsRanges version (line.PlanFor vehicle first lead resend params ahead) = (params.arrive ≡ 0) × (params.latest ≡ 0) × (ahead ≡ true → 3 ≤ version)
 KeepsRanges version (line.Up vehicle fates) = IsFateList fates
 KeepsRanges version (line.Down vehicle fates) = IsFateList fates
 KeepsRanges version _ = Unit {0}

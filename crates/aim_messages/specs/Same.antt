@@ -18,8 +18,8 @@ same_test a b = if a then b else not b
 
 abbrev pub same_params : Params → Params → Bool
 same_params p q =
-    p.lane == q.lane && same_turn p.turn q.turn && p.arrive == q.arrive && p.speed == q.speed && p.max_speed == q.max_speed
-    && p.accel == q.accel && p.length == q.length && p.width == q.width && same_test p.emergency q.emergency
+    p.lane == q.lane && same_turn p.turn q.turn && p.arrive == q.arrive && p.latest == q.latest && p.speed == q.speed
+    && p.max_speed == q.max_speed && p.accel == q.accel && p.length == q.length && p.width == q.width && same_test p.emergency q.emergency
 
 abbrev pub same_body : Body → Body → Bool
 same_body (Request p) (Request q) = same_params p q

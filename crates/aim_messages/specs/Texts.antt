@@ -39,8 +39,12 @@ abbrev pub vehicle_words : Params → Words
 vehicle_words p =
     decimal p.speed ∷ decimal p.max_speed ∷ decimal p.accel ∷ decimal p.length ∷ decimal p.width ∷ class_word p.emergency ∷ []
 
+-- the last step of arrival, which is told where it is another than the first
+abbrev pub latest_words : Params → Words
+latest_words p = if p.latest == p.arrive then [] else decimal p.latest ∷ []
+
 abbrev pub params_words : Params → Words
-params_words p = decimal p.lane ∷ turn_word p.turn ∷ decimal p.arrive ∷ vehicle_words p
+params_words p = decimal p.lane ∷ turn_word p.turn ∷ decimal p.arrive ∷ (vehicle_words p ++ latest_words p)
 
 abbrev pub body_words : ℕ → Body → Words
 body_words seq (body.Request p) = codes "request" ∷ decimal seq ∷ params_words p
@@ -67,6 +71,7 @@ field_word field.Length = codes "length"
 field_word field.Width = codes "width"
 field_word field.Steps = codes "steps"
 field_word field.Spans = codes "spans"
+field_word field.Latest = codes "latest"
 
 abbrev pub reason_words : Reason → Words
 reason_words (reason.Holds id) = codes "holds" ∷ decimal id ∷ []

@@ -16,6 +16,8 @@ pub struct Params {
     pub turn: Turn,
     /// The step in which the front is at the stop line.
     pub arrive: u32,
+    /// The last step in which the front may be at the stop line instead: `arrive` where no later one will do.
+    pub latest: u32,
     /// The speed at the stop line, in millimetres a step.
     pub speed: u32,
     /// The greatest speed, in millimetres a step.

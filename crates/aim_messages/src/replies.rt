@@ -13,6 +13,7 @@ pub enum Field {
     Width,
     Steps,
     Spans,
+    Latest,
 }
 
 /// Why a request is refused, numbered 1 to 12 in this order.

@@ -1,4 +1,4 @@
-//! The lines of scripts, for versions 1 to 3.
+//! The lines of scripts, for versions 1 to 4.
 
 use crate::messages::{Message, Params, Turn};
 
@@ -24,7 +24,7 @@ pub struct Times5 {
     pub edge: u32,
 }
 
-/// `times` of versions 2 and 3, in steps.
+/// `times` of versions 2 to 4, in steps.
 #[derive(Clone, Copy)]
 pub struct Times6 {
     pub horizon: u32,
@@ -80,7 +80,7 @@ pub enum Line {
     Grid(Grid6),
     /// `times HORIZON LONGEST CLEARANCE INTERNAL EDGE`, version 1
     Times(Times5),
-    /// `times HORIZON LONGEST CLEARANCE EARLY LATE EDGE`, versions 2 and 3
+    /// `times HORIZON LONGEST CLEARANCE EARLY LATE EDGE`, versions 2 to 4
     Times6(Times6),
     /// `lanes N`
     Lanes(u32),
@@ -90,7 +90,8 @@ pub enum Line {
         turn: Turn,
         shape: MoveShape,
     },
-    /// `policy NAME KIND`. The kind is 0 for `fcfs`, 1 for `emerg`, 2 for `light`, 3 for `light-emerg` (version 3).
+    /// `policy NAME KIND`. The kind is 0 for `fcfs`, 1 for `emerg`, 2 for `light`, 3 for `light-emerg` (from version
+    /// 3 on).
     Policy {
         name: Name,
         kind: u8,
@@ -105,7 +106,8 @@ pub enum Line {
     Vehicles(u32),
     /// `begin`
     Begin,
-    /// `VEHICLE MOMENT MESSAGE`
+    /// `VEHICLE MOMENT MESSAGE`. A message that asks for a crossing has `latest` at least `arrive`, and the two are the
+    /// same before version 4.
     Event {
         vehicle: u32,
         moment: u32,
@@ -122,8 +124,8 @@ pub enum Line {
     },
     /// `until STEP`
     Until(u32),
-    /// `plan V FIRST LEAD RESEND LANE TURN SPEED MAX ACCEL LENGTH WIDTH CLASS`, in version 3 with a last word `early`
-    /// or `start`. The params' `arrive` is 0. `ahead` is true for `early`.
+    /// `plan V FIRST LEAD RESEND LANE TURN SPEED MAX ACCEL LENGTH WIDTH CLASS`, from version 3 on with a last word
+    /// `early` or `start`. The params' `arrive` and `latest` are 0. `ahead` is true for `early`.
     PlanFor {
         vehicle: u32,
         first: u32,

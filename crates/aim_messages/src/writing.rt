@@ -31,7 +31,7 @@ pub fn put_number(out: &mut Vec<u8>, n: u64) -> Result<(), NoMemory>
 /// Appends the spelling of a line in a script of that version. Where memory runs out, nothing is appended.
 #[tactic(auto, using(crate::proofs::Words::line_added))]
 pub fn write_line(line: &Line, version: u8, out: &mut Vec<u8>) -> Result<(), NoMemory>
-    requires version { (0 < version) × (version ≤ 3) }
+    requires version { (0 < version) × (version ≤ 4) }
     requires ranges { KeepsRanges version line.now }
     ensures ok { OnOk result (out.new.items ≡ out.old.items ++ line_text version line.now) }
     ensures err { OnErr result (out.new.items ≡ out.old.items) }

@@ -1,7 +1,7 @@
 //! The words of messages, replies and entries.
 
 ghost use Rattle.std.specs.Prelude.{◌≡◌, ◌∷◌, ◌+◌, ◌≤◌, [], length, decimal};
-ghost use Rattle.aim_messages.specs.Texts.{vehicle_words, params_words, body_words, message_words, act_words, reason_words, held_word, reply_words, caller_word, entry_words};
+ghost use Rattle.aim_messages.specs.Texts.{vehicle_words, latest_words, params_words, body_words, message_words, act_words, reason_words, held_word, reply_words, caller_word, entry_words};
 ghost use Rattle.aim_messages.specs.Writing.{added};
 
 use crate::entries::{Act, Entry, Order};
@@ -24,15 +24,28 @@ pub(crate) fn put_vehicle(out: &mut Text, params: &Params)
     out.word(class_text(params.emergency));
 }
 
+// Adds the last step of arrival where it is another than the first.
+fn put_latest(out: &mut Text, params: &Params)
+    requires { length out.old + 11 ≤ 400 }
+    ensures added { out.new ≡ added out.old (latest_words params.now) }
+    ensures len { length out.new ≤ length out.old + 11 }
+{
+    if params.latest != params.arrive {
+        out.number(params.latest);
+    }
+}
+
+#[tactic(auto, using(crate::proofs::Words::added_append))]
 fn put_params(out: &mut Text, params: &Params)
-    requires { length out.old + 96 ≤ 400 }
+    requires { length out.old + 107 ≤ 400 }
     ensures added { out.new ≡ added out.old (params_words params.now) }
-    ensures len { length out.new ≤ length out.old + 96 }
+    ensures len { length out.new ≤ length out.old + 107 }
 {
     out.number(params.lane);
     out.word(turn_text(params.turn));
     out.number(params.arrive);
     put_vehicle(out, params);
+    put_latest(out, params);
 }
 
 // Adds a word and a number.
@@ -47,9 +60,9 @@ pub(crate) fn put_field(out: &mut Text, word: &[u8], n: u32)
 }
 
 fn put_body(out: &mut Text, seq: u32, body: &Body)
-    requires { length out.old + 133 ≤ 400 }
+    requires { length out.old + 144 ≤ 400 }
     ensures added { out.new ≡ added out.old (body_words seq body.now) }
-    ensures len { length out.new ≤ length out.old + 133 }
+    ensures len { length out.new ≤ length out.old + 144 }
 {
     match body {
         Body::Request(params) => {
@@ -73,17 +86,17 @@ fn put_body(out: &mut Text, seq: u32, body: &Body)
 }
 
 pub(crate) fn put_message(out: &mut Text, message: &Message)
-    requires { length out.old + 133 ≤ 400 }
+    requires { length out.old + 144 ≤ 400 }
     ensures added { out.new ≡ added out.old (message_words message.now) }
-    ensures len { length out.new ≤ length out.old + 133 }
+    ensures len { length out.new ≤ length out.old + 144 }
 {
     put_body(out, message.seq, &message.body);
 }
 
 fn put_act(out: &mut Text, act: &Act)
-    requires { length out.old + 133 ≤ 400 }
+    requires { length out.old + 144 ≤ 400 }
     ensures added { out.new ≡ added out.old (act_words act.now) }
-    ensures len { length out.new ≤ length out.old + 133 }
+    ensures len { length out.new ≤ length out.old + 144 }
 {
     match act {
         Act::Message(message) => put_message(out, message),
@@ -199,9 +212,9 @@ fn put_caller(out: &mut Text, caller: u32, act: &Act)
 
 #[tactic(auto, using(crate::proofs::Words::added_append))]
 pub(crate) fn put_entry(out: &mut Text, position: u32, entry: &Entry)
-    requires { length out.old + 270 ≤ 400 }
+    requires { length out.old + 281 ≤ 400 }
     ensures added { out.new ≡ added out.old (entry_words position entry.now) }
-    ensures len { length out.new ≤ length out.old + 270 }
+    ensures len { length out.new ≤ length out.old + 281 }
 {
     out.number(position);
     put_caller(out, entry.caller, &entry.act);

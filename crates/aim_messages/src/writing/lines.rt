@@ -164,12 +164,12 @@ fn put_fates(out: &mut Text, word: &[u8], vehicle: u32, fates: &FateList)
     }
 }
 
-// Adds the window's word, which only plans of version 3 have.
+// Adds the window's word, which plans have from version 3 on.
 fn put_window(out: &mut Text, version: u8, ahead: bool)
     requires { length out.old + 6 ≤ 400 }
     ensures { out.new ≡ added out.old (window_words version ahead) }
 {
-    if version == 3 {
+    if version >= 3 {
         out.word(window_text(ahead));
     }
 }
@@ -222,7 +222,7 @@ fn put_switch(out: &mut Text, moment: u32, name: &Name)
 }
 
 fn put_event(out: &mut Text, vehicle: u32, moment: u32, message: &Message)
-    requires { length out.old + 155 ≤ 400 }
+    requires { length out.old + 166 ≤ 400 }
     ensures { out.new ≡ added out.old (decimal vehicle ∷ decimal moment ∷ message_words message.now) }
 {
     out.number(vehicle);
@@ -302,7 +302,7 @@ fn put_driving(out: &mut Text, version: u8, line: &Line)
 /// Adds the words of a line of a script of that version.
 pub(crate) fn put_line(out: &mut Text, version: u8, line: &Line)
     requires empty { length out.old ≡ 0 }
-    requires version { (0 < version) × (version ≤ 3) }
+    requires version { (0 < version) × (version ≤ 4) }
     requires ranges { KeepsRanges version line.now }
     ensures { out.new ≡ added out.old (line_words version line.now) }
 {

@@ -40,6 +40,7 @@ pub(crate) fn field_text(field: Field) -> &'static [u8]
         Field::Width => b"width",
         Field::Steps => b"steps",
         Field::Spans => b"spans",
+        Field::Latest => b"latest",
     }
 }
 
