@@ -32,13 +32,24 @@ look_up_has P fault (row ∷ rows) w f all h = elim (cases_Bool (bytes_eq w row.
 
 unfoldable pub message_key : MessageForm → List ℕ
 message_key message.Request = codes "request"
+message_key message.RequestInWindow = codes "request"
 message_key message.Change = codes "change"
+message_key message.ChangeInWindow = codes "change"
 message_key message.Cancel = codes "cancel"
 message_key message.Done = codes "done"
 
 pub message_chosen : (w : List ℕ) (m : MessageForm) → message_form w ≡ Ok m → w ≡ message_key m
 unfolding message_key
 message_chosen w m h = look_up_has (λ v f. v ≡ message_key f) kind.Words message_forms w m (refl, (refl, (refl, (refl, tt)))) h
+
+-- no word of the table chooses a form that tells the last step of arrival
+abbrev pub IsInOneStep : MessageForm → Type 0
+IsInOneStep message.RequestInWindow = ⊥
+IsInOneStep message.ChangeInWindow = ⊥
+IsInOneStep _ = Unit {0}
+
+pub chosen_in_one_step : (w : List ℕ) (m : MessageForm) → message_form w ≡ Ok m → IsInOneStep m
+chosen_in_one_step w m h = look_up_has (λ v f. IsInOneStep f) kind.Words message_forms w m (tt, (tt, (tt, (tt, tt)))) h
 
 unfoldable pub order_key : OrderForm → List ℕ
 order_key order.Switch = codes "switch"

@@ -10,3 +10,4 @@ pub mod MessageWords
 pub mod Spelled
 pub mod Chosen
 pub mod OneLine
+pub mod Apart

@@ -2,7 +2,7 @@
 use Rattle.std.proofs.Common.{◌≡◌, ℕ, suc, ◌+◌, ◌-◌, ◌<◌, List, length, take, set, Ok, refl, arith}
 use Rattle.std.proofs.lemmas.List.{take_more_set}
 use Rattle.aim_messages.specs.Texts.{Words}
-use Rattle.aim_text_words.specs.Faults.{value_of, number32}
+use Rattle.aim_text_words.specs.Faults.{rest, word_at, value_of, number32}
 use Rattle.aim_text_words.specs.Steps.{read_in, numbers_in}
 
 -- one number more stands in its place
@@ -12,3 +12,9 @@ unfolding numbers_in
 numbers_next numbers i count ws n left inside below h =
     let more : count - i ≡ suc (count - (i + 1)) = omega arith in
     rw (more, h, take_more_set numbers i n inside) refl
+
+-- one word is passed on the way to one ahead
+pub one_passed : (words left : Words) (count i : ℕ) → i < count → left ≡ rest words → word_at left (count - (i + 1)) ≡ word_at words (count - i)
+one_passed words left count i below is =
+    let more : count - i ≡ suc (count - (i + 1)) = omega arith in
+    rw (more, is) refl

@@ -1,11 +1,11 @@
 -- Words without a fault are spelled as their values.
-use Rattle.std.proofs.Common.{◌≡◌, ℕ, ◌&&◌, ◌||◌, nat_lt, Bool, true, false, not, List, [], ◌∷◌, ◌++◌, length, None, decimal, codes, refl, sym, ap, ◌∙◌, arith, inl, inr}
+use Rattle.std.proofs.Common.{◌≡◌, ℕ, ◌+◌, ◌<◌, ◌&&◌, ◌||◌, nat_lt, Bool, true, false, not, List, [], ◌∷◌, ◌++◌, length, None, decimal, codes, refl, sym, ap, ◌∙◌, arith, inl, inr}
 use Rattle.std.specs.Prelude.{bytes_eq, if◌then◌else◌}
 use Rattle.std.proofs.lemmas.Bool.{cases_Bool, and_parts, ltb-true}
 use Rattle.std.proofs.lemmas.Slice.Eq.{bytes_eq-Decides}
 use Rattle.aim_messages.specs.declared.messages.Turn.TheVariants.{Left, Straight, Right}
 use Rattle.aim_messages.specs.Texts.{Words, turn_word, class_word}
-use Rattle.aim_text_words.specs.Faults.{Place, chosen, keyword, name, number, either, first, rest, is_one_of, keyword_fault, fault_at, value_of, turns, classes, number32, number8}
+use Rattle.aim_text_words.specs.Faults.{Place, chosen, keyword, name, number, either, first, rest, is_one_of, keyword_fault, fault_at, value_of, turns, classes, number32, number8, later_than}
 use Rattle.aim_text_words.specs.Reading.{turn_of, is_emergency}
 use Rattle.aim_text_words.proofs.NumberLaws.{IsNumberIn, number_in_from, decimal_value}
 use Rattle.aim_text_words.proofs.NoFaults.{NoFaults}
@@ -128,3 +128,11 @@ in8 ws h = let is = number_at_place 0 255 ws h in let most = is.most in omega ar
 
 pub d32 : (ws : Words) → fault_at number32 ws ≡ None → decimal (value_of (first ws)) ≡ first ws
 d32 ws h = let is = number_at_place 0 4294967295 ws h in let most = is.most in decimal_value (first ws) is.number (omega arith)
+
+-- a number above another
+pub later_back : (step : ℕ) (ws : Words) → fault_at (later_than step) ws ≡ None → (step < value_of (first ws)) × Is32 (value_of (first ws))
+later_back step ws h =
+    let is = number_at_place (step + 1) 4294967295 ws h in
+    let least = is.least in
+    let most = is.most in
+    (omega arith, omega arith)

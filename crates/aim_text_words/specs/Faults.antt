@@ -118,6 +118,10 @@ number32 = number 0 4294967295
 abbrev pub number8 : Place
 number8 = number 0 255
 
+-- a number of 32 bits above that one
+abbrev pub later_than : ℕ → Place
+later_than step = number (step + 1) 4294967295
+
 -- the place of one word
 abbrev pub just : List ℕ → Place
 just word = keyword (word ∷ [])

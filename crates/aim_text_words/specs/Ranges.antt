@@ -14,6 +14,7 @@ Is8 n = n < 2 ^ 8
 pub record AreParams (p : Params) : Type 0 where
   pub lane : Is8 p.lane
   pub arrive : Is32 p.arrive
+  pub latest : Is32 p.latest
   pub speed : Is32 p.speed
   pub max_speed : Is32 p.max_speed
   pub accel : Is32 p.accel

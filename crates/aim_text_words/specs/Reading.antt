@@ -22,12 +22,13 @@ turn_of word = if bytes_eq word (codes "left") then Left else if bytes_eq word (
 abbrev pub is_emergency : List ℕ → Bool
 is_emergency word = bytes_eq word (codes "emergency")
 
--- LANE and TURN from one place on, ARRIVE, and the rest from another
-abbrev pub params_at : Words → ℕ → ℕ → ℕ → Params
-params_at words i arrive j = record {
+-- LANE and TURN from one place on, ARRIVE, LATEST, and the rest from another place on
+abbrev pub params_at : Words → ℕ → ℕ → ℕ → ℕ → Params
+params_at words i arrive latest j = record {
   lane = at words i;
   turn = turn_of (word_at words (i + 1));
   arrive = arrive;
+  latest = latest;
   speed = at words j;
   max_speed = at words (j + 1);
   accel = at words (j + 2);
@@ -38,8 +39,10 @@ params_at words i arrive j = record {
 
 -- a message, of the words behind its first
 abbrev pub body_of : MessageForm → Words → Body
-body_of message.Request words = body.Request (params_at words 1 (at words 3) 4)
-body_of message.Change words = body.Change (at words 1) (params_at words 2 (at words 4) 5)
+body_of message.Request words = body.Request (params_at words 1 (at words 3) (at words 3) 4)
+body_of message.RequestInWindow words = body.Request (params_at words 1 (at words 3) (at words 10) 4)
+body_of message.Change words = body.Change (at words 1) (params_at words 2 (at words 4) (at words 4) 5)
+body_of message.ChangeInWindow words = body.Change (at words 1) (params_at words 2 (at words 4) (at words 11) 5)
 body_of message.Cancel words = body.Cancel (at words 1)
 body_of message.Done words = body.Done (at words 1)
 

@@ -11,7 +11,7 @@ use Rattle.aim_messages.specs.declared.script.LineKind.TheVariants as kind
 use Rattle.aim_text_words.specs.declared.forms.MessageForm.{MessageForm}
 use Rattle.aim_text_words.specs.declared.forms.MessageForm.TheVariants as message
 use Rattle.aim_messages.specs.Texts.{Words}
-use Rattle.aim_text_words.specs.Faults.{words_of, first, rest, Place, number32, number8, turns, classes, fault_at, value_of}
+use Rattle.aim_text_words.specs.Faults.{words_of, first, rest, Place, number32, number8, later_than, turns, classes, fault_at, value_of}
 use Rattle.aim_text_words.specs.Tables.{look_up}
 use Rattle.aim_text_words.specs.Reading.{unless, turn_of, is_emergency}
 
@@ -60,7 +60,7 @@ unfoldable pub vehicle_in : ℕ → Turn → ℕ → Words → Read Params
 vehicle_in lane turn arrive words = do
   n ← numbers_in [] 5 words
   class ← read_in classes is_emergency n.1
-  Ok (record { lane = lane; turn = turn; arrive = arrive; speed = get_or n.0 0 0; max_speed = get_or n.0 1 0; accel = get_or n.0 2 0; length = get_or n.0 3 0; width = get_or n.0 4 0; emergency = class.0 }, class.1)
+  Ok (record { lane = lane; turn = turn; arrive = arrive; latest = arrive; speed = get_or n.0 0 0; max_speed = get_or n.0 1 0; accel = get_or n.0 2 0; length = get_or n.0 3 0; width = get_or n.0 4 0; emergency = class.0 }, class.1)
 
 unfoldable pub params_in : Words → Read Params
 params_in words = do
@@ -69,13 +69,27 @@ params_in words = do
   arrive ← number_in turn.1
   vehicle_in lane.0 turn.0 arrive.0 arrive.1
 
+-- params, and then a last step of arrival above the first
+unfoldable pub windowed_in : Words → Read Params
+windowed_in words = do
+  params ← params_in words
+  latest ← read_in (later_than params.0.arrive) value_of params.1
+  Ok (record params.0 { latest = latest.0 }, latest.1)
+
 unfoldable pub body_in : MessageForm → Words → Read Body
 body_in message.Request words = do
   params ← params_in words
   Ok (body.Request params.0, params.1)
+body_in message.RequestInWindow words = do
+  params ← windowed_in words
+  Ok (body.Request params.0, params.1)
 body_in message.Change words = do
   id ← number_in words
   params ← params_in id.1
+  Ok (body.Change id.0 params.0, params.1)
+body_in message.ChangeInWindow words = do
+  id ← number_in words
+  params ← windowed_in id.1
   Ok (body.Change id.0 params.0, params.1)
 body_in message.Cancel words = do
   id ← number_in words

@@ -1,9 +1,9 @@
 // The fields of texts. Each is a word, or is read with the fields beside it.
 ghost use Rattle.std.specs.Prelude.{bytes_eq, codes, []};
-ghost use Rattle.aim_text_words.specs.Faults.{value_of, turns, classes, number32, number8};
+ghost use Rattle.aim_text_words.specs.Faults.{value_of, turns, classes, number32, number8, later_than};
 ghost use Rattle.aim_text_words.specs.Reading.{turn_of, is_emergency};
 ghost use Rattle.aim_text_words.specs.Tables.{rows_of};
-ghost use Rattle.aim_text_words.specs.Steps.{Gives, read_in, numbers_in, choice_in, vehicle_in, params_in, body_in, message_in};
+ghost use Rattle.aim_text_words.specs.Steps.{Gives, read_in, numbers_in, choice_in, vehicle_in, params_in, windowed_in, body_in, message_in};
 
 use crate::forms::MessageForm;
 use crate::numbers::number;
@@ -75,7 +75,7 @@ fn is_emergency(words: &mut Words<'_>) -> Result<bool, LineKind>
     choice(words, &CLASSES)
 }
 
-/// SPEED MAX ACCEL LENGTH WIDTH CLASS, behind the lane, the turn and the arrival.
+/// SPEED MAX ACCEL LENGTH WIDTH CLASS, behind the lane, the turn and the arrival, which is to be in that step alone.
 #[tactic(auto, unfolding(crate::specs::Steps::vehicle_in))]
 pub fn vehicle(words: &mut Words<'_>, lane: u8, turn: Turn, arrive: u32) -> Result<Params, LineKind>
     ensures { Gives result words.new (vehicle_in lane turn arrive words.old) }
@@ -86,6 +86,7 @@ pub fn vehicle(words: &mut Words<'_>, lane: u8, turn: Turn, arrive: u32) -> Resu
         lane,
         turn,
         arrive,
+        latest: arrive,
         speed,
         max_speed,
         accel,
@@ -106,6 +107,35 @@ fn params(words: &mut Words<'_>) -> Result<Params, LineKind>
     vehicle(words, lane, turn, arrive)
 }
 
+// A step above that one.
+#[tactic(auto, unfolding(crate::specs::Steps::read_in))]
+fn later(words: &mut Words<'_>, step: u32) -> Result<u32, LineKind>
+    ensures { Gives result words.new (read_in (later_than step) value_of words.old) }
+{
+    let word = words.word()?;
+    let n = number(word, u64::from(step) + 1, u64::from(u32::MAX))?;
+    Ok(n as u32)
+}
+
+// LANE TURN ARRIVE SPEED MAX ACCEL LENGTH WIDTH CLASS LATEST
+#[tactic(auto, unfolding(crate::specs::Steps::windowed_in))]
+fn windowed(words: &mut Words<'_>) -> Result<Params, LineKind>
+    ensures { Gives result words.new (windowed_in words.old) }
+{
+    let params = params(words)?;
+    let latest = later(words, params.arrive)?;
+    Ok(Params { latest, ..params })
+}
+
+#[tactic(auto, unfolding(crate::specs::Steps::body_in))]
+fn change_in_window(words: &mut Words<'_>) -> Result<Body, LineKind>
+    ensures { Gives result words.new (body_in MessageForm.ChangeInWindow words.old) }
+{
+    let id = number32(words)?;
+    let params = windowed(words)?;
+    Ok(Body::Change(id, params))
+}
+
 #[tactic(auto, unfolding(crate::specs::Steps::body_in))]
 fn change(words: &mut Words<'_>) -> Result<Body, LineKind>
     ensures { Gives result words.new (body_in MessageForm.Change words.old) }
@@ -121,7 +151,9 @@ fn body(words: &mut Words<'_>, form: MessageForm) -> Result<Body, LineKind>
 {
     match form {
         MessageForm::Request => params(words).map(Body::Request),
+        MessageForm::RequestInWindow => windowed(words).map(Body::Request),
         MessageForm::Change => change(words),
+        MessageForm::ChangeInWindow => change_in_window(words),
         MessageForm::Cancel => number32(words).map(Body::Cancel),
         MessageForm::Done => number32(words).map(Body::Done),
     }

@@ -1,6 +1,6 @@
 // The words of a text, one after the other.
-ghost use Rattle.std.specs.Prelude.{◌≡◌, ◌≢◌, ◌<◌, ◌≤◌, ℕ, [], ◌∷◌, length, slice_index, MatchOption, MatchResult};
-ghost use Rattle.aim_text_words.specs.Faults.{words_of, first, rest, just};
+ghost use Rattle.std.specs.Prelude.{◌≡◌, ◌≢◌, ◌<◌, ◌≤◌, ◌-◌, ℕ, [], ◌∷◌, length, slice_index, MatchOption, MatchResult};
+ghost use Rattle.aim_text_words.specs.Faults.{words_of, first, rest, word_at, just};
 ghost use Rattle.aim_text_words.specs.Steps.{Gives, read_in, nothing, end_in, word_in};
 ghost use Rattle.aim_messages.specs.declared.script.LineKind.{LineKind};
 
@@ -101,5 +101,16 @@ impl<'a> Words<'a> {
             Some(word) => word,
             None => b"",
         }
+    }
+
+    /// The word that stands so many words ahead, or the empty one where none stands there. No word is passed.
+    pub fn ahead(&self, count: usize) -> &'a [u8]
+        ensures { result.now ≡ word_at self.now count }
+    {
+        let mut words = Words { left: self.left };
+        for _ in 0..count {
+            words.take();
+        }
+        words.take()
     }
 }
