@@ -1,7 +1,7 @@
 -- A line that is spelled is read again.
 use Rattle.std.proofs.Common.{◌≡◌, ℕ, zero, suc, ◌+◌, ◌^◌, ◌<◌, ◌≤◌, ◌==◌, ◌&&◌, nat_le, Bool, true, false, List, [], ◌∷◌, ◌++◌, length, map, filter, take, Result, Ok, Err, decimal, refl, sym, ap, ◌∙◌, arith, inl, inr, append-nil, length-take-le}
 use Rattle.std.specs.List.{range_with_len}
-use Rattle.std.proofs.lemmas.Bool.{cases_Bool, eq-eqb, ne_eqb, le-leb, and_from}
+use Rattle.std.proofs.lemmas.Bool.{cases_Bool, eq-eqb, ne_eqb, le-leb, leb-false, and_from}
 use Rattle.std.proofs.lemmas.List.{length-map}
 use Rattle.aim_messages.specs.declared.messages.Params.{Params}
 use Rattle.aim_messages.specs.declared.messages.Body.{Body}
@@ -18,9 +18,10 @@ use Rattle.aim_text_lines.specs.declared.forms.LineForm.{LineForm}
 use Rattle.aim_text_lines.specs.declared.forms.LineForm.TheVariants as form
 use Rattle.aim_messages.specs.Texts.{Words, spaced, vehicle_words, body_words, message_words, message_text}
 use Rattle.aim_messages.specs.Lines.{fate_word, fate_words, window_words, has_lane, all_lanes, lane_words, shape_words, line_words, line_text, IsFateList, KeepsRanges}
+use Rattle.aim_messages.specs.Windows.{HasWindow, HasOneStep}
 use Rattle.aim_text_words.specs.Faults.{words_of, first, rest, begins_with_digit}
 use Rattle.aim_text_words.specs.Forms.{message_form}
-use Rattle.aim_text_lines.specs.Forms.{shape_form, plan_form, line_form, has_count}
+use Rattle.aim_text_lines.specs.Forms.{map_ok, shape_form, plan_form, event_form, line_form, has_count}
 use Rattle.aim_text_lines.specs.Reading.{line_in, line_at}
 use Rattle.aim_text_words.specs.Ranges.{Is32, AreParams, IsMessage}
 use Rattle.aim_text_lines.specs.Ranges.{IsLine}
@@ -29,9 +30,10 @@ use Rattle.aim_text_lines.specs.Steps.{grid_in, times_in, times6_in, move_in, po
 use Rattle.aim_text_words.proofs.NumberLaws.{decimal_number, number_begins}
 use Rattle.aim_text_words.proofs.WordLaws.{AreWords, words_spaced}
 use Rattle.aim_text_words.proofs.MessageWords.{message_are_words}
+use Rattle.aim_text_words.proofs.Apart.{message_alone as words_alone}
 use Rattle.aim_text_lines.proofs.LineWords.{line_are_words}
 use Rattle.aim_text_lines.proofs.LaneLaws.{lanes_again}
-use Rattle.aim_text_words.proofs.Again.{n32, n8, turn_again, vehicle_again, form_of_body, message_again}
+use Rattle.aim_text_words.proofs.Again.{n32, n8, turn_again, vehicle_again, one_step_is, form_of_body, message_again}
 use Rattle.aim_text_lines.proofs.Again.{window_again, form_of_shape, shape_again, name_again}
 use Rattle.aim_text_lines.proofs.ListsAgain.{kind_again, fates_again}
 use Rattle.aim_text_lines.proofs.StepLaws.{steps_are}
@@ -62,11 +64,38 @@ form_of_line version line.End = form.End
 decimal_begins : (n : ℕ) → Is32 n → begins_with_digit (decimal n) ≡ true
 decimal_begins n is = number_begins (decimal n) (decimal_number n (omega arith))
 
-body_form : (seq : ℕ) (b : Body) → message_form (first (body_words seq b)) ≡ Ok (form_of_body b)
-body_form seq (body.Request p) = refl
-body_form seq (body.Change id p) = refl
-body_form seq (body.Cancel id) = refl
-body_form seq (body.Done id) = refl
+-- a last step of arrival that is another than the first is told from version 4 on alone
+tells_from_4 : (version arrive latest : ℕ) → (version < 4 → latest ≡ arrive) → (latest == arrive) ≡ false → nat_le 4 version ≡ true
+tells_from_4 version arrive latest one other = elim (cases_Bool (nat_le 4 version)) [
+  | inl is ↦ is
+  | inr not ↦ absurd (cc (eq-eqb latest arrive (one (leb-false 4 version not)), other))
+]
+
+-- the form of an event whose message has that form where it tells no last step of arrival
+body_form : (version : ℕ) (v t : List ℕ) (seq : ℕ) (b : Body) → HasWindow b × (version < 4 → HasOneStep b)
+    → map_ok (λ m. form.Event (event_form version (length (v ∷ t ∷ body_words seq b)) m)) (message_form (first (body_words seq b))) ≡ Ok (form.Event (form_of_body b))
+body_form version v t seq (body.Request p) k = elim (cases_Bool (p.latest == p.arrive)) [
+  | inl is ↦ elim (cases_Bool (nat_le 4 version)) [
+    | inl is_4 ↦ rw (is, is_4) refl
+    | inr before ↦ rw (is, before) refl
+  ]
+  | inr other ↦ rw (other, tells_from_4 version p.arrive p.latest k.1 other) refl
+]
+body_form version v t seq (body.Change id p) k = elim (cases_Bool (p.latest == p.arrive)) [
+  | inl is ↦ elim (cases_Bool (nat_le 4 version)) [
+    | inl is_4 ↦ rw (is, is_4) refl
+    | inr before ↦ rw (is, before) refl
+  ]
+  | inr other ↦ rw (other, tells_from_4 version p.arrive p.latest k.1 other) refl
+]
+body_form version v t seq (body.Cancel id) k = elim (cases_Bool (nat_le 4 version)) [
+  | inl is_4 ↦ rw is_4 refl
+  | inr before ↦ rw before refl
+]
+body_form version v t seq (body.Done id) k = elim (cases_Bool (nat_le 4 version)) [
+  | inl is_4 ↦ rw is_4 refl
+  | inr before ↦ rw before refl
+]
 
 shape_form_is : (s : MoveShape) → shape_form (first (shape_words s)) ≡ Ok (form_of_shape s)
 shape_form_is (shape.Line x0 y0 x1 y1 m) = refl
@@ -84,7 +113,7 @@ form_is version (line.Policy name kind) r k = refl
 form_is version (line.Phase red green lanes) r k = refl
 form_is version (line.Vehicles n) r k = refl
 form_is version line.Begin r k = refl
-form_is version (line.Event vehicle moment m) r k = rw (decimal_begins vehicle r.0, body_form m.seq m.body) refl
+form_is version (line.Event vehicle moment m) r k = rw (decimal_begins vehicle r.0) (body_form version (decimal vehicle) (decimal moment) m.seq m.body k)
 form_is version (line.SwitchTo moment name) r k = refl
 form_is version (line.StopAt moment) r k = refl
 form_is version (line.Until step) r k = refl
@@ -96,8 +125,14 @@ form_is version (line.Down vehicle fates) r k = refl
 form_is version line.End r k = refl
 
 body_count : (vehicle moment seq : ℕ) (b : Body) → has_count (form.Event (form_of_body b)) (length (decimal vehicle ∷ decimal moment ∷ body_words seq b)) ≡ true
-body_count vehicle moment seq (body.Request p) = refl
-body_count vehicle moment seq (body.Change id p) = refl
+body_count vehicle moment seq (body.Request p) = elim (cases_Bool (p.latest == p.arrive)) [
+  | inl is ↦ rw is refl
+  | inr other ↦ rw other refl
+]
+body_count vehicle moment seq (body.Change id p) = elim (cases_Bool (p.latest == p.arrive)) [
+  | inl is ↦ rw is refl
+  | inr other ↦ rw other refl
+]
 body_count vehicle moment seq (body.Cancel id) = refl
 body_count vehicle moment seq (body.Done id) = refl
 
@@ -107,7 +142,7 @@ shape_count a b c (shape.Curve x0 y0 x1 y1 x2 y2 m) = refl
 
 plan_count : (version : ℕ) (a b c d e f g : List ℕ) (p : Params) (ahead : Bool)
     → has_count (plan_form version) (length (a ∷ b ∷ c ∷ d ∷ e ∷ f ∷ g ∷ (vehicle_words p ++ window_words version ahead))) ≡ true
-plan_count version a b c d e f g p ahead = elim (cases_Bool (version == 3)) [
+plan_count version a b c d e f g p ahead = elim (cases_Bool (nat_le 3 version)) [
   | inl is ↦ rw is refl
   | inr not ↦ rw not refl
 ]
@@ -170,27 +205,29 @@ count_is version (line.Up vehicle fates) r k = fates_count [] [] fates k r.1
 count_is version (line.Down vehicle fates) r k = fates_count [] [] fates k r.1
 count_is version line.End r k = refl
 
-message_alone : (m : Message) → IsMessage m → message_in (form_of_body m.body) (rest (message_words m)) ≡ Ok (m, [])
-message_alone m r = ap (λ ws. message_in (form_of_body m.body) (rest ws)) (sym (append-nil (message_words m))) ∙ message_again m [] r
+message_alone : (m : Message) → IsMessage m → HasWindow m.body → message_in (form_of_body m.body) (rest (message_words m)) ≡ Ok (m, [])
+message_alone m r window = ap (λ ws. message_in (form_of_body m.body) (rest ws)) (sym (append-nil (message_words m))) ∙ message_again m [] r window
 
 -- a plan's params say nothing of an arrival
-plan_vehicle : (p : Params) (ws : Words) → AreParams p → p.arrive ≡ 0 → vehicle_in p.lane p.turn 0 (vehicle_words p ++ ws) ≡ Ok (p, ws)
-plan_vehicle p ws r none = ap (λ arrive. vehicle_in p.lane p.turn arrive (vehicle_words p ++ ws)) (sym none) ∙ vehicle_again p ws r
+plan_vehicle : (p : Params) (ws : Words) → AreParams p → p.arrive ≡ 0 → p.latest ≡ 0 → vehicle_in p.lane p.turn 0 (vehicle_words p ++ ws) ≡ Ok (p, ws)
+plan_vehicle p ws r none nor_latest =
+    ap (λ arrive. vehicle_in p.lane p.turn arrive (vehicle_words p ++ ws)) (sym none) ∙ vehicle_again p ws r
+    ∙ ap (λ (q : Params). Ok (q, ws)) (one_step_is p (nor_latest ∙ sym none))
 
 plan_again : (version vehicle first lead resend : ℕ) (p : Params) (ahead : Bool)
-    → Is32 vehicle × Is32 first × Is32 lead × Is32 resend × AreParams p → (p.arrive ≡ 0) × (ahead ≡ true → version ≡ 3)
+    → Is32 vehicle × Is32 first × Is32 lead × Is32 resend × AreParams p → (p.arrive ≡ 0) × (p.latest ≡ 0) × (ahead ≡ true → 3 ≤ version)
     → steps_in version (plan_form version) (behind_keyword (plan_form version) (line_words version (line.PlanFor vehicle first lead resend p ahead)))
     ≡ Ok (line.PlanFor vehicle first lead resend p ahead)
 unfolding steps_in numbers_in plan_in
-plan_again version vehicle first lead resend p ahead r k = elim (cases_Bool (version == 3)) [
-  | inl is ↦ rw is (rw (n32 vehicle _ r.0, n32 first _ r.1, n32 lead _ r.2, n32 resend _ r.3, n8 p.lane _ r.4.lane, turn_again p.turn _, plan_vehicle p _ r.4 k.0, window_again ahead []) refl)
-  | inr not ↦ rw not (rw (n32 vehicle _ r.0, n32 first _ r.1, n32 lead _ r.2, n32 resend _ r.3, n8 p.lane _ r.4.lane, turn_again p.turn _, plan_vehicle p [] r.4 k.0)
-      (ap (λ b. Ok (line.PlanFor vehicle first lead resend p b)) (sym (no_window ahead not k.1))))
+plan_again version vehicle first lead resend p ahead r k = elim (cases_Bool (nat_le 3 version)) [
+  | inl is ↦ rw is (rw (n32 vehicle _ r.0, n32 first _ r.1, n32 lead _ r.2, n32 resend _ r.3, n8 p.lane _ r.4.lane, turn_again p.turn _, plan_vehicle p _ r.4 k.0 k.1, window_again ahead []) refl)
+  | inr not ↦ rw not (rw (n32 vehicle _ r.0, n32 first _ r.1, n32 lead _ r.2, n32 resend _ r.3, n8 p.lane _ r.4.lane, turn_again p.turn _, plan_vehicle p [] r.4 k.0 k.1)
+      (ap (λ b. Ok (line.PlanFor vehicle first lead resend p b)) (sym (no_window ahead not k.2))))
 ]
   where
-    no_window : (ahead : Bool) → (version == 3) ≡ false → (ahead ≡ true → version ≡ 3) → ahead ≡ false
+    no_window : (ahead : Bool) → nat_le 3 version ≡ false → (ahead ≡ true → 3 ≤ version) → ahead ≡ false
     no_window false not k = refl
-    no_window true not k = absurd (cc (eq-eqb version 3 (k refl), not))
+    no_window true not k = absurd (cc (le-leb 3 version (k refl), not))
 
 -- and is read from them
 steps_again : (version : ℕ) (l : Line) → IsLine l → KeepsRanges version l
@@ -209,7 +246,7 @@ steps_again version (line.Policy name kind) r k = rw (name_again name _ k.0 r.0,
 steps_again version (line.Phase red green lanes) r k = rw (n32 red _ r.0, n32 green _ r.1, lanes_again lanes r.2) refl
 steps_again version (line.Vehicles n) r k = rw (n32 n [] r) refl
 steps_again version line.Begin r k = refl
-steps_again version (line.Event vehicle moment m) r k = rw (n32 vehicle _ r.0, n32 moment _ r.1, message_alone m r.2) refl
+steps_again version (line.Event vehicle moment m) r k = rw (n32 vehicle _ r.0, n32 moment _ r.1, message_alone m r.2 k.0) refl
 steps_again version (line.SwitchTo moment name) r k = rw (n32 moment _ r.0, name_again name [] k r.1) refl
 steps_again version (line.StopAt moment) r k = rw (n32 moment _ r) refl
 steps_again version (line.Until step) r k = rw (n32 step [] r) refl
@@ -269,22 +306,14 @@ line_alone version a b ra ka rb kb same =
     value other (Ok l) = l
     value other (Err k) = other
 
--- no two messages have one text: lines of the same vehicle and moment would have one too
+-- no two messages have one text
 pub message_one : (m n : Message) → IsMessage m → IsMessage n → message_text m ≡ message_text n → m ≡ n
 message_one m n rm rn same =
     let words : message_words m ≡ message_words n = sym (words_split (message_words m) (message_are_words m rm) (some m.seq m.body)) ∙ ap words_of same ∙ words_split (message_words n) (message_are_words n rn) (some n.seq n.body) in
-    let lines = line_alone 1 (line.Event 0 0 m) (line.Event 0 0 n) (small, small, rm) tt (small, small, rn) tt (ap (λ (ws : Words). spaced (decimal 0 ∷ decimal 0 ∷ ws)) words) in
-    ap (value m) lines
+    (words_alone m n [] [] rm rn refl refl (ap (λ (ws : Words). ws ++ []) words)).0
   where
-    small : Is32 0
-    small = omega arith
-
     some : (seq : ℕ) (b : Body) → 0 < length (body_words seq b)
     some seq (body.Request p) = omega arith
     some seq (body.Change id p) = omega arith
     some seq (body.Cancel id) = omega arith
     some seq (body.Done id) = omega arith
-
-    value : Message → Line → Message
-    value other (line.Event vehicle moment m) = m
-    value other _ = other

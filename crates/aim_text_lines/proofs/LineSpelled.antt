@@ -1,5 +1,5 @@
 -- What is read is spelled so.
-use Rattle.std.proofs.Common.{◌≡◌, ◌≢◌, ℕ, zero, suc, ◌-◌, ◌^◌, ◌<◌, ◌≤◌, ◌==◌, ◌&&◌, nat_le, Bool, true, false, not, List, [], ◌∷◌, ◌++◌, length, map, take, drop, replicate, Option, Some, None, Result, Ok, Err, decimal, codes, refl, sym, ap, subst, ◌∙◌, arith, inl, inr}
+use Rattle.std.proofs.Common.{◌≡◌, ◌≢◌, ℕ, zero, suc, ◌-◌, ◌^◌, ◌<◌, ◌≤◌, ◌==◌, ◌&&◌, nat_le, nat_lt, Bool, true, false, not, List, [], ◌∷◌, ◌++◌, length, map, take, drop, replicate, Option, Some, None, Result, Ok, Err, decimal, codes, refl, sym, ap, subst, ◌∙◌, arith, inl, inr}
 use Rattle.std.specs.Prelude.{bytes_eq, if◌then◌else◌}
 use Rattle.std.specs.List.{list_all}
 use Rattle.std.proofs.lemmas.Bool.{cases_Bool, and_parts, eqb-true, eq-eqb, ne_eqb, leb-true, le-leb}
@@ -9,6 +9,7 @@ use Rattle.std.proofs.Math.Seq.{take-append_seam, drop-append_seam}
 use Rattle.aim_messages.specs.declared.script.Line.{Line}
 use Rattle.aim_messages.specs.declared.script.LineKind.{LineKind}
 use Rattle.aim_messages.specs.declared.script.LineKind.TheVariants as kind
+use Rattle.aim_text_words.specs.declared.forms.MessageForm.{MessageForm}
 use Rattle.aim_text_words.specs.declared.forms.MessageForm.TheVariants as message
 use Rattle.aim_text_words.specs.declared.forms.OrderForm.TheVariants as order
 use Rattle.aim_text_lines.specs.declared.forms.ShapeForm.{ShapeForm}
@@ -19,16 +20,16 @@ use Rattle.aim_messages.specs.Texts.{Words, spaced}
 use Rattle.aim_messages.specs.Lines.{fate_word, fate_words, line_words, line_text, IsFateList, KeepsRanges}
 use Rattle.aim_text_words.specs.Faults.{Place, first, rest, from, word_at, words_of, begins_with_digit, value_of, number_fault, word_fault, first_fault}
 use Rattle.aim_text_words.specs.Forms.{message_form, order_form}
-use Rattle.aim_text_lines.specs.Forms.{shape_forms, plain_forms, shape_form, plain_form, times_form, plan_form, line_form, map_ok, fate, fate_places, line_places, has_count}
+use Rattle.aim_text_lines.specs.Forms.{shape_forms, plain_forms, shape_form, plain_form, times_form, plan_form, event_form, line_form, map_ok, fate, fate_places, line_places, has_count}
 use Rattle.aim_text_words.specs.Reading.{unless}
 use Rattle.aim_text_lines.specs.Reading.{kind_of, fate_of, fates_of, line_of, form_fault, line_in, line_at}
 use Rattle.aim_text_lines.specs.Ranges.{IsLine}
 use Rattle.aim_text_words.proofs.NumberLaws.{IsNumberIn, number_in_from, decimal_value}
 use Rattle.aim_text_words.proofs.NoFaults.{NoFaults, no_faults}
-use Rattle.aim_text_words.proofs.Spelled.{respelled_is, same_word, turn_back, class_back, in32, in8, d32}
+use Rattle.aim_text_words.proofs.Spelled.{respelled_is, same_word, turn_back, class_back, later_back, in32, in8, d32}
 use Rattle.aim_text_lines.proofs.Spelled.{window_back, kind_back, kind_most, name_is}
 use Rattle.aim_text_lines.proofs.LaneLaws.{lanes_are_spelled}
-use Rattle.aim_text_words.proofs.Chosen.{look_up_has, message_key, message_chosen, order_key, order_chosen}
+use Rattle.aim_text_words.proofs.Chosen.{look_up_has, message_key, message_chosen, IsInOneStep, chosen_in_one_step, order_key, order_chosen}
 
 shape_key : ShapeForm → List ℕ
 shape_key way.Line = codes "line"
@@ -37,6 +38,12 @@ shape_key way.Curve = codes "curve"
 shape_chosen : (w : List ℕ) (s : ShapeForm) → shape_form w ≡ Ok s → w ≡ shape_key s
 unfolding shape_key
 shape_chosen w s h = look_up_has (λ v f. v ≡ shape_key f) kind.Words shape_forms w s (refl, (refl, tt)) h
+
+-- the versions of a message's form: a last step of arrival is told from version 4 on
+abbrev IsOfVersion : ℕ → MessageForm → Type 0
+IsOfVersion version message.RequestInWindow = 4 ≤ version
+IsOfVersion version message.ChangeInWindow = 4 ≤ version
+IsOfVersion version _ = Unit {0}
 
 -- the words by which a form is chosen, and the version where it belongs to one
 abbrev Chosen : ℕ → LineForm → Words → Type 0
@@ -50,11 +57,11 @@ Chosen version form.Policy ws = first ws ≡ codes "policy"
 Chosen version form.Phase ws = first ws ≡ codes "phase"
 Chosen version form.Vehicles ws = first ws ≡ codes "vehicles"
 Chosen version form.Begin ws = first ws ≡ codes "begin"
-Chosen version (form.Event m) ws = word_at ws 2 ≡ message_key m
+Chosen version (form.Event m) ws = (word_at ws 2 ≡ message_key m) × IsOfVersion version m
 Chosen version (form.Order o) ws = (first ws ≡ codes "operator") × (word_at ws 2 ≡ order_key o)
 Chosen version form.Until ws = first ws ≡ codes "until"
-Chosen version form.Plan ws = (first ws ≡ codes "plan") × (version ≢ 3)
-Chosen version form.PlanInWindow ws = (first ws ≡ codes "plan") × (version ≡ 3)
+Chosen version form.Plan ws = (first ws ≡ codes "plan") × (nat_le 3 version ≡ false)
+Chosen version form.PlanInWindow ws = (first ws ≡ codes "plan") × (3 ≤ version)
 Chosen version form.ChangePlan ws = first ws ≡ codes "change"
 Chosen version form.CancelPlan ws = first ws ≡ codes "cancel"
 Chosen version form.Up ws = first ws ≡ codes "up"
@@ -75,9 +82,9 @@ times_plain version = elim (cases_Bool (version == 1)) [
 ]
 
 plan_plain : (version : ℕ) → IsPlain version (codes "plan") (plan_form version)
-plan_plain version = elim (cases_Bool (version == 3)) [
-  | inl is ↦ rw is (refl, eqb-true version 3 is)
-  | inr not ↦ rw not (refl, λ is. cc (eq-eqb version 3 is, not))
+plan_plain version = elim (cases_Bool (nat_le 3 version)) [
+  | inl is ↦ rw is (refl, leb-true 3 version is)
+  | inr not ↦ rw not (refl, not)
 ]
 
 plain_to : (version : ℕ) (ws : Words) (f : LineForm) → IsPlain version (first ws) f → Chosen version f ws
@@ -112,12 +119,36 @@ inside : {A : Type 0} (g : A → LineForm) (r : Result A LineKind) (f : LineForm
 inside g (Ok a) f h = (a, refl, cc)
 inside g (Err k) f h = absurd cc
 
+-- the form of an event's message has the same first word, and is of the version
+event_chosen : (version count : ℕ) (w : List ℕ) (m : MessageForm) → w ≡ message_key m → IsInOneStep m
+    → (w ≡ message_key (event_form version count m)) × IsOfVersion version (event_form version count m)
+unfolding message_key
+event_chosen version count w message.Request is one = elim (cases_Bool (nat_le 4 version && nat_lt 13 count)) [
+  | inl tells ↦ rw tells (is, leb-true 4 version (and_parts (nat_le 4 version) (nat_lt 13 count) tells).0)
+  | inr not ↦ rw not (is, tt)
+]
+event_chosen version count w message.RequestInWindow is one = absurd one
+event_chosen version count w message.Change is one = elim (cases_Bool (nat_le 4 version && nat_lt 14 count)) [
+  | inl tells ↦ rw tells (is, leb-true 4 version (and_parts (nat_le 4 version) (nat_lt 14 count) tells).0)
+  | inr not ↦ rw not (is, tt)
+]
+event_chosen version count w message.ChangeInWindow is one = absurd one
+event_chosen version count w message.Cancel is one = elim (cases_Bool (nat_le 4 version && nat_lt 5 count)) [
+  | inl more ↦ rw more (is, tt)
+  | inr not ↦ rw not (is, tt)
+]
+event_chosen version count w message.Done is one = elim (cases_Bool (nat_le 4 version && nat_lt 5 count)) [
+  | inl more ↦ rw more (is, tt)
+  | inr not ↦ rw not (is, tt)
+]
+
 -- the form that the words choose was chosen by them
 chosen_is : (version : ℕ) (ws : Words) (f : LineForm) → line_form version ws ≡ Ok f → Chosen version f ws
 chosen_is version ws f h = elim (cases_Bool (begins_with_digit (first ws))) [
   | inl event ↦
-      let in_event = inside form.Event (message_form (word_at ws 2)) f (rw event at h) in
-      subst (λ g. Chosen version g ws) (sym in_event.2) (message_chosen (word_at ws 2) in_event.0 in_event.1)
+      let in_event = inside (λ m. form.Event (event_form version (length ws) m)) (message_form (word_at ws 2)) f (rw event at h) in
+      subst (λ g. Chosen version g ws) (sym in_event.2)
+      (event_chosen version (length ws) (word_at ws 2) in_event.0 (message_chosen (word_at ws 2) in_event.0 in_event.1) (chosen_in_one_step (word_at ws 2) in_event.0 in_event.1))
   | inr no_event ↦ elim (cases_Bool (bytes_eq (first ws) (codes "operator"))) [
     | inl order ↦
         let in_order = inside form.Order (order_form (word_at ws 2)) f (rw (no_event, order) at h) in
@@ -228,7 +259,7 @@ policy_spelled version ws c count n =
     let name = name_is (from 1 ws) n.1.0 in
     record {
       spelled = rw (name.2, kind_back version (from 2 ws) n.1.1.0, sym c) (whole ws count);
-      ranges = (name.1, small (kind_of (word_at ws 2)) (if version == 3 then 3 else 2) (kind_most version (from 2 ws) n.1.1.0) (at_most version));
+      ranges = (name.1, small (kind_of (word_at ws 2)) (if nat_le 3 version then 3 else 2) (kind_most version (from 2 ws) n.1.1.0) (at_most version));
       keeps = (name.0, kind_most version (from 2 ws) n.1.1.0);
     }
   where
@@ -239,8 +270,8 @@ policy_spelled version ws c count n =
     whole (a ∷ b ∷ c ∷ []) h = refl
     whole (a ∷ b ∷ c ∷ d ∷ ws) h = absurd (omega arith)
 
-    at_most : (version : ℕ) → (if version == 3 then 3 else 2) ≤ 3
-    at_most version = elim (cases_Bool (version == 3)) [
+    at_most : (version : ℕ) → (if nat_le 3 version then 3 else 2) ≤ 3
+    at_most version = elim (cases_Bool (nat_le 3 version)) [
       | inl is ↦ rw is (omega arith)
       | inr not ↦ rw not (omega arith)
     ]
@@ -301,6 +332,12 @@ down_spelled version ws c count n =
       keeps = fates.is;
     }
 
+same_number : (n : ℕ) → (n == n) ≡ true
+same_number n = eq-eqb n n refl
+
+other_number : (first last : ℕ) → first < last → (last == first) ≡ false
+other_number first last above = ne_eqb last first (λ is. absurd (omega (arith, is)))
+
 -- the words of each form
 spelled_of : (version : ℕ) (f : LineForm) (ws : Words) → Chosen version f ws → has_count f (length ws) ≡ true → NoFaults (line_places version f ws) ws → IsSpelled version (line_of f ws) ws
 unfolding message_key order_key shape_key
@@ -352,24 +389,34 @@ spelled_of version form.Begin ws c count n = record {
   keeps = tt;
 }
 spelled_of version (form.Event message.Request) ws c count n = record {
-  spelled = rw (sym c, turn_back (from 5 ws) n.1.1.1.1.1.0, class_back (from 12 ws) n.1.1.1.1.1.1.1.1.1.1.1.1.0) (respelled_is (line_places version (form.Event message.Request) ws) ws n (counted (line_places version (form.Event message.Request) ws) ws count) refl);
-  ranges = (in32 ws n.0, in32 (from 1 ws) n.1.0, record { seq = in32 (from 3 ws) n.1.1.1.0; body = record { lane = in8 (from 4 ws) n.1.1.1.1.0; arrive = in32 (from 6 ws) n.1.1.1.1.1.1.0; speed = in32 (from 7 ws) n.1.1.1.1.1.1.1.0; max_speed = in32 (from 8 ws) n.1.1.1.1.1.1.1.1.0; accel = in32 (from 9 ws) n.1.1.1.1.1.1.1.1.1.0; len = in32 (from 10 ws) n.1.1.1.1.1.1.1.1.1.1.0; width = in32 (from 11 ws) n.1.1.1.1.1.1.1.1.1.1.1.0 } });
-  keeps = tt;
+  spelled = rw (same_number (value_of (word_at ws 6)), sym c.0, turn_back (from 5 ws) n.1.1.1.1.1.0, class_back (from 12 ws) n.1.1.1.1.1.1.1.1.1.1.1.1.0) (respelled_is (line_places version (form.Event message.Request) ws) ws n (counted (line_places version (form.Event message.Request) ws) ws count) refl);
+  ranges = (in32 ws n.0, in32 (from 1 ws) n.1.0, record { seq = in32 (from 3 ws) n.1.1.1.0; body = record { lane = in8 (from 4 ws) n.1.1.1.1.0; arrive = in32 (from 6 ws) n.1.1.1.1.1.1.0; latest = in32 (from 6 ws) n.1.1.1.1.1.1.0; speed = in32 (from 7 ws) n.1.1.1.1.1.1.1.0; max_speed = in32 (from 8 ws) n.1.1.1.1.1.1.1.1.0; accel = in32 (from 9 ws) n.1.1.1.1.1.1.1.1.1.0; len = in32 (from 10 ws) n.1.1.1.1.1.1.1.1.1.1.0; width = in32 (from 11 ws) n.1.1.1.1.1.1.1.1.1.1.1.0 } });
+  keeps = (omega arith, λ below. refl);
+}
+spelled_of version (form.Event message.RequestInWindow) ws c count n = record {
+  spelled = rw (other_number _ _ (later_back (value_of (word_at ws 6)) (from 13 ws) n.1.1.1.1.1.1.1.1.1.1.1.1.1.0).0, sym c.0, turn_back (from 5 ws) n.1.1.1.1.1.0, class_back (from 12 ws) n.1.1.1.1.1.1.1.1.1.1.1.1.0) (respelled_is (line_places version (form.Event message.RequestInWindow) ws) ws n (counted (line_places version (form.Event message.RequestInWindow) ws) ws count) refl);
+  ranges = (in32 ws n.0, in32 (from 1 ws) n.1.0, record { seq = in32 (from 3 ws) n.1.1.1.0; body = record { lane = in8 (from 4 ws) n.1.1.1.1.0; arrive = in32 (from 6 ws) n.1.1.1.1.1.1.0; latest = (later_back (value_of (word_at ws 6)) (from 13 ws) n.1.1.1.1.1.1.1.1.1.1.1.1.1.0).1; speed = in32 (from 7 ws) n.1.1.1.1.1.1.1.0; max_speed = in32 (from 8 ws) n.1.1.1.1.1.1.1.1.0; accel = in32 (from 9 ws) n.1.1.1.1.1.1.1.1.1.0; len = in32 (from 10 ws) n.1.1.1.1.1.1.1.1.1.1.0; width = in32 (from 11 ws) n.1.1.1.1.1.1.1.1.1.1.1.0 } });
+  keeps = (let later = (later_back (value_of (word_at ws 6)) (from 13 ws) n.1.1.1.1.1.1.1.1.1.1.1.1.1.0).0 in omega arith, λ below. absurd (let least = c.1 in omega arith));
 }
 spelled_of version (form.Event message.Change) ws c count n = record {
-  spelled = rw (sym c, turn_back (from 6 ws) n.1.1.1.1.1.1.0, class_back (from 13 ws) n.1.1.1.1.1.1.1.1.1.1.1.1.1.0) (respelled_is (line_places version (form.Event message.Change) ws) ws n (counted (line_places version (form.Event message.Change) ws) ws count) refl);
-  ranges = (in32 ws n.0, in32 (from 1 ws) n.1.0, record { seq = in32 (from 3 ws) n.1.1.1.0; body = (in32 (from 4 ws) n.1.1.1.1.0, record { lane = in8 (from 5 ws) n.1.1.1.1.1.0; arrive = in32 (from 7 ws) n.1.1.1.1.1.1.1.0; speed = in32 (from 8 ws) n.1.1.1.1.1.1.1.1.0; max_speed = in32 (from 9 ws) n.1.1.1.1.1.1.1.1.1.0; accel = in32 (from 10 ws) n.1.1.1.1.1.1.1.1.1.1.0; len = in32 (from 11 ws) n.1.1.1.1.1.1.1.1.1.1.1.0; width = in32 (from 12 ws) n.1.1.1.1.1.1.1.1.1.1.1.1.0 }) });
-  keeps = tt;
+  spelled = rw (same_number (value_of (word_at ws 7)), sym c.0, turn_back (from 6 ws) n.1.1.1.1.1.1.0, class_back (from 13 ws) n.1.1.1.1.1.1.1.1.1.1.1.1.1.0) (respelled_is (line_places version (form.Event message.Change) ws) ws n (counted (line_places version (form.Event message.Change) ws) ws count) refl);
+  ranges = (in32 ws n.0, in32 (from 1 ws) n.1.0, record { seq = in32 (from 3 ws) n.1.1.1.0; body = (in32 (from 4 ws) n.1.1.1.1.0, record { lane = in8 (from 5 ws) n.1.1.1.1.1.0; arrive = in32 (from 7 ws) n.1.1.1.1.1.1.1.0; latest = in32 (from 7 ws) n.1.1.1.1.1.1.1.0; speed = in32 (from 8 ws) n.1.1.1.1.1.1.1.1.0; max_speed = in32 (from 9 ws) n.1.1.1.1.1.1.1.1.1.0; accel = in32 (from 10 ws) n.1.1.1.1.1.1.1.1.1.1.0; len = in32 (from 11 ws) n.1.1.1.1.1.1.1.1.1.1.1.0; width = in32 (from 12 ws) n.1.1.1.1.1.1.1.1.1.1.1.1.0 }) });
+  keeps = (omega arith, λ below. refl);
+}
+spelled_of version (form.Event message.ChangeInWindow) ws c count n = record {
+  spelled = rw (other_number _ _ (later_back (value_of (word_at ws 7)) (from 14 ws) n.1.1.1.1.1.1.1.1.1.1.1.1.1.1.0).0, sym c.0, turn_back (from 6 ws) n.1.1.1.1.1.1.0, class_back (from 13 ws) n.1.1.1.1.1.1.1.1.1.1.1.1.1.0) (respelled_is (line_places version (form.Event message.ChangeInWindow) ws) ws n (counted (line_places version (form.Event message.ChangeInWindow) ws) ws count) refl);
+  ranges = (in32 ws n.0, in32 (from 1 ws) n.1.0, record { seq = in32 (from 3 ws) n.1.1.1.0; body = (in32 (from 4 ws) n.1.1.1.1.0, record { lane = in8 (from 5 ws) n.1.1.1.1.1.0; arrive = in32 (from 7 ws) n.1.1.1.1.1.1.1.0; latest = (later_back (value_of (word_at ws 7)) (from 14 ws) n.1.1.1.1.1.1.1.1.1.1.1.1.1.1.0).1; speed = in32 (from 8 ws) n.1.1.1.1.1.1.1.1.0; max_speed = in32 (from 9 ws) n.1.1.1.1.1.1.1.1.1.0; accel = in32 (from 10 ws) n.1.1.1.1.1.1.1.1.1.1.0; len = in32 (from 11 ws) n.1.1.1.1.1.1.1.1.1.1.1.0; width = in32 (from 12 ws) n.1.1.1.1.1.1.1.1.1.1.1.1.0 }) });
+  keeps = (let later = (later_back (value_of (word_at ws 7)) (from 14 ws) n.1.1.1.1.1.1.1.1.1.1.1.1.1.1.0).0 in omega arith, λ below. absurd (let least = c.1 in omega arith));
 }
 spelled_of version (form.Event message.Cancel) ws c count n = record {
-  spelled = rw (sym c) (respelled_is (line_places version (form.Event message.Cancel) ws) ws n (counted (line_places version (form.Event message.Cancel) ws) ws count) refl);
+  spelled = rw (sym c.0) (respelled_is (line_places version (form.Event message.Cancel) ws) ws n (counted (line_places version (form.Event message.Cancel) ws) ws count) refl);
   ranges = (in32 ws n.0, in32 (from 1 ws) n.1.0, record { seq = in32 (from 3 ws) n.1.1.1.0; body = in32 (from 4 ws) n.1.1.1.1.0 });
-  keeps = tt;
+  keeps = (tt, λ below. tt);
 }
 spelled_of version (form.Event message.Done) ws c count n = record {
-  spelled = rw (sym c) (respelled_is (line_places version (form.Event message.Done) ws) ws n (counted (line_places version (form.Event message.Done) ws) ws count) refl);
+  spelled = rw (sym c.0) (respelled_is (line_places version (form.Event message.Done) ws) ws n (counted (line_places version (form.Event message.Done) ws) ws count) refl);
   ranges = (in32 ws n.0, in32 (from 1 ws) n.1.0, record { seq = in32 (from 3 ws) n.1.1.1.0; body = in32 (from 4 ws) n.1.1.1.1.0 });
-  keeps = tt;
+  keeps = (tt, λ below. tt);
 }
 spelled_of version (form.Order order.Switch) ws c count n = switch_spelled version ws c (counted (line_places 1 (form.Order order.Switch) ws) ws count) n
 spelled_of version (form.Order order.Stop) ws c count n = record {
@@ -383,14 +430,14 @@ spelled_of version form.Until ws c count n = record {
   keeps = tt;
 }
 spelled_of version form.Plan ws c count n = record {
-  spelled = rw (ne_eqb version 3 c.1, sym c.0, turn_back (from 6 ws) n.1.1.1.1.1.1.0, class_back (from 12 ws) n.1.1.1.1.1.1.1.1.1.1.1.1.0) (respelled_is (line_places version form.Plan ws) ws n (counted (line_places version form.Plan ws) ws count) refl);
-  ranges = (in32 (from 1 ws) n.1.0, in32 (from 2 ws) n.1.1.0, in32 (from 3 ws) n.1.1.1.0, in32 (from 4 ws) n.1.1.1.1.0, record { lane = in8 (from 5 ws) n.1.1.1.1.1.0; arrive = omega arith; speed = in32 (from 7 ws) n.1.1.1.1.1.1.1.0; max_speed = in32 (from 8 ws) n.1.1.1.1.1.1.1.1.0; accel = in32 (from 9 ws) n.1.1.1.1.1.1.1.1.1.0; len = in32 (from 10 ws) n.1.1.1.1.1.1.1.1.1.1.0; width = in32 (from 11 ws) n.1.1.1.1.1.1.1.1.1.1.1.0 });
-  keeps = (refl, λ ahead. absurd cc);
+  spelled = rw (c.1, sym c.0, turn_back (from 6 ws) n.1.1.1.1.1.1.0, class_back (from 12 ws) n.1.1.1.1.1.1.1.1.1.1.1.1.0) (respelled_is (line_places version form.Plan ws) ws n (counted (line_places version form.Plan ws) ws count) refl);
+  ranges = (in32 (from 1 ws) n.1.0, in32 (from 2 ws) n.1.1.0, in32 (from 3 ws) n.1.1.1.0, in32 (from 4 ws) n.1.1.1.1.0, record { lane = in8 (from 5 ws) n.1.1.1.1.1.0; arrive = omega arith; latest = omega arith; speed = in32 (from 7 ws) n.1.1.1.1.1.1.1.0; max_speed = in32 (from 8 ws) n.1.1.1.1.1.1.1.1.0; accel = in32 (from 9 ws) n.1.1.1.1.1.1.1.1.1.0; len = in32 (from 10 ws) n.1.1.1.1.1.1.1.1.1.1.0; width = in32 (from 11 ws) n.1.1.1.1.1.1.1.1.1.1.1.0 });
+  keeps = (refl, refl, λ ahead. absurd cc);
 }
 spelled_of version form.PlanInWindow ws c count n = record {
-  spelled = rw (eq-eqb version 3 c.1, sym c.0, turn_back (from 6 ws) n.1.1.1.1.1.1.0, class_back (from 12 ws) n.1.1.1.1.1.1.1.1.1.1.1.1.0, window_back (from 13 ws) n.1.1.1.1.1.1.1.1.1.1.1.1.1.0) (respelled_is (line_places version form.PlanInWindow ws) ws n (counted (line_places version form.PlanInWindow ws) ws count) refl);
-  ranges = (in32 (from 1 ws) n.1.0, in32 (from 2 ws) n.1.1.0, in32 (from 3 ws) n.1.1.1.0, in32 (from 4 ws) n.1.1.1.1.0, record { lane = in8 (from 5 ws) n.1.1.1.1.1.0; arrive = omega arith; speed = in32 (from 7 ws) n.1.1.1.1.1.1.1.0; max_speed = in32 (from 8 ws) n.1.1.1.1.1.1.1.1.0; accel = in32 (from 9 ws) n.1.1.1.1.1.1.1.1.1.0; len = in32 (from 10 ws) n.1.1.1.1.1.1.1.1.1.1.0; width = in32 (from 11 ws) n.1.1.1.1.1.1.1.1.1.1.1.0 });
-  keeps = (refl, λ ahead. c.1);
+  spelled = rw (le-leb 3 version c.1, sym c.0, turn_back (from 6 ws) n.1.1.1.1.1.1.0, class_back (from 12 ws) n.1.1.1.1.1.1.1.1.1.1.1.1.0, window_back (from 13 ws) n.1.1.1.1.1.1.1.1.1.1.1.1.1.0) (respelled_is (line_places version form.PlanInWindow ws) ws n (counted (line_places version form.PlanInWindow ws) ws count) refl);
+  ranges = (in32 (from 1 ws) n.1.0, in32 (from 2 ws) n.1.1.0, in32 (from 3 ws) n.1.1.1.0, in32 (from 4 ws) n.1.1.1.1.0, record { lane = in8 (from 5 ws) n.1.1.1.1.1.0; arrive = omega arith; latest = omega arith; speed = in32 (from 7 ws) n.1.1.1.1.1.1.1.0; max_speed = in32 (from 8 ws) n.1.1.1.1.1.1.1.1.0; accel = in32 (from 9 ws) n.1.1.1.1.1.1.1.1.1.0; len = in32 (from 10 ws) n.1.1.1.1.1.1.1.1.1.1.0; width = in32 (from 11 ws) n.1.1.1.1.1.1.1.1.1.1.1.0 });
+  keeps = (refl, refl, λ ahead. c.1);
 }
 spelled_of version form.ChangePlan ws c count n = record {
   spelled = rw (sym c) (respelled_is (line_places version form.ChangePlan ws) ws n (counted (line_places version form.ChangePlan ws) ws count) refl);

@@ -79,7 +79,7 @@ unfolding all_lanes
 lane_words_are lanes = lanes_are_words 16 0 lanes (omega arith)
 
 window_are_words : (version : ℕ) (ahead : Bool) → AreWords (window_words version ahead)
-window_are_words version ahead = elim (cases_Bool (version == 3)) [
+window_are_words version ahead = elim (cases_Bool (nat_le 3 version)) [
   | inl is ↦ rw is (window_is_word ahead, tt)
   | inr not ↦ rw not tt
 ]

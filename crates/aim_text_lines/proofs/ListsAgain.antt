@@ -30,8 +30,8 @@ kinds_3 (suc (suc zero)) ws h = refl
 kinds_3 (suc (suc (suc zero))) ws h = refl
 kinds_3 (suc (suc (suc (suc k)))) ws h = absurd (omega arith)
 
-pub kind_again : (version kind : ℕ) (ws : Words) → kind ≤ (if version == 3 then 3 else 2) → read_in (kinds version) kind_of (kind_word kind ∷ ws) ≡ Ok (kind, ws)
-kind_again version kind ws h = elim (cases_Bool (version == 3)) [
+pub kind_again : (version kind : ℕ) (ws : Words) → kind ≤ (if nat_le 3 version then 3 else 2) → read_in (kinds version) kind_of (kind_word kind ∷ ws) ≡ Ok (kind, ws)
+kind_again version kind ws h = elim (cases_Bool (nat_le 3 version)) [
   | inl is ↦ rw is (kinds_3 kind ws (rw is at h))
   | inr not ↦ rw not (kinds_2 kind ws (rw not at h))
 ]

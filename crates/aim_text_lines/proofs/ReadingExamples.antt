@@ -11,7 +11,7 @@ use Rattle.aim_messages.specs.declared.script.LineKind.TheVariants as kind
 use Rattle.aim_text_lines.specs.Reading.{line_at, line_fault, name_of}
 
 abbrev truck : ℕ → Params
-truck arrive = record { lane = 1; turn = Straight; arrive = arrive; speed = 500; max_speed = 501; accel = 0; length = 1000; width = 700; emergency = false }
+truck arrive = record { lane = 1; turn = Straight; arrive = arrive; latest = arrive; speed = 500; max_speed = 501; accel = 0; length = 1000; width = 700; emergency = false }
 
 abbrev event : Body → Line
 event b = line.Event 7 20 (record { seq = 3; body = b })
@@ -56,6 +56,15 @@ begin_line = refl
 request_line : line_at 1 (codes "7 20 request 3 1 straight 30 500 501 0 1000 700 car") ≡ Ok (event (body.Request (truck 30)))
 request_line = refl
 
+request_in_window : line_at 4 (codes "7 20 request 3 1 straight 30 500 501 0 1000 700 car 31") ≡ Ok (event (body.Request (record (truck 30) { latest = 31 })))
+request_in_window = refl
+
+change_in_window : line_at 4 (codes "7 20 change 3 9 1 straight 30 500 501 0 1000 700 car 4294967295") ≡ Ok (event (body.Change 9 (record (truck 30) { latest = 4294967295 })))
+change_in_window = refl
+
+request_of_4 : line_at 4 (codes "7 20 request 3 1 straight 30 500 501 0 1000 700 car") ≡ Ok (event (body.Request (truck 30)))
+request_of_4 = refl
+
 change_line : line_at 1 (codes "7 20 change 3 9 1 straight 30 500 501 0 1000 700 car") ≡ Ok (event (body.Change 9 (truck 30)))
 change_line = refl
 
@@ -76,6 +85,12 @@ until_line = refl
 
 plan_1 : line_at 1 (codes "plan 0 1 10 3 1 straight 500 501 0 1000 700 car") ≡ Ok (line.PlanFor 0 1 10 3 (truck 0) false)
 plan_1 = refl
+
+plan_4 : line_at 4 (codes "plan 0 1 10 3 1 straight 500 501 0 1000 700 car start") ≡ Ok (line.PlanFor 0 1 10 3 (truck 0) false)
+plan_4 = refl
+
+policy_4 : line_at 4 (codes "policy both light-emerg") ≡ Ok (line.Policy (name_of (codes "both")) 3)
+policy_4 = refl
 
 plan_3 : line_at 3 (codes "plan 0 1 10 3 1 straight 500 501 0 1000 700 car early") ≡ Ok (line.PlanFor 0 1 10 3 (truck 0) true)
 plan_3 = refl
@@ -138,6 +153,18 @@ plan_of_2 = refl
 
 plan_of_3 : line_fault 2 (codes "plan 0 1 10 3 1 straight 500 501 0 1000 700 car start") ≡ Some kind.Words
 plan_of_3 = refl
+
+latest_before_4 : line_fault 3 (codes "7 20 request 3 1 straight 30 500 501 0 1000 700 car 31") ≡ Some kind.Words
+latest_before_4 = refl
+
+change_latest_before_4 : line_fault 1 (codes "7 20 change 3 9 1 straight 30 500 501 0 1000 700 car 31") ≡ Some kind.Words
+change_latest_before_4 = refl
+
+two_latest : line_fault 4 (codes "7 20 request 3 1 straight 30 500 501 0 1000 700 car 31 32") ≡ Some kind.Words
+two_latest = refl
+
+cancel_latest : line_fault 4 (codes "7 20 cancel 3 9 31") ≡ Some kind.Words
+cancel_latest = refl
 
 no_fates : line_fault 1 (codes "up 0") ≡ Some kind.Words
 no_fates = refl
@@ -208,6 +235,9 @@ no_number = refl
 number_before_range : line_fault 1 (codes "1x 4294967296 cancel 1 0") ≡ Some kind.Number
 number_before_range = refl
 
+latest_word : line_fault 4 (codes "7 20 request 3 1 straight 30 500 501 0 1000 700 car late") ≡ Some kind.Number
+latest_word = refl
+
 zero_fate : line_fault 1 (codes "up 0 007") ≡ Some kind.Number
 zero_fate = refl
 
@@ -238,6 +268,15 @@ twice = refl
 
 lane_16 : line_fault 1 (codes "phase 20 80 16") ≡ Some kind.Range
 lane_16 = refl
+
+latest_at_arrive : line_fault 4 (codes "7 20 request 3 1 straight 30 500 501 0 1000 700 car 30") ≡ Some kind.Range
+latest_at_arrive = refl
+
+latest_below_arrive : line_fault 4 (codes "7 20 change 3 9 1 straight 30 500 501 0 1000 700 car 29") ≡ Some kind.Range
+latest_below_arrive = refl
+
+latest_too_great : line_fault 4 (codes "7 20 request 3 1 straight 30 500 501 0 1000 700 car 4294967296") ≡ Some kind.Range
+latest_too_great = refl
 
 fate_0 : line_fault 1 (codes "up 0 0") ≡ Some kind.Range
 fate_0 = refl

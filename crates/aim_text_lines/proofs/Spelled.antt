@@ -1,5 +1,5 @@
 -- Words without a fault are spelled as their values.
-use Rattle.std.proofs.Common.{◌≡◌, ℕ, ◌-◌, ◌<◌, ◌≤◌, ◌==◌, ◌&&◌, ◌||◌, nat_lt, nat_le, Bool, true, false, not, List, [], ◌∷◌, ◌++◌, length, take, replicate, None, codes, refl, arith, inl, inr}
+use Rattle.std.proofs.Common.{◌≡◌, ℕ, ◌-◌, ◌<◌, ◌≤◌, ◌&&◌, ◌||◌, nat_lt, nat_le, Bool, true, false, not, List, [], ◌∷◌, ◌++◌, length, take, replicate, None, codes, refl, arith, inl, inr}
 use Rattle.std.specs.Prelude.{bytes_eq, if◌then◌else◌}
 use Rattle.std.specs.List.{list_all}
 use Rattle.std.proofs.lemmas.Bool.{cases_Bool, and_parts, ltb-true, leb-true}
@@ -26,14 +26,14 @@ kind_rows = (codes "fcfs", 0) ∷ (codes "emerg", 1) ∷ (codes "light", 2) ∷ 
 
 pub kind_back : (version : ℕ) (ws : Words) → fault_at (kinds version) ws ≡ None → kind_word (kind_of (first ws)) ≡ first ws
 unfolding kind_rows
-kind_back version ws h = elim (cases_Bool (version == 3)) [
+kind_back version ws h = elim (cases_Bool (nat_le 3 version)) [
   | inl is ↦ meaning_last kind_word kind_rows 3 (first ws) (refl, (refl, (refl, tt))) (keyword_allowed (codes "fcfs" ∷ codes "emerg" ∷ codes "light" ∷ codes "light-emerg" ∷ []) ws (rw is at h))
   | inr not ↦ meaning_back kind_word kind_rows 3 (first ws) (refl, (refl, (refl, tt))) (keyword_allowed (codes "fcfs" ∷ codes "emerg" ∷ codes "light" ∷ []) ws (rw not at h))
 ]
 
 -- and its number is one of the version
-pub kind_most : (version : ℕ) (ws : Words) → fault_at (kinds version) ws ≡ None → kind_of (first ws) ≤ (if version == 3 then 3 else 2)
-kind_most version ws h = elim (cases_Bool (version == 3)) [
+pub kind_most : (version : ℕ) (ws : Words) → fault_at (kinds version) ws ≡ None → kind_of (first ws) ≤ (if nat_le 3 version then 3 else 2)
+kind_most version ws h = elim (cases_Bool (nat_le 3 version)) [
   | inl is ↦ rw is (at_most_3 (first ws))
   | inr not ↦ rw not (at_most_2 (first ws) (keyword_allowed (codes "fcfs" ∷ codes "emerg" ∷ codes "light" ∷ []) ws (rw not at h)))
 ]

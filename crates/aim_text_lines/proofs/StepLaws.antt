@@ -25,10 +25,12 @@ use Rattle.aim_text_lines.specs.Steps.{shape_in, grid_in, times_in, times6_in, m
 use Rattle.aim_text_words.proofs.StepLaws.{bind_unless, bind_read, bind_assoc, numbers_step, vehicle_step, message_step}
 
 message_last : {B : Type 0} (m : MessageForm) (ws : Words) (f : Message × Words → Result B LineKind) (b : B)
-    → f (message_of m ws, behind (message_places m) ws) ≡ Ok b
-    → (message_in m ws >>= f) ≡ unless b (first_fault (message_places m) ws)
+    → f (message_of m ws, behind (message_places m ws) ws) ≡ Ok b
+    → (message_in m ws >>= f) ≡ unless b (first_fault (message_places m ws) ws)
 message_last message.Request ws f b h = message_step message.Request ws f b None h
+message_last message.RequestInWindow ws f b h = message_step message.RequestInWindow ws f b None h
 message_last message.Change ws f b h = message_step message.Change ws f b None h
+message_last message.ChangeInWindow ws f b h = message_step message.ChangeInWindow ws f b None h
 message_last message.Cancel ws f b h = message_step message.Cancel ws f b None h
 message_last message.Done ws f b h = message_step message.Done ws f b None h
 

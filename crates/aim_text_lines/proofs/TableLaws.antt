@@ -1,7 +1,7 @@
 -- Tables of words.
-use Rattle.std.proofs.Common.{◌≡◌, ℕ, ◌==◌, List, [], ◌∷◌, map, Bool, true, false, Result, refl, inl, inr}
+use Rattle.std.proofs.Common.{◌≡◌, ℕ, ◌<◌, ◌≤◌, nat_le, List, [], ◌∷◌, map, Bool, true, false, Result, refl, inl, inr, arith}
 use Rattle.std.specs.Prelude.{bytes_eq, codes}
-use Rattle.std.proofs.lemmas.Bool.{cases_Bool}
+use Rattle.std.proofs.lemmas.Bool.{cases_Bool, leb-true, le-leb}
 use Rattle.aim_messages.specs.declared.script.LineKind.{LineKind}
 use Rattle.aim_messages.specs.declared.script.LineKind.TheVariants as kind
 use Rattle.aim_messages.specs.Texts.{Words}
@@ -40,11 +40,17 @@ kind_said word = elim (cases_Bool (bytes_eq word (codes "fcfs"))) [
   ]
 ]
 
-pub kind_read : (version : ℕ) → (version == 3) ≡ false → (r : Result ℕ LineKind) (left ws : Words) → Gives r left (choice_in kind_rows ws) → Gives r left (read_in (kinds version) kind_of ws)
-kind_read version not = rw not (choice_read _ _ _ kind_said)
+pub kind_read : (version : ℕ) → version < 3 → (r : Result ℕ LineKind) (left ws : Words) → Gives r left (choice_in kind_rows ws) → Gives r left (read_in (kinds version) kind_of ws)
+kind_read version below = rw (not_least version below) (choice_read _ _ _ kind_said)
+  where
+    not_least : (version : ℕ) → version < 3 → nat_le 3 version ≡ false
+    not_least version below = elim (cases_Bool (nat_le 3 version)) [
+      | inl is ↦ absurd (omega (arith, leb-true 3 version is))
+      | inr not ↦ not
+    ]
 
 abbrev kind_rows_3 : List (List ℕ × ℕ)
 kind_rows_3 = (codes "fcfs", 0) ∷ (codes "emerg", 1) ∷ (codes "light", 2) ∷ (codes "light-emerg", 3) ∷ []
 
-pub kind_read_3 : (version : ℕ) → version ≡ 3 → (r : Result ℕ LineKind) (left ws : Words) → Gives r left (choice_in kind_rows_3 ws) → Gives r left (read_in (kinds version) kind_of ws)
-kind_read_3 version is = rw is (choice_read _ _ _ (said kind_rows (codes "light-emerg", 3)))
+pub kind_read_3 : (version : ℕ) → 3 ≤ version → (r : Result ℕ LineKind) (left ws : Words) → Gives r left (choice_in kind_rows_3 ws) → Gives r left (read_in (kinds version) kind_of ws)
+kind_read_3 version least = rw (le-leb 3 version least) (choice_read _ _ _ (said kind_rows (codes "light-emerg", 3)))

@@ -1,7 +1,8 @@
 -- The tables of script lines: by which words a line's form is chosen, and which places it has.
-use Rattle.std.specs.Prelude.{ℕ, ◌+◌, ◌==◌, Bool, List, [], ◌∷◌, ◌++◌, length, Result, Ok, Err, codes, nat_le, ◌&&◌, if◌then◌else◌, bytes_eq}
+use Rattle.std.specs.Prelude.{ℕ, ◌+◌, ◌==◌, Bool, nat_lt, List, [], ◌∷◌, ◌++◌, length, Result, Ok, Err, codes, nat_le, ◌&&◌, if◌then◌else◌, bytes_eq}
 use Rattle.aim_messages.specs.declared.script.LineKind.{LineKind}
 use Rattle.aim_messages.specs.declared.script.LineKind.TheVariants as kind
+use Rattle.aim_text_words.specs.declared.forms.MessageForm.{MessageForm}
 use Rattle.aim_text_words.specs.declared.forms.OrderForm.TheVariants as order
 use Rattle.aim_text_lines.specs.declared.forms.ShapeForm.{ShapeForm}
 use Rattle.aim_text_lines.specs.declared.forms.ShapeForm.TheVariants as shape
@@ -10,7 +11,7 @@ use Rattle.aim_text_lines.specs.declared.forms.LineForm.TheVariants as form
 use Rattle.aim_messages.specs.Texts.{Words}
 use Rattle.aim_text_words.specs.Tables.{look_up}
 use Rattle.aim_text_words.specs.Faults.{Place, chosen, keyword, name, number, either, from, word_at, begins_with_digit, value_of, number32, number8, turns}
-use Rattle.aim_text_words.specs.Forms.{message_form, order_form, vehicle_places, message_places}
+use Rattle.aim_text_words.specs.Forms.{message_form, order_form, vehicle_places, message_places, message_size, in_window}
 
 -- by the fourth word of a move
 abbrev pub shape_forms : List (List ℕ × ShapeForm)
@@ -25,7 +26,7 @@ abbrev pub times_form : ℕ → LineForm
 times_form version = if version == 1 then form.Times else form.Times6
 
 abbrev pub plan_form : ℕ → LineForm
-plan_form version = if version == 3 then form.PlanInWindow else form.Plan
+plan_form version = if nat_le 3 version then form.PlanInWindow else form.Plan
 
 -- the form that a line of version 1 has in a version
 abbrev pub in_version : ℕ → LineForm → LineForm
@@ -60,10 +61,15 @@ abbrev pub map_ok : {A B : Type 0} → (A → B) → Result A LineKind → Resul
 map_ok f (Ok a) = Ok (f a)
 map_ok f (Err k) = Err k
 
+-- the form of the message of an event of so many words: from version 4 on one that goes on behind its last place tells
+-- the last step of arrival
+abbrev pub event_form : ℕ → ℕ → MessageForm → MessageForm
+event_form version count m = if nat_le 4 version && nat_lt (3 + message_size m) count then in_window m else m
+
 -- the form that the words choose: a line that begins with a digit is an event
 abbrev pub line_form : ℕ → Words → Result LineForm LineKind
 line_form version words =
-    if begins_with_digit (word_at words 0) then map_ok form.Event (message_form (word_at words 2))
+    if begins_with_digit (word_at words 0) then map_ok (λ m. form.Event (event_form version (length words) m)) (message_form (word_at words 2))
     else if bytes_eq (word_at words 0) (codes "operator") then map_ok form.Order (order_form (word_at words 2))
     else if bytes_eq (word_at words 0) (codes "move") then map_ok form.Move (shape_form (word_at words 3))
     else plain_form version (word_at words 0)
@@ -82,7 +88,7 @@ fate_places (w ∷ ws) = fate ∷ fate_places ws
 
 abbrev pub kinds : ℕ → Place
 kinds version =
-    if version == 3 then keyword (codes "fcfs" ∷ codes "emerg" ∷ codes "light" ∷ codes "light-emerg" ∷ [])
+    if nat_le 3 version then keyword (codes "fcfs" ∷ codes "emerg" ∷ codes "light" ∷ codes "light-emerg" ∷ [])
     else keyword (codes "fcfs" ∷ codes "emerg" ∷ codes "light" ∷ [])
 
 abbrev pub windows : Place
@@ -109,7 +115,7 @@ line_places version form.Policy words = chosen ∷ name ∷ kinds version ∷ []
 line_places version form.Phase words = chosen ∷ number32 ∷ number32 ∷ lane_places 0 (from 3 words)
 line_places version form.Vehicles words = chosen ∷ number32 ∷ []
 line_places version form.Begin words = chosen ∷ []
-line_places version (form.Event m) words = number32 ∷ number32 ∷ chosen ∷ message_places m
+line_places version (form.Event m) words = number32 ∷ number32 ∷ chosen ∷ message_places m (from 3 words)
 line_places version (form.Order order.Switch) words = chosen ∷ number32 ∷ chosen ∷ name ∷ []
 line_places version (form.Order order.Stop) words = chosen ∷ number32 ∷ chosen ∷ []
 line_places version form.Until words = chosen ∷ number32 ∷ []

@@ -47,7 +47,7 @@ shape_of way.Line words = shape.Line (at words 0) (at words 1) (at words 2) (at 
 shape_of way.Curve words = shape.Curve (at words 0) (at words 1) (at words 2) (at words 3) (at words 4) (at words 5) (at words 6)
 
 abbrev pub plan_of : Words → Bool → Line
-plan_of words ahead = line.PlanFor (at words 1) (at words 2) (at words 3) (at words 4) (params_at words 5 0 7) ahead
+plan_of words ahead = line.PlanFor (at words 1) (at words 2) (at words 3) (at words 4) (params_at words 5 0 0 7) ahead
 
 -- the line of a form's words, where they have no fault
 abbrev pub line_of : LineForm → Words → Line

@@ -1,11 +1,13 @@
 // The forms of script lines, each of which words choose.
-ghost use Rattle.std.specs.Prelude.{◌≡◌, ◌==◌, ◌&&◌, ◌+◌, ◌<◌, ◌^◌, count_by, nat_le, length, bytes_eq, codes};
+ghost use Rattle.std.specs.Prelude.{◌≡◌, ◌==◌, ◌&&◌, ◌+◌, ◌<◌, ◌^◌, count_by, nat_le, nat_lt, if◌then◌else◌, length, bytes_eq, codes};
 ghost use Rattle.aim_text_words.specs.Faults.{words_of};
-ghost use Rattle.aim_text_words.specs.Forms.{message_form, order_form};
-ghost use Rattle.aim_text_lines.specs.Forms.{shape_form, times_form, plan_form, in_version, plain_form, line_form, has_count};
+ghost use Rattle.aim_text_words.specs.Forms.{message_form, order_form, message_size, in_window};
+ghost use Rattle.aim_text_lines.specs.Forms.{shape_form, times_form, plan_form, in_version, plain_form, event_form, line_form, has_count};
 
 use aim_messages::LineKind;
-use aim_text_words::forms::{MessageForm, OrderForm, message_form, order_form};
+use aim_text_words::forms::{
+    MessageForm, OrderForm, in_window, message_form, message_size, order_form,
+};
 use aim_text_words::numbers::begins_with_digit;
 use aim_text_words::tables::look_up;
 use aim_text_words::words::Words;
@@ -82,7 +84,7 @@ fn times_form(version: u8) -> LineForm
 fn plan_form(version: u8) -> LineForm
     ensures { result ≡ plan_form version }
 {
-    if version == 3 {
+    if version >= 3 {
         LineForm::PlanInWindow
     } else {
         LineForm::Plan
@@ -108,6 +110,18 @@ fn plain_form(word: &[u8], version: u8) -> Result<LineForm, LineKind>
     Ok(in_version(form, version))
 }
 
+// The form of the message of an event: from version 4 on one that goes on behind its last place tells the last step of
+// arrival.
+fn event_form(line: &[u8], version: u8, form: MessageForm) -> MessageForm
+    ensures { result ≡ event_form version (length (words_of line.now)) form }
+{
+    if version >= 4 && 3 + message_size(form) < count(line) {
+        in_window(form)
+    } else {
+        form
+    }
+}
+
 /// The form that a line's words choose: the first word, and the third of an event and of an order, and the fourth of
 /// a move.
 pub fn line_form(line: &[u8], version: u8) -> Result<LineForm, LineKind>
@@ -118,7 +132,7 @@ pub fn line_form(line: &[u8], version: u8) -> Result<LineForm, LineKind>
     if begins_with_digit(first) {
         words.take();
         let form = message_form(words.take())?;
-        Ok(LineForm::Event(form))
+        Ok(LineForm::Event(event_form(line, version, form)))
     } else if first == b"operator".as_slice() {
         words.take();
         let form = order_form(words.take())?;
@@ -162,7 +176,9 @@ pub fn has_count(form: LineForm, count: usize) -> bool
         LineForm::Move(ShapeForm::Line) => count == 9,
         LineForm::Move(ShapeForm::Curve) => count == 11,
         LineForm::Event(MessageForm::Request) | LineForm::Plan => count == 13,
-        LineForm::Event(MessageForm::Change) | LineForm::PlanInWindow => count == 14,
+        LineForm::Event(MessageForm::RequestInWindow | MessageForm::Change)
+        | LineForm::PlanInWindow => count == 14,
+        LineForm::Event(MessageForm::ChangeInWindow) => count == 15,
         LineForm::Phase => 4 <= count && count <= 19,
         LineForm::Up | LineForm::Down => 3 <= count && count <= 66,
     }

@@ -57,17 +57,18 @@ fn line_in(words: &mut Words<'_>, form: LineForm, version: u8) -> Result<Line, L
     }
 }
 
-/// Reads a line of a script of that version, which is 1 to 3: the line for its one spelling, else the kind of the
+/// Reads a line of a script of that version, which is 1 to 4: the line for its one spelling, else the kind of the
 /// first of these rules that the bytes break.
 ///
 /// 1. `Unknown`: the first word begins a form. Words are what stands between the spaces.
 /// 2. `Words`: the third word of an event or an order and the fourth of a `move` choose a form, and the line has as
-///    many words as its form.
+///    many words as its form. An event of version 4 that asks for a crossing may have one more, its last step of arrival.
 /// 3. From the left, each word may stand in its place: else `Words` in the place of a keyword, a name or a fate,
-///    `Number` where it isn't spelled as a number, and `Range` where the number is too small or too great.
+///    `Number` where it isn't spelled as a number, and `Range` where the number is too small or too great. A last step
+///    of arrival that is told is above the first.
 #[tactic(auto, using(crate::proofs::StepLaws::steps_are))]
 pub fn read_line(line: &[u8], version: u8) -> Result<Line, LineKind>
-    requires { (0 < version) × (version ≤ 3) }
+    requires { (0 < version) × (version ≤ 4) }
     ensures { result ≡ line_at version line.now }
 {
     let form = line_form(line, version)?;

@@ -53,7 +53,7 @@ fn name(words: &mut Words<'_>) -> Result<Name, LineKind>
 // The numbers of the kinds of policies, in versions 1 and 2.
 const KINDS: [(&[u8], u8); 3] = [(b"fcfs", 0), (b"emerg", 1), (b"light", 2)];
 
-// The numbers of the kinds of policies, in version 3.
+// The numbers of the kinds of policies, from version 3 on.
 const KINDS_3: [(&[u8], u8); 4] = [
     (b"fcfs", 0),
     (b"emerg", 1),
@@ -66,7 +66,7 @@ const KINDS_3: [(&[u8], u8); 4] = [
 fn kind(words: &mut Words<'_>, version: u8) -> Result<u8, LineKind>
     ensures { Gives result words.new (read_in (kinds version) kind_of words.old) }
 {
-    if version == 3 {
+    if version >= 3 {
         choice(words, &KINDS_3)
     } else {
         choice(words, &KINDS)
@@ -119,7 +119,7 @@ pub fn times(words: &mut Words<'_>) -> Result<Line, LineKind>
     }))
 }
 
-/// `times` of versions 2 and 3.
+/// `times` of versions 2 to 4.
 #[tactic(auto, unfolding(crate::specs::Steps::times6_in))]
 pub fn times6(words: &mut Words<'_>) -> Result<Line, LineKind>
     ensures { result ≡ times6_in words.old }
