@@ -1,5 +1,6 @@
 -- An entry that is spelled is read again.
-use Rattle.std.proofs.Common.{◌≡◌, ℕ, ◌^◌, ◌<◌, ◌≤◌, Bool, true, false, List, [], ◌∷◌, ◌++◌, length, Option, Some, None, IfSome, Result, Ok, Err, decimal, codes, refl, sym, ap, ◌∙◌, arith}
+use Rattle.std.proofs.Common.{◌≡◌, ℕ, ◌^◌, ◌<◌, ◌≤◌, ◌==◌, Bool, true, false, List, [], ◌∷◌, ◌++◌, length, Option, Some, None, IfSome, Ok, Err, decimal, codes, refl, sym, ap, ◌∙◌, inl, inr, arith}
+use Rattle.std.proofs.lemmas.Bool.{cases_Bool}
 use Rattle.aim_messages.specs.declared.messages.Body.{Body}
 use Rattle.aim_messages.specs.declared.messages.Body.TheVariants as body
 use Rattle.aim_messages.specs.declared.entries.Act.{Act}
@@ -13,13 +14,15 @@ use Rattle.aim_messages.specs.declared.replies.Reason.{Reason}
 use Rattle.aim_messages.specs.declared.replies.Reason.TheVariants as reason
 use Rattle.aim_messages.specs.declared.replies.Reply.{Reply}
 use Rattle.aim_messages.specs.declared.replies.Reply.TheVariants as reply
-use Rattle.aim_messages.specs.declared.script.LineKind.{LineKind}
 use Rattle.aim_text_entries.specs.declared.forms.ReasonForm.{ReasonForm}
 use Rattle.aim_text_entries.specs.declared.forms.ReasonForm.TheVariants as why
 use Rattle.aim_messages.specs.Texts.{Words, spaced, body_words, act_words, field_word, reason_words, held_word, pace_word, reply_words, reply_text, caller_word, entry_words, entry_text}
 use Rattle.aim_messages.specs.Actors.{IsCallerOf}
-use Rattle.aim_text_words.specs.Faults.{either, just, rest, words_of, begins_with_digit, fault_at}
-use Rattle.aim_text_entries.specs.Entries.{callers, caller_of, paces, is_fast, fields, field_of, helds, held_of, entry_in, entry_at}
+use Rattle.aim_messages.specs.Windows.{HasWindow, ActHasWindow}
+use Rattle.aim_text_words.specs.declared.forms.MessageForm.{MessageForm}
+use Rattle.aim_text_words.specs.declared.forms.MessageForm.TheVariants as message
+use Rattle.aim_text_words.specs.Faults.{either, just, first, rest, from, word_at, words_of, begins_with_digit, fault_at}
+use Rattle.aim_text_entries.specs.Entries.{callers, caller_of, told_form, paces, is_fast, fields, field_of, helds, held_of, entry_in, entry_at}
 use Rattle.aim_text_words.specs.Ranges.{Is32, IsBody}
 use Rattle.aim_text_entries.specs.Ranges.{IsAct, IsReason, IsReply, IsEntry}
 use Rattle.aim_text_words.specs.Steps.{Read, read_in, numbers_in, word_in, nothing, end_in}
@@ -27,7 +30,8 @@ use Rattle.aim_text_entries.specs.EntrySteps.{order_in, act_in, green_in, taken_
 use Rattle.aim_text_words.proofs.NumberLaws.{number_good, value_decimal, decimal_number, number_begins, decimal_visible, not_letter}
 use Rattle.aim_text_words.proofs.WordLaws.{IsWord, AreWords, words_spaced, words_append}
 use Rattle.aim_text_words.proofs.MessageWords.{w32, w8, message_are_words}
-use Rattle.aim_text_words.proofs.Again.{word_again, number_again, n32, n8, message_again}
+use Rattle.aim_text_words.proofs.Again.{word_again, number_again, n32, n8, form_of_body, message_again}
+use Rattle.aim_text_words.proofs.Apart.{other_word, alone32, alone8, begins32, message_alone}
 use Rattle.aim_text_entries.proofs.EntryStepLaws.{entry_is}
 
 digit_begins : (n : ℕ) → n < 2 ^ 64 → begins_with_digit (decimal n) ≡ true
@@ -72,6 +76,7 @@ field_again field.Length ws = refl
 field_again field.Width ws = refl
 field_again field.Steps ws = refl
 field_again field.Spans ws = refl
+field_again field.Latest ws = refl
 
 next_again : (ws : Words) → read_in (just (codes "next")) nothing (codes "next" ∷ ws) ≡ Ok (tt, ws)
 unfolding read_in
@@ -85,13 +90,37 @@ arrow_again : (ws : Words) → read_in (just (codes "->")) nothing (codes "->" �
 unfolding read_in
 arrow_again ws = refl
 
-message_act_again : (vehicle seq : ℕ) (b : Body) (ws : Words) → Is32 seq → IsBody b
+-- the form that the first word of a message chooses
+abbrev first_form : Body → MessageForm
+first_form (body.Request p) = message.Request
+first_form (body.Change id p) = message.Change
+first_form (body.Cancel id) = message.Cancel
+first_form (body.Done id) = message.Done
+
+-- the last step of arrival is told where a digit follows
+told_is : (seq : ℕ) (b : Body) (ws : Words) → IsBody b → begins_with_digit (first ws) ≡ false → told_form (first_form b) (rest (body_words seq b ++ ws)) ≡ form_of_body b
+told_is seq (body.Request p) ws r none = elim (cases_Bool (p.latest == p.arrive)) [
+  | inl is ↦ rw (is, none) refl
+  | inr other ↦ rw (other, begins32 p.latest r.latest) refl
+]
+told_is seq (body.Change id p) ws r none = elim (cases_Bool (p.latest == p.arrive)) [
+  | inl is ↦ rw (is, none) refl
+  | inr other ↦ rw (other, begins32 p.latest r.1.latest) refl
+]
+told_is seq (body.Cancel id) ws r none = rw none refl
+told_is seq (body.Done id) ws r none = rw none refl
+
+message_act_again : (vehicle seq : ℕ) (b : Body) (ws : Words) → Is32 seq → IsBody b → HasWindow b → begins_with_digit (first ws) ≡ false
     → act_in (Some vehicle) (body_words seq b ++ ws) ≡ Ok (act.Message (record { seq = seq; body = b }), ws)
 unfolding act_in word_in
-message_act_again vehicle seq (body.Request p) ws s r = rw (message_again (record { seq = seq; body = body.Request p }) ws (record { seq = s; body = r })) refl
-message_act_again vehicle seq (body.Change id p) ws s r = rw (message_again (record { seq = seq; body = body.Change id p }) ws (record { seq = s; body = r })) refl
-message_act_again vehicle seq (body.Cancel id) ws s r = rw (message_again (record { seq = seq; body = body.Cancel id }) ws (record { seq = s; body = r })) refl
-message_act_again vehicle seq (body.Done id) ws s r = rw (message_again (record { seq = seq; body = body.Done id }) ws (record { seq = s; body = r })) refl
+message_act_again vehicle seq (body.Request p) ws s r k none =
+    rw (told_is seq (body.Request p) ws r none, message_again (record { seq = seq; body = body.Request p }) ws (record { seq = s; body = r }) k) refl
+message_act_again vehicle seq (body.Change id p) ws s r k none =
+    rw (told_is seq (body.Change id p) ws r none, message_again (record { seq = seq; body = body.Change id p }) ws (record { seq = s; body = r }) k) refl
+message_act_again vehicle seq (body.Cancel id) ws s r k none =
+    rw (told_is seq (body.Cancel id) ws r none, message_again (record { seq = seq; body = body.Cancel id }) ws (record { seq = s; body = r }) k) refl
+message_act_again vehicle seq (body.Done id) ws s r k none =
+    rw (told_is seq (body.Done id) ws r none, message_again (record { seq = seq; body = body.Done id }) ws (record { seq = s; body = r }) k) refl
 
 order_act_again : (o : Order) (ws : Words) → IsAct (act.Order o) → act_in None (act_words (act.Order o) ++ ws) ≡ Ok (act.Order o, ws)
 unfolding act_in word_in order_in
@@ -159,12 +188,12 @@ answer_again (reply.Stale seq) r = rw (n32 seq _ r) refl
 answer_again (reply.Switched from) r = rw (n32 from _ r) refl
 answer_again reply.Stopped r = refl
 
-call_again : (caller moment : ℕ) (a : Act) (r : Reply) → IsCallerOf caller a → Is32 moment → IsAct a → IsReply r
+call_again : (caller moment : ℕ) (a : Act) (r : Reply) → IsCallerOf caller a → Is32 moment → IsAct a → ActHasWindow a → IsReply r
     → call_in (caller_word caller a ∷ decimal moment ∷ (act_words a ++ codes "->" ∷ reply_words r)) ≡ Ok (record { caller = caller; moment = moment; act = a; reply = r }, [])
 unfolding call_in
-call_again caller moment (act.Message m) r c t a s =
-    rw (vehicle_again caller _ c, n32 moment _ t, message_act_again caller m.seq m.body _ a.seq a.body, arrow_again _, answer_again r s) refl
-call_again caller moment (act.Order o) r c t a s =
+call_again caller moment (act.Message m) r c t a k s =
+    rw (vehicle_again caller _ c, n32 moment _ t, message_act_again caller m.seq m.body _ a.seq a.body k refl, arrow_again _, answer_again r s) refl
+call_again caller moment (act.Order o) r c t a k s =
     rw (operator_again _, n32 moment _ t, order_act_again o _ a, arrow_again _, answer_again r s)
     (ap (λ v. Ok (record { caller = v; moment = moment; act = act.Order o; reply = r }, [])) (sym c))
 
@@ -183,6 +212,7 @@ field_is_word field.Length = refl
 field_is_word field.Width = refl
 field_is_word field.Steps = refl
 field_is_word field.Spans = refl
+field_is_word field.Latest = refl
 
 reason_are_words : (r : Reason) → IsReason r → AreWords (reason_words r)
 reason_are_words (reason.Holds id) r = (refl, (w32 id r, tt))
@@ -226,24 +256,14 @@ pub entry_are_words : (place : ℕ) (e : Entry) → Is32 place → IsEntry e →
 entry_are_words place e p r =
     (w32 place p, (caller_is_word e.caller e.act r.caller, (w32 e.moment r.moment, words_append (act_words e.act) _ (act_are_words e.act r.act) (refl, reply_are_words e.reply r.reply))))
 
-pub entry_again : (place : ℕ) (e : Entry) → Is32 place → IsEntry e → IsCallerOf e.caller e.act → entry_at (entry_text place e) ≡ Ok (place, e)
+pub entry_again : (place : ℕ) (e : Entry) → Is32 place → IsEntry e → IsCallerOf e.caller e.act → ActHasWindow e.act → entry_at (entry_text place e) ≡ Ok (place, e)
 unfolding entry_steps end_in
-entry_again place e p r c =
+entry_again place e p r c k =
     let tail : Words = act_words e.act ++ codes "->" ∷ reply_words e.reply in
     let split : words_of (entry_text place e) ≡ entry_words place e =
     words_spaced (decimal place) (caller_word e.caller e.act ∷ decimal e.moment ∷ tail) (entry_are_words place e p r) in
     ap entry_in split ∙ sym (entry_is (entry_words place e))
-    ∙ rw (n32 place _ p, call_again e.caller e.moment e.act e.reply c r.moment r.act r.reply) refl
-
-pub entry_alone : (i j : ℕ) (d e : Entry) → Is32 i → Is32 j → IsEntry d → IsEntry e → IsCallerOf d.caller d.act → IsCallerOf e.caller e.act
-    → entry_text i d ≡ entry_text j e → (i ≡ j) × (d ≡ e)
-entry_alone i j d e pi pj rd re cd ce same =
-    let both = sym (entry_again i d pi rd cd) ∙ ap entry_at same ∙ entry_again j e pj re ce in
-    (ap (λ r. (value (i, d) r).0) both, ap (λ r. (value (i, d) r).1) both)
-  where
-    value : ℕ × Entry → Result (ℕ × Entry) LineKind → ℕ × Entry
-    value other (Ok x) = x
-    value other (Err k) = other
+    ∙ rw (n32 place _ p, call_again e.caller e.moment e.act e.reply c r.moment r.act k r.reply) refl
 
 some_words : (r : Reply) → 0 < length (reply_words r)
 some_words (reply.Confirm id start before after accelerate end) = omega arith
@@ -268,3 +288,58 @@ reply_alone a b ra rb same =
     value : Reply → Read Reply → Reply
     value other (Ok x) = x.0
     value other (Err k) = other
+
+-- no two entries have one text
+
+replies_alone : (a b : Reply) → IsReply a → IsReply b → reply_words a ≡ reply_words b → a ≡ b
+replies_alone a b ra rb same = reply_alone a b ra rb (ap (λ (ws : Words). spaced ws) same)
+
+order_alone : (o q : Order) (ws vs : Words) → IsAct (act.Order o) → IsAct (act.Order q) → act_words (act.Order o) ++ ws ≡ act_words (act.Order q) ++ vs → (o ≡ q) × (ws ≡ vs)
+order_alone (order.Switch p) (order.Switch q) ws vs a b e = let same = alone8 p q a b (ap (λ (us : Words). word_at us 1) e) in ((λ i. order.Switch (same i)), ap (from 2) e)
+order_alone (order.Switch p) order.Stop ws vs a b e = absurd (other_word (codes "switch") (codes "stop") refl (ap first e))
+order_alone order.Stop (order.Switch q) ws vs a b e = absurd (other_word (codes "stop") (codes "switch") refl (ap first e))
+order_alone order.Stop order.Stop ws vs a b e = (refl, ap rest e)
+
+-- a vehicle's word is none of the operator's
+no_operator : (n : ℕ) → Is32 n → decimal n ≡ codes "operator" → ⊥
+no_operator n is e = let digit : false ≡ true = sym (ap begins_with_digit e) ∙ begins32 n is in cc
+
+abbrev call_words : ℕ → ℕ → Act → Reply → Words
+call_words caller moment a r = caller_word caller a ∷ decimal moment ∷ (act_words a ++ codes "->" ∷ reply_words r)
+
+record AreOneCall (c k t u : ℕ) (a b : Act) (r s : Reply) : Type 0 where
+  caller : c ≡ k
+  moment : t ≡ u
+  act : a ≡ b
+  reply : r ≡ s
+
+call_alone : (c k t u : ℕ) (a b : Act) (r s : Reply) → Is32 c × Is32 k × Is32 t × Is32 u → IsAct a → IsAct b → IsReply r → IsReply s → IsCallerOf c a → IsCallerOf k b
+    → call_words c t a r ≡ call_words k u b s → AreOneCall c k t u a b r s
+call_alone c k t u (act.Message m) (act.Message n) r s small a b rr rs by also e =
+    let both = message_alone m n (codes "->" ∷ reply_words r) (codes "->" ∷ reply_words s) a b refl refl (ap (from 2) e) in
+    record {
+      caller = alone32 c k small.0 small.1 (ap first e);
+      moment = alone32 t u small.2 small.3 (ap (λ (us : Words). word_at us 1) e);
+      act = λ i. act.Message (both.0 i);
+      reply = replies_alone r s rr rs (ap rest both.1);
+    }
+call_alone c k t u (act.Order o) (act.Order q) r s small a b rr rs by also e =
+    let both = order_alone o q (codes "->" ∷ reply_words r) (codes "->" ∷ reply_words s) a b (ap (from 2) e) in
+    record {
+      caller = by ∙ sym also;
+      moment = alone32 t u small.2 small.3 (ap (λ (us : Words). word_at us 1) e);
+      act = λ i. act.Order (both.0 i);
+      reply = replies_alone r s rr rs (ap rest both.1);
+    }
+call_alone c k t u (act.Message m) (act.Order o) r s small a b rr rs by also e = absurd (no_operator c small.0 (ap first e))
+call_alone c k t u (act.Order o) (act.Message n) r s small a b rr rs by also e = absurd (no_operator k small.1 (sym (ap first e)))
+
+pub entry_alone : (i j : ℕ) (d e : Entry) → Is32 i → Is32 j → IsEntry d → IsEntry e → IsCallerOf d.caller d.act → IsCallerOf e.caller e.act
+    → entry_text i d ≡ entry_text j e → (i ≡ j) × (d ≡ e)
+entry_alone i j d e pi pj rd re cd ce same =
+    let words : entry_words i d ≡ entry_words j e =
+    sym (words_split (entry_words i d) (entry_are_words i d pi rd) (omega arith)) ∙ ap words_of same ∙ words_split (entry_words j e) (entry_are_words j e pj re) (omega arith) in
+    let call = call_alone d.caller e.caller d.moment e.moment d.act e.act d.reply e.reply (rd.caller, re.caller, rd.moment, re.moment) rd.act re.act rd.reply re.reply cd ce (ap rest words) in (
+      alone32 i j pi pj (ap first words),
+      λ k. record { caller = call.caller k; moment = call.moment k; act = call.act k; reply = call.reply k },
+    )

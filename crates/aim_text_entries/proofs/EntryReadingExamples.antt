@@ -17,7 +17,7 @@ use Rattle.aim_messages.specs.declared.script.LineKind.TheVariants as kind
 use Rattle.aim_text_entries.specs.Entries.{entry_at}
 
 abbrev truck : Params
-truck = record { lane = 0; turn = Straight; arrive = 10; speed = 500; max_speed = 501; accel = 0; length = 1000; width = 700; emergency = true }
+truck = record { lane = 0; turn = Straight; arrive = 10; latest = 10; speed = 500; max_speed = 501; accel = 0; length = 1000; width = 700; emergency = true }
 
 -- a vehicle's message with its reply
 abbrev sent : ℕ → ℕ → ℕ → Body → Reply → Result (ℕ × Entry) LineKind
@@ -38,6 +38,14 @@ request = refl
 
 change : entry_at (codes "4294967295 65535 4 change 1 9 0 straight 10 500 501 0 1000 700 emergency -> confirm 0 10 2 3 fast 20") ≡ sent 4294967295 65535 4 (body.Change 9 truck) (reply.Confirm 0 10 2 3 true 20)
 change = refl
+
+request_in_window : entry_at (codes "0 0 0 request 1 0 straight 10 500 501 0 1000 700 emergency 14 -> confirm 0 12 2 3 steady 22")
+    ≡ sent 0 0 0 (body.Request (record truck { latest = 14 })) (reply.Confirm 0 12 2 3 false 22)
+request_in_window = refl
+
+change_in_window : entry_at (codes "7 3 4 change 1 9 0 straight 10 500 501 0 1000 700 emergency 4294967295 -> confirm 7 11 2 3 fast 20")
+    ≡ sent 7 3 4 (body.Change 9 (record truck { latest = 4294967295 })) (reply.Confirm 7 11 2 3 true 20)
+change_in_window = refl
 
 done : entry_at (codes "1 2 3 done 1 6 -> ack 6") ≡ sent 1 2 3 (body.Done 6) (reply.Ack 6)
 done = refl
@@ -68,6 +76,9 @@ too_soon = refl
 
 bad : told (codes "reject bad spans next 6 held none") ≡ refused (reason.Bad field.Spans)
 bad = refl
+
+bad_latest : told (codes "reject bad latest next 6 held none") ≡ refused (reason.Bad field.Latest)
+bad_latest = refl
 
 late : told (codes "reject late 9 next 6 held none") ≡ refused (reason.Late 9)
 late = refl
@@ -117,6 +128,24 @@ message_of_operator = refl
 
 policy_range : entry_at (codes "0 operator 2 switch 256 -> switched 1502") ≡ Err kind.Range
 policy_range = refl
+
+latest_at_arrive : entry_at (codes "0 0 0 request 1 0 straight 10 500 501 0 1000 700 car 10 -> ack 0") ≡ Err kind.Range
+latest_at_arrive = refl
+
+latest_below_arrive : entry_at (codes "0 0 0 change 1 9 0 straight 10 500 501 0 1000 700 car 9 -> ack 0") ≡ Err kind.Range
+latest_below_arrive = refl
+
+latest_zero_first : entry_at (codes "0 0 0 request 1 0 straight 10 500 501 0 1000 700 car 014 -> ack 0") ≡ Err kind.Number
+latest_zero_first = refl
+
+latest_word : entry_at (codes "0 0 0 request 1 0 straight 10 500 501 0 1000 700 car late -> ack 0") ≡ Err kind.Words
+latest_word = refl
+
+two_latest : entry_at (codes "0 0 0 request 1 0 straight 10 500 501 0 1000 700 car 14 15 -> ack 0") ≡ Err kind.Words
+two_latest = refl
+
+latest_of_cancel : entry_at (codes "0 0 0 cancel 1 9 14 -> ack 0") ≡ Err kind.Words
+latest_of_cancel = refl
 
 no_arrow : entry_at (codes "0 1 2 cancel 1 0 ack 0") ≡ Err kind.Words
 no_arrow = refl

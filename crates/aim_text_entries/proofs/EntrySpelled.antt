@@ -1,7 +1,7 @@
 -- What is read as an entry is spelled so.
-use Rattle.std.proofs.Common.{◌≡◌, ℕ, ◌^◌, ◌<◌, ◌&&◌, ◌||◌, nat_lt, Bool, true, false, not, List, [], ◌∷◌, ◌++◌, Option, Some, None, unwrap_or, IfSome, Result, Ok, Err, decimal, codes, refl, sym, ap, subst, ◌∙◌, arith, inl, inr, append_assoc, append-nil}
+use Rattle.std.proofs.Common.{◌≡◌, ℕ, ◌^◌, ◌<◌, ◌==◌, ◌&&◌, ◌||◌, nat_lt, Bool, true, false, not, List, [], ◌∷◌, ◌++◌, Option, Some, None, unwrap_or, IfSome, Result, Ok, Err, decimal, codes, refl, sym, ap, subst, ◌∙◌, arith, inl, inr, append_assoc, append-nil}
 use Rattle.std.specs.Prelude.{bytes_eq, if◌then◌else◌}
-use Rattle.std.proofs.lemmas.Bool.{cases_Bool, and_parts, ltb-true}
+use Rattle.std.proofs.lemmas.Bool.{cases_Bool, and_parts, ltb-true, eq-eqb, ne_eqb}
 use Rattle.std.proofs.lemmas.List.Splits.{join_with_byte-slice_split}
 use Rattle.aim_messages.specs.declared.entries.Act.{Act}
 use Rattle.aim_messages.specs.declared.entries.Act.TheVariants as act
@@ -20,16 +20,17 @@ use Rattle.aim_text_entries.specs.declared.forms.ReasonForm.{ReasonForm}
 use Rattle.aim_text_entries.specs.declared.forms.ReasonForm.TheVariants as why
 use Rattle.aim_messages.specs.Texts.{Words, spaced, message_words, act_words, field_word, reason_words, held_word, pace_word, reply_words, caller_word, entry_words, entry_text}
 use Rattle.aim_messages.specs.Actors.{IsCallerOf}
+use Rattle.aim_messages.specs.Windows.{HasWindow, ActHasWindow}
 use Rattle.aim_text_words.specs.Faults.{Place, chosen, keyword, name, number, either, just, first, rest, from, word_at, words_of, begins_with_digit, number_fault, value_of, fault_at, first_fault, behind, surplus_fault, text_fault, number32}
-use Rattle.aim_text_words.specs.Forms.{message_form, order_form, message_places}
+use Rattle.aim_text_words.specs.Forms.{message_form, order_form, message_places, message_size, in_window, followed_form}
 use Rattle.aim_text_entries.specs.Forms.{reply_form, reason_form, reply_forms, reason_forms}
 use Rattle.aim_text_words.specs.Reading.{at, unless, message_of}
-use Rattle.aim_text_entries.specs.Entries.{callers, caller_of, paces, is_fast, fields, field_of, number64, helds, held_of, standing_places, reason_places, reason_of, reject_of, refusal_places, refusal_of, reply_places, reply_of, answer_places, answer_of, order_places, order_of, order_act_places, order_act_of, message_act_places, message_act_of, act_places, act_of, entry_places, entry_of, entry_at}
+use Rattle.aim_text_entries.specs.Entries.{callers, caller_of, paces, is_fast, fields, field_of, number64, helds, held_of, standing_places, reason_places, reason_of, reject_of, refusal_places, refusal_of, reply_places, reply_of, answer_places, answer_of, order_places, order_of, order_act_places, order_act_of, told_form, message_act_places, message_act_of, act_places, act_of, entry_places, entry_of, entry_at}
 use Rattle.aim_text_words.specs.Ranges.{Is32, IsMessage}
 use Rattle.aim_text_entries.specs.Ranges.{IsAct, IsReason, IsReply, IsEntry}
 use Rattle.aim_text_words.proofs.NumberLaws.{IsNumberIn, number_in_from, decimal_value}
 use Rattle.aim_text_words.proofs.NoFaults.{NoFaults, no_faults, or_none}
-use Rattle.aim_text_words.proofs.Spelled.{respelled, number_at_place, same_word, turn_back, class_back, keyword_allowed, meaning_last, two_back, in32, in8}
+use Rattle.aim_text_words.proofs.Spelled.{respelled, number_at_place, same_word, turn_back, class_back, later_back, keyword_allowed, meaning_last, two_back, in32, in8}
 use Rattle.aim_text_words.proofs.Chosen.{look_up_has, message_key, message_chosen, order_key, order_chosen}
 use Rattle.aim_text_entries.proofs.EntryStepLaws.{behind_append}
 
@@ -71,26 +72,56 @@ record IsPart (words left ws : Words) (Ranges : Type 0) : Type 0 where
   spelled : words ++ left ≡ ws
   ranges : Ranges
 
+same_number : (n : ℕ) → (n == n) ≡ true
+same_number n = eq-eqb n n refl
+
+other_number : (first last : ℕ) → first < last → (last == first) ≡ false
+other_number first last above = ne_eqb last first (λ is. absurd (omega (arith, is)))
+
 -- a message, of the words behind its first
-message_part : (m : MessageForm) (w : List ℕ) (ws : Words) → w ≡ message_key m → NoFaults (message_places m) ws
-    → IsPart (message_words (message_of m ws)) (behind (message_places m) ws) (w ∷ ws) (IsMessage (message_of m ws))
+message_part : (m : MessageForm) (w : List ℕ) (ws : Words) → w ≡ message_key m → NoFaults (message_places m ws) ws
+    → IsPart (message_words (message_of m ws)) (behind (message_places m ws) ws) (w ∷ ws) (IsMessage (message_of m ws) × HasWindow (message_of m ws).body)
 unfolding message_key
 message_part message.Request w ws c n = record {
-  spelled = rw (sym c, turn_back (from 2 ws) n.1.1.0, class_back (from 9 ws) n.1.1.1.1.1.1.1.1.1.0) (ap (λ (vs : Words). w ∷ vs) (front_is (message_places message.Request) ws n refl));
-  ranges = record { seq = in32 ws n.0; body = record { lane = in8 (from 1 ws) n.1.0; arrive = in32 (from 3 ws) n.1.1.1.0; speed = in32 (from 4 ws) n.1.1.1.1.0; max_speed = in32 (from 5 ws) n.1.1.1.1.1.0; accel = in32 (from 6 ws) n.1.1.1.1.1.1.0; len = in32 (from 7 ws) n.1.1.1.1.1.1.1.0; width = in32 (from 8 ws) n.1.1.1.1.1.1.1.1.0 } };
+  spelled = rw (sym c, same_number (value_of (word_at ws 3)), turn_back (from 2 ws) n.1.1.0, class_back (from 9 ws) n.1.1.1.1.1.1.1.1.1.0) (ap (λ (vs : Words). w ∷ vs) (front_is (message_places message.Request ws) ws n refl));
+  ranges = (record { seq = in32 ws n.0; body = record { lane = in8 (from 1 ws) n.1.0; arrive = in32 (from 3 ws) n.1.1.1.0; latest = in32 (from 3 ws) n.1.1.1.0; speed = in32 (from 4 ws) n.1.1.1.1.0; max_speed = in32 (from 5 ws) n.1.1.1.1.1.0; accel = in32 (from 6 ws) n.1.1.1.1.1.1.0; len = in32 (from 7 ws) n.1.1.1.1.1.1.1.0; width = in32 (from 8 ws) n.1.1.1.1.1.1.1.1.0 } }, omega arith);
+}
+message_part message.RequestInWindow w ws c n = record {
+  spelled = rw (sym c, other_number _ _ (later_back (value_of (word_at ws 3)) (from 10 ws) n.1.1.1.1.1.1.1.1.1.1.0).0, turn_back (from 2 ws) n.1.1.0, class_back (from 9 ws) n.1.1.1.1.1.1.1.1.1.0) (ap (λ (vs : Words). w ∷ vs) (front_is (message_places message.RequestInWindow ws) ws n refl));
+  ranges = (record { seq = in32 ws n.0; body = record { lane = in8 (from 1 ws) n.1.0; arrive = in32 (from 3 ws) n.1.1.1.0; latest = (later_back (value_of (word_at ws 3)) (from 10 ws) n.1.1.1.1.1.1.1.1.1.1.0).1; speed = in32 (from 4 ws) n.1.1.1.1.0; max_speed = in32 (from 5 ws) n.1.1.1.1.1.0; accel = in32 (from 6 ws) n.1.1.1.1.1.1.0; len = in32 (from 7 ws) n.1.1.1.1.1.1.1.0; width = in32 (from 8 ws) n.1.1.1.1.1.1.1.1.0 } }, let later = (later_back (value_of (word_at ws 3)) (from 10 ws) n.1.1.1.1.1.1.1.1.1.1.0).0 in omega arith);
 }
 message_part message.Change w ws c n = record {
-  spelled = rw (sym c, turn_back (from 3 ws) n.1.1.1.0, class_back (from 10 ws) n.1.1.1.1.1.1.1.1.1.1.0) (ap (λ (vs : Words). w ∷ vs) (front_is (message_places message.Change) ws n refl));
-  ranges = record { seq = in32 ws n.0; body = (in32 (from 1 ws) n.1.0, record { lane = in8 (from 2 ws) n.1.1.0; arrive = in32 (from 4 ws) n.1.1.1.1.0; speed = in32 (from 5 ws) n.1.1.1.1.1.0; max_speed = in32 (from 6 ws) n.1.1.1.1.1.1.0; accel = in32 (from 7 ws) n.1.1.1.1.1.1.1.0; len = in32 (from 8 ws) n.1.1.1.1.1.1.1.1.0; width = in32 (from 9 ws) n.1.1.1.1.1.1.1.1.1.0 }) };
+  spelled = rw (sym c, same_number (value_of (word_at ws 4)), turn_back (from 3 ws) n.1.1.1.0, class_back (from 10 ws) n.1.1.1.1.1.1.1.1.1.1.0) (ap (λ (vs : Words). w ∷ vs) (front_is (message_places message.Change ws) ws n refl));
+  ranges = (record { seq = in32 ws n.0; body = (in32 (from 1 ws) n.1.0, record { lane = in8 (from 2 ws) n.1.1.0; arrive = in32 (from 4 ws) n.1.1.1.1.0; latest = in32 (from 4 ws) n.1.1.1.1.0; speed = in32 (from 5 ws) n.1.1.1.1.1.0; max_speed = in32 (from 6 ws) n.1.1.1.1.1.1.0; accel = in32 (from 7 ws) n.1.1.1.1.1.1.1.0; len = in32 (from 8 ws) n.1.1.1.1.1.1.1.1.0; width = in32 (from 9 ws) n.1.1.1.1.1.1.1.1.1.0 }) }, omega arith);
+}
+message_part message.ChangeInWindow w ws c n = record {
+  spelled = rw (sym c, other_number _ _ (later_back (value_of (word_at ws 4)) (from 11 ws) n.1.1.1.1.1.1.1.1.1.1.1.0).0, turn_back (from 3 ws) n.1.1.1.0, class_back (from 10 ws) n.1.1.1.1.1.1.1.1.1.1.0) (ap (λ (vs : Words). w ∷ vs) (front_is (message_places message.ChangeInWindow ws) ws n refl));
+  ranges = (record { seq = in32 ws n.0; body = (in32 (from 1 ws) n.1.0, record { lane = in8 (from 2 ws) n.1.1.0; arrive = in32 (from 4 ws) n.1.1.1.1.0; latest = (later_back (value_of (word_at ws 4)) (from 11 ws) n.1.1.1.1.1.1.1.1.1.1.1.0).1; speed = in32 (from 5 ws) n.1.1.1.1.1.0; max_speed = in32 (from 6 ws) n.1.1.1.1.1.1.0; accel = in32 (from 7 ws) n.1.1.1.1.1.1.1.0; len = in32 (from 8 ws) n.1.1.1.1.1.1.1.1.0; width = in32 (from 9 ws) n.1.1.1.1.1.1.1.1.1.0 }) }, let later = (later_back (value_of (word_at ws 4)) (from 11 ws) n.1.1.1.1.1.1.1.1.1.1.1.0).0 in omega arith);
 }
 message_part message.Cancel w ws c n = record {
-  spelled = rw (sym c) (ap (λ (vs : Words). w ∷ vs) (front_is (message_places message.Cancel) ws n refl));
-  ranges = record { seq = in32 ws n.0; body = in32 (from 1 ws) n.1.0 };
+  spelled = rw (sym c) (ap (λ (vs : Words). w ∷ vs) (front_is (message_places message.Cancel ws) ws n refl));
+  ranges = (record { seq = in32 ws n.0; body = in32 (from 1 ws) n.1.0 }, tt);
 }
 message_part message.Done w ws c n = record {
-  spelled = rw (sym c) (ap (λ (vs : Words). w ∷ vs) (front_is (message_places message.Done) ws n refl));
-  ranges = record { seq = in32 ws n.0; body = in32 (from 1 ws) n.1.0 };
+  spelled = rw (sym c) (ap (λ (vs : Words). w ∷ vs) (front_is (message_places message.Done ws) ws n refl));
+  ranges = (record { seq = in32 ws n.0; body = in32 (from 1 ws) n.1.0 }, tt);
 }
+
+-- a form that tells the last step of arrival has the same first word
+told_key : (m : MessageForm) (word : List ℕ) → message_key (followed_form m word) ≡ message_key m
+unfolding message_key
+told_key m word = elim (cases_Bool (begins_with_digit word)) [
+  | inl is ↦ rw is (window_key m)
+  | inr not ↦ rw not refl
+]
+  where
+    window_key : (m : MessageForm) → message_key (in_window m) ≡ message_key m
+    window_key message.Request = refl
+    window_key message.RequestInWindow = refl
+    window_key message.Change = refl
+    window_key message.ChangeInWindow = refl
+    window_key message.Cancel = refl
+    window_key message.Done = refl
 
 order_part : (o : OrderForm) (w : List ℕ) (ws : Words) → w ≡ order_key o → NoFaults (order_places o) ws
     → IsPart (act_words (act.Order (order_of o ws))) (behind (order_places o) ws) (w ∷ ws) (IsAct (act.Order (order_of o ws)))
@@ -111,20 +142,21 @@ IsBy (Some vehicle) (act.Order o) = ⊥
 record IsActPart (caller : Option ℕ) (ws : Words) (a : Act) (left : Words) : Type 0 where
   spelled : act_words a ++ left ≡ ws
   ranges : IsAct a
+  window : ActHasWindow a
   by : IsBy caller a
 
 order_act_part : (w : List ℕ) (ws : Words) (r : Result OrderForm LineKind) → order_form w ≡ r → NoFaults (order_act_places r) (w ∷ ws)
     → IsActPart None (w ∷ ws) (order_act_of r (w ∷ ws)) (behind (order_act_places r) (w ∷ ws))
 order_act_part w ws (Ok o) is n =
     let part = order_part o w ws (order_chosen w o is) n.1 in
-    record { spelled = part.spelled; ranges = part.ranges; by = tt }
+    record { spelled = part.spelled; ranges = part.ranges; window = tt; by = tt }
 order_act_part w ws (Err k) is n = absurd cc
 
-message_act_part : (vehicle : ℕ) (w : List ℕ) (ws : Words) (r : Result MessageForm LineKind) → message_form w ≡ r → NoFaults (message_act_places r) (w ∷ ws)
-    → IsActPart (Some vehicle) (w ∷ ws) (message_act_of r (w ∷ ws)) (behind (message_act_places r) (w ∷ ws))
+message_act_part : (vehicle : ℕ) (w : List ℕ) (ws : Words) (r : Result MessageForm LineKind) → message_form w ≡ r → NoFaults (message_act_places r (w ∷ ws)) (w ∷ ws)
+    → IsActPart (Some vehicle) (w ∷ ws) (message_act_of r (w ∷ ws)) (behind (message_act_places r (w ∷ ws)) (w ∷ ws))
 message_act_part vehicle w ws (Ok m) is n =
-    let part = message_part m w ws (message_chosen w m is) n.1 in
-    record { spelled = part.spelled; ranges = part.ranges; by = tt }
+    let part = message_part (told_form m ws) w ws (message_chosen w m is ∙ sym (told_key m (word_at ws (message_size m)))) n.1 in
+    record { spelled = part.spelled; ranges = part.ranges.0; window = part.ranges.1; by = tt }
 message_act_part vehicle w ws (Err k) is n = absurd cc
 
 act_part : (caller : Option ℕ) (ws : Words) → NoFaults (act_places caller ws) ws → IsActPart caller ws (act_of caller ws) (behind (act_places caller ws) ws)
@@ -146,9 +178,9 @@ field_back : (ws : Words) → fault_at fields ws ≡ None → field_word (field_
 field_back ws h =
     meaning_last field_word
     ((codes "lane", field.Lane) ∷ (codes "turn", field.Turn) ∷ (codes "arrive", field.Arrive) ∷ (codes "max", field.Max) ∷ (codes "speed", field.Speed)
-    ∷ (codes "accel", field.Accel) ∷ (codes "length", field.Length) ∷ (codes "width", field.Width) ∷ (codes "steps", field.Steps) ∷ [])
-    field.Spans (first ws) (refl, (refl, (refl, (refl, (refl, (refl, (refl, (refl, (refl, tt)))))))))
-    (keyword_allowed (codes "lane" ∷ codes "turn" ∷ codes "arrive" ∷ codes "max" ∷ codes "speed" ∷ codes "accel" ∷ codes "length" ∷ codes "width" ∷ codes "steps" ∷ codes "spans" ∷ []) ws h)
+    ∷ (codes "accel", field.Accel) ∷ (codes "length", field.Length) ∷ (codes "width", field.Width) ∷ (codes "steps", field.Steps) ∷ (codes "spans", field.Spans) ∷ [])
+    field.Latest (first ws) (refl, (refl, (refl, (refl, (refl, (refl, (refl, (refl, (refl, (refl, tt))))))))))
+    (keyword_allowed (codes "lane" ∷ codes "turn" ∷ codes "arrive" ∷ codes "max" ∷ codes "speed" ∷ codes "accel" ∷ codes "length" ∷ codes "width" ∷ codes "steps" ∷ codes "spans" ∷ codes "latest" ∷ []) ws h)
 
 -- a word or a number: where it isn't the word it is the number
 number_or : (word : List ℕ) (high : ℕ) (ws : Words) → fault_at (either (word ∷ []) 0 high) ws ≡ None → bytes_eq (first ws) word ≡ false → IsNumberIn 0 high (first ws)
@@ -343,6 +375,7 @@ record IsEntryOf (place : ℕ) (e : Entry) (ws : Words) : Type 0 where
   position : Is32 place
   ranges : IsEntry e
   by : IsCallerOf e.caller e.act
+  window : ActHasWindow e.act
 
 entry_parts : (ws : Words) → text_fault (entry_places ws) ws ≡ None → IsEntryOf (at ws 0) (entry_of ws) ws
 entry_parts ws none =
@@ -368,6 +401,7 @@ entry_parts ws none =
       position = in32 ws n.0;
       ranges = record { caller = who.range; moment = in32 (from 2 ws) n.1.1.0; act = act.ranges; reply = reply.ranges };
       by = who.is;
+      window = act.window;
     }
   where
     only : (b : Bool) → (b || false) ≡ true → b ≡ true
@@ -387,7 +421,7 @@ by_fault found ws None none h = subst (λ (x : ℕ × Entry). IsEntryOf x.0 x.1 
     value (Err k) = found
 by_fault found ws (Some k) none h = absurd cc
 
-pub entry_was_spelled : (bytes : List ℕ) (place : ℕ) (e : Entry) → entry_at bytes ≡ Ok (place, e) → Is32 place × IsEntry e × IsCallerOf e.caller e.act × (bytes ≡ entry_text place e)
+pub entry_was_spelled : (bytes : List ℕ) (place : ℕ) (e : Entry) → entry_at bytes ≡ Ok (place, e) → Is32 place × IsEntry e × IsCallerOf e.caller e.act × ActHasWindow e.act × (bytes ≡ entry_text place e)
 entry_was_spelled bytes place e h =
     let is = by_fault (place, e) (words_of bytes) (text_fault (entry_places (words_of bytes)) (words_of bytes)) refl h in
-    (is.position, is.ranges, is.by, sym (ap spaced is.spelled ∙ join_with_byte-slice_split 32 bytes))
+    (is.position, is.ranges, is.by, is.window, sym (ap spaced is.spelled ∙ join_with_byte-slice_split 32 bytes))

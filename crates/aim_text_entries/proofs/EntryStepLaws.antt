@@ -24,7 +24,7 @@ use Rattle.aim_text_words.specs.Tables.{look_up}
 use Rattle.aim_text_words.specs.Forms.{message_forms, order_forms, message_form, order_form, message_places}
 use Rattle.aim_text_entries.specs.Forms.{reply_forms, reason_forms, reply_form, reason_form}
 use Rattle.aim_text_words.specs.Reading.{at, unless, message_of}
-use Rattle.aim_text_entries.specs.Entries.{callers, caller_of, reason_places, reason_of, standing_places, reject_of, refusal_places, refusal_of, reply_places, reply_of, answer_places, answer_of, order_places, order_of, order_act_places, order_act_of, message_act_places, message_act_of, act_places, act_of, entry_places, entry_of, entry_in}
+use Rattle.aim_text_entries.specs.Entries.{callers, caller_of, reason_places, reason_of, standing_places, reject_of, refusal_places, refusal_of, reply_places, reply_of, answer_places, answer_of, order_places, order_of, order_act_places, order_act_of, told_form, message_act_places, message_act_of, act_places, act_of, entry_places, entry_of, entry_in}
 use Rattle.aim_text_words.specs.Steps.{◌>>=◌, numbers_in, message_in, word_in, end_in}
 use Rattle.aim_text_entries.specs.EntrySteps.{order_in, act_in, green_in, taken_in, reason_in, confirm_in, standing_in, reject_in, reply_in, answer_in, call_in, entry_steps}
 use Rattle.aim_text_words.proofs.StepLaws.{bind_read, bind_more, bind_assoc, faults_then, numbers_step, message_step}
@@ -55,8 +55,8 @@ first_then [] ws later = refl
 first_then (p ∷ ps) ws later = or_assoc (fault_at p ws) (first_fault ps (rest ws)) later ∙ ap (option_or (fault_at p ws)) (first_then ps (rest ws) later)
 
 message_more : {B C : Type 0} (m : MessageForm) (ws : Words) (g : Message × Words → Result B LineKind) (f : B → Result C LineKind) (c : C) (later : Option LineKind)
-    → (g (message_of m ws, behind (message_places m) ws) >>= f) ≡ unless c later
-    → ((message_in m ws >>= g) >>= f) ≡ unless c (faults_then (message_places m) ws later)
+    → (g (message_of m ws, behind (message_places m ws) ws) >>= f) ≡ unless c later
+    → ((message_in m ws >>= g) >>= f) ≡ unless c (faults_then (message_places m ws) ws later)
 message_more m ws g f c later h = bind_assoc (message_in m ws) g f ∙ message_step m ws (λ x. g x >>= f) c later h
 
 order_step : {B : Type 0} (o : OrderForm) (ws : Words) (f : Order × Words → Result B LineKind) (b : B) (later : Option LineKind)
@@ -80,9 +80,9 @@ order_act w ws f b later (Err k) words h = ap Err (words k refl)
 
 message_act : {B : Type 0} (w : List ℕ) (ws : Words) (f : Act × Words → Result B LineKind) (b : B) (later : Option LineKind)
     (r : Result MessageForm LineKind) → ((k : LineKind) → r ≡ Err k → k ≡ kind.Words)
-    → f (message_act_of r (w ∷ ws), behind (message_act_places r) (w ∷ ws)) ≡ unless b later
-    → ((r >>= λ form. message_in form ws >>= λ m. Ok (act.Message m.0, m.1)) >>= f) ≡ unless b (faults_then (message_act_places r) (w ∷ ws) later)
-message_act w ws f b later (Ok m) words h = message_more m ws _ f b later h
+    → f (message_act_of r (w ∷ ws), behind (message_act_places r (w ∷ ws)) (w ∷ ws)) ≡ unless b later
+    → ((r >>= λ form. message_in (told_form form ws) ws >>= λ m. Ok (act.Message m.0, m.1)) >>= f) ≡ unless b (faults_then (message_act_places r (w ∷ ws)) (w ∷ ws) later)
+message_act w ws f b later (Ok m) words h = message_more (told_form m ws) ws _ f b later h
 message_act w ws f b later (Err k) words h = ap Err (words k refl)
 
 act_step : {B : Type 0} (caller : Option ℕ) (ws : Words) (f : Act × Words → Result B LineKind) (b : B) (later : Option LineKind)

@@ -21,10 +21,11 @@ field_rows =
     ∷ (codes "width", field.Width)
     ∷ (codes "steps", field.Steps)
     ∷ (codes "spans", field.Spans)
+    ∷ (codes "latest", field.Latest)
     ∷ []
 
 pub field_read : (r : Result Field LineKind) (left ws : Words) → Gives r left (choice_in field_rows ws) → Gives r left (read_in fields field_of ws)
-field_read = choice_read _ _ _ (said (take 9 field_rows) (codes "spans", field.Spans))
+field_read = choice_read _ _ _ (said (take 10 field_rows) (codes "latest", field.Latest))
 
 pub pace_read : (r : Result Bool LineKind) (left ws : Words) → Gives r left (choice_in ((codes "fast", true) ∷ (codes "steady", false) ∷ []) ws) → Gives r left (read_in paces is_fast ws)
 pace_read = choice_read _ _ _ (two_said (codes "fast") (codes "steady"))

@@ -21,7 +21,7 @@ use Rattle.aim_messages.specs.declared.replies.Reply.TheVariants as reply
 use Rattle.aim_messages.specs.declared.script.LineKind.{LineKind}
 use Rattle.aim_messages.specs.Texts.{Words}
 use Rattle.aim_text_words.specs.Faults.{words_of, first, rest, from, word_at, value_of, Place, chosen, keyword, number, either, number32, number8, just, behind, text_fault}
-use Rattle.aim_text_words.specs.Forms.{message_form, order_form, message_places}
+use Rattle.aim_text_words.specs.Forms.{message_form, order_form, message_places, message_size, followed_form}
 use Rattle.aim_text_entries.specs.Forms.{reply_form, reason_form}
 use Rattle.aim_text_words.specs.Reading.{at, message_of, unless}
 
@@ -38,7 +38,7 @@ paces = keyword (codes "fast" ∷ codes "steady" ∷ [])
 
 abbrev pub fields : Place
 fields = keyword (codes "lane" ∷ codes "turn" ∷ codes "arrive" ∷ codes "max" ∷ codes "speed" ∷ codes "accel" ∷ codes "length"
-    ∷ codes "width" ∷ codes "steps" ∷ codes "spans" ∷ [])
+    ∷ codes "width" ∷ codes "steps" ∷ codes "spans" ∷ codes "latest" ∷ [])
 
 -- the places of a reason's words behind the first
 abbrev pub reason_places : ReasonForm → List Place
@@ -90,9 +90,14 @@ abbrev pub order_act_places : Result OrderForm LineKind → List Place
 order_act_places (Ok o) = chosen ∷ order_places o
 order_act_places (Err k) = wrong ∷ []
 
-abbrev pub message_act_places : Result MessageForm LineKind → List Place
-message_act_places (Ok m) = chosen ∷ message_places m
-message_act_places (Err k) = wrong ∷ []
+-- the form of a message of these words behind the first: it tells the last step of arrival if a word that begins with a
+-- digit follows on the others
+abbrev pub told_form : MessageForm → Words → MessageForm
+told_form m words = followed_form m (word_at words (message_size m))
+
+abbrev pub message_act_places : Result MessageForm LineKind → Words → List Place
+message_act_places (Ok m) words = chosen ∷ message_places (told_form m (rest words)) (rest words)
+message_act_places (Err k) words = wrong ∷ []
 
 abbrev pub callers : Place
 callers = either (codes "operator" ∷ []) 0 65535
@@ -104,7 +109,7 @@ caller_of word = if bytes_eq word (codes "operator") then None else Some (value_
 -- the places of an act's words: the operator orders, and a vehicle sends messages
 abbrev pub act_places : Option ℕ → Words → List Place
 act_places None words = order_act_places (order_form (first words))
-act_places (Some vehicle) words = message_act_places (message_form (first words))
+act_places (Some vehicle) words = message_act_places (message_form (first words)) words
 
 -- `ACT -> REPLY` of that caller
 abbrev pub call_places : Option ℕ → Words → List Place
@@ -127,7 +132,8 @@ field_of word =
     else if bytes_eq word (codes "length") then field.Length
     else if bytes_eq word (codes "width") then field.Width
     else if bytes_eq word (codes "steps") then field.Steps
-    else field.Spans
+    else if bytes_eq word (codes "spans") then field.Spans
+    else field.Latest
 
 -- a reason, of the words behind its first
 abbrev pub reason_of : ReasonForm → Words → Reason
@@ -186,7 +192,7 @@ order_act_of (Err k) words = act.Order order.Stop
 
 -- a message, and any act where the words have no form
 abbrev pub message_act_of : Result MessageForm LineKind → Words → Act
-message_act_of (Ok m) words = act.Message (message_of m (rest words))
+message_act_of (Ok m) words = act.Message (message_of (told_form m (rest words)) (rest words))
 message_act_of (Err k) words = act.Order order.Stop
 
 abbrev pub act_of : Option ℕ → Words → Act

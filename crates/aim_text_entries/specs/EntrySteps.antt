@@ -20,7 +20,7 @@ use Rattle.aim_messages.specs.Texts.{Words}
 use Rattle.aim_text_words.specs.Faults.{just, number8, value_of}
 use Rattle.aim_text_words.specs.Forms.{message_form, order_form}
 use Rattle.aim_text_entries.specs.Forms.{reply_form, reason_form}
-use Rattle.aim_text_entries.specs.Entries.{callers, caller_of, paces, is_fast, fields, field_of, number64, helds, held_of}
+use Rattle.aim_text_entries.specs.Entries.{callers, caller_of, told_form, paces, is_fast, fields, field_of, number64, helds, held_of}
 use Rattle.aim_text_words.specs.Steps.{◌>>=◌, Read, read_in, number_in, numbers_in, message_in, word_in, nothing, end_in}
 
 abbrev pub lane_in : Words → Read ℕ
@@ -41,7 +41,7 @@ act_in None words = do
 act_in (Some vehicle) words = do
   word ← word_in words
   form ← message_form word.0
-  message ← message_in form word.1
+  message ← message_in (told_form form word.1) word.1
   Ok (act.Message message.0, message.1)
 
 unfoldable pub green_in : Words → Read Reason

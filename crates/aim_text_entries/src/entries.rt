@@ -8,7 +8,7 @@ ghost use Rattle.aim_text_entries.specs.EntrySteps.{order_in, act_in, call_in, e
 use crate::replies::reply;
 use aim_messages::{Act, Entry, LineKind, OPERATOR, Order};
 use aim_text_words::fields::{message, number8, number32};
-use aim_text_words::forms::{OrderForm, message_form, order_form};
+use aim_text_words::forms::{OrderForm, followed_form, message_form, message_size, order_form};
 use aim_text_words::numbers::{begins_with_digit, number};
 use aim_text_words::words::Words;
 
@@ -51,6 +51,7 @@ fn act(words: &mut Words<'_>, caller: Option<u32>) -> Result<Act, LineKind>
         }
         Some(_) => {
             let form = message_form(word)?;
+            let form = followed_form(form, words.ahead(message_size(form)));
             Ok(Act::Message(message(words, form)?))
         }
     }

@@ -5,6 +5,7 @@ ghost use Rattle.aim_messages.specs.declared.replies.Reply.{Reply};
 ghost use Rattle.aim_messages.specs.declared.entries.Entry.{Entry};
 ghost use Rattle.aim_messages.specs.Texts.{reply_text, entry_text, IsOneLine};
 ghost use Rattle.aim_messages.specs.Actors.{IsCallerOf};
+ghost use Rattle.aim_messages.specs.Windows.{ActHasWindow};
 ghost use Rattle.aim_text_words.specs.Ranges.{Is32};
 ghost use Rattle.aim_text_entries.specs.Entries.{entry_at};
 ghost use Rattle.aim_text_entries.specs.Ranges.{IsReply, IsEntry};
@@ -16,15 +17,17 @@ pub fn reply_has_one_text()
     ensures { (a b : Reply) → IsReply a → IsReply b → reply_text a ≡ reply_text b → a ≡ b }
 {}
 
-/// Reading the text of an entry gives its position and the entry back.
+/// Reading the text of an entry gives its position and the entry back, where a message that asks for a crossing has its
+/// last step of arrival no earlier than its first.
 pub fn entry_is_read_again()
-    ensures { (position : ℕ) (entry : Entry) → Is32 position → IsEntry entry → IsCallerOf entry.caller entry.act → entry_at (entry_text position entry) ≡ Ok (position, entry) }
+    ensures { (position : ℕ) (entry : Entry) → Is32 position → IsEntry entry → IsCallerOf entry.caller entry.act → ActHasWindow entry.act → entry_at (entry_text position entry) ≡ Ok (position, entry) }
 {}
 
 /// Bytes that are read as an entry are its text. Its caller is `OPERATOR` where its act is an order, and a vehicle
-/// below 65,536 where its act is a message.
+/// below 65,536 where its act is a message, and one that asks for a crossing has its last step of arrival no earlier
+/// than its first.
 pub fn entry_is_spelled_so()
-    ensures { (bytes : List ℕ) (position : ℕ) (entry : Entry) → entry_at bytes ≡ Ok (position, entry) → Is32 position × IsEntry entry × IsCallerOf entry.caller entry.act × (bytes ≡ entry_text position entry) }
+    ensures { (bytes : List ℕ) (position : ℕ) (entry : Entry) → entry_at bytes ≡ Ok (position, entry) → Is32 position × IsEntry entry × IsCallerOf entry.caller entry.act × ActHasWindow entry.act × (bytes ≡ entry_text position entry) }
 {}
 
 /// No two entries have one text.

@@ -19,7 +19,7 @@ fn number64(words: &mut Words<'_>) -> Result<u64, LineKind>
     number(word, 0, u64::MAX)
 }
 
-const FIELDS: [(&[u8], Field); 10] = [
+const FIELDS: [(&[u8], Field); 11] = [
     (b"lane", Field::Lane),
     (b"turn", Field::Turn),
     (b"arrive", Field::Arrive),
@@ -30,6 +30,7 @@ const FIELDS: [(&[u8], Field); 10] = [
     (b"width", Field::Width),
     (b"steps", Field::Steps),
     (b"spans", Field::Spans),
+    (b"latest", Field::Latest),
 ];
 
 fn field(words: &mut Words<'_>) -> Result<Field, LineKind>
