@@ -1,5 +1,6 @@
 -- The words of an entry's members are the words of its text, so no two entries have one value.
-use Rattle.std.proofs.Common.{◌≡◌, ℕ, [], ◌∷◌, ◌++◌, Option, Some, None, codes, refl, sym, ap, ◌∙◌}
+use Rattle.std.proofs.Common.{◌≡◌, ℕ, [], ◌∷◌, ◌++◌, ◌==◌, Option, Some, None, codes, refl, sym, ap, ◌∙◌, inl, inr}
+use Rattle.std.proofs.lemmas.Bool.{cases_Bool}
 use Rattle.serde_json.specs.Data.{Data}
 use Rattle.serde_json.specs.Find.{get, as_null}
 use Rattle.aim_messages.specs.declared.messages.Body.{Body}
@@ -24,7 +25,7 @@ use Rattle.aim_json.specs.Spelling.{Names, plain_words, value_words, member_word
 abbrev act_names : Names
 act_names =
     codes "kind" ∷ codes "seq" ∷ codes "id" ∷ codes "lane" ∷ codes "turn" ∷ codes "arrive" ∷ codes "speed" ∷ codes "max"
-    ∷ codes "accel" ∷ codes "length" ∷ codes "width" ∷ codes "class" ∷ codes "policy" ∷ []
+    ∷ codes "accel" ∷ codes "length" ∷ codes "width" ∷ codes "class" ∷ codes "latest" ∷ codes "policy" ∷ []
 
 abbrev reason_names : Names
 reason_names =
@@ -66,8 +67,14 @@ entry_in d =
 -- ---- back to the words
 
 body_back : (seq : ℕ) (b : Body) → members_words act_names (body_json seq b) ≡ body_words seq b
-body_back seq (body.Request p) = refl
-body_back seq (body.Change id p) = refl
+body_back seq (body.Request p) = elim (cases_Bool (p.latest == p.arrive)) [
+  | inl is ↦ rw is refl
+  | inr other ↦ rw other refl
+]
+body_back seq (body.Change id p) = elim (cases_Bool (p.latest == p.arrive)) [
+  | inl is ↦ rw is refl
+  | inr other ↦ rw other refl
+]
 body_back seq (body.Cancel id) = refl
 body_back seq (body.Done id) = refl
 

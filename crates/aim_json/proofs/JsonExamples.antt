@@ -27,7 +27,7 @@ use Rattle.aim_json.specs.Entries.{reply_json, entry_json_text}
 
 -- a car that goes straight on from that lane and arrives at that step
 abbrev car : ℕ → ℕ → Params
-car lane arrive = record { lane = lane; turn = Straight; arrive = arrive; speed = 500; max_speed = 500; accel = 0; length = 1000; width = 700; emergency = false }
+car lane arrive = record { lane = lane; turn = Straight; arrive = arrive; latest = arrive; speed = 500; max_speed = 500; accel = 0; length = 1000; width = 700; emergency = false }
 
 abbrev message : ℕ → Body → Message
 message seq body = record { seq = seq; body = body }
@@ -55,6 +55,14 @@ ambulance_text = refl
 pub change_text : compact_text (message_json (message 5 (body.Change 0 (record (car 0 40) { turn = Right })))) ≡ codes "{\"accel\":0,\"arrive\":40,\"class\":\"car\",\"id\":0,\"kind\":\"change\",\"lane\":0,\"length\":1000,\"max\":500,\"seq\":5,\"speed\":500,\"turn\":\"right\",\"width\":700}"
 unfolding serde_json_on_literals digits
 change_text = refl
+
+pub windowed_request_text : compact_text (message_json (message 1 (body.Request (record (car 0 10) { latest = 14 })))) ≡ codes "{\"accel\":0,\"arrive\":10,\"class\":\"car\",\"kind\":\"request\",\"lane\":0,\"latest\":14,\"length\":1000,\"max\":500,\"seq\":1,\"speed\":500,\"turn\":\"straight\",\"width\":700}"
+unfolding serde_json_on_literals digits
+windowed_request_text = refl
+
+pub windowed_change_text : compact_text (message_json (message 5 (body.Change 0 (record (car 0 40) { latest = 4294967295 })))) ≡ codes "{\"accel\":0,\"arrive\":40,\"class\":\"car\",\"id\":0,\"kind\":\"change\",\"lane\":0,\"latest\":4294967295,\"length\":1000,\"max\":500,\"seq\":5,\"speed\":500,\"turn\":\"straight\",\"width\":700}"
+unfolding serde_json_on_literals digits
+windowed_change_text = refl
 
 pub cancel_text : compact_text (message_json (message 2 (body.Cancel 0))) ≡ codes "{\"id\":0,\"kind\":\"cancel\",\"seq\":2}"
 unfolding serde_json_on_literals digits
@@ -115,6 +123,10 @@ bad_lane_text = refl
 pub bad_turn_text : compact_text (reply_json (refused (reason.Bad field.Turn) 5 None)) ≡ codes "{\"held\":null,\"kind\":\"reject\",\"next\":5,\"reason\":{\"field\":\"turn\",\"kind\":\"bad\"}}"
 unfolding serde_json_on_literals digits
 bad_turn_text = refl
+
+pub bad_latest_text : compact_text (reply_json (refused (reason.Bad field.Latest) 25 None)) ≡ codes "{\"held\":null,\"kind\":\"reject\",\"next\":25,\"reason\":{\"field\":\"latest\",\"kind\":\"bad\"}}"
+unfolding serde_json_on_literals digits
+bad_latest_text = refl
 
 pub bad_arrive_text : compact_text (reply_json (refused (reason.Bad field.Arrive) 25 None)) ≡ codes "{\"held\":null,\"kind\":\"reject\",\"next\":25,\"reason\":{\"field\":\"arrive\",\"kind\":\"bad\"}}"
 unfolding serde_json_on_literals digits

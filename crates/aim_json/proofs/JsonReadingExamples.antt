@@ -19,7 +19,7 @@ use Rattle.aim_json.specs.Reading.{json_line_at}
 
 -- a car that goes straight on from that lane and arrives at that step
 abbrev car : ℕ → ℕ → Params
-car lane arrive = record { lane = lane; turn = Straight; arrive = arrive; speed = 500; max_speed = 500; accel = 0; length = 1000; width = 700; emergency = false }
+car lane arrive = record { lane = lane; turn = Straight; arrive = arrive; latest = arrive; speed = 500; max_speed = 500; accel = 0; length = 1000; width = 700; emergency = false }
 
 abbrev message : ℕ → Body → Message
 message seq body = record { seq = seq; body = body }
@@ -109,6 +109,21 @@ pub event_line : json_line_at 1 (codes "{\"form\":\"event\",\"vehicle\":1,\"mome
     ≡ Ok (line.Event 1 8 (message 2 (body.Request (record (car 1 18) { emergency = true }))))
 unfolding serde_json_on_literals digits is_utf8 chars
 event_line = refl
+
+pub windowed_request_line : json_line_at 4 (codes "{\"form\":\"event\",\"vehicle\":1,\"moment\":8,\"message\":{\"kind\":\"request\",\"seq\":2,\"lane\":1,\"turn\":\"straight\",\"arrive\":18,\"speed\":500,\"max\":500,\"accel\":0,\"length\":1000,\"width\":700,\"class\":\"car\",\"latest\":30}}")
+    ≡ Ok (line.Event 1 8 (message 2 (body.Request (record (car 1 18) { latest = 30 }))))
+unfolding serde_json_on_literals digits is_utf8 chars
+windowed_request_line = refl
+
+pub windowed_change_line : json_line_at 4 (codes "{\"form\":\"event\",\"vehicle\":1,\"moment\":8,\"message\":{\"kind\":\"change\",\"seq\":2,\"id\":7,\"lane\":1,\"turn\":\"straight\",\"arrive\":18,\"speed\":500,\"max\":500,\"accel\":0,\"length\":1000,\"width\":700,\"class\":\"car\",\"latest\":19}}")
+    ≡ Ok (line.Event 1 8 (message 2 (body.Change 7 (record (car 1 18) { latest = 19 }))))
+unfolding serde_json_on_literals digits is_utf8 chars
+windowed_change_line = refl
+
+pub request_line_of_version_4 : json_line_at 4 (codes "{\"form\":\"event\",\"vehicle\":1,\"moment\":8,\"message\":{\"kind\":\"request\",\"seq\":2,\"lane\":1,\"turn\":\"straight\",\"arrive\":18,\"speed\":500,\"max\":500,\"accel\":0,\"length\":1000,\"width\":700,\"class\":\"car\"}}")
+    ≡ Ok (line.Event 1 8 (message 2 (body.Request (car 1 18))))
+unfolding serde_json_on_literals digits is_utf8 chars
+request_line_of_version_4 = refl
 
 pub switch_line : json_line_at 1 (codes "{\"form\":\"switch\",\"moment\":5,\"name\":\"lights\"}")
     ≡ Ok (line.SwitchTo 5 (named (codes "lights")))
@@ -285,6 +300,22 @@ window_in_version_2 = refl
 pub no_window_in_version_3 : json_line_at 3 (codes "{\"form\":\"plan\",\"v\":0,\"first\":0,\"lead\":10,\"resend\":3,\"lane\":0,\"turn\":\"straight\",\"speed\":500,\"max\":500,\"accel\":0,\"length\":1000,\"width\":700,\"class\":\"car\"}") ≡ Err fault.Form
 unfolding serde_json_on_literals digits is_utf8 chars
 no_window_in_version_3 = refl
+
+pub latest_in_version_3 : json_line_at 3 (codes "{\"form\":\"event\",\"vehicle\":1,\"moment\":8,\"message\":{\"kind\":\"request\",\"seq\":2,\"lane\":1,\"turn\":\"straight\",\"arrive\":18,\"speed\":500,\"max\":500,\"accel\":0,\"length\":1000,\"width\":700,\"class\":\"car\",\"latest\":30}}") ≡ Err fault.Form
+unfolding serde_json_on_literals digits is_utf8 chars
+latest_in_version_3 = refl
+
+pub latest_at_arrive : json_line_at 4 (codes "{\"form\":\"event\",\"vehicle\":1,\"moment\":8,\"message\":{\"kind\":\"request\",\"seq\":2,\"lane\":1,\"turn\":\"straight\",\"arrive\":18,\"speed\":500,\"max\":500,\"accel\":0,\"length\":1000,\"width\":700,\"class\":\"car\",\"latest\":18}}") ≡ Err fault.Form
+unfolding serde_json_on_literals digits is_utf8 chars
+latest_at_arrive = refl
+
+pub latest_below_arrive : json_line_at 4 (codes "{\"form\":\"event\",\"vehicle\":1,\"moment\":8,\"message\":{\"kind\":\"change\",\"seq\":2,\"id\":7,\"lane\":1,\"turn\":\"straight\",\"arrive\":18,\"speed\":500,\"max\":500,\"accel\":0,\"length\":1000,\"width\":700,\"class\":\"car\",\"latest\":17}}") ≡ Err fault.Form
+unfolding serde_json_on_literals digits is_utf8 chars
+latest_below_arrive = refl
+
+pub latest_that_is_text : json_line_at 4 (codes "{\"form\":\"event\",\"vehicle\":1,\"moment\":8,\"message\":{\"kind\":\"request\",\"seq\":2,\"lane\":1,\"turn\":\"straight\",\"arrive\":18,\"speed\":500,\"max\":500,\"accel\":0,\"length\":1000,\"width\":700,\"class\":\"car\",\"latest\":\"30\"}}") ≡ Err fault.Form
+unfolding serde_json_on_literals digits is_utf8 chars
+latest_that_is_text = refl
 
 pub falling_lanes : json_line_at 1 (codes "{\"form\":\"phase\",\"red\":20,\"green\":80,\"lanes\":[3,0]}") ≡ Err fault.Form
 unfolding serde_json_on_literals digits is_utf8 chars

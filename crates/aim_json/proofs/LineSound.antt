@@ -89,8 +89,14 @@ fates_are_sound (f ∷ fs) h =
     (fate_is_sound (f == 0) (f == 256) (f == 257) f (omega arith), fates_are_sound fs both.1)
 
 body_is_sound : (seq : ℕ) (b : Body) → Is32 seq → IsBody b → IsSound (body_json seq b)
-body_is_sound seq (body.Request p) s r = ((refl, (n32 p.accel r.accel, (refl, (n32 p.arrive r.arrive, (refl, (class_is_utf8 p.emergency, (refl, (ascii (codes "request") refl, (refl, (n8 p.lane r.lane, (refl, (n32 p.length r.len, (refl, (n32 p.max_speed r.max_speed, (refl, (n32 seq s, (refl, (n32 p.speed r.speed, (refl, (turn_is_utf8 p.turn, (refl, (n32 p.width r.width, tt)))))))))))))))))))))), refl)
-body_is_sound seq (body.Change id p) s r = ((refl, (n32 p.accel r.1.accel, (refl, (n32 p.arrive r.1.arrive, (refl, (class_is_utf8 p.emergency, (refl, (n32 id r.0, (refl, (ascii (codes "change") refl, (refl, (n8 p.lane r.1.lane, (refl, (n32 p.length r.1.len, (refl, (n32 p.max_speed r.1.max_speed, (refl, (n32 seq s, (refl, (n32 p.speed r.1.speed, (refl, (turn_is_utf8 p.turn, (refl, (n32 p.width r.1.width, tt)))))))))))))))))))))))), refl)
+body_is_sound seq (body.Request p) s r = elim (cases_Bool (p.latest == p.arrive)) [
+  | inl is ↦ rw is ((refl, (n32 p.accel r.accel, (refl, (n32 p.arrive r.arrive, (refl, (class_is_utf8 p.emergency, (refl, (ascii (codes "request") refl, (refl, (n8 p.lane r.lane, (refl, (n32 p.length r.len, (refl, (n32 p.max_speed r.max_speed, (refl, (n32 seq s, (refl, (n32 p.speed r.speed, (refl, (turn_is_utf8 p.turn, (refl, (n32 p.width r.width, tt)))))))))))))))))))))), refl)
+  | inr other ↦ rw other ((refl, (n32 p.accel r.accel, (refl, (n32 p.arrive r.arrive, (refl, (class_is_utf8 p.emergency, (refl, (ascii (codes "request") refl, (refl, (n8 p.lane r.lane, (refl, (n32 p.latest r.latest, (refl, (n32 p.length r.len, (refl, (n32 p.max_speed r.max_speed, (refl, (n32 seq s, (refl, (n32 p.speed r.speed, (refl, (turn_is_utf8 p.turn, (refl, (n32 p.width r.width, tt)))))))))))))))))))))))), refl)
+]
+body_is_sound seq (body.Change id p) s r = elim (cases_Bool (p.latest == p.arrive)) [
+  | inl is ↦ rw is ((refl, (n32 p.accel r.1.accel, (refl, (n32 p.arrive r.1.arrive, (refl, (class_is_utf8 p.emergency, (refl, (n32 id r.0, (refl, (ascii (codes "change") refl, (refl, (n8 p.lane r.1.lane, (refl, (n32 p.length r.1.len, (refl, (n32 p.max_speed r.1.max_speed, (refl, (n32 seq s, (refl, (n32 p.speed r.1.speed, (refl, (turn_is_utf8 p.turn, (refl, (n32 p.width r.1.width, tt)))))))))))))))))))))))), refl)
+  | inr other ↦ rw other ((refl, (n32 p.accel r.1.accel, (refl, (n32 p.arrive r.1.arrive, (refl, (class_is_utf8 p.emergency, (refl, (n32 id r.0, (refl, (ascii (codes "change") refl, (refl, (n8 p.lane r.1.lane, (refl, (n32 p.latest r.1.latest, (refl, (n32 p.length r.1.len, (refl, (n32 p.max_speed r.1.max_speed, (refl, (n32 seq s, (refl, (n32 p.speed r.1.speed, (refl, (turn_is_utf8 p.turn, (refl, (n32 p.width r.1.width, tt)))))))))))))))))))))))))), refl)
+]
 body_is_sound seq (body.Cancel id) s r = ((refl, (n32 id r, (refl, (ascii (codes "cancel") refl, (refl, (n32 seq s, tt)))))), refl)
 body_is_sound seq (body.Done id) s r = ((refl, (n32 id r, (refl, (ascii (codes "done") refl, (refl, (n32 seq s, tt)))))), refl)
 
@@ -115,7 +121,7 @@ line_is_sound version (line.Event vehicle moment m) r k = ((refl, (ascii (codes 
 line_is_sound version (line.SwitchTo moment name) r k = ((refl, (ascii (codes "switch") refl, (refl, (n32 moment r.0, (refl, (name_is_utf8 name k, tt)))))), refl)
 line_is_sound version (line.StopAt moment) r k = ((refl, (ascii (codes "stop") refl, (refl, (n32 moment r, tt)))), refl)
 line_is_sound version (line.Until step) r k = ((refl, (ascii (codes "until") refl, (refl, (n32 step r, tt)))), refl)
-line_is_sound version (line.PlanFor vehicle first lead resend params ahead) r k = plan_is_sound (version == 3) vehicle first lead resend params ahead r
+line_is_sound version (line.PlanFor vehicle first lead resend params ahead) r k = plan_is_sound (nat_le 3 version) vehicle first lead resend params ahead r
 line_is_sound version (line.ChangeAt vehicle step lead) r k = ((refl, (ascii (codes "change") refl, (refl, (n32 lead r.2, (refl, (n32 step r.1, (refl, (n32 vehicle r.0, tt)))))))), refl)
 line_is_sound version (line.CancelAt vehicle step) r k = ((refl, (ascii (codes "cancel") refl, (refl, (n32 step r.1, (refl, (n32 vehicle r.0, tt)))))), refl)
 line_is_sound version (line.Up vehicle fs) r k = ((refl, (fates_are_sound (take fs.len fs.fates) k.fates, (refl, (ascii (codes "up") refl, (refl, (n32 vehicle r.0, tt)))))), refl)

@@ -1,5 +1,6 @@
 -- The words of a line's members are the words of its text.
-use Rattle.std.proofs.Common.{◌≡◌, ℕ, ◌+◌, ◌<◌, ◌==◌, List, [], ◌∷◌, ◌++◌, length, get_or, drop, drop-cons, add-one, map, take, filter, Bool, true, false, codes, decimal, if◌then◌else◌, refl, sym, ap, ◌∙◌, append-nil}
+use Rattle.std.proofs.Common.{◌≡◌, ℕ, ◌+◌, ◌<◌, ◌==◌, List, [], ◌∷◌, ◌++◌, length, get_or, drop, drop-cons, add-one, map, take, filter, nat_le, Bool, true, false, codes, decimal, if◌then◌else◌, refl, sym, ap, ◌∙◌, append-nil, inl, inr}
+use Rattle.std.proofs.lemmas.Bool.{cases_Bool}
 use Rattle.std.specs.Borrow.{Bor}
 use Rattle.serde_json.specs.Data.{Data}
 use Rattle.serde_json.specs.Find.{get}
@@ -39,8 +40,14 @@ fates_back [] = refl
 fates_back (f ∷ fs) = rw (fate_back (f == 0) (f == 256) (f == 257) f, fates_back fs) refl
 
 body_back : (seq : ℕ) (b : Body) → members_words message_names (body_json seq b) ≡ body_words seq b
-body_back seq (body.Request p) = refl
-body_back seq (body.Change id p) = refl
+body_back seq (body.Request p) = elim (cases_Bool (p.latest == p.arrive)) [
+  | inl is ↦ rw is refl
+  | inr other ↦ rw other refl
+]
+body_back seq (body.Change id p) = elim (cases_Bool (p.latest == p.arrive)) [
+  | inl is ↦ rw is refl
+  | inr other ↦ rw other refl
+]
 body_back seq (body.Cancel id) = refl
 body_back seq (body.Done id) = refl
 
@@ -69,7 +76,7 @@ words_back version (line.Event vehicle moment m) = ap (λ (ws : Words). decimal 
 words_back version (line.SwitchTo moment name) = refl
 words_back version (line.StopAt moment) = refl
 words_back version (line.Until step) = refl
-words_back version (line.PlanFor vehicle first lead resend params ahead) = plan_back (version == 3) vehicle first lead resend params ahead
+words_back version (line.PlanFor vehicle first lead resend params ahead) = plan_back (nat_le 3 version) vehicle first lead resend params ahead
 words_back version (line.ChangeAt vehicle step lead) = refl
 words_back version (line.CancelAt vehicle step) = refl
 words_back version (line.Up vehicle fs) = ap (λ (ws : Words). codes "up" ∷ decimal vehicle ∷ ws) (append-nil _ ∙ fates_back (take fs.len fs.fates))

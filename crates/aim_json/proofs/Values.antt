@@ -1,6 +1,6 @@
 -- The values of lines and entries are made of texts, numbers from 0 on and null, and nest no deeper than a reader goes.
-use Rattle.std.proofs.Common.{◌≡◌, ℕ, ◌≤◌, ◌==◌, List, [], ◌∷◌, ◌++◌, ◌&&◌, map, take, filter, Bool, true, false, Option, Some, None, codes, if◌then◌else◌, refl, sym, true≢false, arith}
-use Rattle.std.proofs.lemmas.Bool.{and_parts}
+use Rattle.std.proofs.Common.{◌≡◌, ℕ, ◌≤◌, ◌==◌, List, [], ◌∷◌, ◌++◌, ◌&&◌, map, take, filter, nat_le, Bool, true, false, Option, Some, None, codes, if◌then◌else◌, refl, sym, true≢false, inl, inr, arith}
+use Rattle.std.proofs.lemmas.Bool.{and_parts, cases_Bool}
 use Rattle.serde_json.specs.Data.{Num, unsigned, negative, float, Data, null, boolean, number, string, array, object, Items, no_items, item, Members, no_members, member, depth, items_depth}
 use Rattle.serde_json.specs.Read.{max_depth}
 use Rattle.serde_json.specs.View.{items_of}
@@ -106,14 +106,26 @@ fates_are_flat (f ∷ fs) = rw (fate_is_flat (f == 0) (f == 256) (f == 257) f, f
 -- ---- messages and lines
 
 body_is_plain : (seq : ℕ) (b : Body) → is_plain (body_json seq b) ≡ true
-body_is_plain seq (body.Request p) = refl
-body_is_plain seq (body.Change id p) = refl
+body_is_plain seq (body.Request p) = elim (cases_Bool (p.latest == p.arrive)) [
+  | inl is ↦ rw is refl
+  | inr other ↦ rw other refl
+]
+body_is_plain seq (body.Change id p) = elim (cases_Bool (p.latest == p.arrive)) [
+  | inl is ↦ rw is refl
+  | inr other ↦ rw other refl
+]
 body_is_plain seq (body.Cancel id) = refl
 body_is_plain seq (body.Done id) = refl
 
 body_depth : (seq : ℕ) (b : Body) → depth (body_json seq b) ≡ 1
-body_depth seq (body.Request p) = refl
-body_depth seq (body.Change id p) = refl
+body_depth seq (body.Request p) = elim (cases_Bool (p.latest == p.arrive)) [
+  | inl is ↦ rw is refl
+  | inr other ↦ rw other refl
+]
+body_depth seq (body.Change id p) = elim (cases_Bool (p.latest == p.arrive)) [
+  | inl is ↦ rw is refl
+  | inr other ↦ rw other refl
+]
 body_depth seq (body.Cancel id) = refl
 body_depth seq (body.Done id) = refl
 
@@ -147,7 +159,7 @@ line_is_plain version (line.Event vehicle moment m) = rw (body_is_plain m.seq m.
 line_is_plain version (line.SwitchTo moment name) = refl
 line_is_plain version (line.StopAt moment) = refl
 line_is_plain version (line.Until step) = refl
-line_is_plain version (line.PlanFor vehicle first lead resend params ahead) = plan_is_plain (version == 3) vehicle first lead resend params ahead
+line_is_plain version (line.PlanFor vehicle first lead resend params ahead) = plan_is_plain (nat_le 3 version) vehicle first lead resend params ahead
 line_is_plain version (line.ChangeAt vehicle step lead) = refl
 line_is_plain version (line.CancelAt vehicle step) = refl
 line_is_plain version (line.Up vehicle fs) = rw (fates_are_plain (take fs.len fs.fates)) refl
@@ -173,7 +185,7 @@ line_is_shallow version (line.Event vehicle moment m) = rw (body_depth m.seq m.b
 line_is_shallow version (line.SwitchTo moment name) = omega arith
 line_is_shallow version (line.StopAt moment) = omega arith
 line_is_shallow version (line.Until step) = omega arith
-line_is_shallow version (line.PlanFor vehicle first lead resend params ahead) = rw (plan_depth (version == 3) vehicle first lead resend params ahead) (omega arith)
+line_is_shallow version (line.PlanFor vehicle first lead resend params ahead) = rw (plan_depth (nat_le 3 version) vehicle first lead resend params ahead) (omega arith)
 line_is_shallow version (line.ChangeAt vehicle step lead) = omega arith
 line_is_shallow version (line.CancelAt vehicle step) = omega arith
 line_is_shallow version (line.Up vehicle fs) = rw (fates_are_flat (take fs.len fs.fates)) (omega arith)

@@ -1,5 +1,5 @@
 -- The JSON value of a script's line.
-use Rattle.std.specs.Prelude.{ℕ, ◌==◌, Bool, List, [], ◌∷◌, ◌++◌, codes, map, filter, take, if◌then◌else◌}
+use Rattle.std.specs.Prelude.{ℕ, ◌==◌, Bool, List, [], ◌∷◌, ◌++◌, codes, map, filter, take, nat_le, if◌then◌else◌}
 use Rattle.serde_json.specs.Data.{Data}
 use Rattle.serde_json.specs.Written.{compact_text}
 use Rattle.aim_messages.specs.declared.messages.Params.{Params}
@@ -33,8 +33,12 @@ vehicle_members p =
 abbrev pub way_members : Params → List Member
 way_members p = (codes "lane", count p.lane) ∷ (codes "turn", word (turn_word p.turn)) ∷ []
 
+-- the last step of arrival, which is told where it is another than the first
+abbrev pub latest_members : Params → List Member
+latest_members p = if p.latest == p.arrive then [] else (codes "latest", count p.latest) ∷ []
+
 abbrev pub params_members : Params → List Member
-params_members p = (way_members p ++ (codes "arrive", count p.arrive) ∷ []) ++ vehicle_members p
+params_members p = (way_members p ++ (codes "arrive", count p.arrive) ∷ []) ++ (vehicle_members p ++ latest_members p)
 
 abbrev pub body_json : ℕ → Body → Data
 body_json seq (body.Request p) = of_kind (codes "request") ((codes "seq", count seq) ∷ params_members p)
@@ -73,9 +77,9 @@ fate_json f =
 abbrev pub fates_json : FateList → Data
 fates_json fs = list (map fate_json (take fs.len fs.fates))
 
--- the window, which only plans of version 3 have
+-- the window, which plans have from version 3 on
 abbrev pub window_members : ℕ → Bool → List Member
-window_members version ahead = if version == 3 then (codes "window", word (window_word ahead)) ∷ [] else []
+window_members version ahead = if nat_le 3 version then (codes "window", word (window_word ahead)) ∷ [] else []
 
 -- the value of a line of a script of that version
 abbrev pub json_of : ℕ → Line → Data

@@ -53,7 +53,7 @@ names_of (name ∷ names) = name.now ∷ names_of names
 abbrev pub message_names : Names
 message_names =
     codes "kind" ∷ codes "seq" ∷ codes "id" ∷ codes "lane" ∷ codes "turn" ∷ codes "arrive" ∷ codes "speed" ∷ codes "max"
-    ∷ codes "accel" ∷ codes "length" ∷ codes "width" ∷ codes "class" ∷ []
+    ∷ codes "accel" ∷ codes "length" ∷ codes "width" ∷ codes "class" ∷ codes "latest" ∷ []
 
 abbrev pub message_words : Option Data → Words
 message_words None = []

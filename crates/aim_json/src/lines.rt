@@ -8,7 +8,7 @@ ghost use Rattle.aim_messages.specs.Texts.{turn_word};
 ghost use Rattle.aim_messages.specs.Lines.{has_lane, KeepsRanges, IsFateList};
 ghost use Rattle.aim_json.specs.Members.{count, word, with_members};
 ghost use Rattle.aim_json.specs.Objects.{Holds};
-ghost use Rattle.aim_json.specs.Lines.{body_json, fate_json, fates_json, json_of, lanes_json, message_json, of_form, of_kind, params_members, shape_members, vehicle_members, window_members};
+ghost use Rattle.aim_json.specs.Lines.{body_json, fate_json, fates_json, json_of, lanes_json, latest_members, message_json, of_form, of_kind, params_members, shape_members, vehicle_members, window_members};
 
 use crate::object::Object;
 use crate::words::{class_text, kind_text, name_text, turn_text, window_text};
@@ -59,12 +59,23 @@ pub(crate) fn single_kind(
     Object::with(alloc, "kind", kind).count(name, n).value()
 }
 
+// Adds the last step of arrival, which is told where it is another than the first.
+fn put_latest(object: Object, params: &Params) -> Object
+    ensures { (ms : Members) → Holds object ms → Holds result (with_members (latest_members params.now) ms) }
+{
+    if params.latest != params.arrive {
+        object.count("latest", params.latest)
+    } else {
+        object
+    }
+}
+
 // Adds the params of a message.
 fn put_params(object: Object, params: &Params) -> Object
     ensures { (ms : Members) → Holds object ms → Holds result (with_members (params_members params.now) ms) }
 {
     let object = put_way(object, params.lane, params.turn).count("arrive", params.arrive);
-    put_vehicle(object, params)
+    put_latest(put_vehicle(object, params), params)
 }
 
 // The members with which a message about a reservation begins.
@@ -254,11 +265,11 @@ fn switch_value(alloc: Global, moment: u32, name: &Name) -> Result<Value, AllocE
         .value()
 }
 
-// Adds the window, which only plans of version 3 have.
+// Adds the window, which plans have from version 3 on.
 fn put_window(object: Object, version: u8, ahead: bool) -> Object
     ensures { (ms : Members) → Holds object ms → Holds result (with_members (window_members version ahead) ms) }
 {
-    if version == 3 {
+    if version >= 3 {
         object.word("window", window_text(ahead))
     } else {
         object

@@ -30,7 +30,7 @@ pub enum JsonFault {
 
 // The line, if that is its value.
 fn if_its_value(alloc: Global, line: Line, version: u8, value: &Value) -> Result<Line, JsonFault>
-    requires version { (0 < version) × (version ≤ 3) }
+    requires version { (0 < version) × (version ≤ 4) }
     requires ranges { KeepsRanges version line }
     requires nests { depth (view value.now) ≤ max_depth }
     ensures { (result ≡ Err JsonFault.NoMemory) ⊎ (result ≡ if_its_value version (view value.now) line) }
@@ -51,7 +51,7 @@ fn if_its_value(alloc: Global, line: Line, version: u8, value: &Value) -> Result
 
 // The line whose value it is.
 fn line_of(alloc: Global, value: &Value, version: u8) -> Result<Line, JsonFault>
-    requires version { (0 < version) × (version ≤ 3) }
+    requires version { (0 < version) × (version ≤ 4) }
     requires nests { depth (view value.now) ≤ max_depth }
     ensures { (result ≡ Err JsonFault.NoMemory) ⊎ (result ≡ line_of version (view value.now)) }
 {
@@ -66,7 +66,7 @@ fn line_of(alloc: Global, value: &Value, version: u8) -> Result<Line, JsonFault>
 
 // The line that the bytes are.
 fn json_line(alloc: Global, line: &[u8], version: u8) -> Result<Line, JsonFault>
-    requires { (0 < version) × (version ≤ 3) }
+    requires { (0 < version) × (version ≤ 4) }
     ensures { (result ≡ Err JsonFault.NoMemory) ⊎ (result ≡ json_line_at version line.now) }
 {
     match Value::from_slice(alloc, line) {
@@ -79,10 +79,10 @@ fn json_line(alloc: Global, line: &[u8], version: u8) -> Result<Line, JsonFault>
     }
 }
 
-/// Reads a line of a script of that version, which is 1 to 3, as JSON text. Members may come in any order, and white
+/// Reads a line of a script of that version, which is 1 to 4, as JSON text. Members may come in any order, and white
 /// space between them, as `serde_json` reads them: of two members of one name the last counts.
 pub fn read_json_line(alloc: Global, line: &[u8], version: u8) -> Result<Line, JsonFault>
-    requires { (0 < version) × (version ≤ 3) }
+    requires { (0 < version) × (version ≤ 4) }
     ensures value { (result ≡ Err JsonFault.NoMemory) ⊎ (result ≡ json_line_at version line.now) }
 
     // What that is: the line whose value the text is, or why there is none.

@@ -55,9 +55,9 @@ const LINE_NAMES: [&str; 42] = [
     "window",
 ];
 
-const MESSAGE_NAMES: [&str; 12] = [
+const MESSAGE_NAMES: [&str; 13] = [
     "kind", "seq", "id", "lane", "turn", "arrive", "speed", "max", "accel", "length", "width",
-    "class",
+    "class", "latest",
 ];
 
 // Adds a word, and a space behind it.

@@ -36,6 +36,7 @@ pub(crate) fn field_text(field: Field) -> &'static str
         Field::Width => "width",
         Field::Steps => "steps",
         Field::Spans => "spans",
+        Field::Latest => "latest",
     }
 }
 

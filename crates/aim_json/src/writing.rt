@@ -40,7 +40,7 @@ pub fn write_json_line(
     version: u8,
     out: &mut Vec<u8>,
 ) -> Result<(), NoMemory>
-    requires version { (0 < version) × (version ≤ 3) }
+    requires version { (0 < version) × (version ≤ 4) }
     requires ranges { KeepsRanges version line.now }
     ensures ok { OnOk result (out.new.items ≡ out.old.items ++ json_text version line.now) }
     ensures err { OnErr result (out.new.items ≡ out.old.items) }
