@@ -101,6 +101,7 @@ blank = record {
       lane = 0;
       turn = turn.Left;
       arrive = 0;
+      latest = 0;
       speed = 0;
       max_speed = 0;
       accel = 0;

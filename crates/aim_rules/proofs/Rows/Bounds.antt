@@ -77,7 +77,7 @@ lit_in_turn = refl
 -- bounds of fields
 abbrev with_numbers : ℕ → ℕ → ℕ → ℕ → ℕ → ℕ → Params
 with_numbers arrive speed most accel length width =
-    record { lane = 0; turn = Straight; arrive = arrive; speed = speed; max_speed = most; accel = accel; length = length; width = width; emergency = false }
+    record { lane = 0; turn = Straight; arrive = arrive; latest = arrive; speed = speed; max_speed = most; accel = accel; length = length; width = width; emergency = false }
 
 pub greatest_arrival : bad small (car 0 1073741824) ≡ None
 greatest_arrival = refl

@@ -17,7 +17,7 @@ large = record {
 }
 
 abbrev truck : Params
-truck = record { lane = 0; turn = Left; arrive = 100; speed = 200; max_speed = 300; accel = 2; length = 4500; width = 1900; emergency = false }
+truck = record { lane = 0; turn = Left; arrive = 100; latest = 100; speed = 200; max_speed = 300; accel = 2; length = 4500; width = 1900; emergency = false }
 
 pub steps_fast : crossing_steps large truck true ≡ 117
 steps_fast = refl
