@@ -53,13 +53,13 @@ few i p fast good =
     let f = steps_fewer i p fast s.0 s.1 in omega arith
 
 -- the cells of a trial that arrives at another step
-trial_shifted : (i : Intersection) (p : Params) (fast : Bool) (from to edge : ℕ) (spans : List Span) → IsTimes i.times → bad i p ≡ None → p.arrive ≡ from → edge ≡ i.times.edge →
-    i.times.edge ≤ from → i.times.edge ≤ to → to ≤ LATEST_MOMENT → IsTrialOf i p fast spans → AreMarked spans → IsTrialOf i (arriving p to) fast (map (moved (from - edge) (to - edge)) spans)
-trial_shifted i p fast from to edge spans times good a e f t last is marked =
+trial_shifted : (i : Intersection) (p : Params) (fast : Bool) (from to latest edge : ℕ) (spans : List Span) → IsTimes i.times → bad i p ≡ None → p.arrive ≡ from → edge ≡ i.times.edge →
+    i.times.edge ≤ from → i.times.edge ≤ to → to ≤ LATEST_MOMENT → IsTrialOf i p fast spans → AreMarked spans → IsTrialOf i (arriving p to latest) fast (map (moved (from - edge) (to - edge)) spans)
+trial_shifted i p fast from to latest edge spans times good a e f t last is marked =
     let g : i.times.edge ≤ p.arrive = rw a f in
     rw (e, ← a) (record {
-      cells = have_moved i p fast to spans times.early times.late g t (may_move i p fast to spans times.early times.late times.edge (few i p fast good) g t last is.cells marked) is.cells;
-      count = length-map spans (moved (p.arrive - i.times.edge) (to - i.times.edge)) ∙ is.count ∙ sym (count_moved i p fast to g t);
+      cells = have_moved i p fast to latest spans times.early times.late g t (may_move i p fast to spans times.early times.late times.edge (few i p fast good) g t last is.cells marked) is.cells;
+      count = length-map spans (moved (p.arrive - i.times.edge) (to - i.times.edge)) ∙ is.count ∙ sym (count_moved i p fast to latest g t);
     })
 
 module _ (i : Intersection) (r : Request) (from to edge : ℕ) (o : Option Params) (m : IsMove i r from to edge o) where
@@ -74,9 +74,12 @@ module _ (i : Intersection) (r : Request) (from to edge : ℕ) (o : Option Param
   unfolding p
   arrives = m.asks.2
 
-  is_asked : o ≡ Some (arriving p to)
-  unfolding p
-  is_asked = m.asks.3
+  latest : ℕ
+  latest = m.asks.3
+
+  is_asked : o ≡ Some (arriving p to latest)
+  unfolding p latest
+  is_asked = m.asks.4
 
   good : bad i p ≡ None
   good = good_asked i r p m.prepared asked
@@ -97,8 +100,8 @@ module _ (i : Intersection) (r : Request) (from to edge : ℕ) (o : Option Param
       go true made = trial_may true spans (rw same (m.prepared.fast p asked made)) marked
       go false unmade = λ k d l. absurd (let n : length spans ≡ 0 = ap length (same ∙ m.prepared.unmade p asked unmade) in omega arith)
 
-  trial_moved : (fast : Bool) (spans : List Span) → IsTrialOf i p fast spans → AreMarked spans → IsTrialOf i (arriving p to) fast (map (moved (from - edge) (to - edge)) spans)
-  trial_moved fast spans is marked = trial_shifted i p fast from to edge spans m.times good arrives m.edge_is m.from_edge m.to_edge m.last is marked
+  trial_moved : (fast : Bool) (spans : List Span) → IsTrialOf i p fast spans → AreMarked spans → IsTrialOf i (arriving p to latest) fast (map (moved (from - edge) (to - edge)) spans)
+  trial_moved fast spans is marked = trial_shifted i p fast from to latest edge spans m.times good arrives m.edge_is m.from_edge m.to_edge m.last is marked
 
   one : (q q2 : Params) (x : Option Params) → x ≡ Some q → x ≡ Some q2 → q ≡ q2
   one q q2 x a b = cc
@@ -109,21 +112,21 @@ module _ (i : Intersection) (r : Request) (from to edge : ℕ) (o : Option Param
       second ≡ record { spans = map (moved (from - edge) (to - edge)) ss; room = i.grid.spans } →
       IsPreparedFor i (record { message = n; bad = None; steps = steps; first = first; second = second })
   moved_request n steps first second fs ss body same_steps f s fm sm first_is second_is =
-      let has : params_of n.body ≡ Some (arriving p to) = body ∙ is_asked in
+      let has : params_of n.body ≡ Some (arriving p to latest) = body ∙ is_asked in
       record {
-        field = sym (ap (option_and_then (bad i)) has ∙ good_moved i p to (let a = arrives in let l = m.from_edge in rw a l) m.to_edge m.last good);
+        field = sym (ap (option_and_then (bad i)) has ∙ good_moved i p to latest (let a = arrives in let l = m.from_edge in rw a l) m.to_edge m.last good);
         first_room = ap (λ (x : Spans). x.room) first_is;
         second_room = ap (λ (x : Spans). x.room) second_is;
-        steady = λ q e. (let is : q ≡ arriving p to = one q (arriving p to) (params_of n.body) e has in
+        steady = λ q e. (let is : q ≡ arriving p to latest = one q (arriving p to latest) (params_of n.body) e has in
             rw (is, second_is) (trial_moved false ss (rw s (m.prepared.steady p asked)) sm));
-        fast = λ q e made. (let is : q ≡ arriving p to = one q (arriving p to) (params_of n.body) e has in
+        fast = λ q e made. (let is : q ≡ arriving p to latest = one q (arriving p to latest) (params_of n.body) e has in
             rw (is, first_is) (trial_moved true fs (rw f (m.prepared.fast p asked (rw is at made))) fm));
-        steps = λ q e. (let is : q ≡ arriving p to = one q (arriving p to) (params_of n.body) e has in
+        steps = λ q e. (let is : q ≡ arriving p to latest = one q (arriving p to latest) (params_of n.body) e has in
             let was = m.prepared.steps p asked in rw (is, same_steps) (record { fast = was.fast; steady = was.steady }));
-        unmade = λ q e made. (let is : q ≡ arriving p to = one q (arriving p to) (params_of n.body) e has in
+        unmade = λ q e made. (let is : q ≡ arriving p to latest = one q (arriving p to latest) (params_of n.body) e has in
             let none : fs ≡ [] = f ∙ m.prepared.unmade p asked (rw is at made) in
             ap (λ (x : Spans). x.spans) first_is ∙ ap (map (moved (from - edge) (to - edge))) none);
-        empty = λ e. absurd (let x : Some (arriving p to) ≡ None = sym has ∙ e in cc);
+        empty = λ e. absurd (let x : Some (arriving p to latest) ≡ None = sym has ∙ e in cc);
       }
 
 -- no field is wrong of params that ask for a known crossing at another step
@@ -132,4 +135,4 @@ known_good i r from p prepared a =
     let k = a.known in
     let e : k.0.arrive ≡ from = k.2 in
     let f : i.times.edge ≤ k.0.arrive = rw e a.from_edge in
-    rw k.3 (good_moved i k.0 p.arrive f a.to_edge a.last (good_asked i r k.0 prepared k.1))
+    rw k.3 (good_moved i k.0 p.arrive p.latest f a.to_edge a.last (good_asked i r k.0 prepared k.1))

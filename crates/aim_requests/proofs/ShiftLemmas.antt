@@ -45,9 +45,9 @@ buffered_moved i row col at s at2 s2 e =
     ∙ ap (λ x. if is_edge i.grid row col then (nat_le at (s + edge) && nat_le s (at + edge)) else x) (rw (c, d) refl)
 
 -- The cells of a crossing move with its arrival.
-pub cells_moved : (i : Intersection) (p : Params) (fast : Bool) (to s s2 row col : ℕ) → s2 + p.arrive ≡ s + to →
-    in_cells i (arriving p to) fast (cell_at s2 row col) ≡ in_cells i p fast (cell_at s row col)
-cells_moved i p fast to s s2 row col e =
+pub cells_moved : (i : Intersection) (p : Params) (fast : Bool) (to latest s s2 row col : ℕ) → s2 + p.arrive ≡ s + to →
+    in_cells i (arriving p to latest) fast (cell_at s2 row col) ≡ in_cells i p fast (cell_at s row col)
+cells_moved i p fast to latest s s2 row col e =
     some_alike (crossing_steps i p fast) (λ k. is_buffered i row col (to + k) s2 && in_footprint i p fast i.grid.fixed k row col)
     (λ k. is_buffered i row col (p.arrive + k) s && in_footprint i p fast i.grid.fixed k row col)
     (λ k l. ap (λ x. x && in_footprint i p fast i.grid.fixed k row col) (buffered_moved i row col (p.arrive + k) s (to + k) s2 (omega arith)))
@@ -94,20 +94,20 @@ spans_moved from to (x ∷ xs) c may =
     ∙ share (nat_le to c.step) (in_span x (cell_at (c.step - to + from) c.row c.col)) (in_spans xs (cell_at (c.step - to + from) c.row c.col))
 
 -- What has the cells of a trial has those of the trial with another arrival, where it has moved.
-pub have_moved : (i : Intersection) (p : Params) (fast : Bool) (to : ℕ) (xs : List Span) → i.times.early ≤ i.times.edge → i.times.late ≤ i.times.edge →
+pub have_moved : (i : Intersection) (p : Params) (fast : Bool) (to latest : ℕ) (xs : List Span) → i.times.early ≤ i.times.edge → i.times.late ≤ i.times.edge →
     i.times.edge ≤ p.arrive → i.times.edge ≤ to → MayMove (p.arrive - i.times.edge) (to - i.times.edge) xs → HaveCells i p fast xs →
-    HaveCells i (arriving p to) fast (map (moved (p.arrive - i.times.edge) (to - i.times.edge)) xs)
-have_moved i p fast to xs early late a b may have c =
+    HaveCells i (arriving p to latest) fast (map (moved (p.arrive - i.times.edge) (to - i.times.edge)) xs)
+have_moved i p fast to latest xs early late a b may have c =
     let from = p.arrive - i.times.edge in
     let next = to - i.times.edge in
     spans_moved from next xs c may ∙ elim (dec_lt c.step next) [
       | yes below ↦ (
           let z : nat_le next c.step ≡ false = never (nat_le next c.step) (λ h. let l = leb-true next c.step h in omega arith) in
-          let n : in_cells i (arriving p to) fast c ≡ false = never (in_cells i (arriving p to) fast c) (λ h. let w = (cells_near i (arriving p to) fast c early late h).0 in omega arith) in
+          let n : in_cells i (arriving p to latest) fast c ≡ false = never (in_cells i (arriving p to latest) fast c) (λ h. let w = (cells_near i (arriving p to latest) fast c early late h).0 in omega arith) in
           rw (z, n) refl)
       | no above ↦ (
           let t : nat_le next c.step ≡ true = le-leb next c.step (omega arith) in
-          let m = cells_moved i p fast to (c.step - next + from) c.step c.row c.col (omega arith) in
+          let m = cells_moved i p fast to latest (c.step - next + from) c.step c.row c.col (omega arith) in
           rw t (have (cell_at (c.step - next + from) c.row c.col) ∙ sym m))
     ]
 
@@ -127,23 +127,23 @@ counted q q2 rows rows2 a a2 (suc n) each =
     ∙ sym (ap length (filter-append q2 (rows2 a2) (flat_map rows2 (range_with_len (a2 + 1) n))))
 
 -- The number of a trial's spans does not change with the arrival.
-pub count_moved : (i : Intersection) (p : Params) (fast : Bool) (to : ℕ) → i.times.edge ≤ p.arrive → i.times.edge ≤ to → span_count i (arriving p to) fast ≡ span_count i p fast
-count_moved i p fast to a b =
+pub count_moved : (i : Intersection) (p : Params) (fast : Bool) (to latest : ℕ) → i.times.edge ≤ p.arrive → i.times.edge ≤ to → span_count i (arriving p to latest) fast ≡ span_count i p fast
+count_moved i p fast to latest a b =
     let rows = λ (s : ℕ). map (λ (r : ℕ). let c : Cell = record { row = r; col = 0; step = s } in c) (range_with_len 0 i.grid.n) in
     let q = λ (c : Cell). some_below i.grid.n (λ col. in_cells i p fast (record c { col = col })) in
-    let q2 = λ (c : Cell). some_below i.grid.n (λ col. in_cells i (arriving p to) fast (record c { col = col })) in
+    let q2 = λ (c : Cell). some_below i.grid.n (λ col. in_cells i (arriving p to latest) fast (record c { col = col })) in
     counted q2 q rows rows (to - i.times.edge) (p.arrive - i.times.edge) (crossing_steps i p fast + 2 * i.times.edge)
     (λ j. rows_counted q2 (to - i.times.edge + j) i.grid.n
     ∙ count_alike i.grid.n (λ r. q2 (record { row = r; col = 0; step = to - i.times.edge + j })) (λ r. q (record { row = r; col = 0; step = p.arrive - i.times.edge + j }))
-    (λ r l. some_alike i.grid.n (λ col. in_cells i (arriving p to) fast (record { row = r; col = col; step = to - i.times.edge + j })) (λ col. in_cells i p fast (record { row = r; col = col; step = p.arrive - i.times.edge + j }))
-    (λ col m. cells_moved i p fast to (p.arrive - i.times.edge + j) (to - i.times.edge + j) r col (omega arith)))
+    (λ r l. some_alike i.grid.n (λ col. in_cells i (arriving p to latest) fast (record { row = r; col = col; step = to - i.times.edge + j })) (λ col. in_cells i p fast (record { row = r; col = col; step = p.arrive - i.times.edge + j }))
+    (λ col m. cells_moved i p fast to latest (p.arrive - i.times.edge + j) (to - i.times.edge + j) r col (omega arith)))
     ∙ sym (rows_counted q (p.arrive - i.times.edge + j) i.grid.n))
 
 -- A crossing of which no field is wrong has none where it arrives at another step.
-pub good_moved : (i : Intersection) (p : Params) (to : ℕ) → i.times.edge ≤ p.arrive → i.times.edge ≤ to → to ≤ LATEST_MOMENT → bad i p ≡ None → bad i (arriving p to) ≡ None
-good_moved i p to a b c good =
+pub good_moved : (i : Intersection) (p : Params) (to latest : ℕ) → i.times.edge ≤ p.arrive → i.times.edge ≤ to → to ≤ LATEST_MOMENT → bad i p ≡ None → bad i (arriving p to latest) ≡ None
+good_moved i p to latest a b c good =
     let g = good_params i p good in
-    no_field i (arriving p to) (record {
+    no_field i (arriving p to latest) (record {
       lane = g.lane;
       turn = g.turn;
       arrive = c;
@@ -153,8 +153,8 @@ good_moved i p to a b c good =
       length = g.length;
       width = g.width;
       steps = g.steps;
-      steady = rw (count_moved i p false to a b) g.steady;
-      fast = λ made. rw (count_moved i p true to a b) (g.fast made);
+      steady = rw (count_moved i p false to latest a b) g.steady;
+      fast = λ made. rw (count_moved i p true to latest a b) (g.fast made);
     })
 
 below_power : (n : ℕ) → n < 2 ^ n

@@ -13,4 +13,4 @@ alone grid times stations = record { grid = grid; times = times; lanes = (record
 
 -- the vehicle's crossing on that path
 abbrev pub on_it : Params → Params
-on_it p = record { lane = 0; turn = turn.Left; arrive = p.arrive; speed = p.speed; max_speed = p.max_speed; accel = p.accel; length = p.length; width = p.width; emergency = false }
+on_it p = record { lane = 0; turn = turn.Left; arrive = p.arrive; latest = p.latest; speed = p.speed; max_speed = p.max_speed; accel = p.accel; length = p.length; width = p.width; emergency = false }

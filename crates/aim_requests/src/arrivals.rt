@@ -9,7 +9,7 @@ use aim_messages::{LATEST_MOMENT, Params};
 
 // Whether the crossings differ in their arrival at most.
 fn is_alike(a: &Params, b: &Params) -> bool
-    ensures { result ≡ true → b.now ≡ arriving a.now b.now.arrive }
+    ensures { result ≡ true → b.now ≡ arriving a.now b.now.arrive b.now.latest }
 {
     a.lane == b.lane
         && a.turn == b.turn
