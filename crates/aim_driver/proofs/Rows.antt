@@ -18,7 +18,7 @@ pub mod Fitting
 pub mod Journal
 
 abbrev pub car : ℕ → ℕ → Params
-car lane arrive = record { lane = lane; turn = turn.Straight; arrive = arrive; speed = 500; max_speed = 500; accel = 0; length = 1000; width = 700; emergency = false }
+car lane arrive = record { lane = lane; turn = turn.Straight; arrive = arrive; latest = arrive; speed = 500; max_speed = 500; accel = 0; length = 1000; width = 700; emergency = false }
 
 abbrev pub sent : ℕ → ℕ → Body → LogItem
 sent step seq b = item.Sent step (record { seq = seq; body = b })

@@ -86,6 +86,7 @@ fn arriving(plan: &DrivePlan, arrive: u32) -> Params
 {
     Params {
         arrive,
+        latest: arrive,
         ..plan.params
     }
 }

@@ -77,7 +77,7 @@ pub struct DrivePlan {
     pub lead: u32,
     /// After so many steps without an answer it sends its message again.
     pub resend: u32,
-    /// What it says of itself; the arrival is not used.
+    /// What it says of itself; the arrival and the last one are not used.
     pub params: Params,
     pub changes: Changes,
     /// From this step on it gives its reservation up, once.
