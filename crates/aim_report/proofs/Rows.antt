@@ -140,7 +140,7 @@ log_of_four = refl
 -- what the law of reports asks can be met
 
 params_are : AreParams (car 0 10)
-params_are = record { lane = omega arith; arrive = omega arith; speed = omega arith; max_speed = omega arith; accel = omega arith; len = omega arith; width = omega arith }
+params_are = record { lane = omega arith; arrive = omega arith; latest = omega arith; speed = omega arith; max_speed = omega arith; accel = omega arith; len = omega arith; width = omega arith }
 
 asks_is : IsMessage asks
 asks_is = record { seq = omega arith; body = params_are }

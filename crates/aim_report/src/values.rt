@@ -26,6 +26,7 @@ fn params_fit(params: &Params)
 {
     byte_fits(params.lane);
     number_fits(params.arrive);
+    number_fits(params.latest);
     number_fits(params.speed);
     number_fits(params.max_speed);
     number_fits(params.accel);
