@@ -2,8 +2,6 @@
 use Rattle.std.specs.Prelude.{ℕ, ◌<◌, ◌≤◌, Bool, true, false, ◌&&◌, ◌||◌, nat_le, List, [], ◌∷◌, Option, Some, None, option_map, codes, bytes_eq, if◌then◌else◌}
 use Rattle.aim_messages.specs.declared.entries.TheConstants.{LATEST_MOMENT}
 use Rattle.aim_text_words.specs.Faults.{is_number, value_of}
-use Rattle.aim_script.specs.Spellings.{Spelled, by_words}
-use Rattle.aim_replay_command.specs.Spelling.{by_json}
 use Rattle.aim.specs.declared.words.Command.{Command}
 use Rattle.aim.specs.declared.words.Command.TheVariants.{Replay, Chart, ReplayJson, Drive, Grid, Generate, Traffic, Shards, Mail, Help, Version}
 use Rattle.aim.specs.declared.help.Topic.{Topic}
@@ -101,52 +99,3 @@ IsWithin (Shards workers) = (0 < workers) × (workers ≤ 64)
 IsWithin (Mail workers) = (0 < workers) × (workers ≤ 64)
 IsWithin (Help topic) = Unit {0}
 IsWithin Version = Unit {0}
-
--- whether the command replays a script
-abbrev pub is_replay : Command → Bool
-is_replay Replay = true
-is_replay (Chart step) = true
-is_replay ReplayJson = true
-is_replay (Drive workers) = false
-is_replay (Grid workers) = false
-is_replay (Generate number count) = false
-is_replay (Traffic number count) = false
-is_replay (Shards workers) = false
-is_replay (Mail workers) = false
-is_replay (Help topic) = false
-is_replay Version = false
-
--- whether the command reads its input
-abbrev pub reads_input : Command → Bool
-reads_input (Generate number count) = false
-reads_input (Traffic number count) = false
-reads_input (Help topic) = false
-reads_input Version = false
-reads_input _ = true
-
--- whether the command reads its script whole before it runs, and no more of it than the greatest input; `shards` reads its
--- script whole too, but no clause bounds what it takes
-abbrev pub reads_whole : Command → Bool
-reads_whole (Drive workers) = true
-reads_whole (Grid workers) = true
-reads_whole (Mail workers) = true
-reads_whole _ = false
-
--- the step of whose chart the command asks, if it does
-abbrev pub asked_in : Command → Option ℕ
-asked_in Replay = None
-asked_in (Chart step) = Some step
-asked_in ReplayJson = None
-asked_in (Drive workers) = None
-asked_in (Grid workers) = None
-asked_in (Generate number count) = None
-asked_in (Traffic number count) = None
-asked_in (Shards workers) = None
-asked_in (Mail workers) = None
-asked_in (Help topic) = None
-asked_in Version = None
-
--- how the lines of the script are spelled, and those that are printed
-abbrev pub spelled_in : Command → Spelled
-spelled_in ReplayJson = by_json
-spelled_in _ = by_words

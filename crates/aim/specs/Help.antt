@@ -1,7 +1,5 @@
 -- What the program tells of itself.
-use Rattle.std.specs.Prelude.{◌≡◌, ◌⊎◌, ℕ, List, Option}
-use Rattle.std.specs.Io.KnownBytes.{Appends}
-use Rattle.aim_io.specs.Known.{AppendsFront}
+use Rattle.std.specs.Prelude.{ℕ, List}
 use Rattle.aim.specs.declared.help.Topic.{Topic}
 use Rattle.aim.specs.declared.help.Topic.TheVariants as topic
 use Rattle.aim.specs.declared.help.TheConstants as told
@@ -23,7 +21,3 @@ text_of topic.Version = told.VERSION_OF.now
 -- the versions of the program, and of the scripts that it reads
 abbrev pub versions : List ℕ
 versions = told.VERSIONS.now
-
--- the status is 0 and the text was written, or it is 5 and a front of it was
-abbrev pub TellsText : List ℕ → Option (List ℕ) → Option (List ℕ) → ℕ → Type 0
-TellsText text old new result = ((result ≡ 0) × Appends old new text) ⊎ ((result ≡ 5) × AppendsFront old new text)

@@ -11,7 +11,6 @@ pub mod OwnTiles
 pub mod RunLemmas
 pub mod OrderLemmas
 mod ShownLemmas
-mod EndingLemmas
 pub mod Lists
 pub mod Courses
 pub mod Nexts

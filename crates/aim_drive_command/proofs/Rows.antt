@@ -4,6 +4,7 @@ use Rattle.std.specs.Fmt.{digits}
 use Rattle.std.specs.Prelude.{All}
 use Rattle.std.proofs.lemmas.Bool.{leb-true}
 use Rattle.std.proofs.lemmas.List.Elements.{All-nil, All-cons}
+use Rattle.aim_script_reading.specs.Commands.{Completes, Shows, ShowsFront, Streams}
 use Rattle.aim_io.specs.Lines.{outcomes_from}
 use Rattle.aim_messages.specs.declared.messages.Message.{Message}
 use Rattle.aim_messages.specs.declared.messages.Body.TheVariants as body
@@ -42,7 +43,7 @@ use Rattle.aim_drive_command.specs.Traffic.{traffic_lines}
 use Rattle.aim_drive_command.specs.Ordered.{log_among, logs_from, in_order}
 use Rattle.aim_drive_command.specs.Runs.{IsRunOf}
 use Rattle.aim_drive_command.specs.Summaries.{summary}
-use Rattle.aim_drive_command.specs.Commands.{Completes, IsTextOf, Shows, ShowsFront}
+use Rattle.aim_drive_command.specs.Commands.{IsText, IsTextOf, status_for}
 use Rattle.aim_drive_command.specs.Generated.{IsSummary, Counts}
 use Rattle.aim_drive_command.proofs.Texts.{same_summary}
 -- with two workers, and of generated traffic
@@ -198,52 +199,52 @@ pub limit_text : IsTextOf 64 [] (decision.Limit limit.Vehicles) (lines (codes "l
 unfolding digits
 limit_text = refl
 
-pub bad_shown : Shows 1 (codes "begin\n") (Some (codes "so ")) (Some (codes "so bad line 1 order\n")) 3
+pub bad_shown : Shows (IsText 1) status_for (codes "begin\n") (Some (codes "so ")) (Some (codes "so bad line 1 order\n")) 3
 unfolding digits outcomes_from
-bad_shown = record { writes = record { text = codes "bad line 1 order\n"; is = refl; written = refl }; status = refl }
+bad_shown = record { text = codes "bad line 1 order\n"; is = refl; written = refl; status = refl }
 
-pub front_shown : ShowsFront 1 (codes "begin\n") (Some (codes "so ")) (Some (codes "so bad l"))
+pub front_shown : ShowsFront (IsText 1) (codes "begin\n") (Some (codes "so ")) (Some (codes "so bad l"))
 unfolding digits outcomes_from
-front_shown = record {
-  writes = record { text = codes "bad line 1 order\n"; is = refl; written = record { front = codes "bad l"; rest = codes "ine 1 order\n"; whole = refl; added = refl } };
-}
+front_shown = record { text = codes "bad line 1 order\n"; is = refl; written = record { front = codes "bad l"; rest = codes "ine 1 order\n"; whole = refl; added = refl } }
 
 -- a whole script
 
 abbrev whole : List ℕ
 whole = codes "aim 1\ngrid 4000 4 100 0 450 4096\ntimes 1500 25 20 0 0\nlanes 1\nmove 0 straight line 0 1500 4000 1500 40\npolicy plain fcfs\nvehicles 1\nbegin\nuntil 40\nend\n"
 
-pub whole_shown : Shows 1 whole (Some (codes "so ")) (Some (codes "so end 0\n")) 0
+pub whole_shown : Shows (IsText 1) status_for whole (Some (codes "so ")) (Some (codes "so end 0\n")) 0
 unfolding digits outcomes_from layout_of
 whole_shown = record {
-  writes = record {
-    text = codes "end 0\n";
-    is = record {
-      journal = [];
-      logs = [];
-      run = nothing _ _ _ _;
-      is = refl;
-      told = nothing_told;
-      apart = printed_apart (layout_of empty) [] ((0, []) ∷ []) (leb-true (layout_of empty).grid.n 64 refl) nothing_told (nothing_on (layout_of empty));
-      own = printed_own _ [] ((0, []) ∷ []) (leb-true _ 64 refl) nothing_told (nothing_on _);
-    };
-    written = refl;
+  text = codes "end 0\n";
+  is = record {
+    journal = [];
+    logs = [];
+    run = nothing _ _ _ _;
+    is = refl;
+    told = nothing_told;
+    apart = printed_apart (layout_of empty) [] ((0, []) ∷ []) (leb-true (layout_of empty).grid.n 64 refl) nothing_told (nothing_on (layout_of empty));
+    own = printed_own _ [] ((0, []) ∷ []) (leb-true _ 64 refl) nothing_told (nothing_on _);
   };
+  written = refl;
   status = refl;
 }
 
+-- a source and a sink that tell no bytes and have failed so often
+abbrev failing : ℕ → ℕ → Streams
+failing source sink = record { left = None; source_faults = source; held = None; sink_faults = sink }
+
 -- where neither the source nor the sink failed, its status is 0, or 7
-pub whole_completes : Completes whole 0 0 0 0 5 → ⊥
+pub whole_completes : Completes status_for whole (failing 0 0) (failing 0 0) 5 → ⊥
 unfolding digits outcomes_from layout_of
 whole_completes x = elim (x refl (λ r. absurd (omega arith)) (λ r. absurd (omega arith))) [ inl e ↦ absurd (omega arith) | inr e ↦ absurd (omega arith) ]
 
-pub source_failed : Completes whole 0 1 0 0 4
+pub source_failed : Completes status_for whole (failing 0 0) (failing 1 0) 4
 source_failed = λ status source sink. absurd (source (omega arith))
 
-pub sink_failed : Completes whole 3 3 0 2 5
+pub sink_failed : Completes status_for whole (failing 3 0) (failing 3 2) 5
 sink_failed = λ status source sink. absurd (sink (omega arith))
 
-pub bad_completes : Completes (codes "begin\n") 0 0 0 0 3
+pub bad_completes : Completes status_for (codes "begin\n") (failing 0 0) (failing 0 0) 3
 unfolding digits outcomes_from layout_of
 bad_completes = λ status source sink. absurd (omega arith)
 

@@ -1,6 +1,7 @@
 -- With one worker all drivers are in one run, and one text is printed.
 use Rattle.std.proofs.Common.{◌≡◌, ℕ, ◌<◌, ◌≤◌, ◌++◌, List, length, Option, Some, sym, ◌∙◌, ap, subst, arith}
 use Rattle.aim_io.specs.Known.{AppendsFront}
+use Rattle.aim_script_reading.specs.Commands.{Shows, ShowsFront}
 use Rattle.aim_messages.specs.declared.entries.Entry.{Entry}
 use Rattle.aim_messages.specs.declared.script.Line.{Line}
 use Rattle.aim_script.specs.declared.decisions.Decision.{Decision}
@@ -15,7 +16,7 @@ use Rattle.aim_drive.specs.Headline.{VehicleLog}
 use Rattle.aim_drive_command.specs.Traffic.{traffic_lines}
 use Rattle.aim_drive_command.specs.Ordered.{in_order, log_among}
 use Rattle.aim_drive_command.specs.Runs.{IsRunOf}
-use Rattle.aim_drive_command.specs.Commands.{IsReport, IsTextOf, Shows, ShowsFront}
+use Rattle.aim_drive_command.specs.Commands.{IsReport, IsText, IsTextOf, status_for}
 use Rattle.aim_drive_command.specs.Summaries.{summary}
 use Rattle.aim_drive_command.specs.Generated.{IsSummary, Counts, CountsFront}
 use Rattle.aim_drive_command.proofs.Journals.{same_journal, same_logs_too}
@@ -64,16 +65,13 @@ told_logs workers others lines text a b v less =
 written_same : (before after other text text' : List ℕ) → after ≡ before ++ text → other ≡ before ++ text' → text ≡ text' → after ≡ other
 written_same before after other text text' a b same = a ∙ ap (λ (l : List ℕ). before ++ l) same ∙ sym b
 
-pub same_shown : (bytes before after other : List ℕ) (status another : ℕ) → Shows 1 bytes (Some before) (Some after) status → Shows 1 bytes (Some before) (Some other) another → (after ≡ other) × (status ≡ another)
+pub same_shown : (bytes before after other : List ℕ) (status another : ℕ) → Shows (IsText 1) status_for bytes (Some before) (Some after) status → Shows (IsText 1) status_for bytes (Some before) (Some other) another → (after ≡ other) × (status ≡ another)
 same_shown bytes before after other status another a b =
-    let v = a.writes in
-    let w = b.writes in
-    (written_same before after other v.text w.text v.written w.written (same_text (drive_verdict bytes).before (drive_verdict bytes).decision v.text w.text v.is w.is), a.status ∙ sym b.status)
+    (written_same before after other a.text b.text a.written b.written (same_text (drive_verdict bytes).before (drive_verdict bytes).decision a.text b.text a.is b.is), a.status ∙ sym b.status)
 
-pub front_shown : (bytes text : List ℕ) (old new : Option (List ℕ)) → ShowsFront 1 bytes old new → (let v = drive_verdict bytes in IsTextOf 1 v.before v.decision text) → AppendsFront old new text
+pub front_shown : (bytes text : List ℕ) (old new : Option (List ℕ)) → ShowsFront (IsText 1) bytes old new → IsText 1 bytes text → AppendsFront old new text
 front_shown bytes text old new a is =
-    let w = a.writes in
-    subst (λ (t : List ℕ). AppendsFront old new t) (same_text (drive_verdict bytes).before (drive_verdict bytes).decision w.text text w.is is) w.written
+    subst (λ (t : List ℕ). AppendsFront old new t) (same_text (drive_verdict bytes).before (drive_verdict bytes).decision a.text text a.is is) a.written
 
 pub same_summary : (number count : ℕ) (text other : List ℕ) → IsSummary number count text → IsSummary number count other → text ≡ other
 same_summary number count text other a b =

@@ -1,23 +1,22 @@
 //! The command that runs drive scripts: from bytes to bytes.
 
-ghost use Rattle.std.specs.Prelude.{◌≡◌, ◌⊎◌, ◌<◌, ◌≤◌, ℕ, [], List, IfOk, IfSome};
-ghost use Rattle.std.specs.Io.KnownBytes.{Appends, IsAtEnd};
-ghost use Rattle.aim_io.specs.Causes.{Rose};
-ghost use Rattle.aim_io.specs.Known.{AppendsFront};
+ghost use Rattle.std.specs.Prelude.{◌≡◌, ◌<◌, ◌≤◌, List, IfOk};
+ghost use Rattle.aim_script_reading.specs.Commands.{PutsOne, Reports};
 ghost use Rattle.aim_messages.specs.declared.script.Line.{Line};
 ghost use Rattle.aim_drive_script.specs.Fits.{IsFit};
-ghost use Rattle.aim_drive_script.specs.Scripts.{IsScriptOf, TakesAtMost};
-ghost use Rattle.aim_drive_script.specs.Short.{StopsShort};
-ghost use Rattle.aim_drive_command.specs.Commands.{Completes, IsReport, Shows, ShowsFront};
+ghost use Rattle.aim_drive_script.specs.Scripts.{IsScriptOf};
+ghost use Rattle.aim_drive_script.specs.Verdicts.{drive_rules};
+ghost use Rattle.aim_drive_command.specs.Commands.{IsReport, IsText, status_for};
 ghost use Rattle.aim_drive_command.specs.Endings.{EndsWith};
 
 use crate::reports::report_of;
 use aim_drive::{Gate, run_script};
 use aim_drive_script::{DriveScript, Ending, read_drive};
-use aim_io::{Sink, Source, put_all};
+use aim_io::{Sink, Source};
 use aim_layout::Layout;
 use aim_report::NoMemory;
 use aim_script::{Decision, put_refused};
+use aim_script_reading::put_text;
 use std::alloc::Global;
 use std::sync::Wait;
 use std::thread::Threads;
@@ -81,23 +80,14 @@ fn put_run<R: Threads + Wait + Sync, K: Sink, G: Gate>(
 ) -> u8
     requires script { IsFit script }
     requires workers { (0 < workers) × (workers ≤ 64) }
-    ensures whole { (lines : List Line) → IsScriptOf lines script → result ≡ 0
-        → (text : List ℕ) × IsReport workers lines text × Appends (K.held sink.old) (K.held sink.new) text }
-    ensures front { (lines : List Line) → IsScriptOf lines script → result ≡ 5
-        → (text : List ℕ) × IsReport workers lines text × AppendsFront (K.held sink.old) (K.held sink.new) text }
-    ensures memory { result ≡ 7 → Appends (K.held sink.old) (K.held sink.new) [] }
-    ensures write { result ≡ 5 → Rose (K.faults sink.old) (K.faults sink.new) }
+    ensures puts { (lines : List Line) → IsScriptOf lines script → PutsOne (IsReport workers lines) (K.held sink.old) (K.held sink.new) (K.faults sink.old) (K.faults sink.new) result }
     ensures sink { K.faults sink.old ≤ K.faults sink.new }
-    ensures statuses { (result ≡ 0) ⊎ ((result ≡ 5) ⊎ (result ≡ 7)) }
 {
     let text = match text_of_run(rt, alloc, script, workers, gate) {
         Ok(text) => text,
         Err(_) => return 7,
     };
-    match put_all(sink, &text) {
-        Ok(()) => 0,
-        Err(_) => 5,
-    }
+    put_text(sink, &text, 0)
 }
 
 /// Reads a drive script, runs its vehicles' drivers in so many runs side by side, and writes the journal, the logs of the
@@ -114,27 +104,9 @@ pub fn drive<R: Threads + Wait + Sync, S: Source, K: Sink, G: Gate>(
     gate: &G,
 ) -> u8
     requires workers { (0 < workers) × (workers ≤ 64) }
-
-    // With status 0, 3 or 6 the whole text of the source's bytes is written, and the status is theirs.
-    ensures whole { (result ≡ 0) ⊎ ((result ≡ 3) ⊎ (result ≡ 6)) → IfSome (S.left source.old) (λ bytes. Shows workers bytes (K.held sink.old) (K.held sink.new) result) }
-    ensures ended { result ≡ 0 → IsAtEnd (S.left source.new) }
-
-    // With status 5 a front of that text is, with status 4 or 7 nothing. With status 4 no whole line of the bytes that were
-    // read decides.
-    ensures front { result ≡ 5 → IfSome (S.left source.old) (λ bytes. ShowsFront workers bytes (K.held sink.old) (K.held sink.new)) }
-    ensures short { result ≡ 4 → StopsShort (S.left source.old) (S.left source.new) }
-    ensures nothing { (result ≡ 4) ⊎ (result ≡ 7) → Appends (K.held sink.old) (K.held sink.new) [] }
-
-    // Whatever the status, no more than one byte past the greatest input is taken.
-    ensures most { TakesAtMost 67108865 (S.left source.old) (S.left source.new) }
-
-    // Each status has its cause.
-    ensures read { result ≡ 4 → Rose (S.faults source.old) (S.faults source.new) }
-    ensures write { result ≡ 5 → Rose (K.faults sink.old) (K.faults sink.new) }
-    ensures source { S.faults source.old ≤ S.faults source.new }
-    ensures sink { K.faults sink.old ≤ K.faults sink.new }
-    ensures statuses { (result ≡ 0) ⊎ ((result ≡ 3) ⊎ ((result ≡ 4) ⊎ ((result ≡ 5) ⊎ ((result ≡ 6) ⊎ (result ≡ 7))))) }
-    ensures complete { IfSome (S.left source.old) (λ bytes. Completes bytes (S.faults source.old) (S.faults source.new) (K.faults sink.old) (K.faults sink.new) result) }
+    ensures { Reports drive_rules (IsText workers) status_for (source.new ≡ source.old) (S.last_read source.new)
+        (record { left = S.left source.old; source_faults = S.faults source.old; held = K.held sink.old; sink_faults = K.faults sink.old })
+        (record { left = S.left source.new; source_faults = S.faults source.new; held = K.held sink.new; sink_faults = K.faults sink.new }) result }
 {
     match read_drive(alloc, source) {
         Ok(script) => put_run(rt, alloc, script, workers, sink, gate),

@@ -25,7 +25,8 @@ ghost use Rattle.aim_drive_command.specs.Traffic.{traffic_lines, traffic_text};
 ghost use Rattle.aim_drive_command.specs.Ordered.{log_among};
 ghost use Rattle.aim_drive_command.specs.Races.{NoneRace};
 ghost use Rattle.aim_drive_command.specs.Runs.{IsRunOf};
-ghost use Rattle.aim_drive_command.specs.Commands.{IsReport, IsTextOf, Shows, ShowsFront};
+ghost use Rattle.aim_script_reading.specs.Commands.{Shows, ShowsFront};
+ghost use Rattle.aim_drive_command.specs.Commands.{IsReport, IsText, IsTextOf, status_for};
 ghost use Rattle.aim_drive_command.specs.Generated.{IsSummary, Counts, CountsFront};
 
 /// Generated traffic is a whole drive script: no line is at fault behind those before it, and none goes past a limit.
@@ -73,10 +74,10 @@ pub fn one_worker_has_one_text()
     ensures text { (lines : List Line) (d : Decision) (text other : List ℕ) →
         IsTextOf 1 lines d text → IsTextOf 1 lines d other → text ≡ other }
     ensures shown { (bytes before after other : List ℕ) (status another : ℕ) →
-        Shows 1 bytes (Some before) (Some after) status → Shows 1 bytes (Some before) (Some other) another →
+        Shows (IsText 1) status_for bytes (Some before) (Some after) status → Shows (IsText 1) status_for bytes (Some before) (Some other) another →
         (after ≡ other) × (status ≡ another) }
-    ensures front { (bytes text : List ℕ) (old new : Option (List ℕ)) → ShowsFront 1 bytes old new →
-        (let v = drive_verdict bytes in IsTextOf 1 v.before v.decision text) → AppendsFront old new text }
+    ensures front { (bytes text : List ℕ) (old new : Option (List ℕ)) → ShowsFront (IsText 1) bytes old new →
+        IsText 1 bytes text → AppendsFront old new text }
 {}
 
 /// Workers matter only where calls race: where calls of one moment are of one run, the journal and the logs are those of

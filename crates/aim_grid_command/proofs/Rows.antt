@@ -1,8 +1,9 @@
 -- Worked rows: what is printed of two crossings, of a script in which nobody has a leg, and of scripts that aren't whole.
-use Rattle.std.proofs.Common.{◌≡◌, inl, inr, ℕ, zero, suc, List, [], ◌∷◌, ◌++◌, codes, Some, refl, sym, ap, subst, arith}
+use Rattle.std.proofs.Common.{◌≡◌, inl, inr, ℕ, zero, suc, List, [], ◌∷◌, ◌++◌, codes, Some, None, refl, sym, ap, subst, arith}
 use Rattle.std.specs.Prelude.{slice_get}
 use Rattle.std.specs.Fmt.{digits}
 use Rattle.std.specs.Option.{unwrap_or}
+use Rattle.aim_script_reading.specs.Commands.{Completes, Shows, ShowsFront, Streams}
 use Rattle.aim_io.specs.Lines.{outcomes_from}
 use Rattle.aim_messages.specs.declared.messages.Body.{Body}
 use Rattle.aim_messages.specs.declared.messages.Body.TheVariants as body
@@ -24,7 +25,7 @@ use Rattle.aim_grid_script.specs.declared.decisions.GridDecision.TheVariants as 
 use Rattle.aim_grid_script.specs.declared.decisions.GridKind.TheVariants as kind
 use Rattle.aim_grid.specs.Runs.{IsRunOf}
 use Rattle.aim_grid_command.specs.Texts.{crossings_text, grid_report}
-use Rattle.aim_grid_command.specs.Commands.{Completes, IsTextOf, Shows, ShowsFront}
+use Rattle.aim_grid_command.specs.Commands.{IsText, IsTextOf, status_for}
 
 -- texts, each as a line
 abbrev lines : List (List ℕ) → List ℕ
@@ -112,57 +113,61 @@ nobody_goes i j vehicles until = record {
   there = λ c xs at. nothing_in c xs at;
 }
 
-pub whole_shown : Shows (two ++ codes "end\n") (Some (codes "so ")) (Some (codes "so crossing 0\ncrossing 1\nend 0\n")) 0
+pub whole_shown : Shows IsText status_for (two ++ codes "end\n") (Some (codes "so ")) (Some (codes "so crossing 0\ncrossing 1\nend 0\n")) 0
 unfolding digits outcomes_from layout_of
 whole_shown = record {
-  writes = record { text = codes "crossing 0\ncrossing 1\nend 0\n"; is = record { journals = [] ∷ [] ∷ []; logs = [] ∷ [] ∷ []; run = nobody_goes _ _ _ _; is = refl }; written = refl };
+  text = codes "crossing 0\ncrossing 1\nend 0\n";
+  is = record { journals = [] ∷ [] ∷ []; logs = [] ∷ [] ∷ []; run = nobody_goes _ _ _ _; is = refl };
+  written = refl;
   status = refl;
 }
 
 -- what is written of other scripts
 
-pub a_second_leg_at_the_same_crossing : Shows (two ++ codes "leg 0 0 1 10 3 0 straight 500 500 0 1000 700 car\nleg 0 0 5 10 3 0 straight 500 500 0 1000 700 car\nend\n") (Some (codes "so ")) (Some (codes "so bad line 20 route\n")) 3
+pub a_second_leg_at_the_same_crossing : Shows IsText status_for (two ++ codes "leg 0 0 1 10 3 0 straight 500 500 0 1000 700 car\nleg 0 0 5 10 3 0 straight 500 500 0 1000 700 car\nend\n") (Some (codes "so ")) (Some (codes "so bad line 20 route\n")) 3
 unfolding digits outcomes_from layout_of
-a_second_leg_at_the_same_crossing = record { writes = record { text = codes "bad line 20 route\n"; is = refl; written = refl }; status = refl }
+a_second_leg_at_the_same_crossing = record { text = codes "bad line 20 route\n"; is = refl; written = refl; status = refl }
 
-pub no_crossing : Shows (codes "crossings 0\n") (Some (codes "so ")) (Some (codes "so bad line 1 crossing\n")) 3
+pub no_crossing : Shows IsText status_for (codes "crossings 0\n") (Some (codes "so ")) (Some (codes "so bad line 1 crossing\n")) 3
 unfolding digits outcomes_from
-no_crossing = record { writes = record { text = codes "bad line 1 crossing\n"; is = refl; written = refl }; status = refl }
+no_crossing = record { text = codes "bad line 1 crossing\n"; is = refl; written = refl; status = refl }
 
-pub a_front_of_no_crossing : ShowsFront (codes "crossings 0\n") (Some (codes "so ")) (Some (codes "so bad line 1 cr"))
+pub a_front_of_no_crossing : ShowsFront IsText (codes "crossings 0\n") (Some (codes "so ")) (Some (codes "so bad line 1 cr"))
 unfolding digits outcomes_from
-a_front_of_no_crossing = record {
-  writes = record { text = codes "bad line 1 crossing\n"; is = refl; written = record { front = codes "bad line 1 cr"; rest = codes "ossing\n"; whole = refl; added = refl } };
-}
+a_front_of_no_crossing = record { text = codes "bad line 1 crossing\n"; is = refl; written = record { front = codes "bad line 1 cr"; rest = codes "ossing\n"; whole = refl; added = refl } }
 
-pub no_line : Shows [] (Some (codes "so ")) (Some (codes "so bad line 1 end\n")) 3
+pub no_line : Shows IsText status_for [] (Some (codes "so ")) (Some (codes "so bad line 1 end\n")) 3
 unfolding digits outcomes_from
-no_line = record { writes = record { text = codes "bad line 1 end\n"; is = refl; written = refl }; status = refl }
+no_line = record { text = codes "bad line 1 end\n"; is = refl; written = refl; status = refl }
 
 pub a_plain_kind : IsTextOf [] (decision.Bad 262144 (kind.Plain why.Vehicle)) (lines (codes "bad line 262144 vehicle" ∷ []))
 unfolding digits
 a_plain_kind = refl
 
-pub too_many_vehicles : Shows (codes "crossings 1\n" ++ block ++ codes "vehicles 257\n") (Some (codes "so ")) (Some (codes "so limit vehicles\n")) 6
+pub too_many_vehicles : Shows IsText status_for (codes "crossings 1\n" ++ block ++ codes "vehicles 257\n") (Some (codes "so ")) (Some (codes "so limit vehicles\n")) 6
 unfolding digits outcomes_from layout_of
-too_many_vehicles = record { writes = record { text = codes "limit vehicles\n"; is = refl; written = refl }; status = refl }
+too_many_vehicles = record { text = codes "limit vehicles\n"; is = refl; written = refl; status = refl }
 
 pub a_limit : IsTextOf [] (decision.Limit limit.Sheets) (lines (codes "limit sheets" ∷ []))
 unfolding digits
 a_limit = refl
 
+-- a source and a sink that tell no bytes and have failed so often
+abbrev failing : ℕ → ℕ → Streams
+failing source sink = record { left = None; source_faults = source; held = None; sink_faults = sink }
+
 -- where neither the source nor the sink failed, the status of a whole script is 0, or 7
 
-pub whole_completes : Completes (two ++ codes "end\n") 0 0 0 0 5 → ⊥
+pub whole_completes : Completes status_for (two ++ codes "end\n") (failing 0 0) (failing 0 0) 5 → ⊥
 unfolding digits outcomes_from layout_of
 whole_completes x = elim (x refl (λ r. absurd (omega arith)) (λ r. absurd (omega arith))) [ inl e ↦ absurd (omega arith) | inr e ↦ absurd (omega arith) ]
 
-pub source_failed : Completes (two ++ codes "end\n") 0 1 0 0 4
+pub source_failed : Completes status_for (two ++ codes "end\n") (failing 0 0) (failing 1 0) 4
 source_failed = λ status source sink. absurd (source (omega arith))
 
-pub sink_failed : Completes (two ++ codes "end\n") 3 3 0 2 5
+pub sink_failed : Completes status_for (two ++ codes "end\n") (failing 3 0) (failing 3 2) 5
 sink_failed = λ status source sink. absurd (sink (omega arith))
 
-pub bad_completes : Completes (codes "crossings 0\n") 0 0 0 0 3
+pub bad_completes : Completes status_for (codes "crossings 0\n") (failing 0 0) (failing 0 0) 3
 unfolding digits outcomes_from
 bad_completes = λ status source sink. absurd (omega arith)

@@ -1,42 +1,39 @@
 //! The command that runs scripts of several crossings.
 
-ghost use Rattle.std.specs.Prelude.{◌≡◌, ◌⊎◌, ◌<◌, ◌≤◌, ℕ, [], IfOk, IfSome, List};
-ghost use Rattle.std.specs.Io.KnownBytes.{Appends, IsAtEnd};
-ghost use Rattle.aim_io.specs.Causes.{Rose};
-ghost use Rattle.aim_io.specs.Known.{AppendsFront};
-ghost use Rattle.aim_drive_script.specs.Scripts.{TakesAtMost};
+ghost use Rattle.std.specs.Prelude.{◌≡◌, ◌<◌, ◌≤◌, IfOk, List};
+ghost use Rattle.aim_script_reading.specs.Commands.{PutsOne, Reports};
 ghost use Rattle.aim_grid_script.specs.declared.lines.GridLine.{GridLine};
 ghost use Rattle.aim_grid_script.specs.Fits.{AreRoutesOf, AreWithin};
-ghost use Rattle.aim_grid_script.specs.Short.{StopsShort};
-ghost use Rattle.aim_grid_command.specs.Endings.{Ends, Refuses};
-ghost use Rattle.aim_grid_command.specs.Commands.{Completes, IsReport, Shows, ShowsFront};
+ghost use Rattle.aim_grid_script.specs.Verdicts.{grid_rules};
+ghost use Rattle.aim_grid_command.specs.Endings.{EndsWith, Refuses};
+ghost use Rattle.aim_grid_command.specs.Commands.{IsReport, IsText, status_for};
 
 use crate::refusals::{refusal_line, status_of};
 use crate::reports::report_of;
 use aim_grid::{Gate, run_routes};
 use aim_grid_script::{GridDecision, GridEnding, Routes, read_grid};
-use aim_io::{Sink, Source, put_all};
+use aim_io::{Sink, Source};
 use aim_layout::Layout;
 use aim_report::NoMemory;
+use aim_script_reading::put_text;
 use std::alloc::Global;
 use std::sync::Wait;
 use std::thread::Threads;
 
 // Writes the one line of a script that isn't whole, and answers the status.
 fn put_refused<K: Sink>(sink: &mut K, decision: GridDecision) -> u8
-    ensures { Refuses decision (K.held sink.old) (K.held sink.new) (K.faults sink.old) (K.faults sink.new) result }
+    ensures refuses { Refuses decision (K.held sink.old) (K.held sink.new) (K.faults sink.old) (K.faults sink.new) result }
+    ensures sink { K.faults sink.old ≤ K.faults sink.new }
 {
     let mut line = [0; 400];
     let len = refusal_line(decision, &mut line);
-    match put_all(sink, &line[..len]) {
-        Ok(()) => status_of(decision),
-        Err(_) => 5,
-    }
+    put_text(sink, &line[..len], status_of(decision))
 }
 
 // Writes the one line of a script that isn't whole, where reading came to that, and answers the status.
 fn put_ending<K: Sink>(sink: &mut K, ending: GridEnding) -> u8
-    ensures { Ends ending (K.held sink.old) (K.held sink.new) (K.faults sink.old) (K.faults sink.new) result }
+    ensures ends { EndsWith ending (K.held sink.old) (K.held sink.new) (K.faults sink.old) (K.faults sink.new) result }
+    ensures sink { K.faults sink.old ≤ K.faults sink.new }
 {
     match ending {
         GridEnding::Read => 4,
@@ -103,23 +100,14 @@ fn put_run<R: Threads + Wait + Sync, K: Sink, G: Gate>(
 ) -> u8
     requires routes { AreWithin routes }
     requires workers { (0 < workers) × (workers ≤ 64) }
-    ensures whole { (lines : List GridLine) → AreRoutesOf lines routes → result ≡ 0
-        → (text : List ℕ) × IsReport lines text × Appends (K.held sink.old) (K.held sink.new) text }
-    ensures front { (lines : List GridLine) → AreRoutesOf lines routes → result ≡ 5
-        → (text : List ℕ) × IsReport lines text × AppendsFront (K.held sink.old) (K.held sink.new) text }
-    ensures memory { result ≡ 7 → Appends (K.held sink.old) (K.held sink.new) [] }
-    ensures write { result ≡ 5 → Rose (K.faults sink.old) (K.faults sink.new) }
+    ensures puts { (lines : List GridLine) → AreRoutesOf lines routes → PutsOne (IsReport lines) (K.held sink.old) (K.held sink.new) (K.faults sink.old) (K.faults sink.new) result }
     ensures sink { K.faults sink.old ≤ K.faults sink.new }
-    ensures statuses { (result ≡ 0) ⊎ ((result ≡ 5) ⊎ (result ≡ 7)) }
 {
     let text = match text_of_run(rt, alloc, routes, workers, gate) {
         Ok(text) => text,
         Err(_) => return 7,
     };
-    match put_all(sink, &text) {
-        Ok(()) => 0,
-        Err(_) => 5,
-    }
+    put_text(sink, &text, 0)
 }
 
 /// Reads a script of several crossings, lets its vehicles travel in so many runs side by side, and writes of each crossing
@@ -137,27 +125,9 @@ pub fn grid<R: Threads + Wait + Sync, S: Source, K: Sink, G: Gate>(
     gate: &G,
 ) -> u8
     requires workers { (0 < workers) × (workers ≤ 64) }
-
-    // With status 0, 3 or 6 the whole text of the source's bytes is written, and the status is theirs.
-    ensures whole { (result ≡ 0) ⊎ ((result ≡ 3) ⊎ (result ≡ 6)) → IfSome (S.left source.old) (λ bytes. Shows bytes (K.held sink.old) (K.held sink.new) result) }
-    ensures ended { result ≡ 0 → IsAtEnd (S.left source.new) }
-
-    // With status 5 a front of that text is, with status 4 or 7 nothing. With status 4 no whole line of the bytes that were
-    // read decides.
-    ensures front { result ≡ 5 → IfSome (S.left source.old) (λ bytes. ShowsFront bytes (K.held sink.old) (K.held sink.new)) }
-    ensures short { result ≡ 4 → StopsShort (S.left source.old) (S.left source.new) }
-    ensures nothing { (result ≡ 4) ⊎ (result ≡ 7) → Appends (K.held sink.old) (K.held sink.new) [] }
-
-    // Whatever the status, no more than one byte past the greatest input is taken.
-    ensures most { TakesAtMost 67108865 (S.left source.old) (S.left source.new) }
-
-    // Each status has its cause.
-    ensures read { result ≡ 4 → Rose (S.faults source.old) (S.faults source.new) }
-    ensures write { result ≡ 5 → Rose (K.faults sink.old) (K.faults sink.new) }
-    ensures source { S.faults source.old ≤ S.faults source.new }
-    ensures sink { K.faults sink.old ≤ K.faults sink.new }
-    ensures statuses { (result ≡ 0) ⊎ ((result ≡ 3) ⊎ ((result ≡ 4) ⊎ ((result ≡ 5) ⊎ ((result ≡ 6) ⊎ (result ≡ 7))))) }
-    ensures complete { IfSome (S.left source.old) (λ bytes. Completes bytes (S.faults source.old) (S.faults source.new) (K.faults sink.old) (K.faults sink.new) result) }
+    ensures { Reports grid_rules IsText status_for (source.new ≡ source.old) (S.last_read source.new)
+        (record { left = S.left source.old; source_faults = S.faults source.old; held = K.held sink.old; sink_faults = K.faults sink.old })
+        (record { left = S.left source.new; source_faults = S.faults source.new; held = K.held sink.new; sink_faults = K.faults sink.new }) result }
 {
     match read_grid(alloc, source) {
         Ok(routes) => put_run(rt, alloc, routes, workers, sink, gate),

@@ -8,4 +8,3 @@ pub mod Staffing
 pub mod Crosses
 pub mod Reports
 mod ShownLemmas
-mod EndingLemmas

@@ -1,8 +1,5 @@
--- What the command writes, and its status.
-use Rattle.std.specs.Prelude.{◌≡◌, ◌⊎◌, ◌++◌, ℕ, List, [], Option, length}
-use Rattle.std.specs.Io.KnownBytes.{Appends}
-use Rattle.aim_io.specs.Causes.{Rose}
-use Rattle.aim_io.specs.Known.{AppendsFront}
+-- The texts of a script of events, and its status.
+use Rattle.std.specs.Prelude.{◌≡◌, ◌++◌, ℕ, List, [], length}
 use Rattle.aim_messages.specs.declared.entries.Entry.{Entry}
 use Rattle.aim_messages.specs.declared.script.Line.{Line}
 use Rattle.aim_messages.specs.Texts.{spaced}
@@ -33,28 +30,10 @@ IsTextOf lines (decision.Whole count) text = IsReport lines text
 IsTextOf lines (decision.Bad number why) text = text ≡ printed (spaced (decision_words (decision.Bad number why)))
 IsTextOf lines (decision.Limit which) text = text ≡ printed (spaced (decision_words (decision.Limit which)))
 
--- the whole text of the script was written
-pub record Writes (lines : List Line) (d : Decision) (old new : Option (List ℕ)) : Type 0 where
-  pub text : List ℕ
-  pub is : IsTextOf lines d text
-  pub written : Appends old new text
+-- a text that the script of these bytes may have
+abbrev pub IsText : List ℕ → List ℕ → Type 0
+IsText bytes text = let v = event_verdict bytes in IsTextOf v.before v.decision text
 
--- a front of it was written
-pub record WritesFront (lines : List Line) (d : Decision) (old new : Option (List ℕ)) : Type 0 where
-  pub text : List ℕ
-  pub is : IsTextOf lines d text
-  pub written : AppendsFront old new text
-
--- the whole text of the script of these bytes was written, and the status is theirs
-pub record Shows (bytes : List ℕ) (old new : Option (List ℕ)) (result : ℕ) : Type 0 where
-  pub writes : let v = event_verdict bytes in Writes v.before v.decision old new
-  pub status : let v = event_verdict bytes in result ≡ status_of v.decision
-
--- a front of the text of the script of these bytes was written
-pub record ShowsFront (bytes : List ℕ) (old new : Option (List ℕ)) : Type 0 where
-  pub writes : let v = event_verdict bytes in WritesFront v.before v.decision old new
-
--- a whole script, and a source and a sink that didn't fail, give status 0, or memory has run out
-abbrev pub Completes : List ℕ → ℕ → ℕ → ℕ → ℕ → ℕ → Type 0
-Completes bytes source_old source_new sink_old sink_new result =
-    (let v = event_verdict bytes in status_of v.decision ≡ 0) → (Rose source_old source_new → ⊥) → (Rose sink_old sink_new → ⊥) → (result ≡ 0) ⊎ (result ≡ 7)
+-- its status
+abbrev pub status_for : List ℕ → ℕ
+status_for bytes = let v = event_verdict bytes in status_of v.decision

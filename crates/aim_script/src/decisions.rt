@@ -6,8 +6,9 @@ ghost use Rattle.aim_messages.specs.Writing.{added};
 ghost use Rattle.aim_script.specs.Decided.{decision_words, kind_text, limit_text, printed, status_of};
 ghost use Rattle.aim_script.specs.Refusals.{Refuses};
 
-use aim_io::{Sink, put_all};
+use aim_io::Sink;
 use aim_messages::{LineKind, Text};
+use aim_script_reading::put_text;
 
 /// Why a line of a script is at fault.
 #[derive(Clone, Copy)]
@@ -186,8 +187,5 @@ pub fn put_refused<K: Sink>(sink: &mut K, decision: Decision) -> u8
 {
     let mut line = [0; 400];
     let len = last_line(decision, &mut line);
-    match put_all(sink, &line[..len]) {
-        Ok(()) => status_of(decision),
-        Err(_) => 5,
-    }
+    put_text(sink, &line[..len], status_of(decision))
 }

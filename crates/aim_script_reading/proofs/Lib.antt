@@ -2,3 +2,4 @@ pub mod Behind
 pub mod Placing
 pub mod Between
 pub mod First
+pub mod EndingLemmas

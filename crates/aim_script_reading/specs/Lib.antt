@@ -4,3 +4,4 @@ pub mod Short
 pub mod First
 pub mod Taking
 pub mod Reads
+pub mod Commands

@@ -1,8 +1,5 @@
--- What the command writes, and its status.
-use Rattle.std.specs.Prelude.{◌≡◌, ◌⊎◌, ℕ, List, Option, None, Some}
-use Rattle.std.specs.Io.KnownBytes.{Appends}
-use Rattle.aim_io.specs.Causes.{Rose}
-use Rattle.aim_io.specs.Known.{AppendsFront}
+-- The texts of a script of claims, and its status.
+use Rattle.std.specs.Prelude.{◌≡◌, ℕ, List, Option, None, Some}
 use Rattle.aim_messages.specs.Texts.{spaced}
 use Rattle.aim_shards.specs.declared.claims.ClaimEntry.{ClaimEntry}
 use Rattle.aim_shards_command.specs.declared.lines.ShardLine.{ShardLine}
@@ -16,32 +13,18 @@ abbrev pub IsTextOf : List ShardLine → Option ClaimRefused → List ℕ → Ty
 IsTextOf before None text = (log : List ClaimEntry) × IsRun before log × (text ≡ history_text log)
 IsTextOf before (Some why) text = text ≡ printed (spaced (refused_words why))
 
-abbrev pub status_for : Option ClaimRefused → ℕ
-status_for None = 0
-status_for (Some why) = status_of why
+-- the history of a run of the script of these lines, which is whole
+abbrev pub IsWholeText : List ShardLine → List ℕ → Type 0
+IsWholeText before text = IsTextOf before None text
 
--- the whole text of a script was written
-pub record Writes (before : List ShardLine) (why : Option ClaimRefused) (old new : Option (List ℕ)) : Type 0 where
-  pub text : List ℕ
-  pub is : IsTextOf before why text
-  pub written : Appends old new text
+-- a text that the script of these bytes may have
+abbrev pub IsText : List ℕ → List ℕ → Type 0
+IsText bytes text = let v = verdict bytes in IsTextOf v.before v.refused text
 
--- a front of it was written
-pub record WritesFront (before : List ShardLine) (why : Option ClaimRefused) (old new : Option (List ℕ)) : Type 0 where
-  pub text : List ℕ
-  pub is : IsTextOf before why text
-  pub written : AppendsFront old new text
+abbrev pub status_after : Option ClaimRefused → ℕ
+status_after None = 0
+status_after (Some why) = status_of why
 
--- the whole text of the script of these bytes was written, and the status is theirs
-pub record Shows (bytes : List ℕ) (old new : Option (List ℕ)) (result : ℕ) : Type 0 where
-  pub writes : let v = verdict bytes in Writes v.before v.refused old new
-  pub status : let v = verdict bytes in result ≡ status_for v.refused
-
--- a front of the text of the script of these bytes was written
-pub record ShowsFront (bytes : List ℕ) (old new : Option (List ℕ)) : Type 0 where
-  pub writes : let v = verdict bytes in WritesFront v.before v.refused old new
-
--- a whole script, and a source and a sink that didn't fail, give status 0, or memory has run out
-abbrev pub Completes : List ℕ → ℕ → ℕ → ℕ → ℕ → ℕ → Type 0
-Completes bytes source_old source_new sink_old sink_new result =
-    (let v = verdict bytes in v.refused ≡ None) → (Rose source_old source_new → ⊥) → (Rose sink_old sink_new → ⊥) → (result ≡ 0) ⊎ (result ≡ 7)
+-- its status
+abbrev pub status_for : List ℕ → ℕ
+status_for bytes = let v = verdict bytes in status_after v.refused

@@ -12,4 +12,3 @@ pub mod Calling
 pub mod Running
 pub mod Texts
 pub mod Commands
-pub mod Puts

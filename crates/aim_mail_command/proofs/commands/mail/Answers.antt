@@ -1,39 +1,17 @@
-use Rattle.aim_mail_command.proofs.EndingLemmas.{outcome, ran}
+use Rattle.aim_script_reading.proofs.EndingLemmas.{ran}
+use Rattle.aim_mail_script.specs.Verdicts.{event_rules}
+use Rattle.aim_mail_command.specs.Commands.{IsText, status_for}
+use Rattle.aim_mail_command.proofs.ShownLemmas.{not_whole, of_whole}
 use Rattle.aim_mail_command.proofs.commands.mail.Goals as goal
 
 pub returns-in-Ok : goal.returns-in-Ok
 returns-in-Ok g c =
-    let e = c.put_run.ensures in
-    let o = ran _ (g.S.Source.left c.read_events.new.source) _ _ (g.S.Source.faults c.args.source.now) (g.S.Source.faults c.read_events.new.source) _ _ c.put_run.result c.in-Ok.script c.in-Ok.ensures.reads c.in-Ok.ensures.ended e.whole e.front e.memory e.write e.statuses in
-    record {
-      whole = o.whole;
-      ended = o.ended;
-      front = o.front;
-      short = o.short;
-      nothing = o.nothing;
-      most = c.in-Ok.ensures.most;
-      read = o.read;
-      write = o.write;
-      source = c.in-Ok.ensures.source;
-      sink = e.sink;
-      statuses = o.statuses;
-      complete = o.complete;
-    }
+    let e = c.in-Ok.ensures in
+    let p = c.put_run.ensures in
+    ran event_rules IsText status_for _ _ c.put_run.result e.most e.needed e.source (of_whole _ c.in-Ok.script e.reads) e.ended p.sink (p.puts e.reads.lines e.reads.is)
 
 pub returns-in-Err : goal.returns-in-Err
 returns-in-Err g c =
-    let o = outcome _ _ _ _ _ _ _ _ _ c.in-Err.ending c.in-Err.ensures.reads c.in-Err.ensures.short c.in-Err.ensures.read c.put_ending.ensures.ends in
-    record {
-      whole = o.whole;
-      ended = o.ended;
-      front = o.front;
-      short = o.short;
-      nothing = o.nothing;
-      most = c.in-Err.ensures.most;
-      read = o.read;
-      write = o.write;
-      source = c.in-Err.ensures.source;
-      sink = c.put_ending.ensures.sink;
-      statuses = o.statuses;
-      complete = o.complete;
-    }
+    let e = c.in-Err.ensures in
+    let p = c.put_ending.ensures in
+    not_whole _ _ c.put_ending.result e.most e.needed e.source p.sink c.in-Err.ending e.reads e.short e.read p.ends

@@ -1,50 +1,33 @@
-use Rattle.std.proofs.Common.{Err, ap, arith, inl, inr}
+use Rattle.std.proofs.Common.{Err, ap, arith, refl}
 use Rattle.std.proofs.KnownBytes.{Appends-nil}
-use Rattle.aim_shards_command.proofs.Promises.{among, completes, never_five, never_four, no_text, own_status, shows, shows_front, stop_among, stop_completes, stop_is_read, whole_script}
+use Rattle.aim_messages.specs.Texts.{spaced}
+use Rattle.aim_script_reading.proofs.EndingLemmas.{failed, forgone, ran, told}
+use Rattle.aim_shards_command.specs.ClaimTexts.{printed, refused_words, status_of}
+use Rattle.aim_shards_command.specs.Commands.{IsText, status_for}
+use Rattle.aim_shards_command.specs.Verdicts.{claim_rules}
+use Rattle.aim_shards_command.proofs.Promises.{is_refusal, not_zero, of_refused, of_whole}
 use Rattle.aim_shards_command.proofs.commands.shards.Goals as goal
+
+pub returns-in-Some : goal.returns-in-Some
+returns-in-Some g c =
+    let e = c.in-Ok.ensures in
+    let r = c.in-Some.refused in
+    let p = c.put_refused.ensures in
+    told claim_rules IsText status_for _ _ c.put_refused.result e.most e.needed e.source (printed (spaced (refused_words r))) (status_of r) (is_refusal r)
+    (of_refused _ c.in-Ok.read.script c.in-Ok.read.refused r e.verdict c.in-Some.is) (λ zero. not_zero r zero) p.sink p.puts
 
 pub returns-in-Ok : goal.returns-in-Ok
 returns-in-Ok g c =
     let e = c.in-Ok.ensures in
-    let p = c.put_read.ensures in
-    let lines = c.in-Ok.read.script in
-    let why = c.in-Ok.read.refused in
-    let result = c.put_read.result in
-    let left = g.S.Source.left c.args.source.now in
-    let old = g.K.Sink.held c.args.sink.now in
-    let new = g.K.Sink.held c.put_read.new.sink in record {
-      whole = λ h. (let own = own_status result why p.statuses h in shows left lines why old new result e.verdict (p.whole own) own);
-      ended = λ zero. e.ended (whole_script result why p.statuses zero);
-      front = λ five. shows_front left lines why old new e.verdict (p.front five);
-      short = λ four. absurd (never_four result why p.statuses four);
-      nothing = λ h. elim h [ inl four ↦ absurd (never_four result why p.statuses four) | inr seven ↦ p.memory seven ];
-      most = e.most;
-      needed = e.needed;
-      read = λ four. absurd (never_four result why p.statuses four);
-      write = p.write;
-      source = e.source;
-      sink = p.sink;
-      statuses = among result why p.statuses;
-      complete = completes left lines why _ _ _ _ result e.verdict p.statuses p.write;
-    }
+    let p = c.put_run.ensures in
+    ran claim_rules IsText status_for _ _ c.put_run.result e.most e.needed e.source (of_whole _ c.in-Ok.read.script c.in-Ok.read.refused e.verdict c.in-None.is) (e.ended c.in-None.is) p.sink p.puts
 
-pub returns-in-Err : goal.returns-in-Err
-returns-in-Err g c =
-    let e = c.in-Err.ensures in
-    let stop = c.in-Err.stop in
-    let result = c.status_after.result in
-    let is = c.status_after.ensures in record {
-      whole = λ h. absurd (no_text stop result is h);
-      ended = λ zero. absurd (no_text stop result is (inl zero));
-      front = λ five. absurd (never_five stop result is five);
-      short = λ four. e.short (ap Err (stop_is_read stop result is four));
-      nothing = λ h. Appends-nil (g.K.Sink.held c.args.sink.now);
-      most = e.most;
-      needed = e.needed;
-      read = λ four. e.read (ap Err (stop_is_read stop result is four));
-      write = λ five. absurd (never_five stop result is five);
-      source = e.source;
-      sink = omega arith;
-      statuses = stop_among stop result is;
-      complete = stop_completes (g.S.Source.left c.args.source.now) stop _ _ _ _ result is (λ read. e.read (ap Err read));
-    }
+pub returns-in-Err-Read : goal.returns-in-Err-Read
+returns-in-Err-Read g c =
+    let e = c.in-Err-Read.ensures in
+    failed claim_rules IsText status_for _ _ 4 e.most e.needed e.source refl refl (omega arith) (e.short (ap Err c.in-Err-Read.field-0-is)) (e.read (ap Err c.in-Err-Read.field-0-is))
+
+pub returns : goal.returns
+returns g c =
+    let e = c.in-Err-Halt.ensures in
+    forgone claim_rules IsText status_for _ _ 7 e.most e.needed e.source refl refl (omega arith)
