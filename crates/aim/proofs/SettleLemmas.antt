@@ -1,5 +1,5 @@
 -- What a command did still stands when the sink has handed on what it kept back, and where it failed at that.
-use Rattle.std.proofs.Common.{◌≡◌, ◌∙◌, ◌⊎◌, inl, inr, ℕ, ◌≤◌, List, [], Option, None, Some, IfSome, refl, sym, append-nil, arith}
+use Rattle.std.proofs.Common.{◌≡◌, ◌∙◌, ◌⊎◌, inl, inr, ℕ, ◌≤◌, List, [], Option, None, Some, IfSome, refl, sym, subst, append-nil, arith}
 use Rattle.std.proofs.KnownBytes.{Appends-kept}
 use Rattle.std.specs.Io.KnownBytes.{Appends, Keeps}
 use Rattle.aim_io.specs.Causes.{Rose}
@@ -99,24 +99,24 @@ module _ (old new : Streams) (held : Option (List ℕ)) (faults status : ℕ) (k
   puts_same (inl p) = inl (p.0, added _ p.1)
   puts_same (inr p) = inr (p.0, front p.1, later p.2)
 
-  does_same : {unread settled settled' : Type 0} {last : Option ℕ} → (status ≡ 4 → settled → settled') → (it : Command) → Does it unread settled last old new status → Does it unread settled' last old after status
-  does_same stays Replay d = replays_same stays d
-  does_same stays (Chart step) d = replays_same stays d
-  does_same stays ReplayJson d = replays_same stays d
-  does_same stays (Drive workers) d = reports_same d
-  does_same stays (Grid workers) d = reports_same d
-  does_same stays (Mail workers) d = reports_same d
-  does_same stays (Shards workers) d = reports_same d
-  does_same stays (Generate number count) d = (d.0, prints_same d.1)
-  does_same stays (Traffic number count) d = (d.0, prints_same d.1)
-  does_same stays (Help topic) d = (d.0, puts_same d.1)
-  does_same stays Version d = (d.0, puts_same d.1)
+  does_same : (unread settled settled' : Type 0) (last : Option ℕ) → (status ≡ 4 → settled → settled') → (it : Command) → Does it unread settled last old new status → Does it unread settled' last old after status
+  does_same unread settled settled' last stays Replay d = replays_same stays d
+  does_same unread settled settled' last stays (Chart step) d = replays_same stays d
+  does_same unread settled settled' last stays ReplayJson d = replays_same stays d
+  does_same unread settled settled' last stays (Drive workers) d = reports_same d
+  does_same unread settled settled' last stays (Grid workers) d = reports_same d
+  does_same unread settled settled' last stays (Mail workers) d = reports_same d
+  does_same unread settled settled' last stays (Shards workers) d = reports_same d
+  does_same unread settled settled' last stays (Generate number count) d = (d.0, prints_same d.1)
+  does_same unread settled settled' last stays (Traffic number count) d = (d.0, prints_same d.1)
+  does_same unread settled settled' last stays (Help topic) d = (d.0, puts_same d.1)
+  does_same unread settled settled' last stays Version d = (d.0, puts_same d.1)
 
   answers_same : {unread settled settled' : Type 0} {last : Option ℕ} {told : Option Command} → (status ≡ 4 → settled → settled') → Answers told unread settled last old new status → Answers told unread settled' last old after status
   answers_same stays a = record {
     outside = λ h. let x = a.outside h in (x.0, puts_same x.1);
     inside = a.inside;
-    does = λ command h. does_same stays command (a.does command h);
+    does = λ command h. does_same _ _ _ _ stays command (a.does command h);
     ends = record { read = a.ends.read; write = λ five. later (a.ends.write five); source = a.ends.source; sink = omega (arith, a.ends.sink, up); statuses = a.ends.statuses };
   }
 
@@ -178,34 +178,37 @@ module _ (old new : Streams) (held : Option (List ℕ)) (faults status : ℕ) (k
     puts_failed whole (inl p) = inr (refl, front_of (added _ p.1), rose)
     puts_failed whole (inr p) = absurd (omega (arith, whole, p.0))
 
-    does_failed : {unread settled settled' : Type 0} {last : Option ℕ} → IsWhole status → (it : Command) → Does it unread settled last old new status → Does it unread settled' last old after 5
-    does_failed whole Replay d = replays_failed whole d
-    does_failed whole (Chart step) d = replays_failed whole d
-    does_failed whole ReplayJson d = replays_failed whole d
-    does_failed whole (Drive workers) d = reports_failed whole d
-    does_failed whole (Grid workers) d = reports_failed whole d
-    does_failed whole (Mail workers) d = reports_failed whole d
-    does_failed whole (Shards workers) d = reports_failed whole d
-    does_failed whole (Generate number count) d = (d.0, prints_failed whole d.1)
-    does_failed whole (Traffic number count) d = (d.0, prints_failed whole d.1)
-    does_failed whole (Help topic) d = (d.0, puts_failed whole d.1)
-    does_failed whole Version d = (d.0, puts_failed whole d.1)
+    does_failed : (unread settled settled' : Type 0) (last : Option ℕ) → IsWhole status → (it : Command) → Does it unread settled last old new status → Does it unread settled' last old after 5
+    does_failed unread settled settled' last whole Replay d = replays_failed whole d
+    does_failed unread settled settled' last whole (Chart step) d = replays_failed whole d
+    does_failed unread settled settled' last whole ReplayJson d = replays_failed whole d
+    does_failed unread settled settled' last whole (Drive workers) d = reports_failed whole d
+    does_failed unread settled settled' last whole (Grid workers) d = reports_failed whole d
+    does_failed unread settled settled' last whole (Mail workers) d = reports_failed whole d
+    does_failed unread settled settled' last whole (Shards workers) d = reports_failed whole d
+    does_failed unread settled settled' last whole (Generate number count) d = (d.0, prints_failed whole d.1)
+    does_failed unread settled settled' last whole (Traffic number count) d = (d.0, prints_failed whole d.1)
+    does_failed unread settled settled' last whole (Help topic) d = (d.0, puts_failed whole d.1)
+    does_failed unread settled settled' last whole Version d = (d.0, puts_failed whole d.1)
 
     answers_failed : {unread settled settled' : Type 0} {last : Option ℕ} {told : Option Command} → IsWhole status → Answers told unread settled last old new status → Answers told unread settled' last old after 5
     answers_failed whole a = record {
       outside = λ h. let x = a.outside h in (x.0, puts_failed whole x.1);
       inside = λ h. absurd (omega (arith, h));
-      does = λ command h. does_failed whole command (a.does command h);
+      does = λ command h. does_failed _ _ _ _ whole command (a.does command h);
       ends = record { read = λ h. absurd (omega (arith, h)); write = λ _. rose; source = a.ends.source; sink = climbs; statuses = inr (inr (inr (inr (inl refl)))) };
     }
 
--- what the program did, when the sink has settled
-pub concluded : {unread settled settled' : Type 0} {last : Option ℕ} {told : Option Command} (old new : Streams) (held : Option (List ℕ)) (faults status result : ℕ)
-    → Keeps new.held held → new.sink_faults ≤ faults → (status ≡ 4 → settled → settled') → Settles status settled' new.sink_faults faults result
-    → Answers told unread settled last old new status → Answers told unread settled' last old (record { left = new.left; source_faults = new.source_faults; held = held; sink_faults = faults }) result
-concluded old new held faults status result kept up stays (inl s) a = rw s.0 (answers_same old new held faults status kept up stays a)
-concluded old new held faults status result kept up stays (inr f) a =
-    rw f.0 (answers_failed old new held faults status kept up (rose_behind old.sink_faults new.sink_faults faults a.ends.sink f.2) (omega (arith, a.ends.sink, up)) f.1 a)
+-- what the program did by the command that its words name, when the sink has settled
+pub concluded : {unread settled settled' : Type 0} {last : Option ℕ} {told named : Option Command} (old new : Streams) (held : Option (List ℕ)) (faults status result : ℕ)
+    → Keeps new.held held → new.sink_faults ≤ faults → (status ≡ 4 → settled → settled') → Settles status settled' new.sink_faults faults result → told ≡ named
+    → Answers told unread settled last old new status → Answers named unread settled' last old (record { left = new.left; source_faults = new.source_faults; held = held; sink_faults = faults }) result
+concluded {unread = unread} {settled' = settled'} {last = last} {told = told} old new held faults status result kept up stays settles is a =
+    subst (λ (x : Option Command). Answers x unread settled' last old (record { left = new.left; source_faults = new.source_faults; held = held; sink_faults = faults }) result) is (of settles)
+  where
+    of : Settles status settled' new.sink_faults faults result → Answers told unread settled' last old (record { left = new.left; source_faults = new.source_faults; held = held; sink_faults = faults }) result
+    of (inl s) = rw s.0 (answers_same old new held faults status kept up stays a)
+    of (inr f) = rw f.0 (answers_failed old new held faults status kept up (rose_behind old.sink_faults new.sink_faults faults a.ends.sink f.2) (omega (arith, a.ends.sink, up)) f.1 a)
 
 -- what is whole is handed on
 pub handed_on : {settled : Type 0} (status sink sink' result : ℕ) → Settles status settled sink sink' result → IsWhole result → settled
