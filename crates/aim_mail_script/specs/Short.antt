@@ -3,7 +3,7 @@ use Rattle.std.specs.Prelude.{ℕ, List, Option}
 use Rattle.aim_script_reading.specs.Short.{LastNeededBy, StopsShort as StopsShortBy}
 use Rattle.aim_mail_script.specs.Verdicts.{event_rules}
 
--- none of the whole lines in the bytes that were read decides
+-- the bytes that were read decide nothing
 abbrev pub StopsShort : Option (List ℕ) → Option (List ℕ) → Type 0
 StopsShort left_old left_new = StopsShortBy event_rules left_old left_new
 

@@ -1,33 +1,40 @@
 -- What is known between two lines, and how a further line changes it.
-use Rattle.std.proofs.Common.{◌≡◌, if◌then◌else◌, ◌⊎◌, inl, inr, ℕ, ◌+◌, ◌≤◌, Bool, true, false, List, [], ◌∷◌, ◌++◌, length, Option, Some, None, IfSome, Result, Ok, Err, refl, sym, ap, ◌∙◌, subst, length-append, arith}
+use Rattle.std.proofs.Common.{◌≡◌, if◌then◌else◌, ◌⊎◌, inl, inr, ℕ, ◌+◌, ◌≤◌, Bool, true, false, List, [], ◌∷◌, ◌++◌, length, Option, Some, None, IfSome, Ok, Err, refl, sym, ap, ◌∙◌, subst, length-append, append_assoc, arith}
 use Rattle.std.proofs.lemmas.Bool.{cases_Bool}
-use Rattle.std.specs.Bool.{OnTrue, OnFalse}
 use Rattle.std.specs.Io.KnownBytes.{Consumes, IsAtEnd, Keeps, prepend_known}
-use Rattle.std.proofs.KnownBytes.{Consumes-nil}
+use Rattle.std.proofs.KnownBytes.{Consumes-kept, Consumes-nil, Consumes-trans}
+use Rattle.std.specs.List.{AllByRecursion}
 use Rattle.aim_io.specs.Causes.{Rose}
 use Rattle.aim_io.specs.declared.lines.LineFault.{LineFault}
 use Rattle.aim_io.specs.declared.lines.LineFault.TheVariants.{Read, Long, Bytes, Lines}
 use Rattle.aim_io.specs.Known.{WhereKnown}
-use Rattle.aim_io.specs.Lines.{InputFault, LongLine, TooManyBytes, TooManyLines, HasNoEnd, ShowsNothing, fault_of, Outcome, Line, Stop}
+use Rattle.aim_io.specs.Lines.{InputFault, LongLine, TooManyBytes, TooManyLines, IsOpen, ShowsNothing, fault_of, joined_lines, Outcome, Line, Stop}
 use Rattle.aim_io.specs.Reader.{Reader, fresh, input, coming, taken_by, after_call, Answers, Needed, IsSound, KnowsEnd}
-use Rattle.aim_io.specs.Taken.{TookLines}
-use Rattle.aim_io.proofs.LoopLemmas.{decides_line, decided_line, decided_end, decided_fault, needed_behind, took_kept, took_line, took_none, took_part}
+use Rattle.aim_io.proofs.LoopLemmas.{decides_line, decided_line, decided_end, decided_fault, joined-push}
 use Rattle.aim_script_reading.specs.declared.decisions.Why.TheVariants as why
 use Rattle.aim_script_reading.specs.declared.decisions.Bound.TheVariants as bound
 use Rattle.aim_script_reading.specs.declared.decisions.Refused.{Refused}
 use Rattle.aim_script_reading.specs.declared.decisions.Refused.TheVariants as refused
 use Rattle.aim_script_reading.specs.declared.takers.Refusal.{Refusal}
 use Rattle.aim_script_reading.specs.declared.takers.Refusal.TheVariants as refusal
-use Rattle.aim_script_reading.specs.declared.reading.Stop.{Stop as Stopped}
-use Rattle.aim_script_reading.specs.declared.reading.Stop.TheVariants as stop
 use Rattle.aim_script_reading.specs.Taking.{Judged}
 use Rattle.aim_script_reading.specs.Reads.{Behind, Comes, Reads, after_fault, after_refusal}
 use Rattle.aim_script_reading.specs.Rules.{Rules}
-use Rattle.aim_script_reading.specs.Short.{LastNeededBy, StopsShort, TakesAtMost, TookScript}
-use Rattle.aim_script_reading.specs.Verdicts.{IsScript, Judgement, Verdict, at_end, decides, goes_on, judge, number_after, of_fault, verdict, verdict_from}
+use Rattle.aim_script_reading.specs.Short.{HasNoDecision, LastNeededBy, StopsShort, TakesAtMost, script_after}
+use Rattle.aim_script_reading.specs.Verdicts.{IsScript, Verdict, at_end, decides, goes_on, judge, number_after, verdict, verdict_from}
 use Rattle.aim_script_reading.proofs.Behind.{script_push}
 use Rattle.aim_script_reading.proofs.First.{script_goes, script_none}
-use Rattle.aim_script_reading.proofs.Placing.{Placed, most, placed_kept, placed_more, placed_start}
+use Rattle.aim_script_reading.proofs.Placing.{Placed, held_consumes, placed_more, placed_start}
+use Rattle.aim_script_reading.proofs.Undecided.{undecided_from}
+
+-- these whole lines are gone, and make this script
+pub record Took {L K M : Type 0} (r : Rules L K M) (start left : Option (List ℕ)) (reader : Reader) (script : List L) : Type 0 where
+  pub lines : List (List ℕ)
+  pub taken : Consumes start left (joined_lines lines)
+  pub each : AllByRecursion IsOpen lines
+  pub count : length lines ≡ reader.given
+  pub place : length (joined_lines lines) ≡ reader.place
+  pub is : script_after r [] lines ≡ Some script
 
 pub record Between {T S L K M : Type 0} (r : Rules L K M) (Stands : List L → T → Type 0) (left : S → Option (List ℕ)) (last : S → Option ℕ) (faults : S → ℕ) (first now : S) (reader : Reader) (taker : T) (number : ℕ) : Type 0 where
   pub before : List L
@@ -39,7 +46,7 @@ pub record Between {T S L K M : Type 0} (r : Rules L K M) (Stands : List L → T
   pub sound : IsSound reader
   pub knows : KnowsEnd reader (left now)
   pub decides : WhereKnown (left first) (input reader (left now)) (λ bytes rest. verdict_from r before (coming reader rest) ≡ verdict r bytes)
-  pub took : reader.ended ≡ false → TookScript r (left first) (input reader (left now)) before
+  pub took : reader.ended ≡ false → Took r (left first) (input reader (left now)) reader before
   pub placed : Placed (left first) (input reader (left now)) reader.place
   pub needed : (now ≡ first) ⊎ LastNeededBy r (left first) (left now) (last now)
   pub later : faults first ≤ faults now
@@ -64,7 +71,7 @@ between_start r Stands left last faults first reader taker is st = subst (λ (x 
   sound = record { few = omega arith; read = omega arith; ended = λ e. refl };
   knows = λ e. absurd (cc e);
   decides = known_start (verdict r) (left first);
-  took = λ e. record { lines = []; took = subst (λ l. TookLines (left first) l []) (start_input (left first)) (took_none (left first)); is = refl };
+  took = λ e. record { lines = []; taken = subst (λ l. Consumes (left first) l []) (start_input (left first)) (Consumes-nil (left first)); each = tt; count = refl; place = refl; is = refl };
   placed = subst (λ l. Placed (left first) l 0) (start_input (left first)) (placed_start (left first));
   needed = inl refl;
   later = omega arith;
@@ -102,11 +109,41 @@ at_end_told {K = K} {M = M} r before whole number came is w n = is ∙ (ap (λ b
     told : Bool → ℕ → Option (Refused K M)
     told b k = if b then None else Some (refused.Bad (k + 1) why.End)
 
+each_more : (lines : List (List ℕ)) (line : List ℕ) → AllByRecursion IsOpen lines → IsOpen line → AllByRecursion IsOpen (lines ++ line ∷ [])
+each_more [] line each unended = (unended, tt)
+each_more (first ∷ lines) line each unended = (each.0, each_more lines line each.1 unended)
+
 module _ {T S L K M : Type 0} (r : Rules L K M) (Stands : List L → T → Type 0) (left : S → Option (List ℕ)) (last : S → Option ℕ) (faults : S → ℕ) (first mid : S) (old : Reader) (taker : T) (number : ℕ)
     (b : Between r Stands left last faults first mid old taker number) where
+  -- what was read behind whole lines is gone with them
+  gone : (lines : List (List ℕ)) (part : List ℕ) (after : S) → Consumes (left first) (input old (left mid)) (joined_lines lines) → Keeps (input old (left mid)) (prepend_known part (left after)) → Consumes (left first) (left after) (joined_lines lines ++ part)
+  gone lines part after taken keeps = Consumes-trans (left first) (prepend_known part (left after)) (left after) _ _ (Consumes-kept (left first) _ _ _ taken keeps) (held_consumes (left after) part)
+
+  -- whole lines and what begins a further one decide nothing
+  quiet : (going : old.ended ≡ false) (part : List ℕ) → ShowsNothing old.given old.place part → HasNoDecision r (joined_lines (b.took going).lines ++ part)
+  quiet going part shows =
+      let took = b.took going in record {
+        lines = took.lines;
+        part = part;
+        is = refl;
+        within = omega (arith, length-append (joined_lines took.lines) part, took.place, shows.within);
+        each = took.each;
+        few = omega (arith, took.count, b.sound.few);
+        is_open = shows.is_open;
+        further = λ some. (let few = shows.few some in omega (arith, took.count, few));
+        before = b.before;
+        script = took.is;
+      }
+
   needed_read : (after : S) → old.ended ≡ false → Needed old (left mid) (left after) (last after) → LastNeededBy r (left first) (left after) (last after)
   needed_read after going needed =
-      let took = b.took going in record { lines = took.lines; needed = needed_behind (left first) (left mid) (left after) old took.lines (last after) took.took needed; before = b.before; script = took.is }
+      let took = b.took going in record {
+        front = joined_lines took.lines ++ needed.part;
+        piece = needed.piece;
+        taken = subst (Consumes (left first) (left after)) (sym (append_assoc (joined_lines took.lines) needed.part needed.piece)) (gone took.lines (needed.part ++ needed.piece) after took.taken needed.keeps);
+        undecided = undecided_from r _ (quiet going needed.part needed.shows);
+        told = needed.told;
+      }
 
   -- the last of all reads was needed, if there was one
   pub needed_call : (after : S) → (old.ended ≡ true → after ≡ mid) → (after ≡ mid) ⊎ Needed old (left mid) (left after) (last after) → (after ≡ first) ⊎ LastNeededBy r (left first) (left after) (last after)
@@ -117,11 +154,11 @@ module _ {T S L K M : Type 0} (r : Rules L K M) (Stands : List L → T → Type 
   ]
 
   pub between_more : (after : S) (new : Reader) (next : T) (l : L) → judge r b.before (Line new.line) ≡ goes_on l → Stands (b.before ++ l ∷ []) next
-      → new ≡ after_call old new true → old.ended ≡ false → HasNoEnd new.line → Consumes (input old (left mid)) (input new (left after)) (taken_by new true)
+      → new ≡ after_call old new true → old.ended ≡ false → IsOpen new.line → Consumes (input old (left mid)) (input new (left after)) (taken_by new true)
       → Answers old new (input old (left mid)) (input new (left after)) (Ok true) → IsSound new → KnowsEnd new (left after)
       → (after ≡ first) ⊎ LastNeededBy r (left first) (left after) (last after) → faults first ≤ faults after
       → Between r Stands left last faults first after new next (number + 1)
-  between_more after new next l j st is going none taken answers sound knows needed later = record {
+  between_more after new next l j st is going unended taken answers sound knows needed later = record {
     before = b.before ++ l ∷ [];
     stands = st;
     script = script_goes r b.before new.line l b.script j;
@@ -134,7 +171,10 @@ module _ {T S L K M : Type 0} (r : Rules L K M) (Stands : List L → T → Type 
     took = λ still.
         let before = b.took going in record {
           lines = before.lines ++ new.line ∷ [];
-          took = took_line _ _ _ before.lines new.line before.took none (rw still at taken);
+          taken = subst (Consumes (left first) (input new (left after))) (sym (joined-push before.lines new.line)) (Consumes-trans (left first) (input old (left mid)) (input new (left after)) _ _ before.taken (rw still at taken));
+          each = each_more before.lines new.line before.each unended;
+          count = length-append before.lines (new.line ∷ []) ∙ ap (λ n. n + 1) before.count ∙ sym (ap (λ (x : Reader). x.given) is);
+          place = ap (λ (l : List ℕ). length l) (joined-push before.lines new.line) ∙ length-append (joined_lines before.lines) (new.line ++ 10 ∷ []) ∙ ap (λ n. n + length (new.line ++ 10 ∷ [])) before.place ∙ sym (ap (λ (x : Reader). x.place) is ∙ rw still refl);
           is = script_push r before.lines new.line b.before l before.is j;
         };
     placed = placed_more _ _ _ old new true b.placed taken is;
@@ -228,12 +268,14 @@ module _ {T S L K M : Type 0} (r : Rules L K M) (Stands : List L → T → Type 
   fault_reads Rests Halts law after new Bytes answers short rose later needed few = decision_reads Rests Halts after taker _ (fault_decides Rests law after new Bytes (λ e. cc) answers) (λ e. absurd cc) later needed few
   fault_reads Rests Halts law after new Lines answers short rose later needed few = decision_reads Rests Halts after taker _ (fault_decides Rests law after new Lines (λ e. cc) answers) (λ e. absurd cc) later needed few
 
-  -- none of the whole lines decides where the source fails
-  pub stops_short : (after : S) (new : Reader) → old.ended ≡ false → Keeps (input old (left mid)) (input new (left after)) → HasNoEnd new.held → StopsShort r (left first) (left after)
-  stops_short after new going keeps none =
-      let before = b.took going in record {
-        lines = before.lines;
-        took = took_part _ _ new.held before.lines (took_kept _ _ _ _ before.took keeps) none;
-        before = b.before;
-        script = before.is;
+  -- what was read decides nothing where the source fails
+  pub stops_short : (after : S) (new : Reader) (f : LineFault) → new ≡ record old { held = new.held; line = []; fault = Some f } → new.ended ≡ false → Keeps (input old (left mid)) (input new (left after)) → ShowsNothing new.given new.place new.held → StopsShort r (left first) (left after)
+  stops_short after new f is still keeps shows =
+      let going : old.ended ≡ false = sym (ap (λ (x : Reader). x.ended) is) ∙ still in
+      let given : new.given ≡ old.given = ap (λ (x : Reader). x.given) is in
+      let place : new.place ≡ old.place = ap (λ (x : Reader). x.place) is in
+      let took = b.took going in record {
+        bytes = joined_lines took.lines ++ new.held;
+        taken = gone took.lines new.held after took.taken keeps;
+        undecided = undecided_from r _ (quiet going new.held (subst (λ n. ShowsNothing n old.place new.held) given (subst (λ n. ShowsNothing new.given n new.held) place shows)));
       }

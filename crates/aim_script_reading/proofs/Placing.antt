@@ -1,5 +1,5 @@
 -- How many bytes were taken.
-use Rattle.std.proofs.Common.{◌≡◌, ℕ, ◌+◌, ◌≤◌, Bool, List, [], ◌++◌, length, Option, Some, None, refl, sym, ap, ◌∙◌, length-append, arith}
+use Rattle.std.proofs.Common.{◌≡◌, ℕ, ◌+◌, Bool, List, [], ◌++◌, length, Option, Some, None, refl, sym, ap, ◌∙◌, length-append, arith}
 use Rattle.std.proofs.KnownBytes.{Consumes-nil, Consumes-trans, Consumes-kept}
 use Rattle.std.specs.Io.KnownBytes.{Consumes, Keeps, prepend_known}
 use Rattle.aim_io.specs.Reader.{Reader, IsSound, after_call, input, taken_by}
@@ -14,7 +14,7 @@ pub record Placed (bytes rest : Option (List ℕ)) (place : ℕ) : Type 0 where
 pub placed_start : (left : Option (List ℕ)) → Placed left left 0
 placed_start left = record { gone = []; taken = Consumes-nil left; count = refl }
 
-held_consumes : (left : Option (List ℕ)) (held : List ℕ) → Consumes (prepend_known held left) left held
+pub held_consumes : (left : Option (List ℕ)) (held : List ℕ) → Consumes (prepend_known held left) left held
 held_consumes None held = tt
 held_consumes (Some rest) held = refl
 

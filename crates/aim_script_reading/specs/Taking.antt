@@ -1,5 +1,5 @@
 -- What a taker promises of a further line.
-use Rattle.std.specs.Prelude.{◌≡◌, ℕ, List, [], ◌∷◌, ◌++◌, Option, Result, Ok, Err}
+use Rattle.std.specs.Prelude.{◌≡◌, ℕ, List, [], ◌∷◌, ◌++◌, Result, Ok, Err}
 use Rattle.aim_io.specs.Lines.{Line}
 use Rattle.aim_script_reading.specs.declared.decisions.Why.TheVariants as why
 use Rattle.aim_script_reading.specs.declared.decisions.Bound.TheVariants as bound

@@ -1,9 +1,7 @@
 -- What a script comes to: the first line that decides. The same for all kinds of scripts.
 use Rattle.std.specs.Prelude.{◌≡◌, ℕ, ◌+◌, List, [], ◌∷◌, ◌++◌, length, take, Option, Some, None, Result, Ok, Err, slice_get, if◌then◌else◌}
 use Rattle.aim_io.specs.Lines.{InputFault, LongLine, TooManyBytes, TooManyLines, Outcome, Line, Stop, outcomes_of}
-use Rattle.aim_script_reading.specs.declared.decisions.Why.{Why}
 use Rattle.aim_script_reading.specs.declared.decisions.Why.TheVariants as why
-use Rattle.aim_script_reading.specs.declared.decisions.Bound.{Bound}
 use Rattle.aim_script_reading.specs.declared.decisions.Bound.TheVariants as bound
 use Rattle.aim_script_reading.specs.declared.decisions.Refused.{Refused}
 use Rattle.aim_script_reading.specs.declared.decisions.Refused.TheVariants as refused

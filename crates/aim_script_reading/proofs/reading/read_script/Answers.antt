@@ -1,8 +1,6 @@
-use Rattle.std.proofs.Common.{ℕ, List, Ok, Err, arith, ◌≡◌, ◌+◌, true, false, sym, ap, subst, refl, ◌∙◌}
+use Rattle.std.proofs.Common.{ℕ, List, Err, arith, ◌≡◌, true, false, sym, ap, subst, ◌∙◌}
 use Rattle.aim_io.specs.Reader.{Reader, after_call}
 use Rattle.aim_script_reading.specs.Taking.{Judged}
-use Rattle.aim_script_reading.specs.Reads.{Reads}
-use Rattle.aim_script_reading.specs.Verdicts.{at_end}
 use Rattle.aim_script_reading.proofs.Between.{at_end_told, between_more, end_reads, fault_reads, needed_call, refusal_reads, stops_short}
 use Rattle.aim_script_reading.proofs.Placing.{most, placed_kept, placed_more}
 use Rattle.aim_script_reading.proofs.reading.read_script.Goals as goal
@@ -15,7 +13,7 @@ returns-in-Err g c =
     let new = c.advance.new.self in
     let after = e.fault i.no_fault in
     rw c.after_fault.ensures (fault_reads _ _ _ _ _ _ _ _ _ _ i (g.T.LineTaker.rests c.args.taker.now) (g.T.LineTaker.halts c.args.taker.now) (g.met.T.LineTaker.stands_rests c.args.taker.now) c.advance.new.source new c.in-Err.fault (e.step i.knows i.no_fault)
-    (λ is. (let read = e.read (ap Err is) i.no_fault in stops_short _ _ _ _ _ _ _ _ _ _ i c.advance.new.source new (sym (ap (λ (r : Reader). r.ended) after) ∙ read.1) e.keeps read.0.is_open.no_end))
+    (λ is. (let read = e.read (ap Err is) i.no_fault in stops_short _ _ _ _ _ _ _ _ _ _ i c.advance.new.source new _ after read.1 e.keeps read.0))
     (λ is. (let rose = (e.read (ap Err is) i.no_fault).2 in omega (arith, i.later, rose)))
     (omega (arith, i.later, c.advance.ensures.later))
     (needed_call _ _ _ _ _ _ _ _ _ _ i c.advance.new.source c.advance.ensures.ended c.advance.ensures.needed)
@@ -44,7 +42,7 @@ lines-preserved g c =
     let line = rw t at e.line in
     let judged = rw c.line.ensures at (c.in-Ok.ensures c.args.taker.now i.before i.stands) in
     between_more _ _ _ _ _ _ _ _ _ _ i c.advance.new.source new c.take.new.self judged.0 judged.1 judged.2
-    after (rw t at e.going) line.no_end (rw t at e.taken) (rw t at (e.step i.knows i.no_fault)) e.sound (c.advance.ensures.knows i.knows)
+    after (rw t at e.going) line (rw t at e.taken) (rw t at (e.step i.knows i.no_fault)) e.sound (c.advance.ensures.knows i.knows)
     (needed_call _ _ _ _ _ _ _ _ _ _ i c.advance.new.source c.advance.ensures.ended c.advance.ensures.needed)
     (omega (arith, i.later, c.advance.ensures.later))
 
