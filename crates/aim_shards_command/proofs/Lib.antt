@@ -7,3 +7,4 @@ pub mod Seating
 pub mod Runs
 pub mod TextLines
 pub mod Promises
+pub mod Telling

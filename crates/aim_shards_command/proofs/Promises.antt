@@ -6,7 +6,7 @@ use Rattle.aim_script_reading.specs.Commands.{IsOfScript}
 use Rattle.aim_script_reading.specs.declared.decisions.Refused.TheVariants as refused
 use Rattle.aim_script_reading.proofs.EndingLemmas.{IsOf}
 use Rattle.aim_shards_command.specs.ClaimTexts.{ClaimRefused, printed, refused_words, status_of}
-use Rattle.aim_shards_command.specs.Commands.{IsWholeText, IsText, IsTextOf, status_after, status_for}
+use Rattle.aim_shards_command.specs.Commands.{IsReport, IsText, IsTextOf, status_after, status_for}
 use Rattle.aim_shards_command.specs.Verdicts.{ClaimVerdict, Comes}
 use Rattle.aim_shards_command.specs.declared.lines.ShardLine.{ShardLine}
 
@@ -18,8 +18,8 @@ of_read (Some bytes) lines why text comes is = record {
   own = ap (λ (v : ClaimVerdict). status_after v.refused) (sym comes);
 }
 
--- a history of a whole script
-pub of_whole : (left : Option (List ℕ)) (lines : List ShardLine) (why : Option ClaimRefused) → Comes lines why left → why ≡ None → (text : List ℕ) → IsWholeText lines text → IfSome left (IsOf IsText status_for text 0)
+-- a report of a whole script
+pub of_whole : (left : Option (List ℕ)) (lines : List ShardLine) (why : Option ClaimRefused) → Comes lines why left → why ≡ None → (text : List ℕ) → IsReport lines text → IfSome left (IsOf IsText status_for text 0)
 of_whole left lines why comes none text is = subst (λ (w : Option ClaimRefused). IfSome left (IsOf IsText status_for text (status_after w))) none (of_read left lines why text comes (subst (λ (w : Option ClaimRefused). IsTextOf lines w text) (sym none) is))
 
 -- the line of a script that isn't whole

@@ -7,15 +7,19 @@ use Rattle.aim_shards_command.specs.ClaimTexts.{ClaimRefused, printed, refused_w
 use Rattle.aim_shards_command.specs.Verdicts.{verdict}
 use Rattle.aim_shards_command.specs.Running.{IsRun}
 use Rattle.aim_shards_command.specs.Texts.{history_text}
+use Rattle.aim_shards_command.specs.Told.{AreTold}
 
--- The text of a script: of a whole one the history of a run of it, and of another one the line that says why it isn't whole.
+-- The text reports the history of a run of these lines, and tells it.
+pub record IsReport (lines : List ShardLine) (text : List ℕ) : Type 0 where
+  pub log : List ClaimEntry
+  pub run : IsRun lines log
+  pub is : text ≡ history_text log
+  pub told : AreTold log
+
+-- The text of a script: of a whole one the report of a run of it, and of another one the line that says why it isn't whole.
 abbrev pub IsTextOf : List ShardLine → Option ClaimRefused → List ℕ → Type 0
-IsTextOf before None text = (log : List ClaimEntry) × IsRun before log × (text ≡ history_text log)
+IsTextOf before None text = IsReport before text
 IsTextOf before (Some why) text = text ≡ printed (spaced (refused_words why))
-
--- the history of a run of the script of these lines, which is whole
-abbrev pub IsWholeText : List ShardLine → List ℕ → Type 0
-IsWholeText before text = IsTextOf before None text
 
 -- a text that the script of these bytes may have
 abbrev pub IsText : List ℕ → List ℕ → Type 0

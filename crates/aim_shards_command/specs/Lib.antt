@@ -11,4 +11,5 @@ pub mod Following
 pub mod Calling
 pub mod Running
 pub mod Texts
+pub mod Told
 pub mod Commands

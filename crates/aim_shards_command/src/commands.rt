@@ -3,12 +3,13 @@
 ghost use Rattle.std.specs.Prelude.{◌≡◌, ◌<◌, ◌≤◌, length};
 ghost use Rattle.aim_script_reading.specs.Commands.{Puts, PutsOne, Reports};
 ghost use Rattle.aim_shards_command.specs.ClaimTexts.{printed, refused_words, status_of};
-ghost use Rattle.aim_shards_command.specs.Commands.{IsWholeText, IsText, status_for};
+ghost use Rattle.aim_shards_command.specs.Commands.{IsReport, IsText, status_for};
 ghost use Rattle.aim_shards_command.specs.Verdicts.{claim_rules};
 ghost use Rattle.aim_messages.specs.Texts.{spaced};
 
 use crate::running::run_script;
 use crate::texts::text_of;
+use crate::values::entries_fit;
 use crate::{ClaimKind, ClaimLimit, Script, read_claims, refused_line};
 use aim_io::{Sink, Source};
 use aim_script_reading::{Refused, Stop, put_text};
@@ -48,12 +49,13 @@ fn put_run<R: Threads + Wait + Sync, K: Sink, H: Hold>(
 ) -> u8
     requires some { 0 < length script.now }
     requires workers { 0 < workers }
-    ensures puts { PutsOne (IsWholeText script.now) (K.held sink.old) (K.held sink.new) (K.faults sink.old) (K.faults sink.new) result }
+    ensures puts { PutsOne (IsReport script.now) (K.held sink.old) (K.held sink.new) (K.faults sink.old) (K.faults sink.new) result }
     ensures sink { K.faults sink.old ≤ K.faults sink.new }
 {
     let Ok(log) = run_script(rt, alloc, script, workers, hold) else {
         return 7;
     };
+    entries_fit(&log);
     let Ok(text) = text_of(alloc, &log) else {
         return 7;
     };

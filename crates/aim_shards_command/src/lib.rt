@@ -4,11 +4,13 @@
 mod callers;
 mod commands;
 mod decisions;
+pub mod laws;
 mod lines;
 mod reading;
 mod running;
 mod script;
 mod texts;
+mod values;
 
 pub use commands::shards;
 pub use decisions::{ClaimKind, ClaimLimit, refused_line};
