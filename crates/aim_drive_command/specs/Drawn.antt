@@ -29,6 +29,7 @@ planned_by vehicle a b c = line.PlanFor vehicle (33 * vehicle) (100 + b % 100) 5
   lane = a % 12;
   turn = turn_of (a % 12);
   arrive = 0;
+  latest = 0;
   speed = 200 + c % 61;
   max_speed = 300;
   accel = 2;

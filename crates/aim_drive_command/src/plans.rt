@@ -36,6 +36,7 @@ pub(crate) struct Trip {
 pub(crate) fn draw(random: &mut Pcg32, vehicle: u32) -> Trip
     ensures drawn { line.PlanFor vehicle (33 * vehicle) result.lead 50 result.params false ≡ drawn vehicle random.old }
     ensures arrive { result.params.arrive ≡ 0 }
+    ensures latest { result.params.latest ≡ 0 }
     ensures rest { random.new ≡ after_plan random.old }
 {
     let a = random.next_word();
@@ -46,6 +47,7 @@ pub(crate) fn draw(random: &mut Pcg32, vehicle: u32) -> Trip
         lane,
         turn: turn_of(lane),
         arrive: 0,
+        latest: 0,
         speed: 200 + c % 61,
         max_speed: 300,
         accel: 2,

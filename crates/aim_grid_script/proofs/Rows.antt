@@ -46,7 +46,7 @@ plan_from first = record {
   first = first;
   lead = 10;
   resend = 3;
-  params = record { lane = 0; turn = turn.Straight; arrive = 0; speed = 500; max_speed = 500; accel = 0; length = 1000; width = 700; emergency = false };
+  params = record { lane = 0; turn = turn.Straight; arrive = 0; latest = 0; speed = 500; max_speed = 500; accel = 0; length = 1000; width = 700; emergency = false };
   changes = [];
   cancel = None;
   ahead = false;

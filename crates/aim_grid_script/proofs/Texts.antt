@@ -18,7 +18,7 @@ use Rattle.aim_text_words.specs.Ranges.{AreParams, Is32}
 use Rattle.aim_text_words.specs.Reading.{at, unless}
 use Rattle.aim_text_lines.specs.Reading.{line_at, line_in}
 use Rattle.aim_text_words.specs.Steps.{numbers_in, vehicle_in}
-use Rattle.aim_text_words.proofs.Again.{n32, n8, turn_again, vehicle_again}
+use Rattle.aim_text_words.proofs.Again.{n32, n8, turn_again, vehicle_again, one_step_is}
 use Rattle.aim_text_lines.proofs.LineAgain.{line_again}
 use Rattle.aim_text_words.proofs.Spelled.{in32, in8, class_back, respelled_is, same_word, turn_back}
 use Rattle.aim_text_lines.proofs.LineSpelled.{line_was_spelled}
@@ -77,8 +77,10 @@ leg_are_words v c p iv ic i =
     (refl, (w32 v iv, (w32 c ic, (w32 p.first i.first, (w32 p.lead i.lead, (w32 p.resend i.resend, (w8 q.lane r.lane, (turn_is_word q.turn, vehicle_are_words q r))))))))
 
 -- a leg is read again from its words
-plan_params : (p : Params) → AreParams p → p.arrive ≡ 0 → vehicle_in p.lane p.turn 0 (vehicle_words p) ≡ Ok (p, [])
-plan_params p r none = ap (λ arrive. vehicle_in p.lane p.turn arrive (vehicle_words p)) (sym none) ∙ vehicle_again p [] r
+plan_params : (p : Params) → AreParams p → p.arrive ≡ 0 → p.latest ≡ 0 → vehicle_in p.lane p.turn 0 (vehicle_words p) ≡ Ok (p, [])
+plan_params p r none nor_latest =
+    ap (λ arrive. vehicle_in p.lane p.turn arrive (vehicle_words p)) (sym none) ∙ vehicle_again p [] r
+    ∙ ap (λ (q : Params). Ok (q, [])) (one_step_is p (nor_latest ∙ sym none))
 
 bare_is : (p : DrivePlan) → IsBare p → record { first = p.first; lead = p.lead; resend = p.resend; params = p.params; changes = []; cancel = None; ahead = false } ≡ p
 bare_is p b = rw (sym b.changes, sym b.cancel, sym b.ahead) refl
@@ -88,7 +90,7 @@ unfolding leg_in params_in numbers_in
 leg_steps v c p iv ic i b =
     let q = p.params in
     let r = i.params in
-    rw (n32 v _ iv, n32 c _ ic, n32 p.first _ i.first, n32 p.lead _ i.lead, n32 p.resend _ i.resend, n8 q.lane _ r.lane, turn_again q.turn _, plan_params q r b.arrive)
+    rw (n32 v _ iv, n32 c _ ic, n32 p.first _ i.first, n32 p.lead _ i.lead, n32 p.resend _ i.resend, n8 q.lane _ r.lane, turn_again q.turn _, plan_params q r b.arrive b.latest)
     (ap (λ (plan : DrivePlan). Ok (line.Leg v c plan)) (bare_is p b))
 
 crossings_steps : (n : ℕ) → Is32 n → crossings_in (decimal n ∷ []) ≡ Ok (line.Crossings n)
@@ -180,6 +182,7 @@ leg_spelled version bytes ws split word i =
           params = record {
             lane = in8 (from 6 ws) n.1.1.1.1.1.1.0;
             arrive = omega arith;
+            latest = omega arith;
             speed = in32 (from 8 ws) n.1.1.1.1.1.1.1.1.0;
             max_speed = in32 (from 9 ws) n.1.1.1.1.1.1.1.1.1.0;
             accel = in32 (from 10 ws) n.1.1.1.1.1.1.1.1.1.1.0;
@@ -188,7 +191,7 @@ leg_spelled version bytes ws split word i =
           };
         },
       );
-      keeps = record { arrive = refl; changes = refl; cancel = refl; ahead = refl };
+      keeps = record { arrive = refl; latest = refl; changes = refl; cancel = refl; ahead = refl };
       text = text_is bytes (grid_line_words version (line.Leg (at ws 1) (at ws 2) (plan_at ws))) (spelled ∙ split);
     }
 

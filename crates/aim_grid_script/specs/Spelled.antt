@@ -36,9 +36,10 @@ IsGridLine (line.Crossings n) = Is32 n
 IsGridLine (line.Leg v c p) = Is32 v × Is32 c × IsPlan p
 IsGridLine (line.Plain l) = IsLine l
 
--- no changes, never cancelled, no crossing begun early, and no arrival
+-- no changes, never cancelled, no crossing begun early, and neither a first nor a last step of arrival
 pub record IsBare (p : DrivePlan) : Type 0 where
   pub arrive : let q = p.params in q.arrive ≡ 0
+  pub latest : let q = p.params in q.latest ≡ 0
   pub changes : p.changes ≡ []
   pub cancel : p.cancel ≡ None
   pub ahead : p.ahead ≡ false

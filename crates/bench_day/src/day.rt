@@ -29,10 +29,12 @@ fn params(turn: u32, part: u32) -> Params {
         1 => Turn::Straight,
         _ => Turn::Right,
     };
+    let arrive = moment(turn).wrapping_add(50 + drawn % 400);
     Params {
         lane: lane as u8,
         turn: way,
-        arrive: moment(turn).wrapping_add(50 + drawn % 400),
+        arrive,
+        latest: arrive,
         speed: 200 + drawn / 400 % 61,
         max_speed: 300,
         accel: 2,

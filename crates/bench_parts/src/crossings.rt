@@ -26,6 +26,7 @@ fn request(round: u64) -> Message {
         lane: (round % 12) as u8,
         turn,
         arrive: 1000 + (round % 100) as u32,
+        latest: 1000 + (round % 100) as u32,
         speed: 200 + (round % 61) as u32,
         max_speed: 300,
         accel: 2,

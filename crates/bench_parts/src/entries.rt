@@ -9,6 +9,7 @@ pub fn entry(round: u32) -> Entry {
         lane: 3,
         turn: Turn::Straight,
         arrive: round,
+        latest: round,
         speed: 500,
         max_speed: 500,
         accel: 0,

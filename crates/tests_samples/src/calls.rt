@@ -14,6 +14,7 @@ fn params(lane: u8, arrive: u32) -> Params {
     Params {
         lane,
         arrive,
+        latest: arrive,
         ..CAR
     }
 }

@@ -65,6 +65,7 @@ pub const CAR: Params = Params {
     lane: 0,
     turn: Turn::Straight,
     arrive: 10,
+    latest: 10,
     speed: 500,
     max_speed: 500,
     accel: 0,

@@ -128,6 +128,7 @@ fn tiles_are_kept_within_the_buffers_from_step_0(rt: HostRuntime) {
         };
         let params = Params {
             arrive,
+            latest: arrive,
             max_speed,
             accel,
             ..CAR

@@ -7,7 +7,7 @@ use std::alloc::Global;
 use std::process::Abort;
 
 // Entries, and their JSON text.
-static ENTRIES: [(&[u8], &[u8]); 30] = [
+static ENTRIES: [(&[u8], &[u8]); 32] = [
     (
         b"0 0 0 request 1 0 straight 10 500 500 0 1000 700 car -> confirm 0 10 0 0 steady 20",
         b"{\"act\":{\"accel\":0,\"arrive\":10,\"class\":\"car\",\"kind\":\"request\",\"lane\":0,\"length\":1000,\"max\":500,\"seq\":1,\"speed\":500,\"turn\":\"straight\",\"width\":700},\"caller\":0,\"moment\":0,\"position\":0,\"reply\":{\"early\":0,\"id\":0,\"kind\":\"confirm\",\"last\":20,\"late\":0,\"start\":10,\"trial\":\"steady\"}}",
@@ -128,6 +128,14 @@ static ENTRIES: [(&[u8], &[u8]); 30] = [
         b"2 65535 3 cancel 1 2 -> reject taken 1 2 14 300 next 6 held none",
         b"{\"act\":{\"id\":2,\"kind\":\"cancel\",\"seq\":1},\"caller\":65535,\"moment\":3,\"position\":2,\"reply\":{\"held\":null,\"kind\":\"reject\",\"next\":6,\"reason\":{\"by\":300,\"col\":2,\"kind\":\"taken\",\"row\":1,\"step\":14}}}",
     ),
+    (
+        b"3 0 0 request 1 0 straight 10 500 500 0 1000 700 car 14 -> confirm 3 12 0 0 steady 22",
+        b"{\"act\":{\"accel\":0,\"arrive\":10,\"class\":\"car\",\"kind\":\"request\",\"lane\":0,\"latest\":14,\"length\":1000,\"max\":500,\"seq\":1,\"speed\":500,\"turn\":\"straight\",\"width\":700},\"caller\":0,\"moment\":0,\"position\":3,\"reply\":{\"early\":0,\"id\":3,\"kind\":\"confirm\",\"last\":22,\"late\":0,\"start\":12,\"trial\":\"steady\"}}",
+    ),
+    (
+        b"4 2 3 change 5 0 1 left 40 500 501 9 1000 700 emergency 41 -> reject bad latest next 18 held 0",
+        b"{\"act\":{\"accel\":9,\"arrive\":40,\"class\":\"emergency\",\"id\":0,\"kind\":\"change\",\"lane\":1,\"latest\":41,\"length\":1000,\"max\":501,\"seq\":5,\"speed\":500,\"turn\":\"left\",\"width\":700},\"caller\":2,\"moment\":3,\"position\":4,\"reply\":{\"held\":0,\"kind\":\"reject\",\"next\":18,\"reason\":{\"field\":\"latest\",\"kind\":\"bad\"}}}",
+    ),
 ];
 
 // The entry of the text has to be written so, and as this JSON text.
@@ -148,4 +156,28 @@ fn entries_come_back(rt: HostRuntime) {
     }
     assert!(rt; read_entry(b"1 65536 2 stop -> stopped").err() == Some(LineKind::Range));
     assert!(rt; read_entry(b"1 1 2 stop -> stopped").err() == Some(LineKind::Words));
+}
+
+// Entries whose last step of arrival is none, and the first fault of each.
+static LATEST_FAULTS: [(&[u8], LineKind); 4] = [
+    (
+        b"0 0 0 request 1 0 straight 10 500 500 0 1000 700 car 10 -> ack 0",
+        LineKind::Range,
+    ),
+    (
+        b"0 0 0 change 1 9 0 straight 10 500 500 0 1000 700 car 9 -> ack 0",
+        LineKind::Range,
+    ),
+    (
+        b"0 0 0 request 1 0 straight 10 500 500 0 1000 700 car 014 -> ack 0",
+        LineKind::Number,
+    ),
+    (b"0 0 0 cancel 1 9 14 -> ack 0", LineKind::Words),
+];
+
+#[test]
+fn a_last_step_of_arrival_is_above_the_first(rt: HostRuntime) {
+    for (text, kind) in &LATEST_FAULTS {
+        assert!(rt; read_entry(text).err() == Some(*kind));
+    }
 }

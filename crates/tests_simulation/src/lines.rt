@@ -9,7 +9,7 @@ use std::alloc::Global;
 use std::process::Abort;
 
 // The version of a script, a line of it, and its JSON text.
-static FORMS: [(u8, &[u8], &[u8]); 26] = [
+static FORMS: [(u8, &[u8], &[u8]); 30] = [
     (1, b"aim 1", b"{\"form\":\"aim\",\"n\":1}"),
     (
         1,
@@ -116,11 +116,31 @@ static FORMS: [(u8, &[u8], &[u8]); 26] = [
         b"down 0 d",
         b"{\"fates\":[\"d\"],\"form\":\"down\",\"v\":0}",
     ),
+    (
+        4,
+        b"7 20 request 3 1 straight 30 500 501 0 1000 700 car",
+        b"{\"form\":\"event\",\"message\":{\"accel\":0,\"arrive\":30,\"class\":\"car\",\"kind\":\"request\",\"lane\":1,\"length\":1000,\"max\":501,\"seq\":3,\"speed\":500,\"turn\":\"straight\",\"width\":700},\"moment\":20,\"vehicle\":7}",
+    ),
+    (
+        4,
+        b"7 20 request 3 1 straight 30 500 501 0 1000 700 car 31",
+        b"{\"form\":\"event\",\"message\":{\"accel\":0,\"arrive\":30,\"class\":\"car\",\"kind\":\"request\",\"lane\":1,\"latest\":31,\"length\":1000,\"max\":501,\"seq\":3,\"speed\":500,\"turn\":\"straight\",\"width\":700},\"moment\":20,\"vehicle\":7}",
+    ),
+    (
+        4,
+        b"7 20 change 3 9 1 straight 30 500 501 0 1000 700 emergency 4294967295",
+        b"{\"form\":\"event\",\"message\":{\"accel\":0,\"arrive\":30,\"class\":\"emergency\",\"id\":9,\"kind\":\"change\",\"lane\":1,\"latest\":4294967295,\"length\":1000,\"max\":501,\"seq\":3,\"speed\":500,\"turn\":\"straight\",\"width\":700},\"moment\":20,\"vehicle\":7}",
+    ),
+    (
+        4,
+        b"policy both light-emerg",
+        b"{\"form\":\"policy\",\"kind\":\"light-emerg\",\"name\":\"both\"}",
+    ),
 ];
 
 // The line of the text has to be written as this JSON text.
 fn check_written(rt: &impl Abort, alloc: Global, version: u8, text: &[u8], json: &[u8])
-    requires { (0 < version) × (version ≤ 3) }
+    requires { (0 < version) × (version ≤ 4) }
 {
     let Ok(line) = read_line(text, version) else {
         panic!(rt; "no line")
@@ -133,7 +153,7 @@ fn check_written(rt: &impl Abort, alloc: Global, version: u8, text: &[u8], json:
 
 /// The JSON text has to be read as the line of this text.
 pub fn check_read(rt: &impl Abort, alloc: Global, version: u8, json: &[u8], text: &[u8])
-    requires { (0 < version) × (version ≤ 3) }
+    requires { (0 < version) × (version ≤ 4) }
 {
     let Ok(line) = read_json_line(alloc, json, version) else {
         panic!(rt; "no line")
@@ -146,13 +166,13 @@ pub fn check_read(rt: &impl Abort, alloc: Global, version: u8, json: &[u8], text
 #[test]
 fn each_form_comes_back(rt: HostRuntime) {
     for (version, text, json) in &FORMS {
-        assert!(rt; 0 < *version && *version <= 3);
+        assert!(rt; 0 < *version && *version <= 4);
         check_written(&rt, rt.alloc(), *version, text, json);
         check_read(&rt, rt.alloc(), *version, json, text);
     }
 }
 
-static FAULTS: [(&[u8], LineKind); 25] = [
+static FAULTS: [(&[u8], LineKind); 26] = [
     (b"", LineKind::Unknown),
     (b"begi", LineKind::Unknown),
     (b" begin", LineKind::Unknown),
@@ -161,6 +181,10 @@ static FAULTS: [(&[u8], LineKind); 25] = [
     (b"1 0 requ", LineKind::Words),
     (
         b"0 0 request 1 0 straight 10 500 500 0 1000 700 ca",
+        LineKind::Words,
+    ),
+    (
+        b"0 0 request 1 0 straight 10 500 500 0 1000 700 car 11",
         LineKind::Words,
     ),
     (b"operator 2 start", LineKind::Words),
@@ -193,5 +217,33 @@ static FAULTS: [(&[u8], LineKind); 25] = [
 fn first_fault_is_told(rt: HostRuntime) {
     for (text, kind) in &FAULTS {
         assert!(rt; read_line(text, 1).err() == Some(*kind));
+    }
+}
+
+// Events of version 4 that go on behind their last place, and the first fault of each.
+static LATEST_FAULTS: [(&[u8], LineKind); 5] = [
+    (b"7 20 cancel 3 9 31", LineKind::Words),
+    (
+        b"7 20 request 3 1 straight 30 500 501 0 1000 700 car 31 32",
+        LineKind::Words,
+    ),
+    (
+        b"7 20 request 3 1 straight 30 500 501 0 1000 700 car late",
+        LineKind::Number,
+    ),
+    (
+        b"7 20 request 3 1 straight 30 500 501 0 1000 700 car 30",
+        LineKind::Range,
+    ),
+    (
+        b"7 20 change 3 9 1 straight 30 500 501 0 1000 700 car 29",
+        LineKind::Range,
+    ),
+];
+
+#[test]
+fn a_last_step_of_arrival_is_above_the_first(rt: HostRuntime) {
+    for (text, kind) in &LATEST_FAULTS {
+        assert!(rt; read_line(text, 4).err() == Some(*kind));
     }
 }

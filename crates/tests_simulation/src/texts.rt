@@ -13,6 +13,7 @@ const CHANGE: Message = Message {
             lane: 1,
             turn: Turn::Left,
             arrive: 12,
+            latest: 12,
             speed: 500,
             max_speed: 1000,
             accel: 250,

@@ -2,7 +2,9 @@
 
 use aim_messages::{LineKind, Message, Turn, write_message};
 use aim_text_words::fields::{choice, message, number8, numbers, turn};
-use aim_text_words::forms::{OrderForm, message_form, order_form};
+use aim_text_words::forms::{
+    MessageForm, OrderForm, followed_form, in_window, message_form, message_size, order_form,
+};
 use aim_text_words::numbers::{begins_with_digit, number};
 use aim_text_words::tables::look_up;
 use aim_text_words::words::Words;
@@ -33,6 +35,7 @@ fn words_are_looked_up(rt: HostRuntime) {
     assert!(rt; look_up(&RANKS, LineKind::Unknown, b"high") == Ok(2));
     assert!(rt; look_up(&RANKS, LineKind::Unknown, b"hig") == Err(LineKind::Unknown));
     assert!(rt; matches!(order_form(b"stop"), Ok(OrderForm::Stop)));
+    assert!(rt; matches!(in_window(MessageForm::Done), MessageForm::Done));
 }
 
 // The lane behind that word, two numbers and a rank, where there is a left turn behind the lane.
@@ -51,6 +54,7 @@ fn fields(words: &mut Words<'_>) -> Result<[u32; 4], LineKind> {
 #[test]
 fn words_come_in_turn(rt: HostRuntime) {
     let mut words = Words::new(b"lane 255 left 4294967295 7 low a  b");
+    assert!(rt; words.ahead(1) == b"255".as_slice() && words.ahead(9).is_empty());
     assert!(rt; fields(&mut words) == Ok([255, 4_294_967_295, 7, 0]));
     assert!(rt; words.take() == b"a".as_slice());
     assert!(rt; words.next().expect(&rt, "no word").is_empty());
@@ -58,9 +62,11 @@ fn words_come_in_turn(rt: HostRuntime) {
     assert!(rt; words.end() == Ok(()));
 }
 
-static MESSAGES: [&[u8]; 4] = [
+static MESSAGES: [&[u8]; 6] = [
     b"request 1 255 straight 10 500 501 9 1000 700 car",
+    b"request 1 255 straight 10 500 501 9 1000 700 car 11",
     b"change 2 0 1 left 12 500 1000 250 1000 700 emergency",
+    b"change 2 0 1 left 12 500 1000 250 1000 700 emergency 4294967295",
     b"cancel 4294967295 9",
     b"done 3 0",
 ];
@@ -69,6 +75,7 @@ static MESSAGES: [&[u8]; 4] = [
 fn message_of(text: &[u8]) -> Result<Message, LineKind> {
     let mut words = Words::new(text);
     let form = message_form(words.take())?;
+    let form = followed_form(form, words.ahead(message_size(form)));
     let message = message(&mut words, form)?;
     words.end()?;
     Ok(message)

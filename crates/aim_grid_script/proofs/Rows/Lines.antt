@@ -12,7 +12,7 @@ plan = record {
   first = 5;
   lead = 10;
   resend = 3;
-  params = record { lane = 0; turn = Straight; arrive = 0; speed = 500; max_speed = 501; accel = 2; length = 1000; width = 700; emergency = false };
+  params = record { lane = 0; turn = Straight; arrive = 0; latest = 0; speed = 500; max_speed = 501; accel = 2; length = 1000; width = 700; emergency = false };
   changes = [];
   cancel = None;
   ahead = false;
