@@ -1,5 +1,5 @@
 #!/usr/bin/env python3
-"""Callers that share something, by how many they are and by how they share it: calls a second on the clock, and the
+"""Callers that share something, by how many threads they have and by how they share it: calls a second on the clock, and the
 processor time of a call.
 
     python3 bench/callers.py [calm|busy] [--repeats N] [--peer SOURCES] [--programs FOLDER]
@@ -19,7 +19,7 @@ import tempfile
 
 HERE = pathlib.Path(__file__).resolve().parent
 COUNTS = (1, 2, 4, 8, 16)
-TURNS, ROUNDS = 4000, 12
+TURNS, ROUNDS = 40_000, 12
 
 
 class Way:
@@ -78,7 +78,7 @@ def best(shown, callers, repeats):
 
 def show(shown, repeats):
     """Prints the table."""
-    print("| way | " + " | ".join(f"{callers} callers" for callers in COUNTS) + " |")
+    print("| way | " + " | ".join(f"{count} threads" for count in COUNTS) + " |")
     print("|---" * (len(COUNTS) + 1) + "|")
     columns = [best(shown, callers, repeats) for callers in COUNTS]
     for way in shown:

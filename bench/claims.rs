@@ -1,6 +1,6 @@
 //! The peer of `bench_shards`: the same claims and freeings in plain Rust, with one mutex round the whole table.
 //!
-//! `claims apart|one CALLERS ROUNDS`. Build with `rustc -O`; the text is that of `bench_shards`.
+//! `claims apart|one WORKERS ROUNDS`. Build with `rustc -O`; the text is that of `bench_shards`.
 
 use std::sync::Mutex;
 use std::thread;
@@ -8,6 +8,7 @@ use std::time::{Duration, Instant};
 
 const SIZE: usize = 48;
 const HORIZON: usize = 8192;
+const CALLERS: u32 = 64;
 const CALLS: u32 = 1024;
 
 /// Some rows and columns in some steps, the last ones included.
@@ -40,9 +41,9 @@ struct Table {
 }
 
 impl Set {
-    /// The caller's own set: four rows and columns of a quadrant in eight steps.
-    fn of(apart: bool, caller: usize) -> Set {
-        let quadrant = if apart { caller % 4 } else { 0 };
+    /// The caller's own set: four rows and columns of its worker's quadrant in eight steps.
+    fn of(apart: bool, worker: u32, caller: usize) -> Set {
+        let quadrant = if apart { worker % 4 } else { 0 };
         let row = if quadrant < 2 { 8 } else { 32 };
         let column = if quadrant % 2 == 0 { 8 } else { 32 };
         let step = caller % 64 * 8;
@@ -81,8 +82,8 @@ impl Table {
     }
 }
 
-fn make_calls(table: &Mutex<Table>, apart: bool, caller: u32) {
-    let set = Set::of(apart, caller as usize);
+fn make_calls(table: &Mutex<Table>, apart: bool, worker: u32, caller: u32) {
+    let set = Set::of(apart, worker, caller as usize);
     for _ in 0..CALLS / 2 {
         let (ticket, yes) = table.lock().unwrap().claim(caller, set);
         if yes {
@@ -91,13 +92,22 @@ fn make_calls(table: &Mutex<Table>, apart: bool, caller: u32) {
     }
 }
 
-fn one_round(apart: bool, callers: u32) -> Duration {
-    let table = Mutex::new(Table::new((callers * CALLS) as usize));
+/// A worker makes the calls of its callers, one caller after the other.
+fn run(table: &Mutex<Table>, apart: bool, worker: u32, size: u32) {
+    let first = worker * size;
+    for caller in first..CALLERS.min(first + size) {
+        make_calls(table, apart, worker, caller);
+    }
+}
+
+fn one_round(apart: bool, workers: u32) -> Duration {
+    let size = CALLERS.div_ceil(workers.clamp(1, CALLERS));
+    let table = Mutex::new(Table::new((CALLERS * CALLS) as usize));
     let start = Instant::now();
     thread::scope(|scope| {
-        for caller in 0..callers {
+        for worker in 0..CALLERS.div_ceil(size) {
             let table = &table;
-            scope.spawn(move || make_calls(table, apart, caller));
+            scope.spawn(move || run(table, apart, worker, size));
         }
     });
     start.elapsed()
@@ -105,11 +115,11 @@ fn one_round(apart: bool, callers: u32) -> Duration {
 
 fn main() {
     let words: Vec<String> = std::env::args().skip(1).collect();
-    let [way, callers, rounds] = &words[..] else {
-        panic!("claims apart|one CALLERS ROUNDS");
+    let [way, workers, rounds] = &words[..] else {
+        panic!("claims apart|one WORKERS ROUNDS");
     };
-    let (callers, rounds): (u32, u32) = (callers.parse().unwrap(), rounds.parse().unwrap());
-    let time: Duration = (0..rounds).map(|_| one_round(way == "apart", callers)).sum();
-    let calls = u128::from(callers) * u128::from(CALLS) * u128::from(rounds);
+    let (workers, rounds): (u32, u32) = (workers.parse().unwrap(), rounds.parse().unwrap());
+    let time: Duration = (0..rounds).map(|_| one_round(way == "apart", workers)).sum();
+    let calls = u128::from(CALLERS) * u128::from(CALLS) * u128::from(rounds);
     println!("{calls} calls, {} ns a call", time.as_nanos() / calls.max(1));
 }

@@ -1,9 +1,10 @@
-//! Times claims: as many threads as there are callers, each with its calls.
+//! Times claims: so many workers, each on a thread of its own, and 64 callers, of which each worker makes the calls of a run of
+//! neighbours.
 //!
-//! `bench_shards apart CALLERS ROUNDS` lets so many callers claim and free sets that lie in a quadrant each, four quadrants in
-//! turn, and `bench_shards one CALLERS ROUNDS` sets that all lie in one quadrant, so that each call takes the same turn.
-//! Prints how many calls there were, and the time of a call. With no words a few calls are made each way, and no time is
-//! printed.
+//! `bench_shards apart WORKERS ROUNDS` lets the callers claim and free sets that lie in a quadrant for each worker, four
+//! quadrants in turn, and `bench_shards one WORKERS ROUNDS` sets that all lie in one quadrant, so that each call takes the
+//! same turn. Prints how many calls there were, and the time of a call. With no words a few calls are made each way, and no
+//! time is printed.
 #![tactic(auto)]
 
 ghost use Rattle.std.specs.Prelude.{◌≡◌, ◌<◌, ◌≤◌, length, All, IfOk};
@@ -24,15 +25,25 @@ const SIZE: u32 = 48;
 // The steps of the grid.
 const HORIZON: u32 = 8192;
 
+// How many callers there are.
+const CALLERS: u32 = 64;
+
 // How many calls each caller makes in a round.
 const CALLS: u32 = 1024;
 
-// What is timed: callers with sets in all four quadrants, or else in one, and how often.
+// What is timed: workers with sets in all four quadrants, or else in one, and how often.
 #[derive(Clone, Copy)]
 struct Plan {
     apart: bool,
-    callers: u32,
+    workers: u32,
     rounds: u32,
+}
+
+// How many callers a worker has at most.
+fn run_length(plan: Plan) -> u32
+    ensures { (0 < result) × (result ≤ 64) }
+{
+    CALLERS.div_ceil(plan.workers.clamp(1, CALLERS))
 }
 
 // Nothing is done while turns are held.
@@ -42,9 +53,10 @@ impl Hold for NoHold {
     fn holding(&self, _caller: u32, _call: u32) {}
 }
 
-// The caller's own set: four rows and columns of a quadrant in eight steps.
+// The caller's own set: four rows and columns of its worker's quadrant in eight steps.
 fn rectangle(plan: Plan, caller: u32) -> Rectangle {
-    let quadrant = if plan.apart { caller % 4 } else { 0 };
+    let worker = caller / run_length(plan);
+    let quadrant = if plan.apart { worker % 4 } else { 0 };
     let row0 = if quadrant < 2 { 8 } else { 32 };
     let col0 = if quadrant % 2 == 0 { 8 } else { 32 };
     let from = (caller % 64) * 8;
@@ -60,10 +72,10 @@ fn rectangle(plan: Plan, caller: u32) -> Rectangle {
 
 // The sets of all callers.
 fn rectangles(alloc: Global, plan: Plan) -> Result<Vec<Rectangle>>
-    ensures { IfOk result (λ v. length v.items ≡ plan.callers) }
+    ensures { IfOk result (λ v. length v.items ≡ 64) }
 {
-    let mut all = Vec::with_capacity(alloc, plan.callers as usize)?;
-    for caller in 0..plan.callers {
+    let mut all = Vec::with_capacity(alloc, CALLERS as usize)?;
+    for caller in 0..CALLERS {
         all.push_reserved(rectangle(plan, caller));
     }
     Ok(all)
@@ -86,15 +98,19 @@ fn calls<R: Wait>(rt: &R, shards: &Shards, pass: &mut ShardPass)
     }
 }
 
-// Makes the calls of all callers, each in a thread of its own.
-fn all_calls<R: Threads + Wait + Sync>(rt: &R, shards: &Shards, passes: &mut [ShardPass])
+// Makes the calls of all callers, in runs of neighbours, each run in a thread of its own.
+fn all_calls<R: Threads + Wait + Sync>(
+    rt: &R,
+    shards: &Shards,
+    passes: &mut [ShardPass],
+    workers: u32,
+)
     requires own { All (λ p. IsPassOf shards.now p × (p.number < length shards.now.sets)) passes.old }
 {
-    let threads = passes.len().max(1);
     thread::for_each_mut(
         rt,
         passes,
-        threads,
+        workers.max(1) as usize,
         &|_place: usize, pass: &mut ShardPass|
             requires { IsPassOf shards.now pass.now × (pass.now.number < length shards.now.sets) }
         { calls(rt, shards, pass) },
@@ -110,7 +126,7 @@ fn open(alloc: Global, plan: Plan) -> Result<OpenedShards>
         return Err(anyhow!("the sets don't fit"));
     }
     let sets = sheets(alloc, SIZE, HORIZON, &rectangles)?;
-    match Shards::open(alloc, SIZE, HORIZON, sets, plan.callers, CALLS) {
+    match Shards::open(alloc, SIZE, HORIZON, sets, CALLERS, CALLS) {
         Ok(opened) => Ok(opened),
         Err(_) => Err(anyhow!("the shards aren't opened")),
     }
@@ -121,7 +137,7 @@ fn one_round<R: Threads + Wait + Sync + Clock>(rt: &R, alloc: Global, plan: Plan
     let opened = open(alloc, plan)?;
     let OpenedShards { shards, mut passes } = opened;
     let start = Instant::now(rt).ok();
-    all_calls(rt, &shards, &mut passes);
+    all_calls(rt, &shards, &mut passes, plan.workers);
     let end = Instant::now(rt).ok();
     match (start, end) {
         (Some(start), Some(end)) => Ok(end.duration_since(start).as_nanos()),
@@ -141,9 +157,9 @@ fn all_rounds<R: Threads + Wait + Sync + Clock>(rt: &R, alloc: Global, plan: Pla
 // What the words ask for, if they ask for something.
 fn read(words: &[String]) -> Result<Option<Plan>> {
     match words {
-        [way, callers, rounds, ..] => Ok(Some(Plan {
+        [way, workers, rounds, ..] => Ok(Some(Plan {
             apart: way.as_str() == "apart",
-            callers: callers.parse::<u32>()?,
+            workers: workers.parse::<u32>()?,
             rounds: rounds.parse::<u32>()?,
         })),
         _ => Ok(None),
@@ -159,7 +175,7 @@ fn asked(rt: &HostRuntime, alloc: Global) -> Result<Option<Plan>> {
 // Has the calls made, and prints the time of a call.
 fn tell<R: Threads + Wait + Sync + Clock + Print>(rt: &R, alloc: Global, plan: Plan) -> Result<()> {
     let nanoseconds = all_rounds(rt, alloc, plan)?;
-    let calls = u128::from(plan.callers) * u128::from(CALLS) * u128::from(plan.rounds);
+    let calls = u128::from(CALLERS) * u128::from(CALLS) * u128::from(plan.rounds);
     let each = nanoseconds / calls.max(1);
     println!(rt; "{calls} calls, {each} ns a call")?;
     Ok(())
@@ -170,12 +186,12 @@ fn try_both<R: Threads + Wait + Sync + Clock + Print>(rt: &R, alloc: Global) -> 
     for apart in [true, false] {
         let few = Plan {
             apart,
-            callers: 2,
+            workers: 2,
             rounds: 1,
         };
         all_rounds(rt, alloc, few)?;
     }
-    println!(rt; "calls by 2 callers, with a quadrant each and with one")?;
+    println!(rt; "calls by 2 workers, with a quadrant each and with one")?;
     Ok(())
 }
 

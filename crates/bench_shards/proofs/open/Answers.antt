@@ -9,4 +9,4 @@ returns-in-Ok c =
     let sets : length s.sets ≡ length c.in_ok-sets.sets.items = ap length e.shards.1 in
     let cut = c.in_ok-sets.ensures.count in
     let count = c.in_ok-rectangles.ensures in
-    record { own = all_own s c.in-Ok.opened.passes.items c.args.plan.callers e.passes (omega (arith, sets, cut, count)) }
+    record { own = all_own s c.in-Ok.opened.passes.items 64 e.passes (omega (arith, sets, cut, count)) }
