@@ -1,3 +1,4 @@
 pub mod Servers
 pub mod Sessions
 pub mod Charted
+pub mod Idle

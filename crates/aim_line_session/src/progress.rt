@@ -25,10 +25,10 @@ use std::sync::ledger::Ledger;
 /// What is kept of the lines of a session, the last of which is `begin` or stands behind it.
 #[derive(Drop)]
 pub struct Progress<L: Ledger> {
-    version: ScriptVersion,
-    names: Names,
-    server: DeskServer<L>,
-    ended: bool,
+    pub(crate) version: ScriptVersion,
+    pub(crate) names: Names,
+    pub(crate) server: DeskServer<L>,
+    pub(crate) ended: bool,
 }
 
 /// An entry that a line made, and its position in the journal of the session.

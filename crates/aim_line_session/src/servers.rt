@@ -23,13 +23,13 @@ const SHAPES: u32 = 1024;
 /// and those that the desk keeps for its vehicles are one for each vehicle, and two: so two are there for every message.
 #[derive(Drop)]
 pub struct DeskServer<L: Ledger> {
-    layout: Layout,
-    vehicles: u32,
-    entries: u32,
-    orders: u32,
-    desk: Desk<L>,
-    shapes: Shapes,
-    pool: Pool,
+    pub(crate) layout: Layout,
+    pub(crate) vehicles: u32,
+    pub(crate) entries: u32,
+    pub(crate) orders: u32,
+    pub(crate) desk: Desk<L>,
+    pub(crate) shapes: Shapes,
+    pub(crate) pool: Pool,
 }
 
 impl<L: Ledger> DeskServer<L> {

@@ -1,53 +1,30 @@
 -- What a line comes to at the stage where it belongs.
-use Rattle.std.proofs.Common.{◌≡◌, inl, inr, ℕ, ◌+◌, ◌<◌, Bool, true, false, List, [], ◌∷◌, ◌++◌, length, fold, Some, None, Ok, Err, refl, sym, ap, ◌∙◌, arith, length-append, subst}
-use Rattle.std.specs.Prelude.{Option, Result, IfOk}
+use Rattle.std.proofs.Common.{◌≡◌, inl, inr, ℕ, ◌+◌, true, false, List, [], ◌∷◌, ◌++◌, length, fold, Some, None, Ok, Err, refl, sym, ◌∙◌, arith, length-append, subst}
+use Rattle.std.specs.Prelude.{Option}
 use Rattle.aim_messages.specs.declared.script.Line.{Line}
 use Rattle.aim_messages.specs.declared.script.Line.TheVariants as line
 use Rattle.aim_messages.specs.declared.entries.Entry.{Entry}
-use Rattle.aim_messages.specs.declared.entries.TheConstants.{MOST_ENTRIES}
 use Rattle.aim_layout.specs.Intersection.{Intersection}
-use Rattle.aim_rules.specs.Journals.{Call, journal, entry_of}
+use Rattle.aim_rules.specs.Journals.{Call, entry_of}
 use Rattle.aim_script.specs.declared.decisions.Decision.TheVariants as decision
-use Rattle.aim_script.specs.declared.decisions.Kind.{Kind}
 use Rattle.aim_script.specs.declared.decisions.Kind.TheVariants as why
 use Rattle.aim_script.specs.declared.decisions.Limit.{Limit}
-use Rattle.aim_script.specs.declared.headers.Header.{Header}
-use Rattle.aim_script.specs.declared.headers.Place.{Place}
-use Rattle.aim_script.specs.declared.headers.Place.TheVariants as place
 use Rattle.aim_script.specs.declared.settings.Setting.{Setting}
 use Rattle.aim_script.specs.Order.{is_end}
-use Rattle.aim_script.specs.Said.{version_after, names_of, layout_of, vehicles_in, calls_of, last_of}
-use Rattle.aim_script.specs.Kinds.{kind_of_fault, limit_of, vehicles_limit}
-use Rattle.aim_script.specs.Verdicts.{Judgement, of_read, goes_on, decides, number_after, at_end, unless_bad, unless_limited}
-use Rattle.aim_script.specs.Headers.{IsSet, Heeds, Says, Stands as StandsAsHeader}
+use Rattle.aim_script.specs.Said.{version_after, layout_of, calls_of, last_of}
+use Rattle.aim_script.specs.Kinds.{vehicles_limit}
+use Rattle.aim_script.specs.Verdicts.{of_read, goes_on, decides, at_end}
+use Rattle.aim_script.specs.Headers.{Heeds}
 use Rattle.aim_script.specs.declared.headers.Headed.TheVariants as headed
-use Rattle.aim_script.proofs.AppendLemmas.{IsSilent, layout_same}
 use Rattle.aim_line_session.specs.declared.progress.Answered.{Answered}
 use Rattle.aim_line_session.specs.declared.progress.Progress.{Progress}
-use Rattle.aim_line_session.specs.declared.progress.Untaken.{Untaken}
 use Rattle.aim_line_session.specs.declared.progress.Untaken.TheVariants as untaken
-use Rattle.aim_line_session.specs.Sessions.{Comes, IsFull, Makes, Opens, Stands as StandsAsSession, journal_so_far}
-use Rattle.aim_line_session.proofs.SessionLemmas.{IsQuiet, goes, same_journal}
+use Rattle.aim_line_session.specs.Sessions.{Comes, IsFull, Makes, Stands as StandsAsSession, journal_so_far}
+use Rattle.aim_line_session.proofs.SessionLemmas.{goes}
+use Rattle.aim_line_session.proofs.QuietLemmas.{passes, same_line, limit_is}
 use Rattle.aim_replay.specs.declared.stages.Stage.{Stage}
 use Rattle.aim_replay.specs.declared.stages.Stage.TheVariants as stage
-use Rattle.aim_replay.specs.declared.stages.StageRefusal.TheVariants as refusal
-use Rattle.aim_replay.specs.Stages.{IsOfLines, MayTake, Stands, Takes, version_at}
-
--- a line without a kind that goes past a limit
-passes : (before : List Line) (l : Line) (which : Limit) → kind_of_fault before l ≡ None → limit_of before l ≡ Some which → of_read before (Ok l) ≡ decides (decision.Limit which)
-passes before l which no_kind past = rw (no_kind, past) refl
-
--- a line that goes on is the one that was read
-same_line : (before : List Line) (l m : Line) → of_read before (Ok l) ≡ goes_on m → l ≡ m
-same_line before l m is = go (kind_of_fault before l) is
-  where
-    there : (x : Option Limit) → unless_limited l x ≡ goes_on m → l ≡ m
-    there None e = cc
-    there (Some which) e = absurd (cc)
-
-    go : (k : Option Kind) → unless_bad before l k ≡ goes_on m → l ≡ m
-    go None e = there (limit_of before l) e
-    go (Some kind) e = absurd (cc)
+use Rattle.aim_replay.specs.Stages.{MayTake, Stands, Takes, version_at}
 
 -- a line that a session has taken
 pub body_taken : {L : Type 0} (before : List Line) (l : Line) (old new : Progress L) (made : Option Answered) → Comes before (Ok l) old new (Ok made) → Takes before l (Ok (stage.Body new))
@@ -94,17 +71,6 @@ version_is before (stage.Header h) st = st.version
 version_is before (stage.Begin x) st = st.0.version
 version_is before (stage.Body p) st = st.played.version
 
--- the line of the vehicles says nothing of the layout
-silent_vehicles : (l : Line) (n : ℕ) → vehicles_in l ≡ Some n → IsSilent l
-silent_vehicles (line.Vehicles m) n is = record { grid = refl; times = refl; lanes = refl; added = refl }
-silent_vehicles l n is = absurd (cc)
-
--- the limit on the vehicles of a header
-limit_is : (before : List Line) (l : Line) (s : Setting) → vehicles_in l ≡ Some s.vehicles → IsSet (before ++ l ∷ []) s → limit_of before l ≡ vehicles_limit s.layout.grid.spans s.vehicles
-limit_is before l s vehicles set =
-    let layout : layout_of before ≡ s.layout = sym (layout_same before l (silent_vehicles l s.vehicles vehicles)) ∙ set.layout in
-    rw (vehicles, layout) refl
-
 -- the line of the vehicles, which aren't too many
 pub header_whole : (L : Type 0) (before : List Line) (l : Line) (s : Setting) (n : ℕ) → Heeds before l (Ok (headed.Whole s)) → n ≡ s.layout.grid.spans → None ≡ vehicles_limit n s.vehicles
     → Takes {L = L} before l (Ok (stage.Begin s))
@@ -117,24 +83,3 @@ pub header_past : (before : List Line) (l : Line) (s : Setting) (n : ℕ) (which
     → of_read before (Ok l) ≡ decides (decision.Limit which)
 header_past before l s n which (kind, vehicles, set) spans past =
     passes before l which kind (limit_is before l s vehicles set ∙ rw (← spans) (sym past))
-
-header_calls : (before : List Line) (p : Place) → Says before p → calls_of before ≡ []
-header_calls before place.Version says = rw says refl
-header_calls before place.Grid says = says.no_calls (names_of before)
-header_calls before (place.Times g) says = says.0.no_calls (names_of before)
-header_calls before (place.Lanes g) says = says.no_calls (names_of before)
-header_calls before (place.Moves b) says = says.0.header.no_calls (names_of before)
-header_calls before (place.Policies b names) says = says.header.no_calls (names_of before)
-
--- a header has no journal
-pub quiet_header : (before : List Line) (h : Header) → StandsAsHeader before h → journal_so_far before ≡ []
-quiet_header before h st = ap (journal (layout_of before)) (header_calls before h.place st.place.says)
-
-pub quiet_set : (before : List Line) (s : Setting) → IsSet before s → journal_so_far before ≡ []
-quiet_set before s set = ap (journal (layout_of before)) (set.no_calls (names_of before))
-
--- nor has the line behind it one
-pub quiet_begin : (before : List Line) → journal_so_far (before ++ line.Begin ∷ []) ≡ journal_so_far before
-quiet_begin before =
-    let quiet : IsQuiet line.Begin = record { version = refl; vehicles = refl; name = refl; silent = record { grid = refl; times = refl; lanes = refl; added = refl } } in
-    same_journal before line.Begin quiet refl

@@ -1,14 +1,12 @@
 -- The texts of the rows of a chart.
 -- No public clause cites it: only contracts of private functions.
-use Rattle.std.specs.Prelude.{◌≡◌, ◌<◌, ℕ, ◌&&◌, not, nat_lt, List, if◌then◌else◌}
+use Rattle.std.specs.Prelude.{ℕ, nat_lt, List, if◌then◌else◌}
 use Rattle.aim_messages.specs.declared.entries.Entry.{Entry}
 use Rattle.aim_geometry.specs.Rects.{has_bit}
 use Rattle.aim_layout.specs.Intersection.{Intersection}
 use Rattle.aim_rules.specs.History.{fresh, now_of}
 use Rattle.aim_rules.specs.Holds.{reservations}
 use Rattle.aim_rules.specs.Charts.{blank_row, chart_row}
-use Rattle.aim_book.specs.State.{State}
-use Rattle.aim_book.specs.Charted.{is_claimed_by_some, is_held}
 
 -- the character of a column of a row
 abbrev pub mark_of : ℕ → ℕ → ℕ → ℕ

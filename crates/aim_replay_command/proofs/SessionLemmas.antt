@@ -35,7 +35,7 @@ use Rattle.aim_script.specs.declared.decisions.Limit.{Limit}
 use Rattle.aim_replay.specs.declared.stages.Finish.{Finish}
 use Rattle.aim_replay.specs.declared.stages.Finish.TheVariants as finish
 use Rattle.aim_replay.specs.Stages.{Stands, IsOfLines, MayTake, decision_of}
-use Rattle.aim_replay.proofs.StageLemmas.{quiet_header, quiet_set}
+use Rattle.aim_line_session.proofs.QuietLemmas.{quiet_header, quiet_set}
 use Rattle.aim_replay_command.specs.Replays.{LastNeededBy, StopsShortBy, TakesAtMost, Writes, WritesFront, script_after, unless_decided, entries_text}
 use Rattle.aim_replay_command.specs.Sessions.{Decides, Placed, Took, Reached, Judged, Responds, Comes, chart_text, ending_text, made_line}
 use Rattle.aim_replay_command.proofs.TextLemmas.{entry_lines-append, Begins, is_past, journal_of_begins, nothing_begins}

@@ -1,4 +1,4 @@
-use Rattle.aim_replay.proofs.StageLemmas.{quiet_begin}
+use Rattle.aim_line_session.proofs.QuietLemmas.{quiet_begin}
 use Rattle.aim_replay.proofs.stages.begun.Goals as goal
 
 pub returns-in-Ok-clause-takes : goal.returns-in-Ok-clause-takes

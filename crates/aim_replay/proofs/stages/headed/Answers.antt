@@ -1,6 +1,7 @@
 use Rattle.std.proofs.Common.{◌∙◌, ap, sym}
 use Rattle.aim_geometry.specs.declared.ground.Grid.{Grid}
-use Rattle.aim_replay.proofs.StageLemmas.{header_whole, header_past, quiet_header, quiet_set}
+use Rattle.aim_line_session.proofs.QuietLemmas.{quiet_header, quiet_set}
+use Rattle.aim_replay.proofs.StageLemmas.{header_whole, header_past}
 use Rattle.aim_replay.proofs.stages.headed.Goals as goal
 
 pub returns-in-Some-clause-takes : goal.returns-in-Some-clause-takes

@@ -1,4 +1,4 @@
-use Rattle.aim_replay.proofs.StageLemmas.{quiet_header, quiet_set}
+use Rattle.aim_line_session.proofs.QuietLemmas.{quiet_header, quiet_set}
 use Rattle.aim_replay.proofs.stages.Stage.take.Goals as goal
 
 pub returns-in-Header-clause-memory : goal.returns-in-Header-clause-memory
