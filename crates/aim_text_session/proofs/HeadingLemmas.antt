@@ -1,0 +1,175 @@
+-- What a line before `begin` comes to, and `begin`.
+use Rattle.std.proofs.Common.{◌≡◌, inl, inr, ℕ, ◌+◌, false, List, [], ◌∷◌, ◌++◌, take, slice_get, Option, Some, None, Result, Ok, Err, refl, sym, ap, ◌∙◌, subst, arith}
+use Rattle.std.proofs.lemmas.List.{take-append-le, take_more}
+use Rattle.std.proofs.lemmas.Option.{get_or_from_slice_get, slice_get_within}
+use Rattle.std.proofs.Math.Seq.{take-append_seam}
+use Rattle.aim_messages.specs.declared.script.Line.{Line}
+use Rattle.aim_messages.specs.declared.script.Line.TheVariants as line
+use Rattle.aim_layout.proofs.Elements.{append_cases}
+use Rattle.aim_script.specs.declared.decisions.Decision.TheVariants as decision
+use Rattle.aim_script.specs.declared.decisions.Kind.{Kind}
+use Rattle.aim_script.specs.declared.decisions.Kind.TheVariants as why
+use Rattle.aim_script.specs.declared.decisions.Limit.{Limit}
+use Rattle.aim_script.specs.declared.headers.Header.{Header}
+use Rattle.aim_script.specs.declared.headers.Headed.TheVariants as headed
+use Rattle.aim_script.specs.declared.headers.HeaderRefusal.TheVariants as refusal
+use Rattle.aim_script.specs.declared.settings.Setting.{Setting}
+use Rattle.aim_script.specs.declared.versions.ScriptVersion.{ScriptVersion}
+use Rattle.aim_script.specs.Headers.{HasName, Heeds, Stands as StandsAsHeader}
+use Rattle.aim_script.specs.Kinds.{kind_of_fault, limit_of, vehicles_limit}
+use Rattle.aim_script.specs.Order.{belongs, part_after, to_begin}
+use Rattle.aim_script.specs.Said.{last_of, vehicles_in, version_after}
+use Rattle.aim_script.specs.Versions.{version_number}
+use Rattle.aim_script.specs.Verdicts.{decides, goes_on, number_after, of_read, unless_bad, unless_limited}
+use Rattle.aim_script.proofs.AppendLemmas.{last_of_more, version_same}
+use Rattle.aim_script.proofs.KindLemmas.{out_of_order}
+use Rattle.aim_line_session.specs.declared.progress.Progress.{Progress}
+use Rattle.aim_line_session.specs.Sessions.{Opens, journal_so_far}
+use Rattle.aim_line_session.proofs.QuietLemmas.{limit_is, passes, quiet_begin, quiet_header, quiet_set}
+use Rattle.aim_line_session.proofs.SessionLemmas.{falls, goes}
+use Rattle.aim_text_session.specs.declared.headings.Advance.{Advance}
+use Rattle.aim_text_session.specs.declared.headings.Reached.{Reached}
+use Rattle.aim_text_session.specs.declared.responses.Response.{Response}
+use Rattle.aim_text_session.specs.Headings.{AreCounted, AreHeard, Begins, IsHeading, IsHeard, IsReached, IsSettled, Leads, said, standing_of}
+use Rattle.aim_text_session.specs.Sessions.{Comes, InBody, InHeader, IsTaken, Standing, judged, reads_text}
+
+-- what is reached, and what is told of it
+pub leads : (before : List Line) (bytes : List ℕ) (old : Standing) (s : Advance) (r : Reached) (told : Response) (new : Standing) → s.reached ≡ r → s.response ≡ told → standing_of r ≡ new → Comes before bytes old new told → IsReached r
+    → Leads before bytes old s
+leads before bytes old s r told new reached response stands comes kept =
+    let there : standing_of s.reached ≡ new = ap standing_of reached ∙ stands in
+    record {
+      comes = subst (λ (t : Response). Comes before bytes old (standing_of s.reached) t) (sym response) (subst (λ (n : Standing). Comes before bytes old n told) (sym there) comes);
+      kept = subst IsReached (sym reached) kept;
+    }
+
+-- bytes that were read in the version of the lines
+pub judged_read : (before : List Line) (bytes : List ℕ) (v : ScriptVersion) (read : Result Line Kind) → version_after before ≡ version_number v → read ≡ reads_text (version_number v) bytes → judged before bytes ≡ of_read before read
+judged_read before bytes v read version is = ap (λ n. of_read before (reads_text n bytes)) version ∙ ap (of_read before) (sym is)
+
+-- one more line is heard
+pub heard_more : (lines : List Line) (l : Line) → AreHeard lines → IsHeard lines l → AreHeard (lines ++ l ∷ [])
+heard_more lines l all one k m at = elim (append_cases lines l m k at) [
+  | inl (below, there) ↦ rw (take-append-le k lines (l ∷ []) (omega (arith, below))) (all k m there)
+  | inr (last, same) ↦ rw (last, same, take-append_seam lines (l ∷ [])) one
+]
+
+-- the header of some of the lines has taken the next one
+pub header_next : (lines : List Line) (k : ℕ) (l : Line) (h : Header) → slice_get lines k ≡ Some l → StandsAsHeader (take k lines ++ l ∷ []) h → StandsAsHeader (take (k + 1) lines) h
+header_next lines k l h at st = rw (take_more lines k l (slice_get_within lines k l at), get_or_from_slice_get lines k l l at) st
+
+-- a line that is read and goes on has no kind, and goes past no limit
+pub goes_on_good : (before : List Line) (l m : Line) → of_read before (Ok l) ≡ goes_on m → (kind_of_fault before l ≡ None) × (limit_of before l ≡ None)
+goes_on_good before l m is = go (kind_of_fault before l) is
+  where
+    there : (x : Option Limit) → unless_limited l x ≡ goes_on m → x ≡ None
+    there None e = refl
+    there (Some which) e = absurd (cc)
+
+    go : (k : Option Kind) → unless_bad before l k ≡ goes_on m → (k ≡ None) × (limit_of before l ≡ None)
+    go None e = (refl, there (limit_of before l) e)
+    go (Some kind) e = absurd (cc)
+
+no_limit : (before : List Line) (l : Line) → vehicles_in l ≡ None → limit_of before l ≡ None
+no_limit before l none = rw none refl
+
+-- a header goes on with the line
+pub header_added : (lines : List Line) (l : Line) (bytes : List ℕ) (old new : Header) → AreHeard lines → HasName l → judged lines bytes ≡ of_read lines (Ok l) → StandsAsHeader lines old → Heeds lines l (Ok (headed.More new))
+    → IsTaken lines bytes (InHeader (lines ++ l ∷ [])) None × IsHeading (lines ++ l ∷ []) None (Some new)
+header_added lines l bytes old new all named is st (kind, silent, next) =
+    let empty : journal_so_far (lines ++ l ∷ []) ≡ [] = quiet_header (lines ++ l ∷ []) new next in (
+      record { line = l; goes = is ∙ goes lines l kind (no_limit lines l silent); stands = refl; makes = empty ∙ sym (quiet_header lines old st) },
+      record { heard = heard_more lines l all (record { kind = kind; vehicles = silent; named = named }); counted = tt; kept = next; quiet = empty },
+    )
+
+-- a header whose lines stay
+pub header_stays : (lines : List Line) (old : Header) → AreHeard lines → StandsAsHeader lines old → IsHeading lines None None
+header_stays lines old all st = record { heard = all; counted = tt; kept = tt; quiet = quiet_header lines old st }
+
+vehicles_line : (l : Line) (n : ℕ) → vehicles_in l ≡ Some n → l ≡ line.Vehicles n
+vehicles_line (line.Vehicles m) n is = ap line.Vehicles (some_same m n is)
+  where
+    some_same : (a b : ℕ) → Some a ≡ Some b → a ≡ b
+    some_same a b p = cc
+vehicles_line l n is = absurd (cc)
+
+-- the line of the vehicles, which aren't too many
+pub vehicles_counted : (lines : List Line) (l : Line) (bytes : List ℕ) (old : Header) (s : Setting) (n : ℕ) → AreHeard lines → judged lines bytes ≡ of_read lines (Ok l) → StandsAsHeader lines old → Heeds lines l (Ok (headed.Whole s))
+    → n ≡ s.layout.grid.spans → None ≡ vehicles_limit n s.vehicles → IsTaken lines bytes (InHeader (said lines (Some s.vehicles))) None × IsHeading lines (Some s.vehicles) None
+vehicles_counted lines l bytes old s n all is st (kind, counted, set) spans within =
+    let same : l ≡ line.Vehicles s.vehicles = vehicles_line l s.vehicles counted in
+    let few : vehicles_limit s.layout.grid.spans s.vehicles ≡ None = rw (← spans) (sym within) in
+    let goes : of_read lines (Ok l) ≡ goes_on l = goes lines l kind (limit_is lines l s counted set ∙ few) in
+    let empty : journal_so_far (lines ++ l ∷ []) ≡ [] = quiet_set (lines ++ l ∷ []) s set in (
+      record { line = l; goes = is ∙ goes; stands = ap (λ x. lines ++ x ∷ []) same; makes = empty ∙ sym (quiet_header lines old st) },
+      record {
+        heard = all;
+        counted = subst (λ x. of_read lines (Ok x) ≡ goes_on x) same goes;
+        kept = tt;
+        quiet = subst (λ x. journal_so_far (lines ++ x ∷ []) ≡ []) same empty;
+      },
+    )
+
+-- the line of too many
+pub vehicles_past : (lines : List Line) (l : Line) (bytes : List ℕ) (s : Setting) (n : ℕ) (which : Limit) → judged lines bytes ≡ of_read lines (Ok l) → Heeds lines l (Ok (headed.Whole s))
+    → n ≡ s.layout.grid.spans → Some which ≡ vehicles_limit n s.vehicles → judged lines bytes ≡ decides (decision.Limit which)
+vehicles_past lines l bytes s n which is (kind, counted, set) spans past = is ∙ passes lines l which kind (limit_is lines l s counted set ∙ rw (← spans) (sym past))
+
+-- a line at fault
+pub header_falls : (lines : List Line) (l : Line) (bytes : List ℕ) (kind : Kind) → judged lines bytes ≡ of_read lines (Ok l) → kind_of_fault lines l ≡ Some kind → judged lines bytes ≡ decides (decision.Bad (number_after lines) kind)
+header_falls lines l bytes kind is fault = is ∙ falls lines l kind fault
+
+-- the setting of the lines and of the vehicles that were counted
+pub settled : (lines : List Line) (n : ℕ) (s : Setting) → AreCounted lines n → Heeds lines (line.Vehicles n) (Ok (headed.Whole s)) → IsSettled lines n s
+settled lines n s counted (kind, same, set) = record {
+  set = set;
+  within = sym (limit_is lines (line.Vehicles n) s same set) ∙ (goes_on_good lines (line.Vehicles n) (line.Vehicles n) counted).1;
+}
+
+-- the line of the vehicles that were counted is no other
+pub counted_whole : (lines : List Line) (n : ℕ) (h : Header) → Heeds lines (line.Vehicles n) (Ok (headed.More h)) → ⊥
+counted_whole lines n h (kind, silent, next) = cc
+
+pub counted_good : (lines : List Line) (n : ℕ) (kind : Kind) → AreCounted lines n → Heeds lines (line.Vehicles n) (Err (refusal.Bad kind)) → ⊥
+counted_good lines n kind counted bad = none_some (sym (goes_on_good lines (line.Vehicles n) (line.Vehicles n) counted).0 ∙ bad)
+  where
+    none_some : {X : Type 0} {x : X} → None ≡ Some x → ⊥
+    none_some e = cc
+
+-- a line that a header has heard is neither at fault nor that of the vehicles
+pub heard_good : (lines : List Line) (l : Line) (kind : Kind) → IsHeard lines l → Heeds lines l (Err (refusal.Bad kind)) → ⊥
+heard_good lines l kind heard bad = none_some (sym heard.kind ∙ bad)
+  where
+    none_some : {X : Type 0} {x : X} → None ≡ Some x → ⊥
+    none_some e = cc
+
+pub heard_more_to_come : (lines : List Line) (l : Line) (s : Setting) → IsHeard lines l → Heeds lines l (Ok (headed.Whole s)) → ⊥
+heard_more_to_come lines l s heard (kind, counted, set) = none_some (sym heard.vehicles ∙ counted)
+  where
+    none_some : {X : Type 0} {x : X} → None ≡ Some x → ⊥
+    none_some e = cc
+
+-- `begin` behind the line of the vehicles
+pub began : (lines : List Line) (n : ℕ) (s : Setting) (p : Progress (Unit {0})) → Opens (lines ++ line.Vehicles n ∷ []) s (Ok p) → Begins lines n p
+began lines n s p (goes, st) = record { goes = goes; stands = st }
+
+pub begin_taken : (lines : List Line) (n : ℕ) (bytes : List ℕ) (p : Progress (Unit {0})) → judged (lines ++ line.Vehicles n ∷ []) bytes ≡ of_read (lines ++ line.Vehicles n ∷ []) (Ok line.Begin) → Begins lines n p
+    → IsTaken (lines ++ line.Vehicles n ∷ []) bytes (InBody p) None
+begin_taken lines n bytes p is b = record { line = line.Begin; goes = is ∙ b.goes; stands = b.stands; makes = quiet_begin (lines ++ line.Vehicles n ∷ []) }
+
+-- another line there
+pub behind_vehicles : (lines : List Line) (n : ℕ) (l : Line) (bytes : List ℕ) → belongs to_begin l ≡ false → judged (lines ++ line.Vehicles n ∷ []) bytes ≡ of_read (lines ++ line.Vehicles n ∷ []) (Ok l)
+    → judged (lines ++ line.Vehicles n ∷ []) bytes ≡ decides (decision.Bad (number_after (lines ++ line.Vehicles n ∷ [])) why.Order)
+behind_vehicles lines n l bytes other is =
+    let all = lines ++ line.Vehicles n ∷ [] in
+    let part : part_after (last_of all) ≡ to_begin = rw (last_of_more lines (line.Vehicles n)) refl in
+    is ∙ falls all l why.Order (out_of_order all l to_begin part other)
+
+pub not_begin : (l : Line) → (l ≡ line.Begin → ⊥) → belongs to_begin l ≡ false
+not_begin line.Begin other = absurd (other refl)
+not_begin l other = refl
+
+-- the version stays behind the line of the vehicles
+pub version_said : (lines : List Line) (vehicles : Option ℕ) → version_after (said lines vehicles) ≡ version_after lines
+version_said lines None = refl
+version_said lines (Some n) = version_same lines (line.Vehicles n) refl

@@ -1,0 +1,4 @@
+pub mod Sessions
+pub mod Headings
+pub mod Numbers
+pub mod Words

@@ -1,0 +1,169 @@
+-- Replies, faults, limits and what lines come to, as numbers.
+use Rattle.std.specs.Prelude.{◌≡◌, ℕ, Bool, true, false, List, take, replicate, slice_get, Option, Some, None}
+use Rattle.aim_messages.specs.declared.replies.Field.{Field}
+use Rattle.aim_messages.specs.declared.replies.Field.TheVariants as field
+use Rattle.aim_messages.specs.declared.replies.Reason.{Reason}
+use Rattle.aim_messages.specs.declared.replies.Reason.TheVariants as reason
+use Rattle.aim_messages.specs.declared.replies.Reply.{Reply}
+use Rattle.aim_messages.specs.declared.replies.Reply.TheVariants as reply
+use Rattle.aim_messages.specs.declared.script.Line.{Line}
+use Rattle.aim_messages.specs.declared.script.LineKind.TheVariants as read
+use Rattle.aim_messages.specs.Texts.{entry_text}
+use Rattle.aim_script.specs.declared.decisions.Kind.{Kind}
+use Rattle.aim_script.specs.declared.decisions.Kind.TheVariants as kind
+use Rattle.aim_script.specs.declared.decisions.Limit.{Limit}
+use Rattle.aim_script.specs.declared.decisions.Limit.TheVariants as limit
+use Rattle.aim_line_session.specs.declared.progress.Answered.{Answered}
+use Rattle.aim_text_session.specs.declared.answers.Answer.{Answer}
+use Rattle.aim_text_session.specs.declared.answers.ReplyNumbers.{ReplyNumbers}
+use Rattle.aim_text_session.specs.declared.responses.Response.{Response}
+use Rattle.aim_text_session.specs.declared.responses.Response.TheVariants as response
+use Rattle.aim_text_session.specs.Sessions.{Comes, Standing, Stands}
+
+-- the number of a fault, from 1 on; those from 20 on are of no line of a session
+abbrev pub fault_number : Kind → ℕ
+fault_number kind.Long = 1
+fault_number (kind.Spelling read.Words) = 2
+fault_number (kind.Spelling read.Number) = 3
+fault_number (kind.Spelling read.Range) = 4
+fault_number (kind.Spelling read.Unknown) = 5
+fault_number kind.Order = 6
+fault_number kind.Version = 7
+fault_number kind.Grid = 8
+fault_number kind.Buffers = 9
+fault_number kind.Times = 10
+fault_number kind.Lane = 11
+fault_number kind.Move = 12
+fault_number kind.Spacing = 13
+fault_number kind.Policy = 14
+fault_number kind.Phase = 15
+fault_number kind.Vehicle = 16
+fault_number kind.Moment = 17
+fault_number kind.End = 20
+fault_number kind.Json = 21
+fault_number kind.Form = 22
+fault_number kind.Driver = 23
+
+-- the number of a limit, which no fault has
+abbrev pub limit_number : Limit → ℕ
+limit_number limit.Vehicles = 18
+limit_number limit.Sheets = 19
+limit_number limit.Bytes = 24
+limit_number limit.Lines = 25
+limit_number limit.Orders = 26
+
+abbrev pub field_number : Field → ℕ
+field_number field.Lane = 0
+field_number field.Turn = 1
+field_number field.Arrive = 2
+field_number field.Max = 3
+field_number field.Speed = 4
+field_number field.Accel = 5
+field_number field.Length = 6
+field_number field.Width = 7
+field_number field.Steps = 8
+field_number field.Spans = 9
+
+-- no number
+abbrev pub nothing : ReplyNumbers
+nothing = record {
+  number = 0;
+  kind = 0;
+  id = 0;
+  start = 0;
+  early = 0;
+  late = 0;
+  accelerate = 0;
+  last = 0;
+  reason = 0;
+  next = 0;
+  holds = 0;
+  held = 0;
+  row = 0;
+  col = 0;
+  step = 0;
+  seq = 0;
+  from = 0;
+}
+
+-- the numbers of a reason
+abbrev pub reason_numbers : Reason → ReplyNumbers
+reason_numbers (reason.Holds id) = record nothing { reason = 1; number = id }
+reason_numbers reason.NoReservation = record nothing { reason = 2 }
+reason_numbers (reason.Begun step) = record nothing { reason = 3; number = step }
+reason_numbers (reason.TooSoon next) = record nothing { reason = 4; number = next }
+reason_numbers (reason.Bad which) = record nothing { reason = 5; number = field_number which }
+reason_numbers (reason.Late now) = record nothing { reason = 6; number = now }
+reason_numbers (reason.Far reach) = record nothing { reason = 7; number = reach }
+reason_numbers (reason.Distance distance) = record nothing { reason = 8; number = distance }
+reason_numbers (reason.Emergency lane) = record nothing { reason = 9; number = lane }
+reason_numbers (reason.Green row col step lane) = record nothing { reason = 10; number = lane; row = row; col = col; step = step }
+reason_numbers (reason.Taken row col step by) = record nothing { reason = 11; number = by; row = row; col = col; step = step }
+reason_numbers (reason.Reused seq) = record nothing { reason = 12; number = seq }
+
+abbrev pub truth_number : Bool → ℕ
+truth_number true = 1
+truth_number false = 0
+
+-- whether a reservation is held, and its id
+abbrev pub holds_number : Option ℕ → ℕ
+holds_number None = 0
+holds_number (Some id) = 1
+
+abbrev pub held_number : Option ℕ → ℕ
+held_number None = 0
+held_number (Some id) = id
+
+-- the numbers of a reply
+abbrev pub reply_numbers : Reply → ReplyNumbers
+reply_numbers (reply.Confirm id start early late accelerate last) =
+    record nothing { kind = 1; id = id; start = start; early = early; late = late; accelerate = truth_number accelerate; last = last }
+reply_numbers (reply.Reject why next held) =
+    record (reason_numbers why) { kind = 2; next = next; holds = holds_number held; held = held_number held }
+reply_numbers (reply.Ack id) = record nothing { kind = 3; id = id }
+reply_numbers reply.EmergencyStop = record nothing { kind = 4 }
+reply_numbers (reply.Stale last) = record nothing { kind = 5; seq = last }
+reply_numbers (reply.Switched from) = record nothing { kind = 6; from = from }
+reply_numbers reply.Stopped = record nothing { kind = 7 }
+
+-- the answer of a line that makes no entry
+pub record IsPlain (outcome fault : ℕ) (a : Answer) : Type 0 where
+  pub outcome_is : a.outcome ≡ outcome
+  pub fault_is : a.fault ≡ fault
+  pub position : a.position ≡ 0
+  pub caller : a.caller ≡ 0
+  pub moment : a.moment ≡ 0
+  pub length : a.length ≡ 0
+  pub reply : a.reply ≡ nothing
+  pub text : a.text ≡ replicate 400 0
+
+-- the answer of a line that makes the entry: its numbers, its text, and a byte 0 behind that
+pub record HasEntry (made : Answered) (a : Answer) : Type 0 where
+  pub outcome : a.outcome ≡ 1
+  pub fault : a.fault ≡ 0
+  pub position : a.position ≡ made.position
+  pub caller : a.caller ≡ made.entry.caller
+  pub moment : a.moment ≡ made.entry.moment
+  pub reply : a.reply ≡ reply_numbers made.entry.reply
+  pub text : take a.length a.text ≡ entry_text made.position made.entry
+  pub ends : slice_get a.text a.length ≡ Some 0
+
+-- what a line comes to is told by the answer
+abbrev pub Tells : Response → Answer → Type 0
+Tells response.Taken a = IsPlain 0 0 a
+Tells (response.Made made) a = HasEntry made a
+Tells (response.Bad why) a = IsPlain 2 (fault_number why) a
+Tells (response.Limit which) a = IsPlain 3 (limit_number which) a
+Tells response.Full a = IsPlain 4 0 a
+Tells response.NoMemory a = IsPlain 5 0 a
+Tells response.Ended a = IsPlain 6 0 a
+
+-- the answer tells what the bytes come to
+pub record Answers (before : List Line) (bytes : List ℕ) (old new : Standing) (a : Answer) : Type 0 where
+  pub response : Response
+  pub comes : Comes before bytes old new response
+  pub tells : Tells response a
+
+-- for all lines for which the session stood, the answer tells what the bytes came to
+abbrev pub After : Standing → List ℕ → Answer → Standing → Type 0
+After old bytes a new = (before : List Line) → Stands before old → Answers before bytes old new a

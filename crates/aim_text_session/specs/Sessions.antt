@@ -1,0 +1,95 @@
+-- What is known of the lines that a session of texts has taken, and what a further one comes to.
+use Rattle.std.specs.Prelude.{◌≡◌, ℕ, List, [], ◌∷◌, ◌++◌, length, nat_lt, true, MatchBool, Option, Some, None, Result, Ok, Err, if◌then◌else◌}
+use Rattle.aim_messages.specs.declared.script.Line.{Line}
+use Rattle.aim_script.specs.declared.decisions.Decision.TheVariants as decision
+use Rattle.aim_script.specs.declared.decisions.Kind.TheVariants as kind
+use Rattle.aim_script.specs.Order.{is_end}
+use Rattle.aim_script.specs.Said.{version_after, last_of}
+use Rattle.aim_script.specs.Spellings.{reads_words}
+use Rattle.aim_script.specs.Verdicts.{Judgement, Reads, of_read, goes_on, decides, number_after}
+use Rattle.aim_line_session.specs.declared.progress.Answered.{Answered}
+use Rattle.aim_line_session.specs.declared.progress.Progress.{Progress}
+use Rattle.aim_line_session.specs.declared.progress.Untaken.{Untaken}
+use Rattle.aim_line_session.specs.declared.progress.Untaken.TheVariants as untaken
+use Rattle.aim_line_session.specs.Charted.{Marks}
+use Rattle.aim_line_session.specs.Sessions.{IsFull, Makes, Stands as StandsAsSession, journal_so_far}
+use Rattle.aim_text_session.specs.declared.sessions.RowMasks.{RowMasks}
+use Rattle.aim_text_session.specs.declared.responses.Response.{Response}
+use Rattle.aim_text_session.specs.declared.responses.Response.TheVariants as response
+
+-- how far a session has come: the lines before `begin`, which it has taken, or what is kept of those up to `begin` and behind it
+pub data Standing : Type 0 where
+  InHeader : List Line → Standing
+  InBody : Progress (Unit {0}) → Standing
+
+-- the session stands for these lines, those that it has taken
+abbrev pub Stands : List Line → Standing → Type 0
+Stands before (InHeader lines) = before ≡ lines
+Stands before (InBody p) = StandsAsSession before p
+
+-- lines of at most 400 bytes are read as words
+abbrev pub reads_text : Reads
+reads_text version bytes = if nat_lt 400 (length bytes) then Err kind.Long else reads_words version bytes
+
+-- what these bytes come to behind the lines of a script
+abbrev pub judged : List Line → List ℕ → Judgement
+judged before bytes = of_read before (reads_text (version_after before) bytes)
+
+-- the line goes on behind these lines, and the session stands for it, too; the journal of its lines gets the entry that is given, or stays
+pub record IsTaken (before : List Line) (bytes : List ℕ) (new : Standing) (made : Option Answered) : Type 0 where
+  pub line : Line
+  pub goes : judged before bytes ≡ goes_on line
+  pub stands : Stands (before ++ line ∷ []) new
+  pub makes : Makes (journal_so_far before) (journal_so_far (before ++ line ∷ [])) made
+
+-- the session is in its body, whose manager has no room for what the line makes
+abbrev pub HasNoRoom : Line → Standing → Type 0
+HasNoRoom l (InHeader lines) = ⊥
+HasNoRoom l (InBody p) = IsFull l p.server
+
+-- What further bytes come to: a line that is taken, by what a script decides of it behind the lines so far; or one that is not, and
+-- the session is as it was. Memory runs out before the first entry alone.
+abbrev pub Comes : List Line → List ℕ → Standing → Standing → Response → Type 0
+Comes before bytes old new response.Taken = IsTaken before bytes new None
+Comes before bytes old new (response.Made a) = IsTaken before bytes new (Some a)
+Comes before bytes old new (response.Bad why) = (judged before bytes ≡ decides (decision.Bad (number_after before) why)) × (new ≡ old)
+Comes before bytes old new (response.Limit which) = (judged before bytes ≡ decides (decision.Limit which)) × (new ≡ old)
+Comes before bytes old new response.Full = (l : Line) × (judged before bytes ≡ goes_on l) × HasNoRoom l old × (new ≡ old)
+Comes before bytes old new response.NoMemory = (journal_so_far before ≡ []) × (new ≡ old)
+Comes before bytes old new response.Ended = (is_end (last_of before) ≡ true) × (new ≡ old)
+
+-- what a session that has begun says of a line
+abbrev pub response_of : Result (Option Answered) Untaken → Response
+response_of (Ok None) = response.Taken
+response_of (Ok (Some a)) = response.Made a
+response_of (Err (untaken.Bad why)) = response.Bad why
+response_of (Err untaken.Full) = response.Full
+
+-- 0 in the header, 1 behind `begin`, 2 behind `end`
+abbrev pub stage_of : Standing → ℕ
+stage_of (InHeader lines) = 0
+stage_of (InBody p) = if p.ended then 2 else 1
+
+-- no row is told
+abbrev pub IsNoRow : RowMasks → Type 0
+IsNoRow m = (m.held ≡ 0) × (m.claimed ≡ 0) × (m.columns ≡ 0)
+
+-- what is told of a row at a step: its marks and its columns, where the session has begun and there is such a row
+abbrev pub TellsRow : List Line → Standing → ℕ → ℕ → RowMasks → Type 0
+TellsRow before (InHeader lines) row step m = IsNoRow m
+TellsRow before (InBody p) row step m =
+    MatchBool (nat_lt row p.server.layout.grid.n)
+    (Marks p.server.layout (journal_so_far before) row step m.held m.claimed × (m.columns ≡ p.server.layout.grid.n))
+    (IsNoRow m)
+
+-- it is as it was, and has made so many entries
+abbrev pub HasMade : Standing → ℕ → Standing → Type 0
+HasMade old count new = (new ≡ old) × ((before : List Line) → Stands before old → count ≡ length (journal_so_far before))
+
+-- it is as it was, and stands there
+abbrev pub IsAt : Standing → ℕ → Standing → Type 0
+IsAt old stage new = (new ≡ old) × (stage ≡ stage_of old)
+
+-- it is as it was, and the masks are those of the row at the step
+abbrev pub Shows : Standing → ℕ → ℕ → RowMasks → Standing → Type 0
+Shows old row step masks new = (new ≡ old) × ((before : List Line) → Stands before old → TellsRow before old row step masks)

@@ -1,0 +1,310 @@
+//! The lines of a session before `begin`.
+
+ghost use Rattle.std.specs.Prelude.{◌≡◌, ℕ, List, ◌∷◌, ◌++◌, [], IfOk, IfSome, Ok, Some};
+ghost use Rattle.aim_messages.specs.declared.script.Line.{Line};
+ghost use Rattle.aim_script.specs.Headers.{HasName, Heeds, Stands as StandsAsHeader};
+ghost use Rattle.aim_script.specs.Verdicts.{of_read};
+ghost use Rattle.aim_line_session.specs.Sessions.{Stands as StandsAsSession};
+ghost use Rattle.aim_text_session.specs.Headings.{AreCounted, AreHeard, Begins, IsHeading, IsHeard, IsReached, IsSettled, Leads, said, standing_of};
+ghost use Rattle.aim_text_session.specs.Sessions.{InBody, InHeader, Stands, TellsRow, judged};
+
+use crate::reading::read_text;
+use crate::responses::{Response, response_of};
+use crate::sessions::RowMasks;
+use aim_line_session::{IdleSession, Unopened, vehicles_limit};
+use aim_messages::Line;
+use aim_script::{Headed, Header, HeaderRefusal, Kind, Setting};
+use std::alloc::{AllocError as NoMemory, Global};
+
+/// The lines of a session that has not begun, none of which is at fault behind those before it; of the line of the vehicles
+/// their number; and the header that was made of the lines, where it is kept. Where a line isn't taken the header is lost, and
+/// is made again of the lines before the next one.
+#[derive(Drop)]
+pub struct Heading {
+    pub(crate) lines: Vec<Line>,
+    pub(crate) vehicles: Option<u32>,
+    pub(crate) header: Option<Header>,
+}
+
+// What is told of a row that isn't there.
+const NO_ROW: RowMasks = RowMasks {
+    held: 0,
+    claimed: 0,
+    columns: 0,
+};
+
+/// How far a session has come.
+#[derive(Drop)]
+pub enum Reached {
+    /// Lines before `begin` come, or `begin`.
+    Heading(Heading),
+    /// Events and orders come, or `end`; or nothing comes any more.
+    Body(IdleSession),
+}
+
+/// How far a session has come behind a line, and what the line came to.
+pub struct Advance {
+    pub(crate) reached: Reached,
+    pub(crate) response: Response,
+}
+
+// What stays where a session stays in its header.
+fn in_header(
+    lines: Vec<Line>,
+    vehicles: Option<u32>,
+    header: Option<Header>,
+    response: Response,
+) -> Advance
+    ensures reached { result.reached ≡ Reached.Heading (record { lines = lines; vehicles = vehicles; header = header }) }
+    ensures response { result.response ≡ response }
+{
+    Advance {
+        reached: Reached::Heading(Heading {
+            lines,
+            vehicles,
+            header,
+        }),
+        response,
+    }
+}
+
+// The header behind a line that a header of these lines has taken before.
+fn heard(header: Header, alloc: Global, line: &Line) -> Result<Header, NoMemory>
+    requires { (before : List Line) × StandsAsHeader before header × IsHeard before line.now }
+    ensures { (before : List Line) → StandsAsHeader before header → IsHeard before line.now → IfOk result (λ h. StandsAsHeader (before ++ line.now ∷ []) h) }
+{
+    match header.take(alloc, line) {
+        Ok(Headed::More(header)) => Ok(header),
+        Err(HeaderRefusal::NoMemory) => Err(NoMemory),
+        Ok(Headed::Whole(_)) | Err(HeaderRefusal::Bad(_)) => unreachable!(),
+    }
+}
+
+// The header of lines, made of them.
+fn header_of(alloc: Global, lines: &[Line]) -> Result<Header, NoMemory>
+    requires { AreHeard lines.now }
+    ensures { IfOk result (λ h. StandsAsHeader lines.now h) }
+{
+    let mut header = Header::new();
+    for line in lines {
+        header = heard(header, alloc, line)?;
+    }
+    Ok(header)
+}
+
+// The header of lines: the one that was kept, or one that is made of them.
+fn header_again(kept: Option<Header>, alloc: Global, lines: &[Line]) -> Result<Header, NoMemory>
+    requires kept { IfSome kept (λ h. StandsAsHeader lines.now h) }
+    requires heard { AreHeard lines.now }
+    ensures { IfOk result (λ h. StandsAsHeader lines.now h) }
+{
+    match kept {
+        Some(header) => Ok(header),
+        None => header_of(alloc, lines),
+    }
+}
+
+// Counts the vehicles of a setting, unless they go past a limit.
+fn counted(lines: Vec<Line>, setting: Setting) -> Advance
+    requires { AreHeard lines.items }
+    ensures { (l : Line) (bytes : List ℕ) (old : Header) → judged lines.items bytes ≡ of_read lines.items (Ok l) → StandsAsHeader lines.items old → Heeds lines.items l (Ok (Headed.Whole setting)) → Leads lines.items bytes (InHeader lines.items) result }
+{
+    let spans = setting.layout.ground().grid().spans;
+    let vehicles = setting.vehicles;
+    drop(setting);
+    match vehicles_limit(spans, vehicles) {
+        Some(limit) => in_header(lines, None, None, Response::Limit(limit)),
+        None => in_header(lines, Some(vehicles), None, Response::Taken),
+    }
+}
+
+// Adds a line that a header has taken to those before it.
+fn added(mut lines: Vec<Line>, header: Header, line: &Line) -> Advance
+    requires heard { AreHeard lines.items }
+    requires name { HasName line.now }
+    ensures { (bytes : List ℕ) (old : Header) → judged lines.items bytes ≡ of_read lines.items (Ok line.now) → StandsAsHeader lines.items old → Heeds lines.items line.now (Ok (Headed.More header)) → Leads lines.items bytes (InHeader lines.items) result }
+{
+    match lines.push(*line) {
+        Ok(()) => in_header(lines, None, Some(header), Response::Taken),
+        Err(_) => {
+            drop(header);
+            in_header(lines, None, None, Response::NoMemory)
+        }
+    }
+}
+
+// Takes a line up to that of the vehicles.
+fn headed(lines: Vec<Line>, header: Header, alloc: Global, line: &Line) -> Advance
+    requires heard { AreHeard lines.items }
+    requires stands { StandsAsHeader lines.items header }
+    requires name { HasName line.now }
+    ensures { (bytes : List ℕ) → judged lines.items bytes ≡ of_read lines.items (Ok line.now) → Leads lines.items bytes (InHeader lines.items) result }
+{
+    match header.take(alloc, line) {
+        Ok(Headed::More(header)) => added(lines, header, line),
+        Ok(Headed::Whole(setting)) => counted(lines, setting),
+        Err(HeaderRefusal::Bad(kind)) => in_header(lines, None, None, Response::Bad(kind)),
+        Err(HeaderRefusal::NoMemory) => in_header(lines, None, None, Response::NoMemory),
+    }
+}
+
+// What the lines up to that of the vehicles describe.
+fn setting_of(header: Header, alloc: Global, vehicles: u32) -> Result<Setting, NoMemory>
+    requires { (lines : List Line) × StandsAsHeader lines header × AreCounted lines vehicles }
+    ensures { (lines : List Line) → StandsAsHeader lines header → AreCounted lines vehicles → IfOk result (λ s. IsSettled lines vehicles s) }
+{
+    match header.take(alloc, &Line::Vehicles(vehicles)) {
+        Ok(Headed::Whole(setting)) => Ok(setting),
+        Err(HeaderRefusal::NoMemory) => Err(NoMemory),
+        Ok(Headed::More(_)) | Err(HeaderRefusal::Bad(_)) => unreachable!(),
+    }
+}
+
+// The open session of the lines, to which `begin` leads.
+fn opened(header: Header, alloc: Global, vehicles: u32) -> Result<IdleSession, NoMemory>
+    requires { (lines : List Line) × StandsAsHeader lines header × AreCounted lines vehicles }
+    ensures { (lines : List Line) → StandsAsHeader lines header → AreCounted lines vehicles → IfOk result (λ p. Begins lines vehicles p) }
+{
+    let setting = setting_of(header, alloc, vehicles)?;
+    match IdleSession::open(alloc, setting) {
+        Ok(session) => Ok(session),
+        Err(Unopened::NoMemory) => Err(NoMemory),
+        Err(Unopened::Limit(_)) => unreachable!(),
+    }
+}
+
+// Takes the line behind that of the vehicles.
+fn begun(lines: Vec<Line>, vehicles: u32, header: Header, alloc: Global, line: &Line) -> Advance
+    requires { IsHeading lines.items (Some vehicles) (Some header) }
+    ensures { (bytes : List ℕ) → let all = said lines.items (Some vehicles) in judged all bytes ≡ of_read all (Ok line.now) → Leads all bytes (InHeader all) result }
+{
+    match line {
+        Line::Begin => match opened(header, alloc, vehicles) {
+            Ok(session) => {
+                drop(lines);
+                Advance {
+                    reached: Reached::Body(session),
+                    response: Response::Taken,
+                }
+            }
+            Err(_) => in_header(lines, Some(vehicles), None, Response::NoMemory),
+        },
+        _ => in_header(
+            lines,
+            Some(vehicles),
+            Some(header),
+            Response::Bad(Kind::Order),
+        ),
+    }
+}
+
+// Takes a line that was read.
+fn header_after(
+    lines: Vec<Line>,
+    vehicles: Option<u32>,
+    header: Header,
+    alloc: Global,
+    line: &Line,
+) -> Advance
+    requires heading { IsHeading lines.items vehicles (Some header) }
+    requires name { HasName line.now }
+    ensures { (bytes : List ℕ) → let all = said lines.items vehicles in judged all bytes ≡ of_read all (Ok line.now) → Leads all bytes (InHeader all) result }
+{
+    match vehicles {
+        None => headed(lines, header, alloc, line),
+        Some(vehicles) => begun(lines, vehicles, header, alloc, line),
+    }
+}
+
+// Reads and takes a line before `begin`, or `begin`.
+fn heading_after(heading: Heading, alloc: Global, words: &[u8]) -> Advance
+    requires { IsHeading heading.lines.items heading.vehicles heading.header }
+    ensures { let all = said heading.lines.items heading.vehicles in Leads all words.now (InHeader all) result }
+{
+    let Heading {
+        lines,
+        vehicles,
+        header,
+    } = heading;
+    match header_again(header, alloc, &lines) {
+        Err(_) => in_header(lines, vehicles, None, Response::NoMemory),
+        Ok(header) => match read_text(words, header.version()) {
+            Err(kind) => in_header(lines, vehicles, Some(header), Response::Bad(kind)),
+            Ok(line) => header_after(lines, vehicles, header, alloc, &line),
+        },
+    }
+}
+
+// Reads and takes a line behind `begin`.
+fn body_after(session: IdleSession, words: &[u8]) -> Advance
+    ensures kept { IsReached result.reached }
+    ensures leads { (before : List Line) → StandsAsSession before session → Leads before words.now (InBody session) result }
+{
+    if session.is_ended() {
+        return Advance {
+            reached: Reached::Body(session),
+            response: Response::Ended,
+        };
+    }
+    match read_text(words, session.version()) {
+        Err(kind) => Advance {
+            reached: Reached::Body(session),
+            response: Response::Bad(kind),
+        },
+        Ok(line) => {
+            let (session, taken) = session.take(&line);
+            Advance {
+                reached: Reached::Body(session),
+                response: response_of(taken),
+            }
+        }
+    }
+}
+
+impl Reached {
+    /// No line was taken.
+    pub(crate) fn new(alloc: Global) -> Reached
+        ensures standing { standing_of result ≡ InHeader [] }
+        ensures reached { IsReached result }
+    {
+        Reached::Heading(Heading {
+            lines: Vec::new(alloc),
+            vehicles: None,
+            header: None,
+        })
+    }
+
+    /// How far the session comes by a line, without its byte 10.
+    pub(crate) fn after(self, alloc: Global, words: &[u8]) -> Advance
+        requires { IsReached self }
+        ensures kept { IsReached result.reached }
+        ensures leads { (before : List Line) → Stands before (standing_of self) → Leads before words.now (standing_of self) result }
+    {
+        match self {
+            Reached::Heading(heading) => heading_after(heading, alloc, words),
+            Reached::Body(session) => body_after(session, words),
+        }
+    }
+    /// The masks of a row at a step, and the session as it was.
+    pub(crate) fn masks(self, row: u32, step: u32) -> (Reached, RowMasks)
+        ensures same { result.0 ≡ self }
+        ensures marks { (before : List Line) → Stands before (standing_of self) → TellsRow before (standing_of self) row step result.1 }
+    {
+        match self {
+            Reached::Heading(heading) => (Reached::Heading(heading), NO_ROW),
+            Reached::Body(session) => {
+                let columns = session.rows();
+                if row >= columns {
+                    return (Reached::Body(session), NO_ROW);
+                }
+                let (session, (held, claimed)) = session.chart_row(row as u8, step);
+                let masks = RowMasks {
+                    held,
+                    claimed,
+                    columns: u64::from(columns),
+                };
+                (Reached::Body(session), masks)
+            }
+        }
+    }
+}
