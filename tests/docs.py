@@ -14,7 +14,7 @@ import sys
 import changed_definitions
 
 TOP = pathlib.Path(__file__).resolve().parent.parent
-SOURCES = {".rt", ".antt", ".py", ".sh", ".txt", ".edit", ".js", ".html", ".aim", ".out", ".tsv", ""}
+SOURCES = {".rt", ".antt", ".c", ".h", ".py", ".sh", ".txt", ".edit", ".js", ".html", ".aim", ".out", ".tsv", ""}
 LINK = re.compile(r"(?:\]\(|^\[[\w-]+\]: )([^)#\s]+)", re.M)
 QUOTED = re.compile(r"(?<!`)`([^`\n]+)`(?!`)")
 CODE = re.compile(r"^```.*?^```", re.M | re.S)
