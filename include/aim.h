@@ -103,7 +103,8 @@ enum aim_field {
     AIM_FIELD_LENGTH = 6,
     AIM_FIELD_WIDTH = 7,
     AIM_FIELD_STEPS = 8,
-    AIM_FIELD_SPANS = 9
+    AIM_FIELD_SPANS = 9,
+    AIM_FIELD_LATEST = 10 /* of no version that a session reads today */
 };
 
 /* Where a session stands. */

@@ -63,6 +63,7 @@ field_number field.Length = 6
 field_number field.Width = 7
 field_number field.Steps = 8
 field_number field.Spans = 9
+field_number field.Latest = 10
 
 -- no number
 abbrev pub nothing : ReplyNumbers

@@ -85,6 +85,7 @@ fn field_number(field: Field) -> u64
         Field::Width => 7,
         Field::Steps => 8,
         Field::Spans => 9,
+        Field::Latest => 10,
     }
 }
 
