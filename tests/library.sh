@@ -71,5 +71,9 @@ if [ -x "$program" ]; then
 else
   echo 'library: SKIPPED: a comparison with the program, which is not built'
 fi
+
+# From Python.
+AIM=$([ ! -x "$program" ] || echo "$program") bash tests/python.sh "$made/lib/libaim.so.1"
+judge 'the package for Python' 0 $?
 printf 'library: %s passed, %s failed\n' "$passed" "$failed"
 [ "$failed" -eq 0 ]
