@@ -23,12 +23,12 @@ case $(uname -s)-$(uname -m) in
 esac
 
 cd "$here"
-find . -type f ! -name install.sh | while IFS= read -r file; do
+find . \( -type f -o -type l \) ! -name install.sh | while IFS= read -r file; do
   if [ -n "$remove" ]; then
     rm -f "$prefix/$file"
   else
     mkdir -p "$prefix/$(dirname "$file")"
-    cp "$file" "$prefix/$file"
+    cp -P "$file" "$prefix/$file"
   fi
 done
 if [ -n "$remove" ]; then

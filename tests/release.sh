@@ -56,6 +56,13 @@ judge 'the proof that it tells of' "$(git rev-parse HEAD)" "$(sed -n 's/^aim .*,
 mkdir "$work/unpacked" "$work/user" && tar -C "$work/unpacked" -xf "$work"/dist/aim-*.tar.xz
 judge 'its installation' "aim is in $work/user/.local" "$(HOME=$work/user "$work"/unpacked/aim-*/install.sh --prefix "$work/user/.local" | cut -d ';' -f 1)"
 judge 'its first command' "$first" "$(AIM_PROGRAM='' "$work/user/.local/bin/aim" replay < "$work/user/.local/share/doc/aim/examples/first.aim")"
+if command -v cc > /dev/null; then
+  cc "$work/user/.local/share/doc/aim/examples/two_vehicles.c" -I"$work/user/.local/include" -L"$work/user/.local/lib" \
+    -laim "-Wl,-rpath,$work/user/.local/lib" -o "$work/two" 2> "$work/told"
+  judge 'its example in C' "$(cat tests/c/two_vehicles.out)" "$("$work/two")"
+fi
+judge 'its example in Python' "$(cat tests/c/chart.out)" "$(AIM_LIBRARY=$work/user/.local/lib/libaim.so.1 \
+  PYTHONPATH=$work/user/.local/share/aim/python python3 -B python/examples/chart.py)"
 # The bridge needs numpy, and says so where it isn't there. What others install meanwhile isn't half there: they wait.
 bridge_help() {
   local said
@@ -97,6 +104,8 @@ judge 'the first command of its man page' "$first" "$(inside sh -c "$command" 2>
 judge 'a drive' same "$(inside sh -c 'aim drive 1 < /usr/share/doc/aim/examples/lossy.aim' | cmp - examples/lossy.out && echo same)"
 judge 'its help' "$("$AIM_PROGRAM" help | head -n 1)" "$(inside aim help | head -n 1)"
 judge 'its version' "$("$AIM_PROGRAM" version)" "$(inside aim --version)"
+judge 'its library for C' /usr/lib/libaim.so.1 \
+  "$(inside /lib64/ld-linux-x86-64.so.2 --verify /usr/lib/libaim.so.1 && ls "$tree/usr/lib/libaim.so.1" | sed "s|^$tree||")"
 judge 'its examples' "$(ls examples)" "$(ls "$tree/usr/share/doc/aim/examples")"
 judge 'its removal' 'status 0' "$(inside apt-get purge -y aim > "$work/told" 2>&1; printf 'status %s' $?)"
 files > "$work/after"

@@ -15,7 +15,10 @@ done
 archive=${AIM_ARCHIVE:-}
 if [ -z "$archive" ]; then
   archive=$root/crates/aim_c/out/libaim_c.a
-  (cd "$root/crates/aim_c" && rt lib) >&2 || fail 'the archive is not proved'
+  # One at a time.
+  exec 8< "$root/tools/library.sh"
+  ! command -v flock > /dev/null || flock 8
+  (cd "$root/crates/aim_c" && rt lib 8<&-) >&2 || fail 'the archive is not proved'
 fi
 [ -f "$archive" ] || fail "there is no $archive"
 
@@ -27,6 +30,7 @@ into=$(cd "$1" && pwd)
 
 "$compiler" -O2 -fPIC -c "$root/tools/heap.c" -o "$work/heap.o"
 cp "$archive" "$work/libaim.a" && chmod u+w "$work/libaim.a"
+exec 8<&-
 ar rD "$work/libaim.a" "$work/heap.o" 2> /dev/null
 
 # The shared library shows the calls of the header and nothing else.

@@ -48,7 +48,8 @@ told_of_proof() { # what proved the program
   printf 'Each function meets its contract (crates/aim/src/program.rt has that of the whole program). Besides the\n'
   printf 'proofs it rests on the toolchain, the C library, and the statements of the ported crates:\n\n'
   ports | sed 's/^/    /'
-  printf '\nSHA-256 of the program:\n\n    %s\n' "$(sha256sum < "$program" | cut -d ' ' -f 1)"
+  printf '\nSHA-256 of the program, and of the library for C:\n\n'
+  sha256sum "$program" "$work/tree/usr/lib/libaim.so.1" | sed 's/^\([0-9a-f]*\).*/    \1/'
 }
 
 notices() { # the licences of the ports that are linked into the program
@@ -72,6 +73,12 @@ tree() { # all files, as they are installed
   copy bridges/sumo usr/share/aim/sumo
   rm -rf "$work/tree/usr/share/aim/sumo/tests"
   put 644 "$root/tools/view/view.html" usr/share/aim/view.html
+  "$root/tools/library.sh" "$work/library" > "$work/told" 2>&1 || fail "the library for C: $(tail -n 1 "$work/told")"
+  mkdir -p "$work/tree/usr/include" "$work/tree/usr/lib/pkgconfig"
+  cp "$work/library/include/aim.h" "$work/tree/usr/include/aim.h"
+  cp -P "$work"/library/lib/libaim.* "$work/tree/usr/lib/"
+  cp "$work/library/lib/pkgconfig/aim.pc" "$work/tree/usr/lib/pkgconfig/aim.pc"
+  copy python/aim usr/share/aim/python/aim
   copy examples usr/share/doc/aim/examples
   put 644 "$root/packaging/completions/aim.bash" usr/share/bash-completion/completions/aim
   put 644 "$root/packaging/completions/_aim" usr/share/zsh/vendor-completions/_aim
@@ -112,10 +119,13 @@ Description: intersection manager for Autonomous Intersection Management
  Vehicles call ahead and ask to cross. The manager simulates each crossing on
  a grid of tiles, and grants it only where no tile is reserved by another
  vehicle, or claimed by another lane's green, in that step. The program is
- proved to meet its contract. It needs a processor with SSE4.2 (x86-64-v2).
+ proved to meet its contract, and so are the calls of the library for C. Both
+ need a processor with SSE4.2 (x86-64-v2).
 END
+  printf '#!/bin/sh\nrm -rf /usr/share/aim/python/aim/__pycache__\n' > "$work/package/DEBIAN/prerm"
   (cd "$work/package" && find usr -type f -print0 | sort -z | xargs -0 md5sum) > "$work/package/DEBIAN/md5sums"
   chmod 644 "$work/package/DEBIAN"/*
+  chmod 755 "$work/package/DEBIAN/prerm"
   find "$work/package" -exec touch -h -d "@$SOURCE_DATE_EPOCH" {} +
   dpkg-deb --root-owner-group -Zxz --build "$work/package" "$dist/aim_${version}_amd64.deb" > /dev/null
 }
