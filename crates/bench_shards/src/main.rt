@@ -1,10 +1,10 @@
-//! Times claims: so many workers, each on a thread of its own, and 64 callers, of which each worker makes the calls of a run of
-//! neighbours.
+//! Times claims: so many workers, each on a thread of its own, and 64 callers, of which each worker makes the calls of
+//! a run of neighbours.
 //!
-//! `bench_shards apart WORKERS ROUNDS` lets the callers claim and free sets that lie in a quadrant for each worker, four
-//! quadrants in turn, and `bench_shards one WORKERS ROUNDS` sets that all lie in one quadrant, so that each call takes the
-//! same turn. Prints how many calls there were, and the time of a call. With no words a few calls are made each way, and no
-//! time is printed.
+//! `bench_shards apart WORKERS ROUNDS` lets the callers claim and free sets that lie in a quadrant for each worker,
+//! four quadrants in turn, and `bench_shards one WORKERS ROUNDS` sets that all lie in one quadrant, so that each call
+//! takes the same turn. Prints how many calls there were, and the time of a call. With no words a few calls are made
+//! each way, and no time is printed.
 #![tactic(auto)]
 
 ghost use Rattle.std.specs.Prelude.{◌≡◌, ◌<◌, ◌≤◌, length, All, IfOk};
