@@ -10,4 +10,4 @@ mod turns;
 pub use clock::{milliseconds, nanoseconds};
 pub use day::{CALLS, held_after, message, moment};
 pub use lanes::{SPANS, twelve_lanes};
-pub use turns::{Caller, ROOM, SHEETS, Taken, Turns};
+pub use turns::{Caller, ROOM, SHAPES, SHEETS, Taken, Turns};

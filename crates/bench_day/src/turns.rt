@@ -12,6 +12,9 @@ pub const ROOM: u32 = 262_144;
 /// How many sheets a caller has: two for a call, and one that the book may keep.
 pub const SHEETS: u32 = 3;
 
+/// How many crossings a caller keeps, so that others that differ in their arrival alone need not be found again.
+pub const SHAPES: u32 = 1024;
+
 /// What all callers share beside the book: how many turns there are, and which one is next.
 #[derive(Drop)]
 pub struct Turns {

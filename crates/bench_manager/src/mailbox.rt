@@ -2,15 +2,16 @@
 
 ghost use Rattle.std.specs.Prelude.{◌≡◌, ◌<◌, ◌≤◌, [], length, vec_capacity, All, IfOk, IfSome};
 ghost use Rattle.std.specs.Thread.{IsSync};
+ghost use Rattle.aim_requests.specs.Shapes.{ArePreparedFor};
 ghost use Rattle.aim_mail.specs.Calls.{IsOfMail, IsSameClient, ServerModel};
 
 use aim_layout::{Layout, PolicyKind};
 use aim_mail::{Client, Ended, Mailbox, OpenedMail, Served, Server, settle};
 use aim_messages::{LATEST_MOMENT, Message, Reply};
-use aim_requests::prepare_from;
+use aim_requests::Shapes;
 use aim_sheets::Pool;
 use anyhow::{Result, anyhow};
-use bench_day::{Caller, ROOM, SHEETS, SPANS, Taken, Turns, twelve_lanes};
+use bench_day::{Caller, ROOM, SHAPES, SHEETS, SPANS, Taken, Turns, twelve_lanes};
 use std::alloc::{AllocError, Global};
 use std::snapshot::Snapshot;
 use std::sync::Wait;
@@ -23,25 +24,36 @@ fn call<R: Wait>(
     rt: &R,
     client: &mut Client,
     layout: &Layout,
+    shapes: &mut Shapes,
     pool: &mut Pool,
     now: u32,
     message: &Message,
 ) -> Option<Reply>
     requires layout { IfSome client.old.setting (λ s. s.layout ≡ layout.now) }
+    requires known { ArePreparedFor layout.now shapes.old }
     ensures same { IsSameClient client.old client.new }
+    ensures known { ArePreparedFor layout.now shapes.new }
 {
     let spans = layout.ground().grid().spans;
     let count = pool.count();
     if now > LATEST_MOMENT || pool.room() != spans || count < 2 || count > 1_000_000 {
         return None;
     }
-    let prepared = prepare_from(layout, message, pool);
+    let prepared = shapes.prepare_from(layout, message, pool);
     client.call(rt, now, prepared, pool).ok()
 }
 
 // Takes turns until the day has no more, and makes the calls of each.
-fn make_turns<R: Wait>(rt: &R, client: &mut Client, layout: &Layout, pool: &mut Pool, day: &Turns)
+fn make_turns<R: Wait>(
+    rt: &R,
+    client: &mut Client,
+    layout: &Layout,
+    shapes: &mut Shapes,
+    pool: &mut Pool,
+    day: &Turns,
+)
     requires layout { IfSome client.old.setting (λ s. s.layout ≡ layout.now) }
+    requires known { ArePreparedFor layout.now shapes.old }
     ensures same { IsSameClient client.old client.new }
 {
     let mut caller = Caller::new();
@@ -49,12 +61,12 @@ fn make_turns<R: Wait>(rt: &R, client: &mut Client, layout: &Layout, pool: &mut 
         let Some((now, message)) = caller.next(day) else {
             return;
         };
-        let reply = call(rt, client, layout, pool, now, &message);
+        let reply = call(rt, client, layout, shapes, pool, now, &message);
         caller.hear(reply);
     }
 }
 
-// Takes turns, with sheets of its own.
+// Takes turns, with sheets and shapes of its own.
 fn take_turns<R: Wait>(rt: &R, alloc: Global, client: &mut Client, layout: &Layout, day: &Turns)
     requires layout { IfSome client.old.setting (λ s. s.layout ≡ layout.now) }
     ensures same { IsSameClient client.old client.new }
@@ -62,7 +74,10 @@ fn take_turns<R: Wait>(rt: &R, alloc: Global, client: &mut Client, layout: &Layo
     let Ok(mut pool) = Pool::new(alloc, SHEETS, SPANS) else {
         return;
     };
-    make_turns(rt, client, layout, &mut pool, day);
+    let Ok(mut shapes) = Shapes::new(alloc, layout, SHAPES) else {
+        return;
+    };
+    make_turns(rt, client, layout, &mut shapes, &mut pool, day);
 }
 
 // Takes the turns of all clients, each on a thread of its own.

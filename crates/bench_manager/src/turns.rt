@@ -3,15 +3,16 @@
 ghost use Rattle.std.specs.Prelude.{◌≡◌, ◌<◌, All, map, IfOk};
 ghost use Rattle.std.specs.List.{range_with_len};
 ghost use Rattle.aim_messages.specs.declared.entries.TheConstants.{OPERATOR};
+ghost use Rattle.aim_requests.specs.Shapes.{ArePreparedFor};
 ghost use Rattle.aim_turnstile.specs.Models.{IsPassOf, IsSamePass, new_pass};
 
 use aim_layout::PolicyKind;
 use aim_manager::{Manager, ManagerPass, Opened};
 use aim_messages::{LATEST_MOMENT, Message, Reply};
-use aim_requests::prepare_from;
+use aim_requests::Shapes;
 use aim_sheets::Pool;
 use anyhow::{Result, anyhow};
-use bench_day::{Caller, ROOM, SHEETS, SPANS, Taken, Turns, twelve_lanes};
+use bench_day::{Caller, ROOM, SHAPES, SHEETS, SPANS, Taken, Turns, twelve_lanes};
 use std::alloc::Global;
 use std::sync::Wait;
 use std::thread::{self, Threads};
@@ -22,20 +23,23 @@ fn call<R: Wait>(
     rt: &R,
     manager: &Manager,
     pass: &mut ManagerPass,
+    shapes: &mut Shapes,
     pool: &mut Pool,
     now: u32,
     message: &Message,
 ) -> Option<Reply>
     requires own { IsPassOf manager.now pass.old }
     requires vehicle { pass.old.number < manager.now.setting.vehicles }
+    requires known { ArePreparedFor manager.now.setting.layout shapes.old }
     ensures same { IsSamePass pass.old pass.new }
+    ensures known { ArePreparedFor manager.now.setting.layout shapes.new }
 {
     let spans = manager.layout().ground().grid().spans;
     let count = pool.count();
     if now > LATEST_MOMENT || pool.room() != spans || count < 2 || count > 1_000_000 {
         return None;
     }
-    let prepared = prepare_from(manager.layout(), message, pool);
+    let prepared = shapes.prepare_from(manager.layout(), message, pool);
     manager.serve(rt, pass, now, prepared, pool).ok()
 }
 
@@ -44,11 +48,13 @@ fn make_turns<R: Wait>(
     rt: &R,
     manager: &Manager,
     pass: &mut ManagerPass,
+    shapes: &mut Shapes,
     pool: &mut Pool,
     day: &Turns,
 )
     requires own { IsPassOf manager.now pass.old }
     requires vehicle { pass.old.number < manager.now.setting.vehicles }
+    requires known { ArePreparedFor manager.now.setting.layout shapes.old }
     ensures same { IsSamePass pass.old pass.new }
 {
     let mut caller = Caller::new();
@@ -56,12 +62,12 @@ fn make_turns<R: Wait>(
         let Some((now, message)) = caller.next(day) else {
             return;
         };
-        let reply = call(rt, manager, pass, pool, now, &message);
+        let reply = call(rt, manager, pass, shapes, pool, now, &message);
         caller.hear(reply);
     }
 }
 
-// Takes turns, with sheets of its own.
+// Takes turns, with sheets and shapes of its own.
 fn take_turns<R: Wait>(
     rt: &R,
     alloc: Global,
@@ -76,7 +82,10 @@ fn take_turns<R: Wait>(
     let Ok(mut pool) = Pool::new(alloc, SHEETS, SPANS) else {
         return;
     };
-    make_turns(rt, manager, pass, &mut pool, day);
+    let Ok(mut shapes) = Shapes::new(alloc, manager.layout(), SHAPES) else {
+        return;
+    };
+    make_turns(rt, manager, pass, &mut shapes, &mut pool, day);
 }
 
 // Takes the turns of all callers, each on a thread of its own.
