@@ -221,6 +221,7 @@ const ASKS_NORTH: Message = Message {
     body: Body::Request(Params {
         lane: 1,
         arrive: 15,
+        latest: 15,
         ..CAR
     }),
 };

@@ -42,7 +42,11 @@ const CALLS: [(u32, Call); 12] = [
         5,
         Call::Acts(Some(Message {
             seq: 1,
-            body: Body::Request(Params { arrive: 15, ..CAR }),
+            body: Body::Request(Params {
+                arrive: 15,
+                latest: 15,
+                ..CAR
+            }),
         })),
     ),
     (6, Call::IdleUntil(8)),
@@ -66,7 +70,14 @@ const CALLS: [(u32, Call); 12] = [
         9,
         Call::Acts(Some(Message {
             seq: 2,
-            body: Body::Change(0, Params { arrive: 22, ..CAR }),
+            body: Body::Change(
+                0,
+                Params {
+                    arrive: 22,
+                    latest: 22,
+                    ..CAR
+                },
+            ),
         })),
     ),
     (
