@@ -57,6 +57,8 @@ alone_text workers lines text other a none b =
       told = a.told;
       apart = a.apart;
       own = a.own;
+      short = a.short;
+      orders = a.orders;
     } in
     same_report lines text other as_one b
 

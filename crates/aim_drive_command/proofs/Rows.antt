@@ -155,6 +155,8 @@ report_of_nobody = record {
   told = nothing_told;
   apart = printed_apart (layout_of empty) [] ((0, []) ∷ []) (leb-true (layout_of empty).grid.n 64 refl) nothing_told (nothing_on (layout_of empty));
   own = printed_own (layout_of empty) [] ((0, []) ∷ []) (leb-true (layout_of empty).grid.n 64 refl) nothing_told (nothing_on (layout_of empty));
+  short = λ v ne. omega arith;
+  orders = refl;
 }
 
 -- what isn't a run
@@ -224,6 +226,8 @@ whole_shown = record {
     told = nothing_told;
     apart = printed_apart (layout_of empty) [] ((0, []) ∷ []) (leb-true (layout_of empty).grid.n 64 refl) nothing_told (nothing_on (layout_of empty));
     own = printed_own _ [] ((0, []) ∷ []) (leb-true _ 64 refl) nothing_told (nothing_on _);
+    short = λ v ne. omega arith;
+    orders = refl;
   };
   written = refl;
   status = refl;

@@ -26,6 +26,7 @@ use Rattle.aim_drive_command.specs.Commands.{IsReport}
 use Rattle.aim_drive_command.specs.Generated.{IsSummary}
 use Rattle.aim_drive_command.specs.Summaries.{summary}
 use Rattle.aim_drive_command.proofs.OwnTiles.{told_of, on_own_tiles}
+use Rattle.aim_drive_command.proofs.Races.{few_entries, one_each_order}
 
 -- what holds of a value holds, where it follows
 pub if_ok : {A E : Type 0} {P Q : A → Type 0} (r : Result A E) → ((a : A) → P a → Q a) → IfOk r P → IfOk r Q
@@ -73,6 +74,8 @@ module _ (workers : ℕ) (lines : List Line) (s : DriveScript) (is : IsScriptOf 
         told = telling;
         apart = subst TilesAreApart (sym text_is) (printed_apart (layout_of lines) h (in_order (vehicles_of lines) logs) within telling on);
         own = subst (TilesAreOwn (layout_of lines) h) (sym text_is) (printed_own (layout_of lines) h (in_order (vehicles_of lines) logs) within telling on);
+        short = few_entries workers lines h logs run;
+        orders = one_each_order workers lines h logs run;
       }
 
 -- the text that counts a run of generated traffic

@@ -1,12 +1,15 @@
 -- The texts of a drive script, and its status.
-use Rattle.std.specs.Prelude.{◌≡◌, ℕ, List}
+use Rattle.std.specs.Prelude.{◌≡◌, ◌≢◌, ℕ, ◌≤◌, List, length}
 use Rattle.aim_messages.specs.declared.entries.Entry.{Entry}
+use Rattle.aim_messages.specs.declared.entries.TheConstants.{OPERATOR}
 use Rattle.aim_messages.specs.declared.script.Line.{Line}
 use Rattle.aim_messages.specs.Texts.{spaced}
 use Rattle.aim_script.specs.declared.decisions.Decision.{Decision}
 use Rattle.aim_script.specs.declared.decisions.Decision.TheVariants as decision
 use Rattle.aim_script.specs.Decided.{decision_words, printed, status_of}
 use Rattle.aim_script.specs.Said.{layout_of, vehicles_of}
+use Rattle.aim_driver.specs.Fits.{entries_of}
+use Rattle.aim_drive_script.specs.Said.{orders_of}
 use Rattle.aim_drive_script.specs.Verdicts.{drive_verdict}
 use Rattle.aim_report.specs.Apart.{TilesAreApart, TilesAreOwn}
 use Rattle.aim_report.specs.Reports.{report}
@@ -25,6 +28,9 @@ pub record IsReport (workers : ℕ) (lines : List Line) (text : List ℕ) : Type
   pub told : AreTold journal (in_order (vehicles_of lines) logs)
   pub apart : TilesAreApart text
   pub own : TilesAreOwn (layout_of lines) journal text
+  -- the journal is short: at most 128 entries of a vehicle, and one of each order
+  pub short : (v : ℕ) → v ≢ OPERATOR → length (entries_of journal v) ≤ 128
+  pub orders : length (entries_of journal OPERATOR) ≡ length (orders_of lines)
 
 -- The text of a script: of a whole one the report of a run of it, and of another one the line that says why it isn't whole.
 abbrev pub IsTextOf : ℕ → List Line → Decision → List ℕ → Type 0

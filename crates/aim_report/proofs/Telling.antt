@@ -45,11 +45,11 @@ split (x ∷ xs) (y ∷ ys) more others a b e =
     let both = split xs ys more others (or_parts (x == 10) (list_any (λ c. c == 10) xs) a).1 (or_parts (y == 10) (list_any (λ c. c == 10) ys) b).1 tails in
     ((λ i. same i ∷ both.0 i), both.1)
 
-one_line : (s t more others : List ℕ) → IsOneLine s → IsOneLine t → printed s ++ more ≡ printed t ++ others → (s ≡ t) × (more ≡ others)
+pub one_line : (s t more others : List ℕ) → IsOneLine s → IsOneLine t → printed s ++ more ≡ printed t ++ others → (s ≡ t) × (more ≡ others)
 one_line s t more others a b e = split s t more others a b (sym (append_assoc s (10 ∷ []) more) ∙ e ∙ append_assoc t (10 ∷ []) others)
 
 -- the same, where more lines stand between
-next_line : (s t lines lines' more others : List ℕ) → IsOneLine s → IsOneLine t → (printed s ++ lines) ++ more ≡ (printed t ++ lines') ++ others → (s ≡ t) × (lines ++ more ≡ lines' ++ others)
+pub next_line : (s t lines lines' more others : List ℕ) → IsOneLine s → IsOneLine t → (printed s ++ lines) ++ more ≡ (printed t ++ lines') ++ others → (s ≡ t) × (lines ++ more ≡ lines' ++ others)
 next_line s t lines lines' more others a b e =
     one_line s t (lines ++ more) (lines' ++ others) a b (sym (append_assoc (printed s) lines more) ∙ e ∙ append_assoc (printed t) lines' others)
 
@@ -85,7 +85,7 @@ entry_low p e lines more small =
 never_both : (b : ℕ) → b ≤ 57 → 57 < b → ⊥
 never_both b low high = absurd (omega arith)
 
-journal_told : (p : ℕ) (h k : List Entry) (more others : List ℕ) → p + length h ≤ 4294967295 → p + length k ≤ 4294967295 → All IsTold h → All IsTold k
+pub journal_told : (p : ℕ) (h k : List Entry) (more others : List ℕ) → p + length h ≤ 4294967295 → p + length k ≤ 4294967295 → All IsTold h → All IsTold k
     → Begins (λ b. 57 < b) more → Begins (λ b. 57 < b) others → journal_lines p h ++ more ≡ journal_lines p k ++ others → (h ≡ k) × (more ≡ others)
 journal_told p [] [] more others lh lk th tk a b e = (refl, e)
 journal_told p [] (d ∷ ds) more others lh lk th tk a b e =
@@ -158,7 +158,7 @@ item_begins P v (item.Entered step id) more h = h
 abbrev pub Item : Type 0
 Item = ℕ × LogItem
 
-abbrev of_vehicle : ℕ → List LogItem → List Item
+abbrev pub of_vehicle : ℕ → List LogItem → List Item
 of_vehicle v [] = []
 of_vehicle v (x ∷ xs) = (v, x) ∷ of_vehicle v xs
 
@@ -192,7 +192,7 @@ logs_are_items (x ∷ xs) each =
     let its = All-head IsLog x xs each in
     log_are_items x.0 x.1 (all_items xs) its.vehicle its.items (logs_are_items xs (All-tail IsLog x xs each))
 
-items_begin : (P : ℕ → Type 0) (xs : List Item) (more : List ℕ) → P 108 → Begins P more → Begins P (item_lines xs ++ more)
+pub items_begin : (P : ℕ → Type 0) (xs : List Item) (more : List ℕ) → P 108 → Begins P more → Begins P (item_lines xs ++ more)
 items_begin P [] more p h = h
 items_begin P (x ∷ xs) more p h = Begins-append P (item_line x.0 x.1 ++ item_lines xs) more (item_begins P x.0 x.1 (item_lines xs) p)
 
@@ -202,7 +202,7 @@ other_line x xs more h =
     let first : Begins P (item_lines (x ∷ xs) ++ more) = Begins-append P (item_lines (x ∷ xs)) more (item_begins P x.0 x.1 (item_lines xs) refl) in
     Begins-both P (λ b. b ≢ 108) (item_lines (x ∷ xs) ++ more) (λ b is not. not is) first h
 
-items_told : (xs ys : List Item) (more others : List ℕ) → AreItems xs → AreItems ys → Begins (λ b. b ≢ 108) more → Begins (λ b. b ≢ 108) others
+pub items_told : (xs ys : List Item) (more others : List ℕ) → AreItems xs → AreItems ys → Begins (λ b. b ≢ 108) more → Begins (λ b. b ≢ 108) others
     → item_lines xs ++ more ≡ item_lines ys ++ others → xs ≡ ys
 items_told [] [] more others a b c d e = refl
 items_told [] (y ∷ ys) more others a b c d e = absurd (other_line y ys others (subst (Begins (λ b. b ≢ 108)) e c))
@@ -217,7 +217,7 @@ items_told (x ∷ xs) (y ∷ ys) more others a b c d e =
 
 -- the log of a vehicle is that of its items
 
-abbrev items_of : ℕ → List Item → List LogItem
+abbrev pub items_of : ℕ → List Item → List LogItem
 items_of v [] = []
 items_of v (x ∷ xs) = if x.0 == v then x.1 ∷ items_of v xs else items_of v xs
 
@@ -234,7 +234,7 @@ no_items v [] each = refl
 no_items v (x ∷ xs) each =
     other_items v x.0 x.1 (all_items xs) (ne_eqb x.0 v (All-head (λ (x : Logged). x.0 ≢ v) x xs each)) ∙ no_items v xs (All-tail (λ (x : Logged). x.0 ≢ v) x xs each)
 
-log_is : (logs : List Logged) (v : ℕ) → AllPairs (λ (x y : Logged). x.0 ≢ y.0) logs → log_in logs v ≡ items_of v (all_items logs)
+pub log_is : (logs : List Logged) (v : ℕ) → AllPairs (λ (x y : Logged). x.0 ≢ y.0) logs → log_in logs v ≡ items_of v (all_items logs)
 log_is [] v apart = refl
 log_is (x ∷ xs) v apart = elim (cases_Bool (x.0 == v)) [
   | inl is ↦
@@ -249,7 +249,7 @@ stays_begin : (P : ℕ → Type 0) (v : ℕ) (ss : List Stay) (more : List ℕ) 
 stays_begin P v [] more p h = h
 stays_begin P v (s ∷ ss) more p h = p
 
-tiles_begin : (P : ℕ → Type 0) (i : Intersection) (h : List Entry) (logs : List Logged) (more : List ℕ) → P 116 → Begins P more → Begins P (all_tiles i h logs ++ more)
+pub tiles_begin : (P : ℕ → Type 0) (i : Intersection) (h : List Entry) (logs : List Logged) (more : List ℕ) → P 116 → Begins P more → Begins P (all_tiles i h logs ++ more)
 tiles_begin P i h [] more p b = b
 tiles_begin P i h (x ∷ xs) more p b =
     subst (Begins P) (sym (append_assoc (tile_lines i h x.0 x.1) (all_tiles i h xs) more))

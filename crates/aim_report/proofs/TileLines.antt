@@ -41,13 +41,13 @@ line_first (b ∷ s) more one =
     let parts = or_parts (b == 10) (list_any (λ c. c == 10) s) one in
     rw (parts.0, line_first s more parts.1) refl
 
-lines_begin : (s more : List ℕ) → IsOneLine s → lines_of (printed s ++ more) ≡ s ∷ lines_of more
+pub lines_begin : (s more : List ℕ) → IsOneLine s → lines_of (printed s ++ more) ≡ s ∷ lines_of more
 lines_begin s more one = ap lines_of (append_assoc s (10 ∷ []) more) ∙ line_first s more one
 
-entry_begins : (p : ℕ) (e : Entry) → Is32 p → Begins (λ b. b ≤ 57) (entry_text p e)
+pub entry_begins : (p : ℕ) (e : Entry) → Is32 p → Begins (λ b. b ≤ 57) (entry_text p e)
 entry_begins p e small = Begins-append (λ b. b ≤ 57) (decimal p) (32 ∷ spaced (rest (entry_words p e))) (number_low p small)
 
-item_begins_so : (v : ℕ) (x : LogItem) → Begins (λ b. b ≡ 108) (spaced (item_words v x))
+pub item_begins_so : (v : ℕ) (x : LogItem) → Begins (λ b. b ≡ 108) (spaced (item_words v x))
 item_begins_so v (item.Sent step m) = refl
 item_begins_so v (item.Got step seq r) = refl
 item_begins_so v (item.Entered step id) = refl
@@ -63,7 +63,7 @@ end_or_tiles b end is = absurd (omega arith)
 
 -- the words of a stay
 
-stay_are_words : (v : ℕ) (s : Stay) → Is32 v → IsStay s → AreWords (stay_words v s)
+pub stay_are_words : (v : ℕ) (s : Stay) → Is32 v → IsStay s → AreWords (stay_words v s)
 stay_are_words v s small r = (refl, (w32 v small, (w8 s.row r.row, (w8 s.col r.col, (w32 s.first r.first, (w32 s.last r.last, tt))))))
 
 stay_back : (v : ℕ) (s : Stay) → Is32 v → IsStay s → words_of (spaced (stay_words v s)) ≡ stay_words v s
@@ -168,7 +168,7 @@ module _ (t : List ℕ) (tiles : Begins (λ b. b ≡ 116) t) where
         ]
 
 -- what holds of all holds of one
-of_all : {A : Type 0} (P : A → Type 0) (xs : List A) (x : A) → All P xs → IsIn x xs → P x
+pub of_all : {A : Type 0} (P : A → Type 0) (xs : List A) (x : A) → All P xs → IsIn x xs → P x
 of_all P [] x each m = absurd m
 of_all P (y ∷ ys) x each (inl is) = subst P (sym is) (All-head P y ys each)
 of_all P (y ∷ ys) x each (inr m) = of_all P ys x (All-tail P y ys each) m
@@ -177,7 +177,7 @@ module _ (i : Intersection) (h : List Entry) (logs : List Logged) (rows : i.grid
   is_on_it : (x : Logged) (s : Stay) (c : Cell) → IsIn s (stays (occupied_cells i h x.1)) → Covers s c → is_occupied i h x.1 c ≡ true
   is_on_it x s c m v = (list_has i h x.1 c).0 (stay_has (occupied_cells i h x.1) s c (list_rises i h x.1) m v)
 
-  is_stay : (x : Logged) (s : Stay) → IsIn x logs → IsIn s (stays (occupied_cells i h x.1)) → IsStay s
+  pub is_stay : (x : Logged) (s : Stay) → IsIn x logs → IsIn s (stays (occupied_cells i h x.1)) → IsStay s
   is_stay x s there m =
       let order = stay_order (occupied_cells i h x.1) s m in
       let enters = of_all (λ (y : Logged). EntersBy 2147483648 y.1) logs x on.enters there in
