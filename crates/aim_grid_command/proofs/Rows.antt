@@ -1,8 +1,10 @@
 -- Worked rows: what is printed of two crossings, of a script in which nobody has a leg, and of scripts that aren't whole.
-use Rattle.std.proofs.Common.{◌≡◌, inl, inr, ℕ, zero, suc, List, [], ◌∷◌, ◌++◌, codes, Some, None, refl, sym, ap, subst, arith}
+use Rattle.std.proofs.Common.{◌≡◌, inl, inr, ℕ, zero, suc, ◌<◌, ◌≤◌, true, true≢false, List, [], ◌∷◌, ◌++◌, length, codes, Some, None, refl, sym, ap, ◌∙◌, subst, arith}
 use Rattle.std.specs.Prelude.{slice_get}
 use Rattle.std.specs.Fmt.{digits}
 use Rattle.std.specs.Option.{unwrap_or}
+use Rattle.std.proofs.lemmas.Bool.{leb-true}
+use Rattle.std.proofs.lemmas.List.Elements.{All-nil, All-cons}
 use Rattle.aim_script_reading.specs.Commands.{Completes, Shows, ShowsFront, Streams}
 use Rattle.aim_io.specs.Lines.{outcomes_from}
 use Rattle.aim_messages.specs.declared.messages.Body.{Body}
@@ -11,11 +13,19 @@ use Rattle.aim_messages.specs.declared.entries.Act.TheVariants as act
 use Rattle.aim_messages.specs.declared.entries.Entry.{Entry}
 use Rattle.aim_messages.specs.declared.replies.Reply.{Reply}
 use Rattle.aim_messages.specs.declared.replies.Reply.TheVariants as reply
+use Rattle.aim_geometry.specs.Cells.{Cell}
 use Rattle.aim_layout.specs.Intersection.{Intersection}
+use Rattle.aim_rules.specs.Cells.{IsIn}
 use Rattle.aim_rules.proofs.Rows.{small}
 use Rattle.aim_driver.specs.declared.logs.LogItem.TheVariants as item
 use Rattle.aim_driver.proofs.Rows.{car, sent, granted}
 use Rattle.aim_driver.proofs.SmallFacts.{none_some}
+use Rattle.aim_driver.specs.Fits.{entries_of}
+use Rattle.aim_safety.specs.Occupied.{is_occupied}
+use Rattle.aim_safety.specs.Tiles.{EntersBy}
+use Rattle.aim_report.specs.Apart.{AreOnOwnTiles}
+use Rattle.aim_report.specs.Told.{AreTold, IsItem, IsLog, IsTold}
+use Rattle.aim_drive_command.specs.Ordered.{in_order}
 use Rattle.aim_script.specs.declared.decisions.Kind.TheVariants as why
 use Rattle.aim_script.specs.declared.decisions.Limit.TheVariants as limit
 use Rattle.aim_script.specs.Said.{layout_of}
@@ -26,6 +36,8 @@ use Rattle.aim_grid_script.specs.declared.decisions.GridKind.TheVariants as kind
 use Rattle.aim_grid.specs.Runs.{IsRunOf}
 use Rattle.aim_grid_command.specs.Texts.{crossings_text, grid_report}
 use Rattle.aim_grid_command.specs.Commands.{IsText, IsTextOf, status_for}
+use Rattle.aim_grid_command.specs.Tiles.{TilesAreApartAt, TilesAreOwnAt, lines_at}
+use Rattle.aim_grid_command.proofs.Sections.{IsGood, Section, at_crossing, tiles_apart, tiles_own}
 
 -- texts, each as a line
 abbrev lines : List (List ℕ) → List ℕ
@@ -113,11 +125,89 @@ nobody_goes i j vehicles until = record {
   there = λ c xs at. nothing_in c xs at;
 }
 
+-- the reports of crossings at which nobody did anything tell that, and no tile
+
+nothing_told : AreTold [] ((0, []) ∷ [])
+nothing_told = record {
+  few = omega arith;
+  entries = All-nil IsTold;
+  own = All-cons IsLog (0, []) [] (record { vehicle = omega arith; items = All-nil IsItem }) (All-nil IsLog);
+  one_each = λ j k d lt l. absurd (omega arith);
+}
+
+nobody_on : (i : Intersection) (x : VehicleLog) (c : Cell) → IsIn x ((0, []) ∷ []) → is_occupied i [] x.1 c ≡ true → ⊥
+nobody_on i x c (inl is) on = true≢false (sym on ∙ ap (λ (y : VehicleLog). is_occupied i [] y.1 c) is)
+nobody_on i x c (inr none) on = none
+
+nothing_on : (i : Intersection) → AreOnOwnTiles i [] ((0, []) ∷ [])
+nothing_on i = record {
+  enters = All-cons (λ (x : VehicleLog). EntersBy 2147483648 x.1) (0, []) [] tt (All-nil (λ (x : VehicleLog). EntersBy 2147483648 x.1));
+  apart = λ x y c mx my ne on. absurd (nobody_on i x c mx on);
+  own = λ x c m on. absurd (nobody_on i x c m on);
+}
+
+nobody_good : (i : Intersection) → i.grid.n ≤ 64 → IsGood i [] ((0, []) ∷ [])
+nobody_good i rows = record { rows = rows; told = nothing_told; on = nothing_on i }
+
+nobody_told : (c : ℕ) (h : List Entry) (xs : List VehicleLog) → slice_get ([] ∷ [] ∷ []) c ≡ Some h → slice_get ([] ∷ [] ∷ []) c ≡ Some xs → AreTold h (in_order 1 xs)
+nobody_told c h xs at there = subst (λ (g : List Entry). AreTold g (in_order 1 xs)) (sym (nothing_in c h at)) (subst (λ (ls : List VehicleLog). AreTold [] (in_order 1 ls)) (sym (nothing_in c xs there)) nothing_told)
+
+nobody_at : (i j : Intersection) → i.grid.n ≤ 64 → j.grid.n ≤ 64 → (c : ℕ) → c < 2 → Section 1 0 c (i ∷ j ∷ []) ([] ∷ [] ∷ []) ([] ∷ [] ∷ []) (grid_report (i ∷ j ∷ []) 1 ([] ∷ [] ∷ []) ([] ∷ [] ∷ []))
+nobody_at i j first second c lt = at_crossing 1 c 0 (i ∷ j ∷ []) ([] ∷ [] ∷ []) ([] ∷ [] ∷ []) refl refl (nobody_good i first, (nobody_good j second, tt)) (omega arith) (omega arith) lt
+
+nobody_apart : (i j : Intersection) → i.grid.n ≤ 64 → j.grid.n ≤ 64 → (c : ℕ) → c < 2 → TilesAreApartAt c (grid_report (i ∷ j ∷ []) 1 ([] ∷ [] ∷ []) ([] ∷ [] ∷ []))
+nobody_apart i j first second c lt = tiles_apart 1 c (i ∷ j ∷ []) ([] ∷ [] ∷ []) ([] ∷ [] ∷ []) _ (nobody_at i j first second c lt)
+
+nobody_own : (i j : Intersection) → i.grid.n ≤ 64 → j.grid.n ≤ 64 → (c : ℕ) (k : Intersection) (h : List Entry) → slice_get (i ∷ j ∷ []) c ≡ Some k → slice_get ([] ∷ [] ∷ []) c ≡ Some h → TilesAreOwnAt k h c (grid_report (i ∷ j ∷ []) 1 ([] ∷ [] ∷ []) ([] ∷ [] ∷ []))
+nobody_own i j first second c k h layout at = tiles_own 1 c (i ∷ j ∷ []) ([] ∷ [] ∷ []) ([] ∷ [] ∷ []) _ (nobody_at i j first second c (two_of c h at)) k h layout at
+  where
+    two_of : (c : ℕ) (h : List Entry) → slice_get ([] ∷ [] ∷ []) c ≡ Some h → c < 2
+    two_of zero h at = omega arith
+    two_of (suc zero) h at = omega arith
+    two_of (suc (suc c)) h at = none_some h at
+
+nobody_short : (c : ℕ) (h : List Entry) → slice_get ([] ∷ [] ∷ []) c ≡ Some h → (v : ℕ) → length (entries_of h v) ≤ 128
+nobody_short c h at v = subst (λ (g : List Entry). length (entries_of g v) ≤ 128) (sym (nothing_in c h at)) (omega arith)
+
+-- the lines of a crossing are those up to the next crossing or the end
+
+abbrev marked : List ℕ
+marked = lines (codes "crossing 0" ∷ codes "tiles 3 1 0 11 15" ∷ codes "crossing 1" ∷ codes "tiles 4 1 0 11 15" ∷ codes "tiles 5 2 0 11 15" ∷ codes "end 0" ∷ [])
+
+pub lines_of_the_first : lines_at 0 marked ≡ codes "tiles 3 1 0 11 15" ∷ []
+unfolding digits
+lines_of_the_first = refl
+
+pub lines_of_the_last : lines_at 1 marked ≡ codes "tiles 4 1 0 11 15" ∷ codes "tiles 5 2 0 11 15" ∷ []
+unfolding digits
+lines_of_the_last = refl
+
+pub lines_of_no_crossing : lines_at 10 marked ≡ []
+unfolding digits
+lines_of_no_crossing = refl
+
+-- on the tile of one step two vehicles may be at two crossings, and at one crossing they may not
+pub one_tile_at_one_crossing : TilesAreApartAt 0 (lines (codes "crossing 0" ∷ codes "tiles 3 1 0 11 15" ∷ codes "tiles 4 1 0 15 17" ∷ codes "end 0" ∷ [])) → ⊥
+unfolding digits
+one_tile_at_one_crossing apart =
+    apart 3 4 (record { row = 1; col = 0; step = 15 }) (λ e. absurd (omega (arith, e)))
+    (record { stay = record { row = 1; col = 0; first = 11; last = 15 }; vehicle = omega arith; values = record { row = omega arith; col = omega arith; first = omega arith; last = omega arith }; line = inl refl; covers = record { row = refl; col = refl; after = omega arith; before = omega arith } })
+    (record { stay = record { row = 1; col = 0; first = 15; last = 17 }; vehicle = omega arith; values = record { row = omega arith; col = omega arith; first = omega arith; last = omega arith }; line = inr (inl refl); covers = record { row = refl; col = refl; after = omega arith; before = omega arith } })
+
 pub whole_shown : Shows IsText status_for (two ++ codes "end\n") (Some (codes "so ")) (Some (codes "so crossing 0\ncrossing 1\nend 0\n")) 0
 unfolding digits outcomes_from layout_of
 whole_shown = record {
   text = codes "crossing 0\ncrossing 1\nend 0\n";
-  is = record { journals = [] ∷ [] ∷ []; logs = [] ∷ [] ∷ []; run = nobody_goes _ _ _ _; is = refl };
+  is = record {
+    journals = [] ∷ [] ∷ [];
+    logs = [] ∷ [] ∷ [];
+    run = nobody_goes _ _ _ _;
+    is = refl;
+    told = nobody_told;
+    apart = nobody_apart small small (leb-true small.grid.n 64 refl) (leb-true small.grid.n 64 refl);
+    own = nobody_own _ _ (leb-true _ 64 refl) (leb-true _ 64 refl);
+    short = nobody_short;
+  };
   written = refl;
   status = refl;
 }

@@ -1,4 +1,6 @@
 pub mod Texts
+pub mod Tiles
+pub mod Values
 pub mod Refusals
 pub mod Commands
 pub mod Endings

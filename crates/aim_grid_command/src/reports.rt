@@ -4,16 +4,19 @@ ghost use Rattle.std.specs.Prelude.{◌≡◌, ◌++◌, ◌≤◌, All, IfOk, O
 ghost use Rattle.std.specs.List.{sum_by};
 ghost use Rattle.aim_messages.specs.Texts.{spaced};
 ghost use Rattle.aim_script.specs.Decided.{printed};
+ghost use Rattle.aim_layout.specs.Valid.{IsValid};
 ghost use Rattle.aim_safety.specs.Tiles.{EntersBy};
+ghost use Rattle.aim_report.specs.Told.{IsItem};
 ghost use Rattle.aim_grid.specs.Drove.{Drove};
 ghost use Rattle.aim_grid.specs.Runs.{journal_left, logs_left};
 ghost use Rattle.aim_grid_command.specs.Texts.{crossing_text, crossing_words, crossings_text, grid_report};
+ghost use Rattle.aim_grid_command.specs.Values.{HasValues};
 
 use aim_drive_command::{put_all_tiles, put_logs};
-use aim_grid::Drove;
+use aim_grid::{Drove, Logged};
 use aim_layout::Layout;
 use aim_messages::Text;
-use aim_report::{NoMemory, put_end, put_entries};
+use aim_report::{NoMemory, entries_fit, items_fit, put_end, put_entries};
 use std::alloc::Global;
 
 // Appends the line that begins a crossing.
@@ -81,7 +84,43 @@ fn entries_of(left: &[Drove]) -> u32
     entries
 }
 
-/// The text that reports a run of so many vehicles over these crossings.
+// The items of all logs have the values of their types.
+fn logs_fit(logs: &[Logged])
+    ensures { All (λ l. All IsItem l.driver.log) logs.now }
+{
+    for logged in logs {
+        items_fit(logged.driver.log());
+    }
+}
+
+// The journal and the logs of a crossing have the values of their types.
+fn drove_fits(drove: &Drove)
+    ensures { HasValues drove.now }
+{
+    entries_fit(&drove.journal);
+    logs_fit(&drove.logs);
+}
+
+// Those of all crossings have.
+fn all_fit(left: &[Drove])
+    ensures { All HasValues left.now }
+{
+    for drove in left {
+        drove_fits(drove);
+    }
+}
+
+// Each layout is valid. This is a law: the call does nothing.
+fn layouts_are_valid(layouts: &[Layout])
+    ensures { All IsValid layouts.now }
+{
+    for layout in layouts {
+        let _ = layout.ground();
+    }
+}
+
+/// The text that reports a run of so many vehicles over these crossings. Their entries and items have the values of their
+/// types, so the text tells them.
 pub(crate) fn report_of(
     alloc: Global,
     layouts: &[Layout],
@@ -92,8 +131,12 @@ pub(crate) fn report_of(
     requires crossings { length left.now ≤ 8 }
     requires few { All (λ d. length d.journal.items ≤ 32769) left.now }
     requires enters { All (λ d. All (λ l. EntersBy 2147483648 l.driver.log) d.logs.items) left.now }
-    ensures { IfOk result (λ text. text.items ≡ grid_report layouts.now vehicles (map journal_left left.now) (map logs_left left.now)) }
+    ensures text { IfOk result (λ text. text.items ≡ grid_report layouts.now vehicles (map journal_left left.now) (map logs_left left.now)) }
+    ensures values { All HasValues left.now }
+    ensures valid { All IsValid layouts.now }
 {
+    all_fit(left);
+    layouts_are_valid(layouts);
     let mut text = Vec::new(alloc);
     put_crossings(alloc, &mut text, layouts, vehicles, left)?;
     put_end(&mut text, entries_of(left))?;
