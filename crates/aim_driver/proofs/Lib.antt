@@ -16,3 +16,4 @@ pub mod BeginLemmas
 pub mod CountLemmas
 pub mod HearLemmas
 pub mod IdleLemmas
+pub mod InTime

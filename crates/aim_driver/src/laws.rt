@@ -1,6 +1,6 @@
 //! Laws of links and of drivers, each the contract of a function that does nothing.
 
-ghost use Rattle.std.specs.Prelude.{◌≡◌, ◌↔◌, ℕ, Some, None, ◌-◌, ◌≤◌, true, List, length, reverse};
+ghost use Rattle.std.specs.Prelude.{◌≡◌, ◌↔◌, ℕ, Some, None, ◌+◌, ◌-◌, ◌<◌, ◌≤◌, false, true, List, [], ◌∷◌, ◌++◌, length, reverse};
 ghost use Rattle.aim_driver.specs.Links.{LinkModel, next_place, IsNext, NoneComes};
 ghost use Rattle.aim_messages.specs.declared.entries.Entry.{Entry};
 ghost use Rattle.aim_driver.specs.declared.plans.DrivePlan.{DrivePlan};
@@ -8,9 +8,14 @@ ghost use Rattle.aim_driver.specs.declared.links.Fate.{Fate};
 ghost use Rattle.aim_messages.specs.declared.replies.Reply.{Reply};
 ghost use Rattle.aim_driver.specs.Follows.{turns, course, follows_from, follows};
 ghost use Rattle.aim_driver.specs.declared.logs.LogItem.{LogItem};
-ghost use Rattle.aim_driver.specs.Logs.{Crossing};
-ghost use Rattle.aim_driver.specs.Keeps.{keeps};
-ghost use Rattle.aim_driver.specs.Rules.{entrance};
+ghost use Rattle.aim_messages.specs.declared.messages.Body.TheVariants as body;
+ghost use Rattle.aim_driver.specs.declared.logs.Entrance.{Entrance};
+ghost use Rattle.aim_driver.specs.declared.logs.LogItem.TheVariants as item;
+ghost use Rattle.aim_driver.specs.declared.logs.Window.{Window};
+ghost use Rattle.aim_driver.specs.Logs.{Crossing, active, granted, has_stopped, latest};
+ghost use Rattle.aim_driver.specs.Keeps.{is_over, keeps};
+ghost use Rattle.aim_driver.specs.Rules.{entrance, is_done_sent, is_open, number, sendings};
+ghost use Rattle.aim_driver.specs.Turns.{State, begun, hears_all};
 ghost use Rattle.aim_driver.specs.Fits.{AreCallsOf, replies_of, HasReply, Fits};
 ghost use Rattle.aim_driver.specs.Crossings.{crossing_of, first_entrance, CrossesAsGranted};
 
@@ -70,4 +75,23 @@ pub fn what_follows_keeps_the_rules()
 pub fn follows_few_calls()
     ensures { (plan : DrivePlan) (up down : List Fate) (first until : ℕ) (replies : List Reply) →
         length (follows_from plan up down first until replies).1 ≤ 128 }
+{}
+
+/// Who is told in time crosses: a driver that is active within its window, and heard no EmergencyStop, enters in that
+/// turn.
+pub fn who_is_told_in_time_crosses()
+    ensures { (plan : DrivePlan) (step id : ℕ) (w : Window) (s : State) →
+        (let past = reverse (hears_all step s).log in
+        entrance past ≡ None → active past ≡ Some id → granted past id ≡ Some w → has_stopped past ≡ false →
+        is_open plan (Some w) step ≡ true →
+        crossing_of (begun plan step s).log ≡ Some (record { step = step; id = id; window = Some w })) }
+{}
+
+/// Who is past its crossing says so: in that turn it sends DONE, unless it has sent its 64 messages.
+pub fn who_is_past_its_crossing_is_done()
+    ensures { (plan : DrivePlan) (step : ℕ) (e : Entrance) (w : Window) (s : State) →
+        (let past = reverse (hears_all step s).log in
+        entrance past ≡ Some e → granted past e.id ≡ Some w → is_done_sent past ≡ false → sendings past < 64 →
+        is_over e.step w step ≡ true →
+        (begun plan step s).log ≡ (hears_all step s).log ++ item.Sent step (record { seq = number (latest past) + 1; body = body.Done e.id }) ∷ []) }
 {}
