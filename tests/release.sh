@@ -104,8 +104,7 @@ judge 'the first command of its man page' "$first" "$(inside sh -c "$command" 2>
 judge 'a drive' same "$(inside sh -c 'aim drive 1 < /usr/share/doc/aim/examples/lossy.aim' | cmp - examples/lossy.out && echo same)"
 judge 'its help' "$("$AIM_PROGRAM" help | head -n 1)" "$(inside aim help | head -n 1)"
 judge 'its version' "$("$AIM_PROGRAM" version)" "$(inside aim --version)"
-judge 'its library for C' /usr/lib/libaim.so.1 \
-  "$(inside /lib64/ld-linux-x86-64.so.2 --verify /usr/lib/libaim.so.1 && ls "$tree/usr/lib/libaim.so.1" | sed "s|^$tree||")"
+judge 'its library for C' 'loads' "$(inside /lib64/ld-linux-x86-64.so.2 --list /usr/lib/libaim.so.1 > /dev/null && echo loads)"
 judge 'its examples' "$(ls examples)" "$(ls "$tree/usr/share/doc/aim/examples")"
 judge 'its removal' 'status 0' "$(inside apt-get purge -y aim > "$work/told" 2>&1; printf 'status %s' $?)"
 files > "$work/after"
