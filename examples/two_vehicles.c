@@ -1,6 +1,6 @@
 /* Two vehicles cross a small crossing one after the other. The second asks again where it is refused.
-     tools/library.sh /tmp/aim
-     cc examples/two_vehicles.c -I/tmp/aim/include -L/tmp/aim/lib -laim -Wl,-rpath,/tmp/aim/lib && ./a.out */
+     tools/library.sh dist/library
+     cc examples/two_vehicles.c -Idist/library/include -Ldist/library/lib -laim -Wl,-rpath,dist/library/lib && ./a.out */
 #include <aim.h>
 #include <stdio.h>
 #include <stdlib.h>

@@ -1,7 +1,7 @@
 """Two vehicles cross one after the other, and the tiles that they hold are drawn, step by step.
 
-    tools/library.sh /tmp/aim
-    AIM_LIBRARY=/tmp/aim/lib/libaim.so.1 PYTHONPATH=python python3 python/examples/chart.py
+    tools/library.sh dist/library
+    AIM_LIBRARY=dist/library/lib/libaim.so.1 PYTHONPATH=python python3 python/examples/chart.py
 """
 
 from aim import Confirm, Crossing, Done, Layout, Line, Move, Policy, Request, Session
