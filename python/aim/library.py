@@ -39,7 +39,7 @@ class Row(ctypes.Structure):
     _fields_ = [("held", ctypes.c_uint64), ("claimed", ctypes.c_uint64), ("columns", ctypes.c_uint64)]
 
 
-class Word(ctypes.Structure):
+class FaultWord(ctypes.Structure):
     """`aim_word`."""
 
     _fields_ = [("length", ctypes.c_uint32), ("text", ctypes.c_char * 12)]
@@ -54,7 +54,7 @@ _CALLS = {
     "aim_session_stage": (ctypes.c_uint32, [ctypes.c_void_p]),
     "aim_session_chart_row": (Row, [ctypes.c_void_p, ctypes.c_uint32, ctypes.c_uint32]),
     "aim_session_end": (None, [ctypes.c_void_p]),
-    "aim_fault_text": (Word, [ctypes.c_uint32]),
+    "aim_fault_text": (FaultWord, [ctypes.c_uint32]),
 }
 
 

@@ -167,7 +167,7 @@ class Texts(unittest.TestCase):
         self.assertEqual(ctypes.sizeof(library.ReplyNumbers), 72)
         self.assertEqual(ctypes.sizeof(library.Answer), 24 + 72 + 400)
         self.assertEqual(ctypes.sizeof(library.Row), 24)
-        self.assertEqual(ctypes.sizeof(library.Word), 16)
+        self.assertEqual(ctypes.sizeof(library.FaultWord), 16)
 
     def test_a_library_that_is_not_there(self):
         words = [sys.executable, "-c", "import aim; aim.Session()"]

@@ -9,7 +9,7 @@ ghost use Rattle.aim_text_session.specs.Words.{word_of};
 ghost use Rattle.aim_text_session.specs.contracts.sessions.TextSession.{the_row};
 ghost use Rattle.aim_c.specs.Handle.{answered, charted, counted, fresh, staged};
 
-use aim_text_session::{Answer, RowMasks, TextSession, Word, fault_word};
+use aim_text_session::{Answer, RowMasks, TextSession, FaultWord, fault_word};
 use std::alloc::Global;
 use std::mem::size_of;
 
@@ -91,7 +91,7 @@ pub unsafe extern "C" fn aim_session_end(at: *mut u8)
 
 /// The word of the number of a fault or a limit; an empty one for another number.
 #[unsafe(no_mangle)]
-pub extern "C" fn aim_fault_text(fault: u32) -> Word
+pub extern "C" fn aim_fault_text(fault: u32) -> FaultWord
     ensures { take result.length result.text ≡ word_of fault }
 {
     fault_word(fault)

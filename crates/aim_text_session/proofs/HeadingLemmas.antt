@@ -29,17 +29,17 @@ use Rattle.aim_line_session.proofs.QuietLemmas.{limit_is, passes, quiet_begin, q
 use Rattle.aim_line_session.proofs.SessionLemmas.{falls, goes}
 use Rattle.aim_text_session.specs.declared.headings.Advance.{Advance}
 use Rattle.aim_text_session.specs.declared.headings.Reached.{Reached}
-use Rattle.aim_text_session.specs.declared.responses.Response.{Response}
+use Rattle.aim_text_session.specs.declared.outcomes.LineOutcome.{LineOutcome}
 use Rattle.aim_text_session.specs.Headings.{AreCounted, AreHeard, Begins, IsHeading, IsHeard, IsReached, IsSettled, Leads, said, standing_of}
 use Rattle.aim_text_session.specs.Sessions.{Comes, InBody, InHeader, IsTaken, Standing, judged, reads_text}
 
 -- what is reached, and what is told of it
-pub leads : (before : List Line) (bytes : List ℕ) (old : Standing) (s : Advance) (r : Reached) (told : Response) (new : Standing) → s.reached ≡ r → s.response ≡ told → standing_of r ≡ new → Comes before bytes old new told → IsReached r
+pub leads : (before : List Line) (bytes : List ℕ) (old : Standing) (s : Advance) (r : Reached) (told : LineOutcome) (new : Standing) → s.reached ≡ r → s.outcome ≡ told → standing_of r ≡ new → Comes before bytes old new told → IsReached r
     → Leads before bytes old s
-leads before bytes old s r told new reached response stands comes kept =
+leads before bytes old s r told new reached outcome stands comes kept =
     let there : standing_of s.reached ≡ new = ap standing_of reached ∙ stands in
     record {
-      comes = subst (λ (t : Response). Comes before bytes old (standing_of s.reached) t) (sym response) (subst (λ (n : Standing). Comes before bytes old n told) (sym there) comes);
+      comes = subst (λ (t : LineOutcome). Comes before bytes old (standing_of s.reached) t) (sym outcome) (subst (λ (n : Standing). Comes before bytes old n told) (sym there) comes);
       kept = subst IsReached (sym reached) kept;
     }
 
@@ -79,12 +79,12 @@ pub header_added : (lines : List Line) (l : Line) (bytes : List ℕ) (old new : 
 header_added lines l bytes old new all named is st (kind, silent, next) =
     let empty : journal_so_far (lines ++ l ∷ []) ≡ [] = quiet_header (lines ++ l ∷ []) new next in (
       record { line = l; goes = is ∙ goes lines l kind (no_limit lines l silent); stands = refl; makes = empty ∙ sym (quiet_header lines old st) },
-      record { heard = heard_more lines l all (record { kind = kind; vehicles = silent; named = named }); counted = tt; kept = next; quiet = empty },
+      record { heard = heard_more lines l all (record { kind = kind; vehicles = silent; named = named }); counted = tt; kept = next; quiet = empty; over = next.place.over },
     )
 
 -- a header whose lines stay
 pub header_stays : (lines : List Line) (old : Header) → AreHeard lines → StandsAsHeader lines old → IsHeading lines None None
-header_stays lines old all st = record { heard = all; counted = tt; kept = tt; quiet = quiet_header lines old st }
+header_stays lines old all st = record { heard = all; counted = tt; kept = tt; quiet = quiet_header lines old st; over = st.place.over }
 
 vehicles_line : (l : Line) (n : ℕ) → vehicles_in l ≡ Some n → l ≡ line.Vehicles n
 vehicles_line (line.Vehicles m) n is = ap line.Vehicles (some_same m n is)
@@ -107,6 +107,7 @@ vehicles_counted lines l bytes old s n all is st (kind, counted, set) spans with
         counted = subst (λ x. of_read lines (Ok x) ≡ goes_on x) same goes;
         kept = tt;
         quiet = subst (λ x. journal_so_far (lines ++ x ∷ []) ≡ []) same empty;
+        over = rw (last_of_more lines (line.Vehicles s.vehicles)) refl;
       },
     )
 

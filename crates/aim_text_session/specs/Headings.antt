@@ -1,13 +1,14 @@
 -- The lines of a session before `begin`.
 -- No public clause cites it: only contracts of private functions, and the invariant of a session.
-use Rattle.std.specs.Prelude.{◌≡◌, ℕ, List, [], ◌∷◌, ◌++◌, take, slice_get, Option, Some, None, IfSome, Ok}
+use Rattle.std.specs.Prelude.{◌≡◌, ℕ, false, List, [], ◌∷◌, ◌++◌, take, slice_get, Option, Some, None, IfSome, Ok}
 use Rattle.aim_messages.specs.declared.script.Line.{Line}
 use Rattle.aim_messages.specs.declared.script.Line.TheVariants as line
 use Rattle.aim_script.specs.declared.headers.Header.{Header}
 use Rattle.aim_script.specs.declared.settings.Setting.{Setting}
 use Rattle.aim_script.specs.Headers.{HasName, IsSet, Stands as StandsAsHeader}
 use Rattle.aim_script.specs.Kinds.{kind_of_fault, vehicles_limit}
-use Rattle.aim_script.specs.Said.{vehicles_in}
+use Rattle.aim_script.specs.Order.{is_end}
+use Rattle.aim_script.specs.Said.{last_of, vehicles_in}
 use Rattle.aim_script.specs.Verdicts.{of_read, goes_on}
 use Rattle.aim_line_session.specs.declared.progress.Progress.{Progress}
 use Rattle.aim_line_session.specs.Sessions.{Stands as StandsAsSession, journal_so_far}
@@ -35,12 +36,13 @@ abbrev pub said : List Line → Option ℕ → List Line
 said lines None = lines
 said lines (Some n) = lines ++ line.Vehicles n ∷ []
 
--- a header takes each of the lines, that of the vehicles goes on behind them, and what is kept is the header of the lines
+-- a header takes each of the lines, that of the vehicles goes on behind them, and what is kept is the header of the lines; none of them is `end`
 pub record IsHeading (lines : List Line) (vehicles : Option ℕ) (header : Option Header) : Type 0 where
   pub heard : AreHeard lines
   pub counted : IfSome vehicles (AreCounted lines)
   pub kept : IfSome header (StandsAsHeader lines)
   pub quiet : journal_so_far (said lines vehicles) ≡ []
+  pub over : is_end (last_of (said lines vehicles)) ≡ false
 
 -- how far a session has come
 abbrev pub standing_of : Reached → Standing
@@ -53,7 +55,7 @@ IsReached (reached.Body p) = Unit {0}
 
 -- what a line comes to, and what is kept then is in order
 pub record Leads (before : List Line) (bytes : List ℕ) (old : Standing) (s : Advance) : Type 0 where
-  pub comes : Comes before bytes old (standing_of s.reached) s.response
+  pub comes : Comes before bytes old (standing_of s.reached) s.outcome
   pub kept : IsReached s.reached
 
 -- the setting is what the lines say, and so many vehicles, which are not too many

@@ -16,8 +16,8 @@ use Rattle.aim_script.specs.declared.decisions.Limit.TheVariants as limit
 use Rattle.aim_line_session.specs.declared.progress.Answered.{Answered}
 use Rattle.aim_text_session.specs.declared.answers.Answer.{Answer}
 use Rattle.aim_text_session.specs.declared.answers.ReplyNumbers.{ReplyNumbers}
-use Rattle.aim_text_session.specs.declared.responses.Response.{Response}
-use Rattle.aim_text_session.specs.declared.responses.Response.TheVariants as response
+use Rattle.aim_text_session.specs.declared.outcomes.LineOutcome.{LineOutcome}
+use Rattle.aim_text_session.specs.declared.outcomes.LineOutcome.TheVariants as outcome
 use Rattle.aim_text_session.specs.Sessions.{Comes, Standing, Stands}
 
 -- the number of a fault, from 1 on; those from 20 on are of no line of a session
@@ -150,20 +150,20 @@ pub record HasEntry (made : Answered) (a : Answer) : Type 0 where
   pub ends : slice_get a.text a.length ≡ Some 0
 
 -- what a line comes to is told by the answer
-abbrev pub Tells : Response → Answer → Type 0
-Tells response.Taken a = IsPlain 0 0 a
-Tells (response.Made made) a = HasEntry made a
-Tells (response.Bad why) a = IsPlain 2 (fault_number why) a
-Tells (response.Limit which) a = IsPlain 3 (limit_number which) a
-Tells response.Full a = IsPlain 4 0 a
-Tells response.NoMemory a = IsPlain 5 0 a
-Tells response.Ended a = IsPlain 6 0 a
+abbrev pub Tells : LineOutcome → Answer → Type 0
+Tells outcome.Taken a = IsPlain 0 0 a
+Tells (outcome.Made made) a = HasEntry made a
+Tells (outcome.Bad why) a = IsPlain 2 (fault_number why) a
+Tells (outcome.Limit which) a = IsPlain 3 (limit_number which) a
+Tells outcome.Full a = IsPlain 4 0 a
+Tells outcome.NoMemory a = IsPlain 5 0 a
+Tells outcome.Ended a = IsPlain 6 0 a
 
 -- the answer tells what the bytes come to
 pub record Answers (before : List Line) (bytes : List ℕ) (old new : Standing) (a : Answer) : Type 0 where
-  pub response : Response
-  pub comes : Comes before bytes old new response
-  pub tells : Tells response a
+  pub outcome : LineOutcome
+  pub comes : Comes before bytes old new outcome
+  pub tells : Tells outcome a
 
 -- for all lines for which the session stood, the answer tells what the bytes came to
 abbrev pub After : Standing → List ℕ → Answer → Standing → Type 0

@@ -1,5 +1,5 @@
 -- What is known of the lines that a session of texts has taken, and what a further one comes to.
-use Rattle.std.specs.Prelude.{◌≡◌, ℕ, List, [], ◌∷◌, ◌++◌, length, nat_lt, true, MatchBool, Option, Some, None, Result, Ok, Err, if◌then◌else◌}
+use Rattle.std.specs.Prelude.{◌≡◌, ◌==◌, ℕ, List, [], ◌∷◌, ◌++◌, length, nat_lt, true, MatchBool, Option, Some, None, Result, Ok, Err, if◌then◌else◌}
 use Rattle.aim_messages.specs.declared.script.Line.{Line}
 use Rattle.aim_script.specs.declared.decisions.Decision.TheVariants as decision
 use Rattle.aim_script.specs.declared.decisions.Kind.TheVariants as kind
@@ -14,8 +14,8 @@ use Rattle.aim_line_session.specs.declared.progress.Untaken.TheVariants as untak
 use Rattle.aim_line_session.specs.Charted.{Marks}
 use Rattle.aim_line_session.specs.Sessions.{IsFull, Makes, Stands as StandsAsSession, journal_so_far}
 use Rattle.aim_text_session.specs.declared.sessions.RowMasks.{RowMasks}
-use Rattle.aim_text_session.specs.declared.responses.Response.{Response}
-use Rattle.aim_text_session.specs.declared.responses.Response.TheVariants as response
+use Rattle.aim_text_session.specs.declared.outcomes.LineOutcome.{LineOutcome}
+use Rattle.aim_text_session.specs.declared.outcomes.LineOutcome.TheVariants as outcome
 
 -- how far a session has come: the lines before `begin`, which it has taken, or what is kept of those up to `begin` and behind it
 pub data Standing : Type 0 where
@@ -49,21 +49,21 @@ HasNoRoom l (InBody p) = IsFull l p.server
 
 -- What further bytes come to: a line that is taken, by what a script decides of it behind the lines so far; or one that is not, and
 -- the session is as it was. Memory runs out before the first entry alone.
-abbrev pub Comes : List Line → List ℕ → Standing → Standing → Response → Type 0
-Comes before bytes old new response.Taken = IsTaken before bytes new None
-Comes before bytes old new (response.Made a) = IsTaken before bytes new (Some a)
-Comes before bytes old new (response.Bad why) = (judged before bytes ≡ decides (decision.Bad (number_after before) why)) × (new ≡ old)
-Comes before bytes old new (response.Limit which) = (judged before bytes ≡ decides (decision.Limit which)) × (new ≡ old)
-Comes before bytes old new response.Full = (l : Line) × (judged before bytes ≡ goes_on l) × HasNoRoom l old × (new ≡ old)
-Comes before bytes old new response.NoMemory = (journal_so_far before ≡ []) × (new ≡ old)
-Comes before bytes old new response.Ended = (is_end (last_of before) ≡ true) × (new ≡ old)
+abbrev pub Comes : List Line → List ℕ → Standing → Standing → LineOutcome → Type 0
+Comes before bytes old new outcome.Taken = IsTaken before bytes new None
+Comes before bytes old new (outcome.Made a) = IsTaken before bytes new (Some a)
+Comes before bytes old new (outcome.Bad why) = (judged before bytes ≡ decides (decision.Bad (number_after before) why)) × (new ≡ old)
+Comes before bytes old new (outcome.Limit which) = (judged before bytes ≡ decides (decision.Limit which)) × (new ≡ old)
+Comes before bytes old new outcome.Full = (l : Line) × (judged before bytes ≡ goes_on l) × HasNoRoom l old × (new ≡ old)
+Comes before bytes old new outcome.NoMemory = (journal_so_far before ≡ []) × (new ≡ old)
+Comes before bytes old new outcome.Ended = (is_end (last_of before) ≡ true) × (new ≡ old)
 
 -- what a session that has begun says of a line
-abbrev pub response_of : Result (Option Answered) Untaken → Response
-response_of (Ok None) = response.Taken
-response_of (Ok (Some a)) = response.Made a
-response_of (Err (untaken.Bad why)) = response.Bad why
-response_of (Err untaken.Full) = response.Full
+abbrev pub outcome_of : Result (Option Answered) Untaken → LineOutcome
+outcome_of (Ok None) = outcome.Taken
+outcome_of (Ok (Some a)) = outcome.Made a
+outcome_of (Err (untaken.Bad why)) = outcome.Bad why
+outcome_of (Err untaken.Full) = outcome.Full
 
 -- 0 in the header, 1 behind `begin`, 2 behind `end`
 abbrev pub stage_of : Standing → ℕ
@@ -86,9 +86,9 @@ TellsRow before (InBody p) row step m =
 abbrev pub HasMade : Standing → ℕ → Standing → Type 0
 HasMade old count new = (new ≡ old) × ((before : List Line) → Stands before old → count ≡ length (journal_so_far before))
 
--- it is as it was, and stands there
+-- it is as it was, and stands there: behind `end` exactly where that is the last of the lines that it has taken
 abbrev pub IsAt : Standing → ℕ → Standing → Type 0
-IsAt old stage new = (new ≡ old) × (stage ≡ stage_of old)
+IsAt old stage new = (new ≡ old) × (stage ≡ stage_of old) × ((before : List Line) → Stands before old → (stage == 2) ≡ is_end (last_of before))
 
 -- it is as it was, and the masks are those of the row at the step
 abbrev pub Shows : Standing → ℕ → ℕ → RowMasks → Standing → Type 0

@@ -4,7 +4,7 @@ ghost use Rattle.std.specs.Prelude.{◌≡◌};
 ghost use Rattle.aim_text_session.specs.Numbers.{HasEntry, IsPlain, Tells};
 
 use crate::numbers::{NO_NUMBERS, fault_number, limit_number, reply_numbers};
-use crate::responses::Response;
+use crate::outcomes::LineOutcome;
 use aim_line_session::Answered;
 use aim_messages::entry_text;
 
@@ -52,7 +52,7 @@ pub struct ReplyNumbers {
 #[repr(C)]
 #[derive(Clone, Copy)]
 pub struct Answer {
-    /// 0 to 6, in the order of the responses' variants.
+    /// 0 to 6, in the order of the outcomes' variants.
     pub outcome: u32,
     /// The number of the fault or of the limit.
     pub fault: u32,
@@ -107,16 +107,16 @@ fn made(answered: Answered) -> Answer
 }
 
 /// What a line came to, as numbers.
-pub(crate) fn answer_of(response: Response) -> Answer
-    ensures { Tells response result }
+pub(crate) fn answer_of(outcome: LineOutcome) -> Answer
+    ensures { Tells outcome result }
 {
-    match response {
-        Response::Taken => plain(0, 0),
-        Response::Made(answered) => made(answered),
-        Response::Bad(kind) => plain(2, fault_number(kind)),
-        Response::Limit(limit) => plain(3, limit_number(limit)),
-        Response::Full => plain(4, 0),
-        Response::NoMemory => plain(5, 0),
-        Response::Ended => plain(6, 0),
+    match outcome {
+        LineOutcome::Taken => plain(0, 0),
+        LineOutcome::Made(answered) => made(answered),
+        LineOutcome::Bad(kind) => plain(2, fault_number(kind)),
+        LineOutcome::Limit(limit) => plain(3, limit_number(limit)),
+        LineOutcome::Full => plain(4, 0),
+        LineOutcome::NoMemory => plain(5, 0),
+        LineOutcome::Ended => plain(6, 0),
     }
 }

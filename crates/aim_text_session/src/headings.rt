@@ -8,8 +8,8 @@ ghost use Rattle.aim_line_session.specs.Sessions.{Stands as StandsAsSession};
 ghost use Rattle.aim_text_session.specs.Headings.{AreCounted, AreHeard, Begins, IsHeading, IsHeard, IsReached, IsSettled, Leads, said, standing_of};
 ghost use Rattle.aim_text_session.specs.Sessions.{InBody, InHeader, Stands, TellsRow, judged};
 
+use crate::outcomes::{LineOutcome, outcome_of};
 use crate::reading::read_text;
-use crate::responses::{Response, response_of};
 use crate::sessions::RowMasks;
 use aim_line_session::{IdleSession, Unopened, vehicles_limit};
 use aim_messages::Line;
@@ -45,7 +45,7 @@ pub enum Reached {
 /// How far a session has come behind a line, and what the line came to.
 pub struct Advance {
     pub(crate) reached: Reached,
-    pub(crate) response: Response,
+    pub(crate) outcome: LineOutcome,
 }
 
 // What stays where a session stays in its header.
@@ -53,10 +53,10 @@ fn in_header(
     lines: Vec<Line>,
     vehicles: Option<u32>,
     header: Option<Header>,
-    response: Response,
+    outcome: LineOutcome,
 ) -> Advance
     ensures reached { result.reached ≡ Reached.Heading (record { lines = lines; vehicles = vehicles; header = header }) }
-    ensures response { result.response ≡ response }
+    ensures outcome { result.outcome ≡ outcome }
 {
     Advance {
         reached: Reached::Heading(Heading {
@@ -64,7 +64,7 @@ fn in_header(
             vehicles,
             header,
         }),
-        response,
+        outcome,
     }
 }
 
@@ -113,8 +113,8 @@ fn counted(lines: Vec<Line>, setting: Setting) -> Advance
     let vehicles = setting.vehicles;
     drop(setting);
     match vehicles_limit(spans, vehicles) {
-        Some(limit) => in_header(lines, None, None, Response::Limit(limit)),
-        None => in_header(lines, Some(vehicles), None, Response::Taken),
+        Some(limit) => in_header(lines, None, None, LineOutcome::Limit(limit)),
+        None => in_header(lines, Some(vehicles), None, LineOutcome::Taken),
     }
 }
 
@@ -125,10 +125,10 @@ fn added(mut lines: Vec<Line>, header: Header, line: &Line) -> Advance
     ensures { (bytes : List ℕ) (old : Header) → judged lines.items bytes ≡ of_read lines.items (Ok line.now) → StandsAsHeader lines.items old → Heeds lines.items line.now (Ok (Headed.More header)) → Leads lines.items bytes (InHeader lines.items) result }
 {
     match lines.push(*line) {
-        Ok(()) => in_header(lines, None, Some(header), Response::Taken),
+        Ok(()) => in_header(lines, None, Some(header), LineOutcome::Taken),
         Err(_) => {
             drop(header);
-            in_header(lines, None, None, Response::NoMemory)
+            in_header(lines, None, None, LineOutcome::NoMemory)
         }
     }
 }
@@ -143,8 +143,8 @@ fn headed(lines: Vec<Line>, header: Header, alloc: Global, line: &Line) -> Advan
     match header.take(alloc, line) {
         Ok(Headed::More(header)) => added(lines, header, line),
         Ok(Headed::Whole(setting)) => counted(lines, setting),
-        Err(HeaderRefusal::Bad(kind)) => in_header(lines, None, None, Response::Bad(kind)),
-        Err(HeaderRefusal::NoMemory) => in_header(lines, None, None, Response::NoMemory),
+        Err(HeaderRefusal::Bad(kind)) => in_header(lines, None, None, LineOutcome::Bad(kind)),
+        Err(HeaderRefusal::NoMemory) => in_header(lines, None, None, LineOutcome::NoMemory),
     }
 }
 
@@ -184,16 +184,16 @@ fn begun(lines: Vec<Line>, vehicles: u32, header: Header, alloc: Global, line: &
                 drop(lines);
                 Advance {
                     reached: Reached::Body(session),
-                    response: Response::Taken,
+                    outcome: LineOutcome::Taken,
                 }
             }
-            Err(_) => in_header(lines, Some(vehicles), None, Response::NoMemory),
+            Err(_) => in_header(lines, Some(vehicles), None, LineOutcome::NoMemory),
         },
         _ => in_header(
             lines,
             Some(vehicles),
             Some(header),
-            Response::Bad(Kind::Order),
+            LineOutcome::Bad(Kind::Order),
         ),
     }
 }
@@ -227,9 +227,9 @@ fn heading_after(heading: Heading, alloc: Global, words: &[u8]) -> Advance
         header,
     } = heading;
     match header_again(header, alloc, &lines) {
-        Err(_) => in_header(lines, vehicles, None, Response::NoMemory),
+        Err(_) => in_header(lines, vehicles, None, LineOutcome::NoMemory),
         Ok(header) => match read_text(words, header.version()) {
-            Err(kind) => in_header(lines, vehicles, Some(header), Response::Bad(kind)),
+            Err(kind) => in_header(lines, vehicles, Some(header), LineOutcome::Bad(kind)),
             Ok(line) => header_after(lines, vehicles, header, alloc, &line),
         },
     }
@@ -243,19 +243,19 @@ fn body_after(session: IdleSession, words: &[u8]) -> Advance
     if session.is_ended() {
         return Advance {
             reached: Reached::Body(session),
-            response: Response::Ended,
+            outcome: LineOutcome::Ended,
         };
     }
     match read_text(words, session.version()) {
         Err(kind) => Advance {
             reached: Reached::Body(session),
-            response: Response::Bad(kind),
+            outcome: LineOutcome::Bad(kind),
         },
         Ok(line) => {
             let (session, taken) = session.take(&line);
             Advance {
                 reached: Reached::Body(session),
-                response: response_of(taken),
+                outcome: outcome_of(taken),
             }
         }
     }

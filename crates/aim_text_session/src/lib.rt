@@ -5,12 +5,12 @@ mod answers;
 mod headings;
 pub mod laws;
 mod numbers;
+mod outcomes;
 mod reading;
-mod responses;
 mod sessions;
 mod words;
 
 pub use answers::{Answer, ReplyNumbers};
-pub use responses::Response;
+pub use outcomes::LineOutcome;
 pub use sessions::{RowMasks, TextSession};
-pub use words::{Word, fault_word};
+pub use words::{FaultWord, fault_word};

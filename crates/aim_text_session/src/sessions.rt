@@ -2,7 +2,7 @@
 
 use crate::answers::{Answer, answer_of};
 use crate::headings::{Advance, Heading, Reached};
-use crate::responses::Response;
+use crate::outcomes::LineOutcome;
 use std::alloc::Global;
 use std::marker::Model;
 use std::mem;
@@ -60,13 +60,13 @@ impl TextSession {
     }
 
     /// Takes a line, without its byte 10. From `begin` on no memory is taken.
-    pub fn take(&mut self, words: &[u8]) -> Response
+    pub fn take(&mut self, words: &[u8]) -> LineOutcome
         ensures { (before : List Line) → Stands before self.old → Comes before words.now self.old self.new result }
     {
         let reached = mem::replace(&mut self.reached, Reached::new(self.alloc));
-        let Advance { reached, response } = reached.after(self.alloc, words);
+        let Advance { reached, outcome } = reached.after(self.alloc, words);
         self.reached = reached;
-        response
+        outcome
     }
 
     /// Takes a line, as `take` does, and says in numbers what it came to.

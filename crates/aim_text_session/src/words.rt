@@ -6,7 +6,7 @@ ghost use Rattle.aim_text_session.specs.Words.{word_of};
 /// A word, and a byte 0 behind it.
 #[repr(C)]
 #[derive(Clone, Copy)]
-pub struct Word {
+pub struct FaultWord {
     /// How many bytes it has.
     pub length: u32,
     /// The word, and bytes 0.
@@ -43,14 +43,14 @@ fn word_of(number: u32) -> &'static [u8]
 }
 
 /// The word of the number of a fault or a limit that a line of a session can have; an empty one for another number.
-pub fn fault_word(number: u32) -> Word
+pub fn fault_word(number: u32) -> FaultWord
     ensures text { take result.length result.text ≡ word_of number }
     ensures ends { slice_get result.text result.length ≡ Some 0 }
 {
     let word = word_of(number);
     let mut text = [0; 12];
     text[..word.len()].copy_from_slice(word);
-    Word {
+    FaultWord {
         length: word.len() as u32,
         text,
     }

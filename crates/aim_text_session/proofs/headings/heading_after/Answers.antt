@@ -2,7 +2,7 @@ use Rattle.std.proofs.Common.{List, Err, Ok, Some, refl, sym, ap, ◌∙◌, sub
 use Rattle.aim_messages.specs.declared.script.Line.{Line}
 use Rattle.aim_script.specs.Headers.{Stands}
 use Rattle.aim_script.specs.Versions.{version_number}
-use Rattle.aim_text_session.specs.declared.responses.Response.TheVariants as response
+use Rattle.aim_text_session.specs.declared.outcomes.LineOutcome.TheVariants as outcome
 use Rattle.aim_text_session.specs.Headings.{AreHeard, IsHeading, said}
 use Rattle.aim_text_session.specs.Sessions.{InHeader}
 use Rattle.aim_text_session.proofs.HeadingLemmas.{judged_read, leads, version_said}
@@ -18,8 +18,8 @@ returns-in-Err-read_text c =
     let st : Stands lines h = subst (λ (lines : List Line). Stands lines h) c.deref.ensures.value c.in-Ok.ensures in
     let version = version_said lines vehicles ∙ st.version ∙ sym (ap version_number c.version.ensures) in
     let judged = judged_read all words c.version.result (Err c.in-Err-read_text.kind) version c.in-Err-read_text.ensures.line in
-    let kept : IsHeading lines vehicles (Some h) = record { heard = c.requires.heard; counted = c.requires.counted; kept = st; quiet = c.requires.quiet } in
-    leads all words (InHeader all) c.in_header-in-Err-read_text.result _ (response.Bad c.in-Err-read_text.kind) (InHeader all) told.reached told.response refl (judged, refl) kept
+    let kept : IsHeading lines vehicles (Some h) = record { heard = c.requires.heard; counted = c.requires.counted; kept = st; quiet = c.requires.quiet; over = c.requires.over } in
+    leads all words (InHeader all) c.in_header-in-Err-read_text.result _ (outcome.Bad c.in-Err-read_text.kind) (InHeader all) told.reached told.outcome refl (judged, refl) kept
 
 pub returns-in-Ok-read_text : goal.returns-in-Ok-read_text
 returns-in-Ok-read_text c =

@@ -10,4 +10,4 @@ pub returns : goal.returns
 returns c before st =
     let words = c.args.words.now in let after = c.after-reached in
     let same = ap standing_of c.replace-reached.ensures.value ∙ c.self.view_is in
-    subst (λ (n : Standing). Comes before words n (standing_of after.result.reached) after.result.response) same (after.ensures.leads before (subst (λ (n : Standing). Stands before n) (sym same) st)).comes
+    subst (λ (n : Standing). Comes before words n (standing_of after.result.reached) after.result.outcome) same (after.ensures.leads before (subst (λ (n : Standing). Stands before n) (sym same) st)).comes

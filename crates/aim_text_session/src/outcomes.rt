@@ -1,13 +1,13 @@
 //! What a line of a session comes to.
 
 ghost use Rattle.std.specs.Prelude.{◌≡◌};
-ghost use Rattle.aim_text_session.specs.Sessions.{response_of};
+ghost use Rattle.aim_text_session.specs.Sessions.{outcome_of};
 
 use aim_line_session::{Answered, Untaken};
 use aim_script::{Kind, Limit};
 
 /// What a line comes to. Where it isn't taken, the session is as it was.
-pub enum Response {
+pub enum LineOutcome {
     /// It was taken, and made no entry.
     Taken,
     /// It was taken, and made this entry.
@@ -25,13 +25,13 @@ pub enum Response {
 }
 
 /// What a line comes to that an open session was given.
-pub(crate) fn response_of(taken: Result<Option<Answered>, Untaken>) -> Response
-    ensures { result ≡ response_of taken }
+pub(crate) fn outcome_of(taken: Result<Option<Answered>, Untaken>) -> LineOutcome
+    ensures { result ≡ outcome_of taken }
 {
     match taken {
-        Ok(None) => Response::Taken,
-        Ok(Some(answered)) => Response::Made(answered),
-        Err(Untaken::Bad(kind)) => Response::Bad(kind),
-        Err(Untaken::Full) => Response::Full,
+        Ok(None) => LineOutcome::Taken,
+        Ok(Some(answered)) => LineOutcome::Made(answered),
+        Err(Untaken::Bad(kind)) => LineOutcome::Bad(kind),
+        Err(Untaken::Full) => LineOutcome::Full,
     }
 }
