@@ -9,7 +9,7 @@ ghost use Rattle.aim_text_session.specs.Words.{word_of};
 ghost use Rattle.aim_text_session.specs.contracts.sessions.TextSession.{the_row};
 ghost use Rattle.aim_c.specs.Handle.{answered, charted, counted, fresh, staged};
 
-use aim_text_session::{Answer, RowMasks, TextSession, FaultWord, fault_word};
+use aim_text_session::{Answer, FaultWord, RowMasks, TextSession, fault_word};
 use std::alloc::Global;
 use std::mem::size_of;
 
