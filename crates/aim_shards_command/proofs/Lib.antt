@@ -8,3 +8,4 @@ pub mod Runs
 pub mod TextLines
 pub mod Promises
 pub mod Telling
+pub mod Rows
