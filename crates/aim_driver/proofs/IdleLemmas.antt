@@ -9,8 +9,8 @@ use Rattle.aim_driver.specs.declared.known.Known.{Known}
 use Rattle.aim_driver.specs.Logs.{is_waiting_with}
 use Rattle.aim_driver.specs.Keeps.{is_over}
 use Rattle.aim_driver.specs.Replies.{held}
-use Rattle.aim_driver.specs.Rules.{is_shut_out, is_crossing, finish, reserved, is_due, is_cancelling, is_due_change, next_change, is_changing, change, is_too_late, may_request, starts_in, is_open, entered_on, act_by}
-use Rattle.aim_driver.specs.Idle.{by_turn, by_option, by_change, opening, by_window, ending, by_crossing, same_until}
+use Rattle.aim_driver.specs.Rules.{is_shut_out, is_crossing, finish, reserved, is_due, is_cancelling, is_due_change, next_change, is_changing, change, is_too_late, may_request, starts_in, opening, is_open, entered_on, act_by}
+use Rattle.aim_driver.specs.Idle.{by_turn, by_option, by_change, by_window, ending, by_crossing, same_until}
 
 -- of one step: what is below the lesser of two is below both, and what is above a step that is still to come is as before
 
@@ -61,7 +61,7 @@ change_later step (Some c) rest lt = turns_later step c.step rest lt
 
 -- a window begins at its opening, and ends one step before it is over
 
-starts_is : (ahead : Bool) (w : Window) (s : ℕ) → starts_in ahead w s ≡ nat_le (opening ahead w) s
+pub starts_is : (ahead : Bool) (w : Window) (s : ℕ) → starts_in ahead w s ≡ nat_le (opening ahead w) s
 starts_is true w s = grind (arith, nat_tests)
 starts_is false w s = refl
 

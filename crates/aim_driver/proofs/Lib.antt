@@ -17,3 +17,4 @@ pub mod CountLemmas
 pub mod HearLemmas
 pub mod IdleLemmas
 pub mod InTime
+pub mod HowFar

@@ -16,6 +16,7 @@ pub mod Rules
 pub mod Runs
 pub mod Fitting
 pub mod Journal
+pub mod Come
 
 abbrev pub car : ℕ → ℕ → Params
 car lane arrive = record { lane = lane; turn = turn.Straight; arrive = arrive; latest = arrive; speed = 500; max_speed = 500; accel = 0; length = 1000; width = 700; emergency = false }

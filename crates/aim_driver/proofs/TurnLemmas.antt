@@ -194,11 +194,11 @@ heard_ready plan step s (Some (seq, reply)) r = record {
   early = ends_at s.log (s.log ++ item.Got step seq reply ∷ []) (item.Got step seq reply) refl;
 }
 
-hears_ready : (plan : DrivePlan) (step n : ℕ) (s : State) → IsReady plan step s.log → IsReady plan step (hears step n s).log
+pub hears_ready : (plan : DrivePlan) (step n : ℕ) (s : State) → IsReady plan step s.log → IsReady plan step (hears step n s).log
 hears_ready plan step zero s r = r
 hears_ready plan step (suc n) s r = let d = hears step n s in heard_ready plan step d (delivered d.down step) (hears_ready plan step n s r)
 
-entered_ready : (plan : DrivePlan) (step : ℕ) (log : List LogItem) (o : Option ℕ) → enters plan log step ≡ o → IsReady plan step log → IsReady plan step (with_entered log step o)
+pub entered_ready : (plan : DrivePlan) (step : ℕ) (log : List LogItem) (o : Option ℕ) → enters plan log step ≡ o → IsReady plan step log → IsReady plan step (with_entered log step o)
 entered_ready plan step log None is r = r
 entered_ready plan step log (Some id) is r =
     let k : Known = kept plan (reverse log) in
@@ -239,7 +239,7 @@ one_log step c = go c.goes_on
     go true = comes (delivered c.state.up step)
     go false = refl
 
-some_log : (step n : ℕ) (c : Course) → (some_calls step n c).state.log ≡ c.state.log
+pub some_log : (step n : ℕ) (c : Course) → (some_calls step n c).state.log ≡ c.state.log
 some_log step zero c = refl
 some_log step (suc n) c = one_log step (some_calls step n c) ∙ some_log step n c
 
@@ -259,7 +259,7 @@ turn_ready plan step c r = go c.goes_on
 later : (plan : DrivePlan) (step step' : ℕ) (log : List LogItem) → step ≤ step' → IsReady plan step log → IsReady plan step' log
 later plan step step' log le r = record { stands = r.stands; early = let e = r.early in omega arith }
 
-turns_ready : (plan : DrivePlan) (first n : ℕ) (c : Course) → IsReady plan first c.state.log → IsReady plan (first + n) (turns plan first n c).state.log
+pub turns_ready : (plan : DrivePlan) (first n : ℕ) (c : Course) → IsReady plan first c.state.log → IsReady plan (first + n) (turns plan first n c).state.log
 turns_ready plan first zero c r = later plan first (first + 0) c.state.log (omega arith) r
 turns_ready plan first (suc n) c r =
     later plan (first + n) (first + suc n) (turn plan (first + n) (turns plan first n c)).state.log (omega arith) (turn_ready plan (first + n) (turns plan first n c) (turns_ready plan first n c r))

@@ -1,12 +1,12 @@
 -- The steps up to which nothing turns that the rules test of a step. No public clause cites this file: by it a driver
 -- says how long it does nothing.
-use Rattle.std.specs.Prelude.{ℕ, ◌+◌, ◌-◌, min, Bool, true, false, nat_lt, Option, Some, None, if◌then◌else◌}
+use Rattle.std.specs.Prelude.{ℕ, ◌+◌, ◌-◌, min, Bool, nat_lt, Option, Some, None, if◌then◌else◌}
 use Rattle.aim_driver.specs.declared.plans.PlannedChange.{PlannedChange}
 use Rattle.aim_driver.specs.declared.plans.DrivePlan.{DrivePlan}
 use Rattle.aim_driver.specs.declared.logs.Window.{Window}
 use Rattle.aim_driver.specs.declared.logs.Entrance.{Entrance}
 use Rattle.aim_driver.specs.declared.known.Known.{Known}
-use Rattle.aim_driver.specs.Rules.{next_change}
+use Rattle.aim_driver.specs.Rules.{next_change, opening}
 
 -- the lesser of `rest` and the step `at`, where that is still to come at `step`
 abbrev pub by_turn : ℕ → ℕ → ℕ → ℕ
@@ -19,11 +19,6 @@ by_option step (Some at) rest = by_turn step at rest
 abbrev pub by_change : ℕ → Option PlannedChange → ℕ → ℕ
 by_change step None rest = rest
 by_change step (Some c) rest = by_turn step c.step rest
-
--- the first step of a window, as `starts_in` says: 0 where it begins before
-abbrev pub opening : Bool → Window → ℕ
-opening true w = w.start - w.early
-opening false w = w.start
 
 -- a window opens, and then it is over
 abbrev pub by_window : Bool → ℕ → Option Window → ℕ → ℕ

@@ -5,6 +5,7 @@ pub mod Plans
 pub mod Logs
 pub mod Keeps
 pub mod Rules
+pub mod Progress
 pub mod Own
 pub mod Steps
 pub mod Idle

@@ -2,8 +2,8 @@
 
 ghost use Rattle.std.specs.Prelude.{◌≡◌, ℕ, ◌<◌, ◌≤◌, None};
 ghost use Rattle.aim_messages.specs.declared.entries.TheConstants.{LATEST_MOMENT};
-ghost use Rattle.aim_driver.specs.Rules.{number, act_by, entered_on, next_change};
-ghost use Rattle.aim_driver.specs.Idle.{by_turn, by_option, by_change, opening, by_window, ending, by_crossing, same_until};
+ghost use Rattle.aim_driver.specs.Rules.{number, act_by, entered_on, next_change, opening};
+ghost use Rattle.aim_driver.specs.Idle.{by_turn, by_option, by_change, by_window, ending, by_crossing, same_until};
 
 use crate::known::Known;
 use crate::logs::{Entrance, Window};

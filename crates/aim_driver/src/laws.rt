@@ -17,6 +17,7 @@ ghost use Rattle.aim_driver.specs.Keeps.{is_over, keeps};
 ghost use Rattle.aim_driver.specs.Rules.{entrance, is_done_sent, is_open, number, sendings};
 ghost use Rattle.aim_driver.specs.Turns.{State, begun, hears_all};
 ghost use Rattle.aim_driver.specs.Fits.{AreCallsOf, replies_of, HasReply, Fits};
+ghost use Rattle.aim_driver.specs.Progress.{Progress, HasCome, progress, progress_in};
 ghost use Rattle.aim_driver.specs.Crossings.{crossing_of, first_entrance, CrossesAsGranted};
 
 /// What a link delivers next is the one thing that comes first, by the step at which it comes and then by the order of
@@ -94,4 +95,15 @@ pub fn who_is_past_its_crossing_is_done()
         entrance past ≡ Some e → granted past e.id ≡ Some w → is_done_sent past ≡ false → sendings past < 64 →
         is_over e.step w step ≡ true →
         (begun plan step s).log ≡ (hears_all step s).log ++ item.Sent step (record { seq = number (latest past) + 1; body = body.Done e.id }) ∷ []) }
+{}
+
+/// How far a driver has come: behind its turns, in which it made as many calls as it has replies, it is exactly one of
+/// these: through, inside, shut out by a stop, waiting for a window that is still to come, out of messages, or asking.
+pub fn each_driver_is_one_of_six()
+    ensures some { (plan : DrivePlan) (up down : List Fate) (first until : ℕ) (replies : List Reply) →
+        plan.lead ≤ 65536 → first ≤ until →
+        (let f = follows_from plan up down first until replies in
+        length f.1 ≡ length replies → HasCome plan (reverse f.0) until (progress plan f.0 until)) }
+    ensures one { (plan : DrivePlan) (past : List LogItem) (until : ℕ) (p : Progress) →
+        HasCome plan past until p → progress_in plan past until ≡ p }
 {}
