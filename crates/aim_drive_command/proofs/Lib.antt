@@ -17,4 +17,5 @@ pub mod Nexts
 pub mod Journals
 pub mod Texts
 pub mod Races
+pub mod AtEnd
 pub mod Rows

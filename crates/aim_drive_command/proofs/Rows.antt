@@ -46,8 +46,9 @@ use Rattle.aim_drive_command.specs.Summaries.{summary}
 use Rattle.aim_drive_command.specs.Commands.{IsText, IsTextOf, status_for}
 use Rattle.aim_drive_command.specs.Generated.{IsSummary, Counts}
 use Rattle.aim_drive_command.proofs.Texts.{same_summary}
--- with two workers, and of generated traffic
+-- with two workers, what is refused of a report, and of generated traffic
 pub mod Choice
+pub mod Refused
 pub mod Traffic
 
 -- texts, each as a line

@@ -78,7 +78,7 @@ behind_layout number count =
     filter_map-append (drive_in []) plans (line.End ∷ []) ∙ append-nil (filter_map (drive_in []) plans)
 
 -- the drives are those of the plans alone
-drives_are : (number count : ℕ) → drives_of (traffic_lines number count) ≡ filter_map (drive_in []) (plan_lines 0 count (generator number))
+pub drives_are : (number count : ℕ) → drives_of (traffic_lines number count) ≡ filter_map (drive_in []) (plan_lines 0 count (generator number))
 drives_are number count =
     let all = traffic_lines number count in
     let none : SaysNoMore all = record { changes = no_changes number count; cancel = no_cancel number count; up = no_up number count; down = no_down number count } in

@@ -5,6 +5,7 @@ pub mod Laid
 pub mod Ordered
 pub mod Runs
 pub mod Races
+pub mod Progress
 pub mod Commands
 pub mod Summaries
 pub mod Generated

@@ -2,7 +2,7 @@
 //! which their text is read. A drive whose drivers are one run has one journal with its logs, and so one text is
 //! printed of it.
 
-ghost use Rattle.std.specs.Prelude.{◌≡◌, ◌≢◌, ◌<◌, ◌≤◌, ℕ, List, ◌++◌, length, slice_get, Option, Some};
+ghost use Rattle.std.specs.Prelude.{◌≡◌, ◌≢◌, ◌+◌, ◌<◌, ◌≤◌, ℕ, List, ◌++◌, filter, length, reverse, slice_get, Option, Some};
 ghost use Rattle.aim_io.specs.Known.{AppendsFront};
 ghost use Rattle.aim_messages.specs.declared.entries.Entry.{Entry};
 ghost use Rattle.aim_messages.specs.declared.entries.TheConstants.{OPERATOR};
@@ -17,13 +17,16 @@ ghost use Rattle.aim_script.specs.declared.decisions.Decision.{Decision};
 ghost use Rattle.aim_script.specs.declared.decisions.Decision.TheVariants as decision;
 ghost use Rattle.aim_driver.specs.declared.orders.Ordered.{Ordered};
 ghost use Rattle.aim_script.specs.Said.{vehicles_of};
-ghost use Rattle.aim_drive_script.specs.Said.{Drive, orders_of};
+ghost use Rattle.aim_driver.specs.Progress.{through, inside, shut_out, waiting, spent, asking, HasCome, how_many, progress};
+ghost use Rattle.aim_drive_script.specs.Said.{Drive, drives_of, orders_of, until_of};
 ghost use Rattle.aim_drive_script.specs.Scripts.{IsDrive};
 ghost use Rattle.aim_drive_script.specs.Verdicts.{drive_verdict};
 ghost use Rattle.aim_drive.specs.Headline.{Headline, VehicleLog};
 ghost use Rattle.aim_drive_command.specs.Traffic.{traffic_lines, traffic_text};
 ghost use Rattle.aim_drive_command.specs.Ordered.{log_among};
+ghost use Rattle.aim_drive_command.specs.Progress.{progress_at_end};
 ghost use Rattle.aim_drive_command.specs.Races.{NoneRace};
+ghost use Rattle.aim_drive_command.specs.Summaries.{has_entered, is_confirm, is_reject, summary_lines};
 ghost use Rattle.aim_drive_command.specs.Runs.{IsRunOf};
 ghost use Rattle.aim_script_reading.specs.Commands.{Shows, ShowsFront};
 ghost use Rattle.aim_drive_command.specs.Commands.{IsReport, IsText, IsTextOf, status_for};
@@ -115,4 +118,30 @@ pub fn generated_traffic_has_one_summary()
         after ≡ other }
     ensures front { (number count : ℕ) (text : List ℕ) (old new : Option (List ℕ)) →
         CountsFront number count old new → IsSummary number count text → AppendsFront old new text }
+{}
+
+/// At its end each driver of a drive is one of six, and of no other (law `each_driver_is_one_of_six` of `aim_driver`).
+/// These six are all drivers, and those that are through or inside have entered.
+pub fn each_driver_ends_as_one_of_six()
+    ensures each { (workers : ℕ) (lines : List Line) (h : List Entry) (logs : List VehicleLog) →
+        IsDrive lines → IsRunOf workers lines h logs → (k : ℕ) (d : Drive) (x : VehicleLog) →
+        slice_get (drives_of lines) k ≡ Some d → slice_get logs k ≡ Some x →
+        HasCome d.plan (reverse x.1) (until_of lines) (progress d.plan x.1 (until_of lines)) }
+    ensures all { (workers : ℕ) (lines : List Line) (h : List Entry) (logs : List VehicleLog) → IsRunOf workers lines h logs →
+        (let ps = progress_at_end lines logs in length (drives_of lines) ≡
+        how_many through ps + how_many inside ps + how_many shut_out ps + how_many waiting ps + how_many spent ps + how_many asking ps) }
+    ensures entered { (workers : ℕ) (lines : List Line) (h : List Entry) (logs : List VehicleLog) → IsRunOf workers lines h logs →
+        (let ps = progress_at_end lines logs in length (filter has_entered logs) ≡ how_many through ps + how_many inside ps) }
+{}
+
+/// The summary of generated traffic counts who entered: those that are through and those that are inside, of as many
+/// drivers as were asked for.
+pub fn a_summary_counts_who_entered()
+    ensures entered { (number count : ℕ) (text : List ℕ) (a : IsSummary number count text) →
+        (let lines = traffic_lines number count in let ps = progress_at_end lines a.logs in
+        text ≡ summary_lines (until_of lines) (length a.journal) (length (filter is_confirm a.journal))
+        (length (filter is_reject a.journal)) (how_many through ps + how_many inside ps)) }
+    ensures all { (number count : ℕ) (text : List ℕ) (a : IsSummary number count text) →
+        (let ps = progress_at_end (traffic_lines number count) a.logs in count ≡
+        how_many through ps + how_many inside ps + how_many shut_out ps + how_many waiting ps + how_many spent ps + how_many asking ps) }
 {}

@@ -19,7 +19,7 @@ use Rattle.aim_drive_script.specs.declared.scripts.DriveScript.{DriveScript}
 use Rattle.aim_drive_script.specs.declared.scripts.Ending.{Ending}
 use Rattle.aim_driver.specs.declared.orders.Ordered.{Ordered}
 use Rattle.aim_drive_script.specs.declared.scripts.Planned.{Planned}
-use Rattle.aim_drive_script.specs.Said.{Drive, drive_in, until_in, until_of, is_plan_for, is_planned, ordered_in, orders_of, moment_in, moments_of, last_number}
+use Rattle.aim_drive_script.specs.Said.{Drive, drive_in, drives_of, until_in, until_of, is_plan_for, is_planned, ordered_in, orders_of, moment_in, moments_of, last_number}
 use Rattle.aim_drive_script.specs.Kinds.{kind_of_fault, limit_of, vehicles_limit, orders_limit, is_bad_order, is_bad_plan}
 use Rattle.aim_drive_script.specs.Scripts.{IsDrive, IsScriptOf, drive_told}
 use Rattle.aim_drive_script.specs.Fits.{FitsDrive, FitsOrder, IsFit, IsOrderOf}
@@ -168,6 +168,13 @@ plan_numbers lines before (line.PlanFor v first lead resend params ahead) after 
       short_resend = y.1;
     })
 plan_numbers lines before l after d none split e = absurd (none_some d e)
+
+-- no drive of the lines asks from farther ahead than that
+pub short_leads : (lines : List Line) (k : ℕ) (d : Drive) → IsDrive lines → slice_get (drives_of lines) k ≡ Some d → d.plan.lead ≤ 65536
+short_leads lines k d drive at =
+    let c = came (drive_in lines) lines k d at in
+    let n = plan_numbers lines c.before c.from c.after d (kind_at lines c.before c.from c.after drive c.split) c.split c.gives in
+    n.short_lead
 
 -- a line that plans for the vehicle, which has no plan before
 plan_of : (lines before : List Line) (l : Line) (d : Drive) → kind_of_fault before l ≡ None → drive_in lines l ≡ Some d → (is_plan_for d.vehicle l ≡ true) × (is_planned d.vehicle before ≡ false)
