@@ -8,3 +8,4 @@ pub mod Staffing
 pub mod Crosses
 pub mod Reports
 mod ShownLemmas
+pub mod Rows
