@@ -33,9 +33,11 @@ use Rattle.aim_grid.specs.Headline.{VehicleLog}
 use Rattle.aim_grid.specs.Travelled.{IsCrossing}
 use Rattle.aim_grid_script.specs.declared.decisions.GridDecision.TheVariants as decision
 use Rattle.aim_grid_script.specs.declared.decisions.GridKind.TheVariants as kind
+use Rattle.aim_grid_script.specs.declared.lines.GridLine.{GridLine}
+use Rattle.aim_grid_script.specs.Said.{layouts_of}
 use Rattle.aim_grid.specs.Runs.{IsRunOf}
 use Rattle.aim_grid_command.specs.Texts.{crossings_text, grid_report}
-use Rattle.aim_grid_command.specs.Commands.{IsText, IsTextOf, status_for}
+use Rattle.aim_grid_command.specs.Commands.{IsReport, IsText, IsTextOf, status_for}
 use Rattle.aim_grid_command.specs.Tiles.{TilesAreApartAt, TilesAreOwnAt, lines_at}
 use Rattle.aim_grid_command.proofs.Sections.{IsGood, Section, at_crossing, tiles_apart, tiles_own}
 
@@ -261,3 +263,23 @@ sink_failed = λ status source sink. absurd (sink (omega arith))
 pub bad_completes : Completes status_for (codes "crossings 0\n") (failing 0 0) (failing 0 0) 3
 unfolding digits outcomes_from
 bad_completes = λ status source sink. absurd (omega arith)
+
+-- what is refused of a report
+
+-- two lines of one tile and a step at one crossing
+pub one_tile_twice : (script : List GridLine) → 0 < length (layouts_of script) → IsReport script (lines (codes "crossing 0" ∷ codes "tiles 3 1 0 11 15" ∷ codes "tiles 4 1 0 15 17" ∷ codes "end 0" ∷ [])) → ⊥
+one_tile_twice script some x = one_tile_at_one_crossing (x.apart 0 some)
+
+-- a tile of a vehicle that has no entry there
+pub a_tile_of_nobody : (script : List GridLine) (i : Intersection) → slice_get (layouts_of script) 0 ≡ Some i → (x : IsReport script (lines (codes "crossing 0" ∷ codes "tiles 3 1 0 11 15" ∷ codes "end 0" ∷ []))) → slice_get x.journals 0 ≡ Some [] → ⊥
+unfolding digits
+a_tile_of_nobody script i layout x none =
+    let own = x.own 0 i [] layout none 3 (record { row = 1; col = 0; step = 15 })
+    (record { stay = record { row = 1; col = 0; first = 11; last = 15 }; vehicle = omega arith; values = record { row = omega arith; col = omega arith; first = omega arith; last = omega arith }; line = inl refl; covers = record { row = refl; col = refl; after = omega arith; before = omega arith } }) in
+    none_some own.entry own.granted.stands
+
+-- more than 128 entries of a vehicle at a crossing
+pub too_many_entries : (script : List GridLine) (text : List ℕ) (x : IsReport script text) (h : List Entry) → slice_get x.journals 0 ≡ Some h → length (entries_of h 0) ≡ 129 → ⊥
+too_many_entries script text x h at many =
+    let few : length (entries_of h 0) ≤ 128 = x.short 0 h at 0 in
+    absurd (omega (arith, many, few))
