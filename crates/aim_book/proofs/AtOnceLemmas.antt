@@ -11,7 +11,8 @@ use Rattle.aim_messages.specs.declared.replies.Reply.{Reply}
 use Rattle.aim_geometry.specs.Bounded.{find_map}
 use Rattle.aim_layout.specs.Intersection.{Intersection}
 use Rattle.aim_requests.specs.Requests.{IsPreparedFor, Request}
-use Rattle.aim_rules.specs.Bad.{bad, is_fast_made, span_count}
+use Rattle.aim_rules.specs.Bad.{bad, span_count}
+use Rattle.aim_rules.specs.Trials.{is_fast_made, judged}
 use Rattle.aim_rules.specs.History.{params_of}
 use Rattle.aim_rules.specs.Known.{Known}
 use Rattle.aim_rules.specs.Answer.{answer_asking, answer_free, answer_fresh, first_reason, own_refusal, refusal, refused_or}
@@ -78,12 +79,16 @@ asked_is i r prepared = go (params_of r.message.body) refl
     fast p true made e = (prepared.fast p e made).count
     fast p false made e = ap length (prepared.unmade p e made)
 
-    with_bad : (p : Params) (o : Option Field) → r.bad ≡ o → bad i p ≡ o → params_of r.message.body ≡ Some p → length r.first.spans + length r.second.spans ≡ (if is_none o then span_count i p false + (if is_fast_made p then span_count i p true else 0) else 0)
+    steady : (p : Params) (b : Bool) → (judged i p).fast ≡ b → (if is_none r.bad then params_of r.message.body else None) ≡ Some p → length r.second.spans ≡ (if b then 0 else span_count i p false)
+    steady p true is e = ap length (prepared.untried p e is)
+    steady p false is e = (prepared.steady p e is).count
+
+    with_bad : (p : Params) (o : Option Field) → r.bad ≡ o → bad i p ≡ o → params_of r.message.body ≡ Some p → length r.first.spans + length r.second.spans ≡ (if is_none o then (if (judged i p).fast then 0 else span_count i p false) + (if is_fast_made p then span_count i p true else 0) else 0)
     with_bad p (Some f) e g asks = let q = prepared.empty (rw e refl) in none q.0 q.1
     with_bad p None e g asks =
         let is : (if is_none r.bad then params_of r.message.body else None) ≡ Some p = rw (e, asks) refl in
         let a = fast p (is_fast_made p) refl is in
-        let b = (prepared.steady p is).count in
+        let b = steady p (judged i p).fast refl is in
         omega arith
 
     go : (o : Option Params) → params_of r.message.body ≡ o → length r.first.spans + length r.second.spans ≡ asked_spans i o

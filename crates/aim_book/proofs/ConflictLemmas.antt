@@ -68,7 +68,7 @@ module _ {L : Type 0} (i : Intersection) (v place lane : ℕ) (k : Known) (p : P
         second true b t f = f
         second false b t f = absurd (cc)
 
-    pub none_blocked : IsLeastOf is_met None → first_blocked i k p fast ≡ None
+    pub none_blocked : IsLeastOf is_met None → first_blocked i k p (record { start = p.arrive; fast = fast }) ≡ None
     none_blocked none = find_map-none (blocked_by i k p) (cells i p fast) (λ c m. let needed = cells_needed i p fast c m in unmet c needed (none c))
 
     pub some_inside : (c : Cell) → IsLeastCell is_met c → (c.row < i.grid.n) × (c.col < i.grid.n) × (k.now ≤ c.step)
@@ -78,20 +78,20 @@ module _ {L : Type 0} (i : Intersection) (v place lane : ℕ) (k : Known) (p : P
     found None e = absurd (cc)
     found (Some r) e = (r, refl)
 
-    pub some_blocked : (c : Cell) → IsLeastCell is_met c → first_blocked i k p fast ≡ blocked_by i k p c
+    pub some_blocked : (c : Cell) → IsLeastCell is_met c → first_blocked i k p (record { start = p.arrive; fast = fast }) ≡ blocked_by i k p c
     some_blocked c least =
         let parts = and_parts (in_spans spans c) (is_green i d.timeline.pushed lane c || is_held d.reservations.table (spans_in (row_of d.reservations.rows.items v)) c) least.passes in
         let n = some_inside c least in
         let r = found (blocked_by i k p c) (is_blocked c n.0 n.1 n.2 ∙ parts.1) in
         find_map-cells i p fast (blocked_by i k p) c r.0 before after (sym (asked.cells c) ∙ parts.0) r.1 (λ e m b. unmet e m (least.none_before e b)) ∙ sym r.1
 
-    pub is_blocked_some : (c : Cell) → IsLeastCell is_met c → is_none (first_blocked i k p fast) ≡ false
+    pub is_blocked_some : (c : Cell) → IsLeastCell is_met c → is_none (first_blocked i k p (record { start = p.arrive; fast = fast })) ≡ false
     is_blocked_some c least =
         let parts = and_parts (in_spans spans c) (is_green i d.timeline.pushed lane c || is_held d.reservations.table (spans_in (row_of d.reservations.rows.items v)) c) least.passes in
         let n = some_inside c least in
         let r = found (blocked_by i k p c) (is_blocked c n.0 n.1 n.2 ∙ parts.1) in
         rw (some_blocked c least, r.1) refl
 
-    pub free_is : (o : Option (ℕ × ℕ × ℕ)) → IsLeastOf is_met o → is_none o ≡ is_none (first_blocked i k p fast)
+    pub free_is : (o : Option (ℕ × ℕ × ℕ)) → IsLeastOf is_met o → is_none o ≡ is_none (first_blocked i k p (record { start = p.arrive; fast = fast }))
     free_is None least = rw (none_blocked least) refl
     free_is (Some r) least = sym (is_blocked_some (cell_at r.0 r.1 r.2) least)

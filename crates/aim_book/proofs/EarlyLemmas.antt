@@ -15,7 +15,8 @@ use Rattle.aim_layout.specs.declared.policies.PolicyKind.{PolicyKind}
 use Rattle.aim_requests.specs.Cells.{HaveCells}
 use Rattle.aim_sessions.specs.Distances.{exceeded}
 use Rattle.aim_sheets.specs.declared.spans.Span.{Span}
-use Rattle.aim_rules.specs.Answer.{exceeds, gives_way, where_so, comes, in_the_way, bad_field, too_distant, too_far, too_late, too_soon}
+use Rattle.aim_rules.specs.Trials.{has_windows, is_fast_made, judged}
+use Rattle.aim_rules.specs.Answer.{ends_beyond, exceeds, gives_way, where_so, comes, in_the_way, bad_field, too_distant, too_far, too_late, too_soon}
 use Rattle.aim_rules.specs.Cells.{cells}
 use Rattle.aim_rules.specs.Distance.{asked_from}
 use Rattle.aim_rules.specs.Known.{Known}
@@ -32,36 +33,23 @@ use Rattle.aim_reservations.specs.SpanSteps.{Reaches}
 use Rattle.aim_book.specs.declared.desks.Desk.{Desk}
 
 -- the spans reach the step exactly where one of the crossing's cells does
-pub far_is : (i : Intersection) (p : Params) (spans : List Span) (reach : ℕ) (b : Bool) → i.times.early ≤ i.times.edge → i.times.late ≤ i.times.edge → HaveCells i p false spans → IsTrue b ↔ Reaches spans reach →
-    b ≡ list_any (λ c. nat_le reach c.step) (cells i p false)
-far_is i p spans reach true before after have both =
+pub far_is : (i : Intersection) (p : Params) (fast : Bool) (spans : List Span) (reach : ℕ) (b : Bool) → i.times.early ≤ i.times.edge → i.times.late ≤ i.times.edge → HaveCells i p fast spans → IsTrue b ↔ Reaches spans reach →
+    b ≡ list_any (λ c. nat_le reach c.step) (cells i p fast)
+far_is i p fast spans reach true before after have both =
     let r = both.0 refl in
-    sym (IsIn-test (λ c. nat_le reach c.step) (cells i p false) r.0 (cells_has i p false r.0 before after (sym (have r.0) ∙ r.1)) (le-leb reach r.0.step r.2))
-far_is i p spans reach false before after have both =
-    sym (false_from_ne_true (list_any (λ c. nat_le reach c.step) (cells i p false)) (λ t. (
-    let s = some_passes (λ c. nat_le reach c.step) (cells i p false) t in
+    sym (IsIn-test (λ c. nat_le reach c.step) (cells i p fast) r.0 (cells_has i p fast r.0 before after (sym (have r.0) ∙ r.1)) (le-leb reach r.0.step r.2))
+far_is i p fast spans reach false before after have both =
+    sym (false_from_ne_true (list_any (λ c. nat_le reach c.step) (cells i p fast)) (λ t. (
+    let s = some_passes (λ c. nat_le reach c.step) (cells i p fast) t in
     let l : reach ≤ s.0.step = leb-true reach s.0.step s.2 in
-    let e : false ≡ true = both.1 (s.0, have s.0 ∙ cells_needed i p false s.0 s.1, l) in cc)))
-
-distant_from : (d : ℕ) (o : Option ℕ) → where_so (exceeds d o) (reason.Distance (unwrap_or o 0)) ≡ option_map (λ least. reason.Distance least) (exceeded d o)
-distant_from d None = refl
-distant_from d (Some least) = go (nat_lt least d)
-  where
-    go : (b : Bool) → where_so b (reason.Distance least) ≡ option_map (λ l. reason.Distance l) (if b then Some least else None)
-    go true = refl
-    go false = refl
+    let e : false ≡ true = both.1 (s.0, have s.0 ∙ cells_needed i p fast s.0 s.1, l) in cc)))
 
 module _ {L : Type 0} (i : Intersection) (v place : ℕ) (k : Known) (p : Params) (d : Desk L) (tells : Tells i v place k d) where
   pub late_is : too_late i k p ≡ where_so (nat_le p.arrive (d.reservations.table.current + i.times.edge)) (reason.Late d.reservations.table.current)
   late_is = λ j. where_so (nat_le p.arrive (tells.now j + i.times.edge)) (reason.Late (tells.now j))
 
-  pub far_by : too_far i k p ≡ where_so (list_any (λ c. nat_le (d.reservations.table.current + i.times.horizon) c.step) (cells i p false)) (reason.Far (d.reservations.table.current + i.times.horizon))
-  far_by = λ j. where_so (list_any (λ c. nat_le (tells.now j + i.times.horizon) c.step) (cells i p false)) (reason.Far (tells.now j + i.times.horizon))
-
-  pub distant_is : p.lane < 16 → too_distant i k p ≡ option_map (λ least. reason.Distance least) (exceeded (asked_from d.reservations.table.current p) (slice_index_or d.distances p.lane None))
-  distant_is l =
-      (λ j. where_so (exceeds (asked_from (tells.now j) p) (tells.distance p.lane l j)) (reason.Distance (unwrap_or (tells.distance p.lane l j) 0)))
-      ∙ distant_from (asked_from d.reservations.table.current p) (slice_index_or d.distances p.lane None)
+  pub far_by : too_far i k p ≡ where_so (list_any (λ c. nat_le (d.reservations.table.current + i.times.horizon) c.step) (cells i p (judged i p).fast)) (reason.Far (d.reservations.table.current + i.times.horizon))
+  far_by = λ j. where_so (list_any (λ c. nat_le (tells.now j + i.times.horizon) c.step) (cells i p (judged i p).fast)) (reason.Far (tells.now j + i.times.horizon))
 
 -- the lane to give way to, where the policy is such a one
 pub way_is : (i : Intersection) (k : Known) (p : Params) (lanes : ℕ) (kind : PolicyKind) → option_map (λ q. q.kind) (slice_get i.policies (k.policy p.arrive).policy) ≡ Some kind → gives_way (Some kind) ≡ true →
@@ -96,11 +84,11 @@ pub good_params : (i : Intersection) (p : Params) (r : Request) → IsAsking i p
 good_params i p r asking good = rw (field_is i p r asking, good) asking.params
 
 -- the sheet of the steady trial
-pub steady_is : (i : Intersection) (p : Params) (r : Request) (sheet : Spans) → IsAsking i p r → bad i p ≡ None → Some sheet ≡ steady_sheet r → HaveCells i p false sheet.spans
-steady_is i p r sheet asking good at =
+pub steady_is : (i : Intersection) (p : Params) (r : Request) (sheet : Spans) → has_windows i ≡ false → IsAsking i p r → bad i p ≡ None → Some sheet ≡ steady_sheet r → HaveCells i p false sheet.spans
+steady_is i p r sheet one asking good at =
     let e : steady_sheet r ≡ Some r.second = ap (λ o. option_and_then (λ p. Some r.second) o) (good_params i p r asking good) in
     let same : sheet ≡ r.second = (let q : Some sheet ≡ Some r.second = at ∙ e in cc) in
-    rw same (asking.prepared.steady p (good_params i p r asking good)).cells
+    rw same (asking.prepared.steady p (good_params i p r asking good) (ap (λ b. b && is_fast_made p) one)).cells
 
 pub steady_some : (i : Intersection) (p : Params) (r : Request) → IsAsking i p r → bad i p ≡ None → None ≡ steady_sheet r → ⊥
 steady_some i p r asking good at =
@@ -112,15 +100,13 @@ or_none None = refl
 or_none (Some why) = refl
 
 -- what the tests of a good request give, one after the other
-pub timely_is : {L : Type 0} (i : Intersection) (v place : ℕ) (k : Known) (p : Params) (d : Desk L) (now edge horizon : ℕ) (late far : Bool) (way : Option Reason) → Tells i v place k d → now ≡ d.reservations.table.current → edge ≡ i.times.edge → horizon ≡ i.times.horizon → p.lane < 16 →
-    nat_le p.arrive (now + edge) ≡ late → list_any (λ c. nat_le (now + horizon) c.step) (cells i p false) ≡ far →
-    option_or (too_late i k p) (option_or (too_far i k p) (option_or (too_distant i k p) way))
-    ≡ option_or (where_so late (reason.Late now)) (option_or (where_so far (reason.Far (now + horizon))) (option_or (option_map (λ least. reason.Distance least) (exceeded (asked_from now p) (slice_index_or d.distances p.lane None))) way))
-timely_is i v place k p d now edge horizon late far way tells now_is edge_is horizon_is lane is_late is_far =
-    (λ j. option_or (late_is i v place k p d tells j) (option_or (far_by i v place k p d tells j) (option_or (distant_is i v place k p d tells lane j) way)))
-    ∙ (λ j. option_or (where_so (nat_le p.arrive (sym now_is j + sym edge_is j)) (reason.Late (sym now_is j))) (option_or (where_so (list_any (λ c. nat_le (sym now_is j + sym horizon_is j) c.step) (cells i p false)) (reason.Far (sym now_is j + sym horizon_is j)))
-    (option_or (option_map (λ least. reason.Distance least) (exceeded (asked_from (sym now_is j) p) (slice_index_or d.distances p.lane None))) way)))
-    ∙ (λ j. option_or (where_so (is_late j) (reason.Late now)) (option_or (where_so (is_far j) (reason.Far (now + horizon))) (option_or (option_map (λ least. reason.Distance least) (exceeded (asked_from now p) (slice_index_or d.distances p.lane None))) way)))
+pub timely_is : {L : Type 0} (i : Intersection) (v place : ℕ) (k : Known) (p : Params) (d : Desk L) (now edge horizon : ℕ) (late far : Bool) (rest : Option Reason) → Tells i v place k d → now ≡ d.reservations.table.current → edge ≡ i.times.edge → horizon ≡ i.times.horizon →
+    nat_le p.arrive (now + edge) ≡ late → list_any (λ c. nat_le (now + horizon) c.step) (cells i p (judged i p).fast) ≡ far →
+    option_or (too_late i k p) (option_or (too_far i k p) rest) ≡ option_or (where_so late (reason.Late now)) (option_or (where_so far (reason.Far (now + horizon))) rest)
+timely_is i v place k p d now edge horizon late far rest tells now_is edge_is horizon_is is_late is_far =
+    (λ j. option_or (late_is i v place k p d tells j) (option_or (far_by i v place k p d tells j) rest))
+    ∙ (λ j. option_or (where_so (nat_le p.arrive (sym now_is j + sym edge_is j)) (reason.Late (sym now_is j))) (option_or (where_so (list_any (λ c. nat_le (sym now_is j + sym horizon_is j) c.step) (cells i p (judged i p).fast)) (reason.Far (sym now_is j + sym horizon_is j))) rest))
+    ∙ (λ j. option_or (where_so (is_late j) (reason.Late now)) (option_or (where_so (is_far j) (reason.Far (now + horizon))) rest))
 
 -- a vehicle that may ask, with a good request
 pub early_is : {L : Type 0} (i : Intersection) (v place : ℕ) (k : Known) (p : Params) (d : Desk L) (now next : ℕ) (rest : Option Reason) → Tells i v place k d → now ≡ d.reservations.table.current → next ≡ (slice_index_or d.sessions v no_session).next → nat_lt now next ≡ false → bad i p ≡ None →

@@ -9,21 +9,25 @@ use Rattle.aim_messages.specs.declared.replies.Field.TheVariants as field
 use Rattle.aim_messages.specs.declared.replies.Reason.{Reason}
 use Rattle.aim_messages.specs.declared.replies.Reply.{Reply}
 use Rattle.aim_layout.specs.Intersection.{Intersection}
+use Rattle.aim_layout.specs.Valid.{IsValid}
 use Rattle.aim_sheets.specs.declared.spans.Span.{Span}
 use Rattle.aim_sheets.specs.Sheets.{Spans}
 use Rattle.aim_tiles.specs.Sheets.{AreTiles}
 use Rattle.aim_requests.specs.Fields.{bad_crossing}
 use Rattle.aim_requests.proofs.FieldLemmas.{fields}
-use Rattle.aim_requests.proofs.GoodLemmas.{good_crossing}
+use Rattle.aim_requests.proofs.GoodLemmas.{good_crossing, tried_both, windowless}
 use Rattle.aim_requests.specs.Cells.{HaveCells}
 use Rattle.aim_requests.specs.Requests.{Request, fast_sheet, steady_sheet}
 use Rattle.aim_requests.specs.declared.requests.TrialSteps.{TrialSteps}
 use Rattle.aim_requests.proofs.SpanLemmas.{some_steps}
-use Rattle.aim_rules.specs.Bad.{bad, is_fast_made, needs_too_many_spans}
+use Rattle.aim_rules.specs.Bad.{bad, needs_too_many_spans}
+use Rattle.aim_rules.specs.Trials.{has_windows, is_fast_made}
 use Rattle.aim_rules.specs.Footprint.{crossing_steps}
 use Rattle.aim_rules.specs.Known.{Known}
-use Rattle.aim_rules.specs.Answer.{answer_asking, answer_free, confirmation, first_blocked, first_reason, own_refusal, refusal}
+use Rattle.aim_rules.specs.Windows.{two_trials}
+use Rattle.aim_rules.specs.Answer.{answer_asking, confirmation, first_blocked, first_reason, own_refusal, refusal, refused_or}
 use Rattle.aim_rules.proofs.CellLemmas.{cells_inside}
+use Rattle.aim_rules.proofs.OneArrival.{two_trials-answer}
 use Rattle.aim_rules.proofs.GoodLemmas.{good_params as good_bounds}
 use Rattle.aim_book.specs.Asking.{IsAsking}
 use Rattle.aim_reservations.specs.Blocking.{AreAsked}
@@ -65,8 +69,9 @@ fast_steps i p r s asking good made is =
     (λ j. (is j).fast) ∙ (asking.prepared.steps p (good_params i p r asking good)).fast ∙ ap (λ (b : Bool). if b then crossing_steps i p true else 0) made
 
 -- the crossing steps of the steady trial
-pub steady_steps : (i : Intersection) (p : Params) (r : Request) (s : TrialSteps) → IsAsking i p r → bad i p ≡ None → s ≡ r.steps → s.steady ≡ crossing_steps i p false
-steady_steps i p r s asking good is = (λ j. (is j).steady) ∙ (asking.prepared.steps p (good_params i p r asking good)).steady
+pub steady_steps : (i : Intersection) (p : Params) (r : Request) (s : TrialSteps) → has_windows i ≡ false → IsAsking i p r → bad i p ≡ None → s ≡ r.steps → s.steady ≡ crossing_steps i p false
+steady_steps i p r s one asking good is =
+    (λ j. (is j).steady) ∙ (asking.prepared.steps p (good_params i p r asking good)).steady ∙ ap (λ b. if b && is_fast_made p then 0 else crossing_steps i p false) one
 
 -- a good request has a sheet of the steady trial
 pub never_none : {S : Type 0} (i : Intersection) (p : Params) (r : Request) (seen : S → Spans) (o : Option S) → IsAsking i p r → bad i p ≡ None → option_map seen o ≡ steady_sheet r → o ≡ None → ⊥
@@ -81,23 +86,23 @@ good_alone i p good = go (bad_crossing i p) (sym (fields i p) ∙ good)
     go (Some f) e = absurd (cc)
 
 -- the step at which a crossing ends fits
-pub ends_within : (i : Intersection) (p : Params) (fast : Bool) → bad i p ≡ None → (0 < crossing_steps i p fast) × (p.arrive + crossing_steps i p fast < 4294967296)
-ends_within i p fast good =
+pub ends_within : (i : Intersection) (p : Params) (fast : Bool) → IsValid i → bad i p ≡ None → (0 < crossing_steps i p fast) × (p.arrive + crossing_steps i p fast < 4294967296)
+ends_within i p fast valid good =
     let bounds = good_bounds i p good in
-    let few = (good_crossing i p (good_alone i p good)).steps fast in
+    let few = (good_crossing i p (good_alone i p good)).steps fast (tried_both i p fast valid) in
     let arrive = bounds.arrive in
     (some_steps i p fast (let s = bounds.speed.0 in omega arith) bounds.speed.1, omega arith)
 
 pub asked_of : {L : Type 0} (i : Intersection) (v place : ℕ) (k : Known) (p : Params) (fast : Bool) (spans : List Span) (d : Desk L) → Tells i v place k d → HaveCells i p fast spans → nat_le p.arrive (d.reservations.table.current + i.times.edge) ≡ false → AreAsked i k p fast spans
 asked_of i v place k p fast spans d tells have ahead = record { cells = have; ahead = rw tells.now ahead }
 
-pub free_fast : (i : Intersection) (k : Known) (p : Params) (b : Bool) (r : Reply) → b ≡ (is_fast_made p && is_none (first_blocked i k p true)) → b ≡ true → r ≡ confirmation i k p true → r ≡ answer_free i k p
+pub free_fast : (i : Intersection) (k : Known) (p : Params) (b : Bool) (r : Reply) → b ≡ (is_fast_made p && is_none (first_blocked i k p (record { start = p.arrive; fast = true }))) → b ≡ true → r ≡ confirmation i k p (record { start = p.arrive; fast = true }) → r ≡ two_trials i k p
 free_fast i k p b r told free is = rw (← told, free) is
 
-pub free_refused : (i : Intersection) (k : Known) (p : Params) (b : Bool) (r : Reply) (why : Reason) (o : Option Reason) → b ≡ (is_fast_made p && is_none (first_blocked i k p true)) → b ≡ false → o ≡ first_blocked i k p false → o ≡ Some why → r ≡ refusal i k p.arrive why → r ≡ answer_free i k p
+pub free_refused : (i : Intersection) (k : Known) (p : Params) (b : Bool) (r : Reply) (why : Reason) (o : Option Reason) → b ≡ (is_fast_made p && is_none (first_blocked i k p (record { start = p.arrive; fast = true }))) → b ≡ false → o ≡ first_blocked i k p (record { start = p.arrive; fast = false }) → o ≡ Some why → r ≡ refusal i k p.arrive why → r ≡ two_trials i k p
 free_refused i k p b r why o told not found some is = rw (← told, not, ← found, some) is
 
-pub free_steady : (i : Intersection) (k : Known) (p : Params) (b : Bool) (r : Reply) (o : Option Reason) → b ≡ (is_fast_made p && is_none (first_blocked i k p true)) → b ≡ false → o ≡ first_blocked i k p false → o ≡ None → r ≡ confirmation i k p false → r ≡ answer_free i k p
+pub free_steady : (i : Intersection) (k : Known) (p : Params) (b : Bool) (r : Reply) (o : Option Reason) → b ≡ (is_fast_made p && is_none (first_blocked i k p (record { start = p.arrive; fast = true }))) → b ≡ false → o ≡ first_blocked i k p (record { start = p.arrive; fast = false }) → o ≡ None → r ≡ confirmation i k p (record { start = p.arrive; fast = false }) → r ≡ two_trials i k p
 free_steady i k p b r o told not found none is = rw (← told, not, ← found, none) is
 
 pub asked_own : (i : Intersection) (k : Known) (b : Body) (p : Params) (o : Option Reason) (why : Reason) (r : Reply) → o ≡ own_refusal i k b → o ≡ Some why → r ≡ refusal i k p.arrive why → r ≡ answer_asking i k b p
@@ -106,5 +111,7 @@ asked_own i k b p o why r own some is = rw (← own, some) is
 pub asked_early : (i : Intersection) (k : Known) (b : Body) (p : Params) (o e : Option Reason) (why : Reason) (r : Reply) → o ≡ own_refusal i k b → o ≡ None → e ≡ first_reason i k p → e ≡ Some why → r ≡ refusal i k p.arrive why → r ≡ answer_asking i k b p
 asked_early i k b p o e why r own none early some is = rw (← own, none, ← early, some) is
 
-pub asked_free : (i : Intersection) (k : Known) (b : Body) (p : Params) (o e : Option Reason) (r : Reply) → o ≡ own_refusal i k b → o ≡ None → e ≡ first_reason i k p → e ≡ None → r ≡ answer_free i k p → r ≡ answer_asking i k b p
-asked_free i k b p o e r own none early free is = rw (← own, none, ← early, free) is
+pub asked_free : (i : Intersection) (k : Known) (b : Body) (p : Params) (o e : Option Reason) (r : Reply) → IsValid i → o ≡ own_refusal i k b → o ≡ None → e ≡ first_reason i k p → e ≡ None → r ≡ two_trials i k p → r ≡ answer_asking i k b p
+asked_free i k b p o e r valid own none early free is =
+    let x : r ≡ refused_or i k p (option_or (own_refusal i k b) (first_reason i k p)) (two_trials i k p) = rw (← own, none, ← early, free) is in
+    x ∙ sym (two_trials-answer i k b p valid.sound.grid.some_spacing valid.sound.times.early valid.sound.times.late (windowless i valid))

@@ -12,7 +12,8 @@ use Rattle.aim_sheets.specs.Spans.{in_spans}
 use Rattle.aim_rules.specs.Answer.{first_step, where_so, own_refusal}
 use Rattle.aim_rules.specs.Cells.{IsIn}
 use Rattle.aim_rules.specs.History.{Fresh, params_at}
-use Rattle.aim_rules.specs.Holds.{granted, granted_with, is_fast, is_granted, is_granted_with}
+use Rattle.aim_rules.specs.Holds.{granted, granted_with, is_granted, is_granted_with}
+use Rattle.aim_rules.specs.Trials.{Trial, arriving_at, granted_trial}
 use Rattle.aim_rules.specs.Kept.{lasts}
 use Rattle.aim_rules.specs.Known.{Known}
 use Rattle.aim_rules.proofs.CellLemmas.{cells_has, cells_needed}
@@ -26,18 +27,20 @@ use Rattle.aim_reservations.specs.declared.reservations.Reservation.{Reservation
 
 -- the cells that a Confirm grants are those of its list
 pub granted_has : (i : Intersection) (x : Fresh) (c : Cell) → i.times.early ≤ i.times.edge → i.times.late ≤ i.times.edge → is_granted i x c ≡ true → IsIn c (granted i x)
-granted_has i x c before after t = go (params_at x) t
+granted_has i x c before after t = go (granted_trial x.entry.reply) (params_at x) t
   where
-    go : (o : Option Params) → is_granted_with i x.entry.reply c o ≡ true → IsIn c (granted_with i x.entry.reply o)
-    go None e = absurd (cc)
-    go (Some p) e = cells_has i p (is_fast x.entry.reply) c before after e
+    go : (trial : Option Trial) (o : Option Params) → is_granted_with i trial c o ≡ true → IsIn c (granted_with i trial o)
+    go trial None e = absurd (cc)
+    go None (Some p) e = absurd (cc)
+    go (Some trial) (Some p) e = cells_has i (arriving_at p trial.start) trial.fast c before after e
 
 pub granted_needed : (i : Intersection) (x : Fresh) (c : Cell) → IsIn c (granted i x) → is_granted i x c ≡ true
-granted_needed i x c m = go (params_at x) m
+granted_needed i x c m = go (granted_trial x.entry.reply) (params_at x) m
   where
-    go : (o : Option Params) → IsIn c (granted_with i x.entry.reply o) → is_granted_with i x.entry.reply c o ≡ true
-    go None e = absurd e
-    go (Some p) e = cells_needed i p (is_fast x.entry.reply) c e
+    go : (trial : Option Trial) (o : Option Params) → IsIn c (granted_with i trial o) → is_granted_with i trial c o ≡ true
+    go trial None e = absurd e
+    go None (Some p) e = absurd e
+    go (Some trial) (Some p) e = cells_needed i (arriving_at p trial.start) trial.fast c e
 
 -- where all steps are at least s, so is the least
 least_from : (xs : List Cell) (s m : ℕ) → ((c : Cell) → IsIn c xs → s ≤ c.step) → least (map (λ c. c.step) xs) ≡ Some m → s ≤ m

@@ -1,6 +1,6 @@
 -- What is kept after one more fresh message is what the longer history says.
 use Rattle.std.proofs.Common.{◌≡◌, ℕ, ◌<◌, ◌≤◌, Bool, true, false, ◌||◌, List, [], ◌∷◌, ◌++◌, length, Option, Some, None, refl, sym, ◌∙◌, ap, arith, subst, append-nil}
-use Rattle.std.specs.Prelude.{option_map, if◌then◌else◌, slice_set, slice_index_or}
+use Rattle.std.specs.Prelude.{◌&&◌, option_map, if◌then◌else◌, slice_set, slice_index_or}
 use Rattle.std.proofs.lemmas.List.{length-set}
 use Rattle.std.proofs.lemmas.Bool.{leb-true, and_parts, both_ways}
 use Rattle.aim_geometry.specs.Cells.{Cell}
@@ -15,15 +15,17 @@ use Rattle.aim_sheets.specs.Spans.{in_spans}
 use Rattle.aim_tiles.specs.Cells.{has_cell as has_taken}
 use Rattle.aim_tiles.specs.Sheets.{AreAhead, AreTiles}
 use Rattle.aim_requests.specs.Requests.{IsPreparedFor, Request}
-use Rattle.aim_sessions.specs.Calls.{call_of}
+use Rattle.aim_sessions.specs.Calls.{AreCalls, call_of}
 use Rattle.aim_sessions.proofs.CallLaws.{calls_more}
 use Rattle.aim_sessions.specs.Distances.{distances_with}
 use Rattle.aim_sessions.proofs.DistanceLaws.{distances_entry}
 use Rattle.aim_rules.specs.Answer.{answer, answer_fresh}
+use Rattle.aim_rules.specs.Approach.{calling as calling_of}
 use Rattle.aim_geometry.specs.Bounded.{min_with}
 use Rattle.aim_rules.specs.Distance.{asked_from, is_blocked_reply}
 use Rattle.aim_rules.specs.History.{Fresh, fresh, given_up, is_confirm, is_fresh, is_fresh_seq, now_of, params_at, params_of}
 use Rattle.aim_rules.specs.Holds.{is_fast, is_granted, is_granted_with}
+use Rattle.aim_rules.specs.Trials.{Trial, arriving_at, granted_trial, has_windows}
 use Rattle.aim_rules.specs.Kept.{kept}
 use Rattle.aim_rules.specs.Known.{known_after, is_stopped}
 use Rattle.aim_rules.specs.Legal.{IsLegal}
@@ -45,7 +47,7 @@ use Rattle.aim_book.specs.Reserved.{AreReserved, IsRowOf}
 use Rattle.aim_book.specs.declared.desks.Desk.{Desk}
 use Rattle.aim_reservations.specs.declared.reservations.Reservation.{Reservation}
 use Rattle.aim_reservations.specs.declared.reservations.Reservations.{Reservations}
-use Rattle.aim_book.proofs.GrantedLemmas.{granted_later, granted_tiles, granted_trial}
+use Rattle.aim_book.proofs.GrantedLemmas.{granted_later, granted_there, granted_tiles, trial_granted}
 use Rattle.aim_reservations.proofs.KeepingLemmas.{cells_kept}
 use Rattle.aim_book.proofs.ManagedLemmas.{answer_new, apart, calling, fresh_now}
 use Rattle.aim_book.proofs.NextLemmas.{reserved_next}
@@ -54,11 +56,12 @@ use Rattle.aim_book.proofs.NextLemmas.{reserved_next}
 row_inside : (i : Intersection) (size : ℕ) (o : Option Fresh) (row : Option Reservation) → size ≡ i.grid.n → IsRowOf i o row → AreTiles size (spans_in row)
 row_inside i size o None e of = λ c t. absurd (cc)
 row_inside i size None (Some r) e of = absurd of
-row_inside i size (Some x) (Some r) e of = λ c t. rw e (go (params_at x) c (sym (of.cells c) ∙ t))
+row_inside i size (Some x) (Some r) e of = λ c t. rw e (go (granted_trial x.entry.reply) (params_at x) c (sym (of.cells c) ∙ t))
   where
-    go : (p : Option Params) (c : Cell) → is_granted_with i x.entry.reply c p ≡ true → (c.row < i.grid.n) × (c.col < i.grid.n)
-    go None c t = absurd (cc)
-    go (Some p) c t = cells_inside i p (is_fast x.entry.reply) c t
+    go : (trial : Option Trial) (p : Option Params) (c : Cell) → is_granted_with i trial c p ≡ true → (c.row < i.grid.n) × (c.col < i.grid.n)
+    go trial None c t = absurd (cc)
+    go None (Some p) c t = absurd (cc)
+    go (Some trial) (Some p) c t = cells_inside i (arriving_at p trial.start) trial.fast c t
 
 pub row_tiles : {L : Type 0} (i : Intersection) (n : ℕ) (xs : List Fresh) (at v : ℕ) (r : Reservations L) → AreReserved i n xs at r → v < n → AreTiles r.table.size (spans_in (row_of r.rows.items v))
 row_tiles i n xs at v r are l = row_inside i r.table.size (kept xs v) (row_of r.rows.items v) are.size (are.rows v l)
@@ -102,7 +105,7 @@ module _ {L : Type 0} (i : Intersection) (n : ℕ) (h : List Entry) (v moment pl
   -- where the sheet of a Confirm has its cells, all of them still to come
   pub managed_with : (is_confirm reply ≡ true → (c : Cell) → in_spans (granted_sheet r reply).spans c ≡ is_granted i last c) → (is_confirm reply ≡ true → length (granted_sheet r reply).spans ≡ granted_spans i last) →
       (is_confirm reply ≡ true → (c : Cell) → in_spans (granted_sheet r reply).spans c ≡ true → now_of h moment ≤ c.step) → (granted_sheet r reply).room ≡ i.grid.spans →
-      (next : Desk L) → next.approaches ≡ slice_set d.approaches v (call_of i (params_of r.message.body)) →
+      (next : Desk L) → next.approaches ≡ slice_set d.approaches v (call_of i (calling_of i reply (params_of r.message.body))) →
       next.sessions ≡ slice_set d.sessions v (session_after r.message reply (slice_index_or d.sessions v no_session).next) →
       next.distances ≡ distances_with d.distances d.reservations.table.current reply (params_of r.message.body) →
       next.timeline ≡ d.timeline → next.has_lights ≡ d.has_lights → next.stopped ≡ d.stopped →
@@ -144,6 +147,14 @@ room_bare : (i : Intersection) (m : Message) (b : Bool) → (if b then (bare i m
 room_bare i m true = refl
 room_bare i m false = refl
 
+-- a message that isn't confirmed calls on
+calls_on : (i : Intersection) (reply : Reply) (o : Option Params) → is_confirm reply ≡ false → calling_of i reply o ≡ o
+calls_on i reply o other = ap (λ b. if has_windows i && b then None else o) other ∙ go (has_windows i)
+  where
+    go : (b : Bool) → (if b && false then None else o) ≡ o
+    go true = refl
+    go false = refl
+
 -- without a Confirm
 pub managed_without : {L : Type 0} (i : Intersection) (n : ℕ) (h : List Entry) (v moment : ℕ) (d : Desk L) (message : Message) (m : IsManaged i n h (now_of h moment) d) (l : v < n) →
     look_of (slice_index_or d.sessions v no_session).last message ≡ look.Fresh → (reply : Reply) → reply ≡ answer_fresh i (known_after i h v moment) message.body → moment ≤ LATEST_MOMENT → is_confirm reply ≡ false →
@@ -158,7 +169,7 @@ pub managed_without : {L : Type 0} (i : Intersection) (n : ℕ) (h : List Entry)
 managed_without i n h v moment d message m l is_new reply is late other next calls_is sessions_is distances_is timeline_is lights_is stopped_is rows_is table_is cells_is =
     managed_with i n h v moment (length h) d (bare i message) m l is_new reply is refl late
     (λ t. absurd (both_ways (is_confirm reply) other t)) (λ t. absurd (both_ways (is_confirm reply) other t)) (λ t. absurd (both_ways (is_confirm reply) other t)) (room_bare i message (is_fast reply))
-    next calls_is sessions_is distances_is timeline_is lights_is stopped_is (rw other rows_is) table_is
+    next (calls_is ∙ ap (λ o. slice_set d.approaches v (call_of i o)) (sym (calls_on i reply (params_of message.body) other))) sessions_is distances_is timeline_is lights_is stopped_is (rw other rows_is) table_is
     (λ c. cells_is c ∙ cells_kept d.reservations.table (row_of d.reservations.rows.items v) (length h) (bare i message) reply c other)
 
 module _ {L : Type 0} (i : Intersection) (n : ℕ) (h : List Entry) (v moment place : ℕ) (d : Desk L) (r : Request) (m : IsManaged i n h (now_of h moment) d) (l : v < n)
@@ -197,13 +208,15 @@ module _ {L : Type 0} (i : Intersection) (n : ℕ) (h : List Entry) (v moment pl
     granted_is : is_confirm reply ≡ true → (c : Cell) → in_spans (granted_sheet r reply).spans c ≡ is_granted i x c
     granted_is confirmed c =
         let a = confirmed_asks i (known_after i h v moment) r.message.body (rw (← is) confirmed) in
-        let trial = granted_trial i h v moment (known_after i h v moment) r m.valid prepared new_seq answered (rw (← is) confirmed) a.0 a.1 in
-        subst (λ q. in_spans (granted_sheet r q).spans c ≡ is_granted_with i q c (params_of r.message.body)) (sym is) (trial.cells c ∙ ap (is_granted_with i said c) (sym a.1))
+        let trial = trial_granted i h v moment (known_after i h v moment) r m.valid prepared new_seq answered (rw (← is) confirmed) a.0 a.1 in
+        let there = granted_there i h v moment (known_after i h v moment) r m.valid prepared new_seq answered (rw (← is) confirmed) a.0 a.1 in
+        subst (λ q. in_spans (granted_sheet r q).spans c ≡ is_granted_with i (granted_trial q) c (params_of r.message.body)) (sym is)
+        (trial.cells c ∙ ap (λ o. is_granted_with i o c (Some a.0)) (sym there) ∙ ap (is_granted_with i (granted_trial said) c) (sym a.1))
 
     count_is : is_confirm reply ≡ true → length (granted_sheet r reply).spans ≡ granted_spans i x
     count_is confirmed =
         let a = confirmed_asks i (known_after i h v moment) r.message.body (rw (← is) confirmed) in
-        let trial = granted_trial i h v moment (known_after i h v moment) r m.valid prepared new_seq answered (rw (← is) confirmed) a.0 a.1 in
+        let trial = trial_granted i h v moment (known_after i h v moment) r m.valid prepared new_seq answered (rw (← is) confirmed) a.0 a.1 in
         subst (λ q. length (granted_sheet r q).spans ≡ trial_spans i (is_fast q) (params_of r.message.body)) (sym is) (trial.count ∙ ap (trial_spans i (is_fast said)) (sym a.1))
 
     later_is : is_confirm reply ≡ true → (c : Cell) → in_spans (granted_sheet r reply).spans c ≡ true → now_of h moment ≤ c.step
@@ -211,7 +224,7 @@ module _ {L : Type 0} (i : Intersection) (n : ℕ) (h : List Entry) (v moment pl
         let later = later_granted (rw (← is) confirmed) in
         leb-true (now_of h moment) c.step (and_parts _ _ (later c (rw (← is) t))).0
 
-    pub managed_next : (next : Desk L) → next.approaches ≡ slice_set d.approaches v (call_of i (params_of r.message.body)) →
+    pub managed_next : (next : Desk L) → next.approaches ≡ slice_set d.approaches v (call_of i (calling_of i reply (params_of r.message.body))) →
         next.sessions ≡ slice_set d.sessions v (session_after r.message reply (slice_index_or d.sessions v no_session).next) →
         next.distances ≡ distances_with d.distances d.reservations.table.current reply (params_of r.message.body) →
         next.timeline ≡ d.timeline → next.has_lights ≡ d.has_lights → next.stopped ≡ d.stopped →

@@ -3,12 +3,14 @@
 ghost use Rattle.std.specs.Prelude.{◌≡◌, ℕ, ◌+◌, ◌<◌, ◌≤◌, ◌&&◌, true, false, nat_le, length, Some, None, is_none};
 ghost use Rattle.aim_messages.specs.declared.messages.Params.{Params};
 ghost use Rattle.aim_requests.specs.Requests.{IsPreparedFor};
-ghost use Rattle.aim_rules.specs.Bad.{bad, is_fast_made};
+ghost use Rattle.aim_rules.specs.Bad.{bad};
+ghost use Rattle.aim_rules.specs.Trials.{is_fast_made};
 ghost use Rattle.aim_rules.specs.Footprint.{crossing_steps};
 ghost use Rattle.aim_rules.specs.History.{params_of};
 ghost use Rattle.aim_rules.specs.Kept.{policy_in};
 ghost use Rattle.aim_rules.specs.Known.{Known};
-ghost use Rattle.aim_rules.specs.Answer.{answer_asking, answer_free, answer_fresh, confirmation, first_blocked};
+ghost use Rattle.aim_rules.specs.Answer.{answer_asking, answer_fresh, confirmation, first_blocked};
+ghost use Rattle.aim_rules.specs.Windows.{two_trials};
 ghost use Rattle.aim_book.specs.Asking.{AreCalling, IsAsking};
 ghost use Rattle.aim_reservations.specs.Blocking.{is_lit};
 ghost use Rattle.aim_book.specs.Desk.{Tells};
@@ -24,7 +26,7 @@ use std::sync::ledger::Ledger;
 fn confirm(layout: &Layout, place: u32, params: &Params, accelerate: bool, steps: u32) -> Reply
     requires good { bad layout.now params.now ≡ None }
     requires steps { steps ≡ crossing_steps layout.now params.now accelerate }
-    ensures { (k : Known) → k.place ≡ place → result ≡ confirmation layout.now k params.now accelerate }
+    ensures { (k : Known) → k.place ≡ place → result ≡ confirmation layout.now k params.now (record { start = params.now.arrive; fast = accelerate }) }
 {
     let times = layout.ground().times();
     Reply::Confirm {
@@ -53,7 +55,7 @@ impl<L: Ledger> Desk<L> {
         requires asking { IsAsking layout.now params.now prepared.now }
         requires good { bad layout.now params.now ≡ None }
         requires ahead { nat_le params.now.arrive (self.now.reservations.table.current + layout.now.times.edge) ≡ false }
-        ensures free { (k : Known) (place : ℕ) → Tells layout.now vehicle place k self.now → result ≡ (is_fast_made params.now && is_none (first_blocked layout.now k params.now true)) }
+        ensures free { (k : Known) (place : ℕ) → Tells layout.now vehicle place k self.now → result ≡ (is_fast_made params.now && is_none (first_blocked layout.now k params.now (record { start = params.now.arrive; fast = true }))) }
         ensures made { result ≡ true → is_fast_made params.now ≡ true }
         ensures cost { steps.new ≤ steps.old + length prepared.now.first.spans }
         ensures counted { steps.old ≤ steps.new }
@@ -83,13 +85,15 @@ impl<L: Ledger> Desk<L> {
         requires asking { IsAsking layout.now params.now prepared.now }
         requires good { bad layout.now params.now ≡ None }
         requires ahead { nat_le params.now.arrive (self.now.reservations.table.current + layout.now.times.edge) ≡ false }
-        ensures reply { (k : Known) → Tells layout.now vehicle place k self.now → result ≡ answer_free layout.now k params.now }
+        ensures reply { (k : Known) → Tells layout.now vehicle place k self.now → result ≡ two_trials layout.now k params.now }
         ensures cost { steps.new ≤ steps.old + length prepared.now.first.spans + length prepared.now.second.spans }
         ensures counted { steps.old ≤ steps.new }
     {
         if self.is_fast_free(layout, vehicle, prepared, params, steps) {
             return confirm(layout, place, params, true, prepared.steps().fast);
         }
+        // The call tells that the layout is valid, and so that each request has one arrival.
+        let _ = layout.version();
         let Some(sheet) = prepared.cells_b() else {
             unreachable!()
         };

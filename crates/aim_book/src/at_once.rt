@@ -28,7 +28,6 @@ use aim_layout::Layout;
 use aim_messages::{Body, Message, Params, Reason, Reply};
 use aim_requests::{NeedsCells, Shapes, may_reach, params_in};
 use aim_reservations::given_up;
-use aim_sessions::asked_from;
 use aim_sheets::Pool;
 use aim_tiles::Steps;
 use std::sync::ledger::Ledger;
@@ -67,9 +66,9 @@ impl<L: Ledger> Desk<L> {
         if may_reach(layout, params, now + times.horizon) {
             return Err(NeedsCells);
         }
-        match self.distances.test(params.lane, asked_from(now, params)) {
-            Err(least) => Ok(Reason::Distance(least)),
-            Ok(()) => Err(NeedsCells),
+        match self.too_distant(layout, params) {
+            Some(reason) => Ok(reason),
+            None => Err(NeedsCells),
         }
     }
 

@@ -59,7 +59,7 @@ impl<L: Ledger> Desk<L> {
         requires lights { self.now.has_lights ≡ is_lit layout.now }
         requires size { self.now.reservations.table.size ≡ layout.now.grid.n }
         requires tiles { AreTiles layout.now.grid.n sheet.now.spans }
-        ensures free { (k : Known) (p : Params) (fast : Bool) (place : ℕ) → Tells layout.now vehicle place k self.now → AreAsked layout.now k p fast sheet.now.spans → p.lane ≡ lane → result ≡ is_none (first_blocked layout.now k p fast) }
+        ensures free { (k : Known) (p : Params) (fast : Bool) (place : ℕ) → Tells layout.now vehicle place k self.now → AreAsked layout.now k p fast sheet.now.spans → p.lane ≡ lane → result ≡ is_none (first_blocked layout.now k p (record { start = p.arrive; fast = fast })) }
         ensures cost { steps.new ≤ steps.old + length sheet.now.spans }
         ensures counted { steps.old ≤ steps.new }
     {
@@ -93,7 +93,7 @@ impl<L: Ledger> Desk<L> {
         requires lights { self.now.has_lights ≡ is_lit layout.now }
         requires size { self.now.reservations.table.size ≡ layout.now.grid.n }
         requires tiles { AreTiles layout.now.grid.n sheet.now.spans }
-        ensures reason { (k : Known) (p : Params) (fast : Bool) (place : ℕ) → Tells layout.now vehicle place k self.now → AreAsked layout.now k p fast sheet.now.spans → p.lane ≡ lane → result ≡ first_blocked layout.now k p fast }
+        ensures reason { (k : Known) (p : Params) (fast : Bool) (place : ℕ) → Tells layout.now vehicle place k self.now → AreAsked layout.now k p fast sheet.now.spans → p.lane ≡ lane → result ≡ first_blocked layout.now k p (record { start = p.arrive; fast = fast }) }
         ensures cost { steps.new ≤ steps.old + length sheet.now.spans }
         ensures counted { steps.old ≤ steps.new }
     {

@@ -6,14 +6,16 @@ ghost use Rattle.aim_messages.specs.declared.messages.Params.{Params};
 ghost use Rattle.aim_geometry.specs.Bounded.{find_map};
 ghost use Rattle.aim_layout.specs.Intersection.{Intersection};
 ghost use Rattle.aim_rules.specs.Bad.{bad};
-ghost use Rattle.aim_rules.specs.Answer.{first_reason, gives_way as gives_way_of, in_the_way, next_for, own_refusal, refusal, tests};
+ghost use Rattle.aim_rules.specs.Answer.{first_reason, gives_way as gives_way_of, in_the_way, next_for, own_refusal, refusal, tests, too_distant};
 ghost use Rattle.aim_rules.specs.Cells.{cells};
 ghost use Rattle.aim_rules.specs.Kept.{policy_in};
+ghost use Rattle.aim_rules.specs.Trials.{judged};
 ghost use Rattle.aim_rules.specs.Known.{Known};
 ghost use Rattle.aim_book.specs.Asking.{AreCalling, IsAsking};
 ghost use Rattle.aim_book.specs.Desk.{Tells};
 
 use crate::desks::Desk;
+use crate::windows::{has_windows, judged_sheet};
 use aim_layout::{Layout, PolicyKind};
 use aim_messages::{Body, Params, Reason, Reply};
 use aim_policies::{has_lane, least_lane};
@@ -150,12 +152,27 @@ impl<L: Ledger> Desk<L> {
             return Some(Reason::Late(now));
         }
         let reach = now + times.horizon;
-        if is_far(prepared, reach) {
+        if is_far(layout, prepared, reach) {
             return Some(Reason::Far(reach));
         }
-        match self.distances.test(params.lane, asked_from(now, params)) {
+        match self.too_distant(layout, params) {
+            Some(reason) => Some(reason),
+            None => self.in_the_way(layout, params),
+        }
+    }
+
+    /// Why the vehicle asks from too far away, if it does. Where requests have windows no lane has a distance.
+    pub(crate) fn too_distant(&self, layout: &Layout, params: &Params) -> Option<Reason>
+        requires { params.now.lane < 16 }
+        ensures { (k : Known) (vehicle place : ℕ) → Tells layout.now vehicle place k self.now → result ≡ too_distant layout.now k params.now }
+    {
+        if has_windows(layout) {
+            return None;
+        }
+        let from = asked_from(self.reservations.now(), params);
+        match self.distances.test(params.lane, from) {
             Err(least) => Some(Reason::Distance(least)),
-            Ok(()) => self.in_the_way(layout, params),
+            Ok(()) => None,
         }
     }
 }
@@ -167,11 +184,12 @@ fn gives_way(kind: PolicyKind) -> bool
     matches!(kind, PolicyKind::Emerg | PolicyKind::LightEmerg)
 }
 
-// Whether the crossing has a cell at the step or at a later one.
-fn is_far(prepared: &Prepared, reach: u32) -> bool
-    ensures { (i : Intersection) (p : Params) → i.times.early ≤ i.times.edge → i.times.late ≤ i.times.edge → IsAsking i p prepared.now → bad i p ≡ None → result ≡ list_any (λ c. nat_le reach c.step) (cells i p false) }
+// Whether the trial by which the request is judged has a cell at the step or at a later one.
+fn is_far(layout: &Layout, prepared: &Prepared, reach: u32) -> bool
+    ensures { (p : Params) → layout.now.times.early ≤ layout.now.times.edge → layout.now.times.late ≤ layout.now.times.edge → IsAsking layout.now p prepared.now → bad layout.now p ≡ None →
+        result ≡ list_any (λ c. nat_le reach c.step) (cells layout.now p (judged layout.now p).fast) }
 {
-    match prepared.cells_b() {
+    match judged_sheet(layout, prepared) {
         Some(sheet) => reaches(sheet, reach),
         None => false,
     }

@@ -1,16 +1,18 @@
 //! How a manager goes on with a message: what it answers, and what it keeps of it.
 
-ghost use Rattle.std.specs.Prelude.{◌≡◌, ℕ, ◌+◌, ◌*◌, ◌-◌, ◌<◌, ◌≤◌, ◌++◌, ◌∷◌, [], List, length, max, min, Some, None, IfSome, false, slice_index_or};
+ghost use Rattle.std.specs.Prelude.{◌≡◌, ℕ, ◌+◌, ◌*◌, ◌-◌, ◌<◌, ◌≤◌, ◌++◌, ◌∷◌, [], List, length, max, min, Option, Some, None, IfSome, false, slice_index_or, slice_set};
 ghost use Rattle.aim_messages.specs.declared.entries.Act.{Act};
 ghost use Rattle.aim_messages.specs.declared.entries.Entry.{Entry};
 ghost use Rattle.aim_messages.specs.declared.entries.TheConstants.{LATEST_MOMENT, OPERATOR};
 ghost use Rattle.aim_messages.specs.declared.messages.Message.{Message};
+ghost use Rattle.aim_messages.specs.declared.messages.Params.{Params};
 ghost use Rattle.aim_layout.specs.Intersection.{Intersection};
 ghost use Rattle.aim_layout.specs.Valid.{IsValid};
 ghost use Rattle.aim_requests.specs.Requests.{IsPreparedFor};
 ghost use Rattle.aim_requests.specs.Shapes.{ArePreparedFor};
 ghost use Rattle.aim_sessions.specs.Calls.{call_of};
 ghost use Rattle.aim_rules.specs.Answer.{answer};
+ghost use Rattle.aim_rules.specs.Approach.{calling};
 ghost use Rattle.aim_rules.specs.History.{now_of, params_of};
 ghost use Rattle.aim_rules.specs.Legal.{IsOfLayout};
 ghost use Rattle.aim_sessions.specs.declared.sessions.Look.{Look};
@@ -23,10 +25,11 @@ ghost use Rattle.aim_reservations.specs.Rows.{row_of};
 ghost use Rattle.aim_book.specs.Reserved.{rows_exchanged};
 
 use crate::desks::Desk;
+use crate::windows::has_windows;
 use aim_layout::Layout;
 use aim_messages::{Message, Order, Reason, Reply};
 use aim_requests::{NeedsCells, Prepared, Shapes, params_in};
-use aim_sessions::Look;
+use aim_sessions::{Approaches, Look};
 use aim_sheets::Pool;
 use aim_tiles::Steps;
 use std::sync::ledger::Ledger;
@@ -43,6 +46,18 @@ fn call_in(layout: &Layout, prepared: &Prepared) -> Option<(u8, u32)>
             Some((params.lane, params.arrive))
         }
         _ => None,
+    }
+}
+
+// Clears the vehicle's call, where its message calls no more once it is answered so.
+fn end_call(approaches: &mut Approaches, layout: &Layout, vehicle: u32, reply: &Reply)
+    requires { vehicle < length approaches.old }
+    ensures { (calls : List (Option (ℕ × ℕ))) (asked : Option Params) → approaches.old ≡ slice_set calls vehicle (call_of layout.now asked) →
+        approaches.new ≡ slice_set calls vehicle (call_of layout.now (calling layout.now reply.now asked)) }
+{
+    match reply {
+        Reply::Confirm { .. } if has_windows(layout) => approaches.note(vehicle, None),
+        _ => {}
     }
 }
 
@@ -91,6 +106,7 @@ impl<L: Ledger> Desk<L> {
         let message = *prepared.message();
         self.approaches.note(vehicle, call_in(layout, &prepared));
         let reply = self.answer_fresh(layout, vehicle, place, &prepared, steps);
+        end_call(&mut self.approaches, layout, vehicle, &reply);
         self.sessions.keep(vehicle, message, reply);
         self.keep_distance(&message.body, &reply);
         self.reservations

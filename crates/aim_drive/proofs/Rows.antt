@@ -137,7 +137,7 @@ on_one_tile vehicles until size drives orders x =
 
 -- a crossing with lights from the first step on: in the steps from 120 to 199 lane 1 is green
 abbrev pub lit : Intersection
-lit = crossing (record { horizon = 1500; longest = 25; clearance = 20; early = 0; late = 0; edge = 0 }) (lights ∷ [])
+lit = crossing (record { horizon = 1500; longest = 25; clearance = 20; early = 0; late = 0; edge = 0; window = 0 }) (lights ∷ [])
 
 -- a Confirm for a car of lane 0 in these steps
 abbrev pub unlit : List Entry

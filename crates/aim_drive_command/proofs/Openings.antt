@@ -68,11 +68,11 @@ of_times =
     heeded before (line.Times time_numbers) p (place.Lanes site) of_grid (record { version = refl; vehicles = refl })
     (times_taken before p (grid_of ground_numbers) time_numbers (times_of time_numbers) site refl refl refl refl of_grid.at)
 
-of_lanes : IsHeaded (line.Version 1 ∷ line.Grid ground_numbers ∷ line.Times time_numbers ∷ line.Lanes 12 ∷ []) (place.Moves (bare site 12))
+of_lanes : IsHeaded (line.Version 1 ∷ line.Grid ground_numbers ∷ line.Times time_numbers ∷ line.Lanes 12 ∷ []) (place.Moves (bare site 12 1))
 of_lanes =
     let before = line.Version 1 ∷ line.Grid ground_numbers ∷ line.Times time_numbers ∷ [] in
-    heeded before (line.Lanes 12) (place.Lanes site) (place.Moves (bare site 12)) of_times (record { version = refl; vehicles = refl })
-    (lanes_taken before (place.Lanes site) site 12 (bare site 12) refl refl refl of_times.at)
+    heeded before (line.Lanes 12) (place.Lanes site) (place.Moves (bare site 12 1)) of_times (record { version = refl; vehicles = refl })
+    (lanes_taken before (place.Lanes site) site 12 1 (bare site 12 1) refl refl refl of_times.version of_times.at)
 
 -- lines of moves alone
 abbrev AreMoves : List Line → Type 0
@@ -101,7 +101,7 @@ of_moves : IsHeaded before_policy (place.Moves (laid 12))
 unfolding before_policy ways
 of_moves =
     subst (λ (i : Intersection). IsHeaded (line.Version 1 ∷ line.Grid ground_numbers ∷ line.Times time_numbers ∷ line.Lanes 12 ∷ moves) (place.Moves i)) (sym laid_all)
-    (headed_moves moves (line.Version 1 ∷ line.Grid ground_numbers ∷ line.Times time_numbers ∷ line.Lanes 12 ∷ []) (bare site 12) of_lanes are_moves all_taken)
+    (headed_moves moves (line.Version 1 ∷ line.Grid ground_numbers ∷ line.Times time_numbers ∷ line.Lanes 12 ∷ []) (bare site 12 1) of_lanes are_moves all_taken)
 
 first_free : (i : Intersection) → i.policies ≡ [] → policy_fault i ≡ None
 first_free i none = rw none refl

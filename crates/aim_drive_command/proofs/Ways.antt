@@ -30,7 +30,7 @@ no_path Left = refl
 no_path Straight = refl
 no_path Right = refl
 
-all_free : IsFree 0 (bare site 12)
+all_free : IsFree 0 (bare site 12 1)
 all_free = record { count = refl; grid = refl; none = refl; free = λ lane turn le. at turn (slice_get (replicate 12 no_paths) lane) (λ l e. replicate_all 12 lane no_paths l e) }
   where
     at : (turn : Turn) (o : Option Lane) → ((l : Lane) → o ≡ Some l → l ≡ no_paths) → option_and_then (λ l. path_of l turn) o ≡ None
@@ -119,8 +119,8 @@ are_ways = (
 )
 
 -- all of them are taken
-pub all_taken : AreTaken (bare site 12) ways
-all_taken = ways_taken ways 0 (bare site 12) all_free are_ways
+pub all_taken : AreTaken (bare site 12 1) ways
+all_taken = ways_taken ways 0 (bare site 12 1) all_free are_ways
 
 taken_at : (xs : List Added) (i : Intersection) (k : ℕ) (x : Added) → AreTaken i xs → slice_get xs k ≡ Some x → added_fault (fold added i (take k xs)) x ≡ None
 taken_at [] i k x t e = absurd (cc)
@@ -135,13 +135,13 @@ fold_at (y ∷ xs) i (suc k) x e = fold_at xs (added i y) k x e
 -- the move of a place is taken, and gives the next layout
 pub laid_free : (k : ℕ) (x : Added) → slice_get ways k ≡ Some x → added_fault (laid k) x ≡ None
 unfolding laid
-laid_free k x e = taken_at ways (bare site 12) k x all_taken e
+laid_free k x e = taken_at ways (bare site 12 1) k x all_taken e
 
 pub laid_next : (k : ℕ) (x : Added) → slice_get ways k ≡ Some x → laid (k + 1) ≡ added (laid k) x
 unfolding laid
-laid_next k x e = let next : k + 1 ≡ suc k = omega arith in rw next (fold_at ways (bare site 12) k x e)
+laid_next k x e = let next : k + 1 ≡ suc k = omega arith in rw next (fold_at ways (bare site 12 1) k x e)
 
-pub laid_none : laid 0 ≡ bare site 12
+pub laid_none : laid 0 ≡ bare site 12 1
 unfolding laid
 laid_none = refl
 
@@ -158,15 +158,15 @@ all_of_them : take 12 ways ≡ ways
 unfolding ways moves
 all_of_them = refl
 
-pub laid_all : laid 12 ≡ fold added (bare site 12) ways
+pub laid_all : laid 12 ≡ fold added (bare site 12 1) ways
 unfolding laid
-laid_all = ap (fold added (bare site 12)) all_of_them
+laid_all = ap (fold added (bare site 12 1)) all_of_them
 
 pub laid_policies : (laid 12).policies ≡ []
-laid_policies = ap (λ (i : Intersection). i.policies) laid_all ∙ (folded_free ways 0 (bare site 12) all_free are_ways).0
+laid_policies = ap (λ (i : Intersection). i.policies) laid_all ∙ (folded_free ways 0 (bare site 12 1) all_free are_ways).0
 
 pub laid_grid : (laid 12).grid ≡ grid_of ground_numbers
-laid_grid = ap (λ (i : Intersection). i.grid) laid_all ∙ (folded_free ways 0 (bare site 12) all_free are_ways).1
+laid_grid = ap (λ (i : Intersection). i.grid) laid_all ∙ (folded_free ways 0 (bare site 12 1) all_free are_ways).1
 
 pub no_err : {T E : Type 0} (r : Result T E) (e : E) → r ≡ Err e → result_err r ≡ None → ⊥
 no_err r e is none = let h : Some e ≡ None = sym (ap result_err is) ∙ none in cc

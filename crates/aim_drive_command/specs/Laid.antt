@@ -18,7 +18,7 @@ ways = filter_map added_in moves
 
 -- the layout with the first so many of them, and no policy
 unfoldable pub laid : ℕ → Intersection
-laid count = fold added (bare site 12) (take count ways)
+laid count = fold added (bare site 12 1) (take count ways)
 
 -- the shape of a way: a curve where something pulls it
 abbrev pub shape_between : ℕ × ℕ → Option (ℕ × ℕ) → ℕ × ℕ → ℕ → Shape

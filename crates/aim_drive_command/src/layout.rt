@@ -28,6 +28,7 @@ const TIMES: Times = Times {
     early: 2,
     late: 2,
     edge: 5,
+    window: 0,
 };
 
 // A place on the ground, in millimetres.
@@ -135,7 +136,7 @@ fn bare(alloc: Global) -> Result<Builder, NoMemory>
         Ok(ground) => ground,
         Err(_) => unreachable!(),
     };
-    match Builder::new(alloc, ground, 12) {
+    match Builder::new(alloc, ground, 12, 1) {
         Ok(builder) => Ok(builder),
         Err(LayoutFault::NoMemory) => Err(NoMemory),
         Err(_) => unreachable!(),

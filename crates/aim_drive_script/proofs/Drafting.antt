@@ -56,17 +56,17 @@ abbrev is_late : Line → Bool
 is_late l = is_begin l || (is_until l || is_of_body l)
 
 quiet : (l : Line) → is_late l ≡ true → IsQuiet l
-quiet line.Begin e = record { place = refl; version = refl; vehicles = refl; named = refl; silent = record { grid = refl; times = refl; lanes = refl; added = refl } }
-quiet (line.Until step) e = record { place = refl; version = refl; vehicles = refl; named = refl; silent = record { grid = refl; times = refl; lanes = refl; added = refl } }
+quiet line.Begin e = record { place = refl; version = refl; vehicles = refl; named = refl; silent = record { version = refl; grid = refl; times = refl; lanes = refl; added = refl } }
+quiet (line.Until step) e = record { place = refl; version = refl; vehicles = refl; named = refl; silent = record { version = refl; grid = refl; times = refl; lanes = refl; added = refl } }
 quiet (line.PlanFor v first lead resend params ahead) e =
-    record { place = refl; version = refl; vehicles = refl; named = refl; silent = record { grid = refl; times = refl; lanes = refl; added = refl } }
-quiet (line.ChangeAt v step lead) e = record { place = refl; version = refl; vehicles = refl; named = refl; silent = record { grid = refl; times = refl; lanes = refl; added = refl } }
-quiet (line.CancelAt v step) e = record { place = refl; version = refl; vehicles = refl; named = refl; silent = record { grid = refl; times = refl; lanes = refl; added = refl } }
-quiet (line.Up v fates) e = record { place = refl; version = refl; vehicles = refl; named = refl; silent = record { grid = refl; times = refl; lanes = refl; added = refl } }
-quiet (line.Down v fates) e = record { place = refl; version = refl; vehicles = refl; named = refl; silent = record { grid = refl; times = refl; lanes = refl; added = refl } }
-quiet (line.SwitchTo moment name) e = record { place = refl; version = refl; vehicles = refl; named = refl; silent = record { grid = refl; times = refl; lanes = refl; added = refl } }
-quiet (line.StopAt moment) e = record { place = refl; version = refl; vehicles = refl; named = refl; silent = record { grid = refl; times = refl; lanes = refl; added = refl } }
-quiet line.End e = record { place = refl; version = refl; vehicles = refl; named = refl; silent = record { grid = refl; times = refl; lanes = refl; added = refl } }
+    record { place = refl; version = refl; vehicles = refl; named = refl; silent = record { version = refl; grid = refl; times = refl; lanes = refl; added = refl } }
+quiet (line.ChangeAt v step lead) e = record { place = refl; version = refl; vehicles = refl; named = refl; silent = record { version = refl; grid = refl; times = refl; lanes = refl; added = refl } }
+quiet (line.CancelAt v step) e = record { place = refl; version = refl; vehicles = refl; named = refl; silent = record { version = refl; grid = refl; times = refl; lanes = refl; added = refl } }
+quiet (line.Up v fates) e = record { place = refl; version = refl; vehicles = refl; named = refl; silent = record { version = refl; grid = refl; times = refl; lanes = refl; added = refl } }
+quiet (line.Down v fates) e = record { place = refl; version = refl; vehicles = refl; named = refl; silent = record { version = refl; grid = refl; times = refl; lanes = refl; added = refl } }
+quiet (line.SwitchTo moment name) e = record { place = refl; version = refl; vehicles = refl; named = refl; silent = record { version = refl; grid = refl; times = refl; lanes = refl; added = refl } }
+quiet (line.StopAt moment) e = record { place = refl; version = refl; vehicles = refl; named = refl; silent = record { version = refl; grid = refl; times = refl; lanes = refl; added = refl } }
+quiet line.End e = record { place = refl; version = refl; vehicles = refl; named = refl; silent = record { version = refl; grid = refl; times = refl; lanes = refl; added = refl } }
 quiet l e = absurd (cc)
 
 -- a line behind the header leaves what the header says

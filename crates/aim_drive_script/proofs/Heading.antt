@@ -193,7 +193,7 @@ pub no_limit : (before : List Line) (h : Header) (l : Line) → StandsAsHeader b
 no_limit before h l st kind none = no_limit_of before l (header_form (part_after (last_of before)) l (heading before h st) (in_order before l kind)) none
 
 silent_vehicles : (l : Line) (n : ℕ) → vehicles_in l ≡ Some n → IsSilent l
-silent_vehicles (line.Vehicles m) n is = record { grid = refl; times = refl; lanes = refl; added = refl }
+silent_vehicles (line.Vehicles m) n is = record { version = refl; grid = refl; times = refl; lanes = refl; added = refl }
 silent_vehicles l n is = absurd (cc)
 
 limit_in : (before : List Line) (l : Line) (n : ℕ) (i : Intersection) → vehicles_in l ≡ Some n → layout_of before ≡ i → limit_of before l ≡ vehicles_limit i.grid.spans n

@@ -5,5 +5,6 @@ pub mod Reached
 pub mod Unions
 pub mod Footprints
 pub mod FieldLemmas
+pub mod FastLemmas
 pub mod GoodLemmas
 mod LeftRows

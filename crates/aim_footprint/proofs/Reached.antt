@@ -20,7 +20,8 @@ reach_set reaches k j low high r a b was is_low is_high = elim (cases_eq j k) [
   | inr n ↦ rw (get_or-set_other reaches k j (record { low = low; high = high }) (record { low = 0; high = 0 }) n) (was (omega arith))
 ]
 
-front_rises : (p : Params) (fast : Bool) (j k : ℕ) → p.speed ≤ p.max_speed → j ≤ k → front p fast j ≤ front p fast k
+-- the front goes on
+pub front_rises : (p : Params) (fast : Bool) (j k : ℕ) → p.speed ≤ p.max_speed → j ≤ k → front p fast j ≤ front p fast k
 front_rises p fast j zero s h = let e : j ≡ zero = omega arith in rw e (omega arith)
 front_rises p fast j (suc k) s h = elim (dec_lt k j) [
   | yes l ↦ (let e : j ≡ suc k = omega arith in rw e (omega arith))

@@ -13,7 +13,9 @@ mod slides;
 pub mod visits;
 pub mod windows;
 
-pub use fields::{bad_crossing, steady_steps};
+pub use fields::{
+    bad_crossing, has_bad_window, has_windows, is_fast_made, is_judged_fast, steady_steps,
+};
 pub use fills::{are_steady, fill_rects};
 pub use reaches::{Reach, fill_reaches};
 pub use visits::{RowRange, Visit, simulate};

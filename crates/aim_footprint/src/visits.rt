@@ -4,7 +4,7 @@ ghost use Rattle.std.specs.Prelude.{◌≡◌, ◌≢◌, ℕ, ◌<◌, ◌≤�
 ghost use Rattle.std.specs.Result.{result_err};
 ghost use Rattle.aim_layout.specs.Intersection.{path as path_of};
 ghost use Rattle.aim_rules.specs.Footprint.{crossing_steps};
-ghost use Rattle.aim_footprint.specs.Fields.{bad_crossing as bad_crossing_of};
+ghost use Rattle.aim_footprint.specs.Fields.{IsTried, bad_crossing as bad_crossing_of};
 ghost use Rattle.aim_footprint.specs.Windows.{AreRects, AreSteady};
 ghost use Rattle.aim_footprint.specs.Reaches.{AreReaches};
 ghost use Rattle.aim_footprint.specs.Visits.{IsFootprint, IsRangeOf, ShowsStep, Visited};
@@ -110,6 +110,7 @@ fn lead<V: Visit>(
     visit: &mut V,
 ) -> u32
     requires good { bad_crossing_of layout.now params.now ≡ None }
+    requires tried { IsTried layout.now params.now accelerate }
     requires found { path_of layout.now params.now.lane params.now.turn ≡ Some path.now }
     requires room { length rects.old ≡ length path.now }
     requires extra { extra ≤ 10000 }
@@ -126,7 +127,7 @@ fn lead<V: Visit>(
 }
 
 /// Leads the visitor through the crossing steps of a trial, in order, and gives their number: `accelerate` says which
-/// trial. In each step it shows the tiles under the vehicle and round it by `extra` millimetres. Where a field of the
+/// trial, and in a layout with windows it is the one that is made. In each step it shows the tiles under the vehicle and round it by `extra` millimetres. Where a field of the
 /// crossing is wrong, that is the answer, and the visitor sees nothing.
 pub fn simulate<V: Visit>(
     layout: &Layout,
@@ -135,7 +136,8 @@ pub fn simulate<V: Visit>(
     extra: u32,
     visit: &mut V,
 ) -> Result<u32, Field>
-    requires { extra ≤ 10000 }
+    requires extra { extra ≤ 10000 }
+    requires tried { IsTried layout.now params.now accelerate }
     ensures field { result_err result ≡ bad_crossing_of layout.now params.now }
     ensures count { IfOk result (λ count. count ≡ crossing_steps layout.now params.now accelerate) }
     ensures visits { OnOk result (Visited V.visits (IsFootprint layout.now params.now accelerate extra) (crossing_steps layout.now params.now accelerate) visit.old visit.new) }

@@ -15,6 +15,7 @@ IsTimes-tests t b h = record {
   early = grind (arith, nat_tests);
   late = grind (arith, nat_tests);
   edge = grind (arith, nat_tests);
+  window = grind (arith, nat_tests);
 }
 
 pub IsGrid-tests : (g : Grid) → has_bad_numbers g ≡ false → IsGrid g

@@ -21,7 +21,7 @@ abbrev pub has_bad_buffers : Times → Bool
 has_bad_buffers t = nat_lt t.edge t.early || nat_lt t.edge t.late
 
 abbrev pub has_bad_times : Times → Bool
-has_bad_times t = is_outside t.horizon 8192 || is_outside t.longest 65536 || nat_lt 1024 t.clearance || nat_lt 1024 t.edge
+has_bad_times t = is_outside t.horizon 8192 || is_outside t.longest 65536 || nat_lt 1024 t.clearance || nat_lt 1024 t.edge || nat_lt t.horizon t.window
 
 -- why the numbers make no ground
 abbrev pub ground_fault : Grid → Times → Option GroundFault
@@ -55,6 +55,7 @@ pub record IsTimes (t : Times) : Type 0 where
   pub early : t.early ≤ t.edge
   pub late : t.late ≤ t.edge
   pub edge : t.edge ≤ 1024
+  pub window : t.window ≤ t.horizon
 
 pub record IsSite (s : Site) : Type 0 where
   pub grid : IsGrid s.grid

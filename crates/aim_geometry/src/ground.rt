@@ -54,6 +54,8 @@ pub struct Times {
     pub late: u32,
     /// The steps for which a tile at the border is kept before and after, at most 1,024.
     pub edge: u32,
+    /// The longest window: how many steps after its arrival a request may let its crossing begin, at most `horizon`.
+    pub window: u32,
 }
 
 /// Why numbers make no ground.
@@ -151,4 +153,5 @@ fn has_bad_times(times: &Times) -> bool
         || is_outside(times.longest, 65_536)
         || times.clearance > 1_024
         || times.edge > 1_024
+        || times.window > times.horizon
 }

@@ -223,7 +223,7 @@ close_settles before b n s v layouts (Ok (stage.Begin r)) a all heeds same whole
     let p = parted before in
     let set = heeds.2 in
     let many : n ≡ s.vehicles = some_same n s.vehicles heeds.1 in
-    let silent : IsSilent (plain.Vehicles n) = record { grid = refl; times = refl; lanes = refl; added = refl } in
+    let silent : IsSilent (plain.Vehicles n) = record { version = refl; grid = refl; times = refl; lanes = refl; added = refl } in
     let layout : layout_of p.block ≡ s.layout = sym (layout_same p.block (plain.Vehicles n) silent) ∙ set.layout in
     let made : layouts_of before ≡ layouts = layouts_are before b s.layout a layout ∙ sym whole in
     let limit : limit_of before l ≡ None = ap (λ js. vehicles_limit (spans_in js) n) made ∙ settles.0 in
@@ -259,7 +259,7 @@ close_settles before b n s v layouts (Err (refusal.Limit which)) a all heeds sam
     let l = line.Plain (plain.Vehicles n) in
     let p = parted before in
     let set = heeds.2 in
-    let silent : IsSilent (plain.Vehicles n) = record { grid = refl; times = refl; lanes = refl; added = refl } in
+    let silent : IsSilent (plain.Vehicles n) = record { version = refl; grid = refl; times = refl; lanes = refl; added = refl } in
     let layout : layout_of p.block ≡ s.layout = sym (layout_same p.block (plain.Vehicles n) silent) ∙ set.layout in
     let made : layouts_of before ≡ layouts = layouts_are before b s.layout a layout ∙ sym whole in
     passes before l which (close_at before b n true a all ∙ ap as_plain heeds.0)
@@ -497,7 +497,7 @@ end_some block true k false h = h
 end_some block false k false h = ap (λ j. Some (if is_order j then j else why.Version)) (some_same why.Order k h)
 
 end_layout : (block : List Line) (s : Setting) → IsSet (block ++ plain.Vehicles 1 ∷ []) s → layout_of block ≡ s.layout
-end_layout block s set = sym (layout_same block (plain.Vehicles 1) (record { grid = refl; times = refl; lanes = refl; added = refl })) ∙ set.layout
+end_layout block s set = sym (layout_same block (plain.Vehicles 1) (record { version = refl; grid = refl; times = refl; lanes = refl; added = refl })) ∙ set.layout
 
 pub end_whole : (block : List Line) (h : Header) (n : ℕ) (s : Setting) → StandsAsHeader block h → (n == version_number h.version) ≡ true → Heeds block (plain.Vehicles 1) (Ok (headed.Whole s)) → EndsBlock block n (Ok s.layout)
 end_whole block h n s st same heeds =

@@ -149,44 +149,44 @@ lanes_moved n xs l t s h free =
           a ∙ b ∙ sym (lane_of-other xs (AddMove l t s) k (λ turn. rw (ne_eqb l k ne) refl)) ∙ sym made)
     ])
 
-same_layout : (s : Site) (ls ms : List Lane) (qs rs : List Policy) → ls ≡ ms → qs ≡ rs → (let i : Intersection = record { grid = s.grid; times = s.times; lanes = ls; policies = qs } in i) ≡ record { grid = s.grid; times = s.times; lanes = ms; policies = rs }
-same_layout s ls ms qs rs e f = rw (e, f) refl
+same_layout : (s : Site) (version : ℕ) (ls ms : List Lane) (qs rs : List Policy) → ls ≡ ms → qs ≡ rs → (let i : Intersection = record { version = version; grid = s.grid; times = s.times; lanes = ls; policies = qs } in i) ≡ record { version = version; grid = s.grid; times = s.times; lanes = ms; policies = rs }
+same_layout s version ls ms qs rs e f = rw (e, f) refl
 
 -- one line more
-step : (s : Site) (lanes : ℕ) (xs : List Added) (x : Added) → added_fault (layout_of s lanes xs) x ≡ None → added (layout_of s lanes xs) x ≡ layout_of s lanes (xs ++ x ∷ [])
-step s lanes xs (AddMove l t sh) h =
-    let i = layout_of s lanes xs in
+step : (s : Site) (lanes version : ℕ) (xs : List Added) (x : Added) → added_fault (layout_of s lanes version xs) x ≡ None → added (layout_of s lanes version xs) x ≡ layout_of s lanes version (xs ++ x ∷ [])
+step s lanes version xs (AddMove l t sh) h =
+    let i = layout_of s lanes version xs in
     let m : IsMove i l t sh = IsMove-tests i l t sh h in
     let count : length i.lanes ≡ lanes = length-map-range_with_len (lane_of xs) 0 lanes in
     let there : l < lanes = let a = m.there in omega arith in
     let was : get_or i.lanes l no_paths ≡ lane_of xs l = get_or-map-range_with_len (lane_of xs) 0 lanes l l no_paths there (omega arith) in
     let free : path_of (lane_of xs l) t ≡ None = rw was at (sym (path_there i l t m.there) ∙ m.free) in
-    same_layout s _ _ _ _ (lanes_moved lanes xs l t sh there free) (sym (policies_of-move xs l t sh))
-step s lanes xs (AddPolicy k) h =
-    same_layout s _ _ _ _ (lanes_same lanes (lane_of xs) (lane_of (xs ++ AddPolicy k ∷ [])) (λ n l. sym (lane_of-other xs (AddPolicy k) n (λ turn. refl))))
+    same_layout s version _ _ _ _ (lanes_moved lanes xs l t sh there free) (sym (policies_of-move xs l t sh))
+step s lanes version xs (AddPolicy k) h =
+    same_layout s version _ _ _ _ (lanes_same lanes (lane_of xs) (lane_of (xs ++ AddPolicy k ∷ [])) (λ n l. sym (lane_of-other xs (AddPolicy k) n (λ turn. refl))))
     (sym (policies_of-policy xs k (record { kind = k; phases = [] }) refl))
-step s lanes xs (AddPhase f) h =
-    let i = layout_of s lanes xs in
+step s lanes version xs (AddPhase f) h =
+    let i = layout_of s lanes version xs in
     let q = phase_found i f h in
-    rw q.1 (same_layout s _ _ _ _ (lanes_same lanes (lane_of xs) (lane_of (xs ++ AddPhase f ∷ [])) (λ n l. sym (lane_of-other xs (AddPhase f) n (λ turn. refl))))
+    rw q.1 (same_layout s version _ _ _ _ (lanes_same lanes (lane_of xs) (lane_of (xs ++ AddPhase f ∷ [])) (λ n l. sym (lane_of-other xs (AddPhase f) n (λ turn. refl))))
     (extended-set (policies_of xs) f q.0 q.1 ∙ sym (policies_of-phase xs f)))
 
-all_lines : (s : Site) (lanes : ℕ) (xs ys : List Added) → AreTaken (layout_of s lanes xs) ys → fold added (layout_of s lanes xs) ys ≡ layout_of s lanes (xs ++ ys)
-all_lines s lanes xs [] t = ap (layout_of s lanes) (sym (append-nil xs))
-all_lines s lanes xs (y ∷ ys) t =
-    let e = step s lanes xs y t.0 in
-    ap (λ i. fold added i ys) e ∙ all_lines s lanes (xs ++ y ∷ []) ys (rw e at t.1) ∙ ap (layout_of s lanes) (append_assoc xs (y ∷ []) ys)
+all_lines : (s : Site) (lanes version : ℕ) (xs ys : List Added) → AreTaken (layout_of s lanes version xs) ys → fold added (layout_of s lanes version xs) ys ≡ layout_of s lanes version (xs ++ ys)
+all_lines s lanes version xs [] t = ap (layout_of s lanes version) (sym (append-nil xs))
+all_lines s lanes version xs (y ∷ ys) t =
+    let e = step s lanes version xs y t.0 in
+    ap (λ i. fold added i ys) e ∙ all_lines s lanes version (xs ++ y ∷ []) ys (rw e at t.1) ∙ ap (layout_of s lanes version) (append_assoc xs (y ∷ []) ys)
 
-bare_lines : (s : Site) (lanes : ℕ) → bare s lanes ≡ layout_of s lanes []
-bare_lines s lanes =
+bare_lines : (s : Site) (lanes version : ℕ) → bare s lanes version ≡ layout_of s lanes version []
+bare_lines s lanes version =
     let count = length-replicate lanes no_paths in
     let made = length-map-range_with_len (lane_of []) 0 lanes in
-    same_layout s _ _ _ _ (same_lists (replicate lanes no_paths) (map (lane_of []) (range_with_len 0 lanes)) (count ∙ sym made) (λ k d l.
+    same_layout s version _ _ _ _ (same_lists (replicate lanes no_paths) (map (lane_of []) (range_with_len 0 lanes)) (count ∙ sym made) (λ k d l.
     let m : k < lanes = omega arith in
     get_or-replicate lanes k no_paths d m ∙ sym (get_or-map-range_with_len (lane_of []) 0 lanes k k d m (omega arith)))) refl
 
 -- the lines that are taken, one after another, make the layout of them all
-pub layout_is_its_lines : (s : Site) (lanes : ℕ) (xs : List Added) → AreTaken (bare s lanes) xs → fold added (bare s lanes) xs ≡ layout_of s lanes xs
-layout_is_its_lines s lanes xs t =
-    let e = bare_lines s lanes in
-    ap (λ i. fold added i xs) e ∙ all_lines s lanes [] xs (rw e at t)
+pub layout_is_its_lines : (s : Site) (lanes version : ℕ) (xs : List Added) → AreTaken (bare s lanes version) xs → fold added (bare s lanes version) xs ≡ layout_of s lanes version xs
+layout_is_its_lines s lanes version xs t =
+    let e = bare_lines s lanes version in
+    ap (λ i. fold added i xs) e ∙ all_lines s lanes version [] xs (rw e at t)

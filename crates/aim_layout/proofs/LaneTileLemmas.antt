@@ -122,14 +122,14 @@ HasTiles-move i lane turn s tiles rows h none t m = record {
 }
 
 -- no lane of a bare layout has a tile
-pub HasTiles-bare : (s : Site) (lanes : ℕ) → HasTiles (bare s lanes) (replicate lanes (replicate 64 0))
-HasTiles-bare s lanes =
+pub HasTiles-bare : (s : Site) (lanes version : ℕ) → HasTiles (bare s lanes version) (replicate lanes (replicate 64 0))
+HasTiles-bare s lanes version =
     let blank : List ℕ = replicate 64 0 in record {
       count = length-replicate lanes blank ∙ sym (length-replicate lanes no_paths);
       rows = λ k l row col r c.
           let m : k < lanes = omega (arith, length-replicate lanes no_paths) in
           let there : slice_get (replicate lanes no_paths) k ≡ Some no_paths = slice_get-get_or (replicate lanes no_paths) k no_paths l ∙ ap Some (get_or-replicate lanes k no_paths no_paths m) in
-          let none : in_lane_tiles (bare s lanes) k row col ≡ false = ap (λ o. is_on_lane (bare s lanes) o row col) there in
+          let none : in_lane_tiles (bare s lanes version) k row col ≡ false = ap (λ o. is_on_lane (bare s lanes version) o row col) there in
           rw (get_or-replicate lanes k blank [] m, get_or-replicate {A = ℕ} 64 row 0 0 r, bit_at-zero col, none) refl;
     }
 

@@ -29,10 +29,10 @@ use Rattle.aim_layout.specs.Valid.{IsPath, IsPhase, IsPolicy, IsValid}
 use Rattle.aim_layout.proofs.AddedLemmas.{layout_is_its_lines}
 
 -- lines that are taken one after another, and what they make
-record IsMade (s : Site) (n : ℕ) (i : Intersection) : Type 0 where
+record IsMade (s : Site) (n version : ℕ) (i : Intersection) : Type 0 where
   pub lines : List Added
-  pub taken : AreTaken (bare s n) lines
-  pub made : fold added (bare s n) lines ≡ i
+  pub taken : AreTaken (bare s n version) lines
+  pub made : fold added (bare s n version) lines ≡ i
 
 taken_more : (i : Intersection) (xs : List Added) (x : Added) → AreTaken i xs → added_fault (fold added i xs) x ≡ None → AreTaken i (xs ++ x ∷ [])
 taken_more i [] x t e = (e, tt)
@@ -42,11 +42,11 @@ fold_more : (i : Intersection) (xs : List Added) (x : Added) → fold added i (x
 fold_more i [] x = refl
 fold_more i (y ∷ xs) x = fold_more (added i y) xs x
 
-one_more : (s : Site) (n : ℕ) (i : Intersection) (x : Added) → IsMade s n i → added_fault i x ≡ None → IsMade s n (added i x)
-one_more s n i x m e = record {
+one_more : (s : Site) (n version : ℕ) (i : Intersection) (x : Added) → IsMade s n version i → added_fault i x ≡ None → IsMade s n version (added i x)
+one_more s n version i x m e = record {
   lines = m.lines ++ x ∷ [];
-  taken = taken_more (bare s n) m.lines x m.taken (rw m.made e);
-  made = fold_more (bare s n) m.lines x ∙ ap (λ j. added j x) m.made;
+  taken = taken_more (bare s n version) m.lines x m.taken (rw m.made e);
+  made = fold_more (bare s n version) m.lines x ∙ ap (λ j. added j x) m.made;
 }
 
 -- an element that stands between others
@@ -57,20 +57,20 @@ seam_there xs ys y =
 
 -- the lanes
 
-abbrev laned : Site → List Lane → Intersection
-laned s lanes = record { grid = s.grid; times = s.times; lanes = lanes; policies = [] }
+abbrev laned : Site → ℕ → List Lane → Intersection
+laned s version lanes = record { version = version; grid = s.grid; times = s.times; lanes = lanes; policies = [] }
 
 path_taken : (g : Grid) (ss : List Station) → IsPath g ss → wide_step g.spacing ss ≡ None
 path_taken g ss p =
     least_below_none (length ss - 1) (λ j. are_wide g.spacing (get_or ss j origin) (get_or ss (j + 1) origin))
     (λ j l. p.near j (get_or ss j origin) (get_or ss (j + 1) origin) (slice_get-get_or ss j origin (omega arith)) (slice_get-get_or ss (j + 1) origin (omega arith)))
 
-move_taken : (s : Site) (before after : List Lane) (m : Lane) (t : Turn) (sh : Shape) → path_of m t ≡ None → is_bad_shape s.grid.side sh ≡ false → wide_step s.grid.spacing (stations_of sh) ≡ None →
-    move_fault (laned s (before ++ m ∷ after)) (length before) t sh ≡ None
-move_taken s before after m t sh free fine near =
+move_taken : (s : Site) (version : ℕ) (before after : List Lane) (m : Lane) (t : Turn) (sh : Shape) → path_of m t ≡ None → is_bad_shape s.grid.side sh ≡ false → wide_step s.grid.spacing (stations_of sh) ≡ None →
+    move_fault (laned s version (before ++ m ∷ after)) (length before) t sh ≡ None
+move_taken s version before after m t sh free fine near =
     let ls = before ++ m ∷ after in
     let there : nat_le (length ls) (length before) ≡ false = grind (arith, nat_tests, length-append before (m ∷ after)) in
-    let none : path (laned s ls) (length before) t ≡ None = rw (seam_there before after m) free in
+    let none : path (laned s version ls) (length before) t ≡ None = rw (seam_there before after m) free in
     rw (there, none, fine, near) refl
 
 -- the lane with the path, where there is one
@@ -78,17 +78,17 @@ abbrev put : Lane → Turn → Option (List Station) → Lane
 put m t None = m
 put m t (Some ss) = with_path m t ss
 
-put_made : (s : Site) (n : ℕ) (before after : List Lane) (m : Lane) (t : Turn) (o : Option (List Station)) → path_of m t ≡ None → ((ss : List Station) → o ≡ Some ss → IsPath s.grid ss) →
-    IsMade s n (laned s (before ++ m ∷ after)) → IsMade s n (laned s (before ++ put m t o ∷ after))
-put_made s n before after m t None free fine made = made
-put_made s n before after m t (Some ss) free fine made =
+put_made : (s : Site) (n version : ℕ) (before after : List Lane) (m : Lane) (t : Turn) (o : Option (List Station)) → path_of m t ≡ None → ((ss : List Station) → o ≡ Some ss → IsPath s.grid ss) →
+    IsMade s n version (laned s version (before ++ m ∷ after)) → IsMade s n version (laned s version (before ++ put m t o ∷ after))
+put_made s n version before after m t None free fine made = made
+put_made s n version before after m t (Some ss) free fine made =
     let p = fine ss refl in
     let f = p.formed in
     let near : wide_step s.grid.spacing (stations_of f.0) ≡ None = subst (λ xs. wide_step s.grid.spacing xs ≡ None) f.2 (path_taken s.grid ss p) in
     let put_there : set (before ++ m ∷ after) (length before) (with_path (get_or (before ++ m ∷ after) (length before) no_paths) t (stations_of f.0)) ≡ before ++ with_path m t (stations_of f.0) ∷ after =
     rw (get_or-append_seam before m after no_paths, set-append_seam before m after (with_path m t (stations_of f.0))) refl in
-    subst (λ ls. IsMade s n (laned s ls)) (put_there ∙ ap (λ xs. before ++ with_path m t xs ∷ after) (sym f.2))
-    (one_more s n (laned s (before ++ m ∷ after)) (AddMove (length before) t f.0) made (move_taken s before after m t f.0 free f.1 near))
+    subst (λ ls. IsMade s n version (laned s version ls)) (put_there ∙ ap (λ xs. before ++ with_path m t xs ∷ after) (sym f.2))
+    (one_more s n version (laned s version (before ++ m ∷ after)) (AddMove (length before) t f.0) made (move_taken s version before after m t f.0 free f.1 near))
 
 put_all : (a b c : Option (List Station)) → put (put (put no_paths Left a) Straight b) Right c ≡ record { left = a; straight = b; right = c }
 put_all None None None = refl
@@ -114,13 +114,13 @@ AreOffered : Grid → List Lane → Type 0
 AreOffered g [] = Unit {0}
 AreOffered g (l ∷ ls) = ((t : Turn) (ss : List Station) → path_of l t ≡ Some ss → IsPath g ss) × AreOffered g ls
 
-lane_made : (s : Site) (n : ℕ) (before after : List Lane) (l : Lane) → ((t : Turn) (ss : List Station) → path_of l t ≡ Some ss → IsPath s.grid ss) →
-    IsMade s n (laned s (before ++ no_paths ∷ after)) → IsMade s n (laned s (before ++ l ∷ after))
-lane_made s n before after l fine made =
-    let a = put_made s n before after no_paths Left l.left refl (fine Left) made in
-    let b = put_made s n before after (put no_paths Left l.left) Straight l.straight (free_straight l.left) (fine Straight) a in
-    let c = put_made s n before after (put (put no_paths Left l.left) Straight l.straight) Right l.right (free_right l.left l.straight) (fine Right) b in
-    subst (λ k. IsMade s n (laned s (before ++ k ∷ after))) (put_all l.left l.straight l.right) c
+lane_made : (s : Site) (n version : ℕ) (before after : List Lane) (l : Lane) → ((t : Turn) (ss : List Station) → path_of l t ≡ Some ss → IsPath s.grid ss) →
+    IsMade s n version (laned s version (before ++ no_paths ∷ after)) → IsMade s n version (laned s version (before ++ l ∷ after))
+lane_made s n version before after l fine made =
+    let a = put_made s n version before after no_paths Left l.left refl (fine Left) made in
+    let b = put_made s n version before after (put no_paths Left l.left) Straight l.straight (free_straight l.left) (fine Straight) a in
+    let c = put_made s n version before after (put (put no_paths Left l.left) Straight l.straight) Right l.right (free_right l.left l.straight) (fine Right) b in
+    subst (λ k. IsMade s n version (laned s version (before ++ k ∷ after))) (put_all l.left l.straight l.right) c
 
 blanks : List Lane → List Lane
 blanks [] = []
@@ -131,21 +131,21 @@ unfolding blanks
 blanks_are [] = refl
 blanks_are (l ∷ ls) = ap (λ ms. no_paths ∷ ms) (blanks_are ls)
 
-lanes_made : (s : Site) (n : ℕ) (before rest : List Lane) → AreOffered s.grid rest → IsMade s n (laned s (before ++ blanks rest)) → IsMade s n (laned s (before ++ rest))
+lanes_made : (s : Site) (n version : ℕ) (before rest : List Lane) → AreOffered s.grid rest → IsMade s n version (laned s version (before ++ blanks rest)) → IsMade s n version (laned s version (before ++ rest))
 unfolding blanks AreOffered
-lanes_made s n before [] fine made = made
-lanes_made s n before (l ∷ ls) fine made =
-    let one = lane_made s n before (blanks ls) l fine.0 made in
-    subst (λ ms. IsMade s n (laned s ms)) (append_snoc before l ls)
-    (lanes_made s n (before ++ l ∷ []) ls fine.1 (subst (λ ms. IsMade s n (laned s ms)) (sym (append_snoc before l (blanks ls))) one))
+lanes_made s n version before [] fine made = made
+lanes_made s n version before (l ∷ ls) fine made =
+    let one = lane_made s n version before (blanks ls) l fine.0 made in
+    subst (λ ms. IsMade s n version (laned s version ms)) (append_snoc before l ls)
+    (lanes_made s n version (before ++ l ∷ []) ls fine.1 (subst (λ ms. IsMade s n version (laned s version ms)) (sym (append_snoc before l (blanks ls))) one))
 
 -- the policies
 
-abbrev governed : Site → List Lane → List Policy → Intersection
-governed s lanes ps = record { grid = s.grid; times = s.times; lanes = lanes; policies = ps }
+abbrev governed : Site → ℕ → List Lane → List Policy → Intersection
+governed s version lanes ps = record { version = version; grid = s.grid; times = s.times; lanes = lanes; policies = ps }
 
-last_there : (s : Site) (lanes : List Lane) (before : List Policy) (p : Policy) → last_policy (governed s lanes (before ++ p ∷ [])) ≡ Some p
-last_there s lanes before p =
+last_there : (s : Site) (version : ℕ) (lanes : List Lane) (before : List Policy) (p : Policy) → last_policy (governed s version lanes (before ++ p ∷ [])) ≡ Some p
+last_there s version lanes before p =
     let at : length (before ++ p ∷ []) - 1 ≡ length before = omega (arith, length-append before (p ∷ [])) in
     rw at (seam_there before [] p)
 
@@ -203,8 +203,8 @@ phase_taken i f q lit room h =
     tests a b c d e g k pa pb pc pd pe pg pk = rw (pa, pb, pc, pd, pe, pg, pk) refl
 
 -- phases stay fine whatever the policies are
-IsPhase-governed : (s : Site) (lanes : List Lane) (ps qs : List Policy) (f : Phase) → IsPhase (governed s lanes ps) f → IsPhase (governed s lanes qs) f
-IsPhase-governed s lanes ps qs f h = record {
+IsPhase-governed : (s : Site) (version : ℕ) (lanes : List Lane) (ps qs : List Policy) (f : Phase) → IsPhase (governed s version lanes ps) f → IsPhase (governed s version lanes qs) f
+IsPhase-governed s version lanes ps qs f h = record {
   clear = h.clear;
   red = h.red;
   some_green = h.some_green;
@@ -214,33 +214,33 @@ IsPhase-governed s lanes ps qs f h = record {
   apart = h.apart;
 }
 
-one_phase : (s : Site) (n : ℕ) (lanes : List Lane) (before : List Policy) (q : Policy) (f : Phase) → has_lights q.kind ≡ true → length q.phases < 16 → IsPhase (governed s lanes []) f →
-    IsMade s n (governed s lanes (before ++ q ∷ [])) → IsMade s n (governed s lanes (before ++ record q { phases = q.phases ++ f ∷ [] } ∷ []))
-one_phase s n lanes before q f lit room h made =
-    let i = governed s lanes (before ++ q ∷ []) in
-    let last : last_policy i ≡ Some q = last_there s lanes before q in
-    let fine : phase_fault i f ≡ None = rw (last, phase_taken i f q lit room (IsPhase-governed s lanes [] (before ++ q ∷ []) f h)) refl in
+one_phase : (s : Site) (n version : ℕ) (lanes : List Lane) (before : List Policy) (q : Policy) (f : Phase) → has_lights q.kind ≡ true → length q.phases < 16 → IsPhase (governed s version lanes []) f →
+    IsMade s n version (governed s version lanes (before ++ q ∷ [])) → IsMade s n version (governed s version lanes (before ++ record q { phases = q.phases ++ f ∷ [] } ∷ []))
+one_phase s n version lanes before q f lit room h made =
+    let i = governed s version lanes (before ++ q ∷ []) in
+    let last : last_policy i ≡ Some q = last_there s version lanes before q in
+    let fine : phase_fault i f ≡ None = rw (last, phase_taken i f q lit room (IsPhase-governed s version lanes [] (before ++ q ∷ []) f h)) refl in
     let at : length (before ++ q ∷ []) - 1 ≡ length before = omega (arith, length-append before (q ∷ [])) in
-    let put_there : with_phase i f ≡ governed s lanes (before ++ record q { phases = q.phases ++ f ∷ [] } ∷ []) =
-    ap (with_phase_of i f) last ∙ ap (λ ps. governed s lanes ps) (ap (λ k. set (before ++ q ∷ []) k (record q { phases = q.phases ++ f ∷ [] })) at ∙ set-append_seam before q [] (record q { phases = q.phases ++ f ∷ [] })) in
-    subst (IsMade s n) put_there (one_more s n i (AddPhase f) made fine)
+    let put_there : with_phase i f ≡ governed s version lanes (before ++ record q { phases = q.phases ++ f ∷ [] } ∷ []) =
+    ap (with_phase_of i f) last ∙ ap (λ ps. governed s version lanes ps) (ap (λ k. set (before ++ q ∷ []) k (record q { phases = q.phases ++ f ∷ [] })) at ∙ set-append_seam before q [] (record q { phases = q.phases ++ f ∷ [] })) in
+    subst (IsMade s n version) put_there (one_more s n version i (AddPhase f) made fine)
 
 -- each of some phases is fine
 AreFine : Intersection → List Phase → Type 0
 AreFine i [] = Unit {0}
 AreFine i (f ∷ fs) = IsPhase i f × AreFine i fs
 
-phases_made : (s : Site) (n : ℕ) (lanes : List Lane) (before : List Policy) (k : PolicyKind) (done todo : List Phase) → has_lights k ≡ true → length (done ++ todo) ≤ 16 → AreFine (governed s lanes []) todo →
-    IsMade s n (governed s lanes (before ++ record { kind = k; phases = done } ∷ [])) → IsMade s n (governed s lanes (before ++ record { kind = k; phases = done ++ todo } ∷ []))
+phases_made : (s : Site) (n version : ℕ) (lanes : List Lane) (before : List Policy) (k : PolicyKind) (done todo : List Phase) → has_lights k ≡ true → length (done ++ todo) ≤ 16 → AreFine (governed s version lanes []) todo →
+    IsMade s n version (governed s version lanes (before ++ record { kind = k; phases = done } ∷ [])) → IsMade s n version (governed s version lanes (before ++ record { kind = k; phases = done ++ todo } ∷ []))
 unfolding AreFine
-phases_made s n lanes before k done [] lit room fine made = rw (append-nil done) made
-phases_made s n lanes before k done (f ∷ fs) lit room fine made =
+phases_made s n version lanes before k done [] lit room fine made = rw (append-nil done) made
+phases_made s n version lanes before k done (f ∷ fs) lit room fine made =
     let count = length-append done (f ∷ fs) in
     let q : Policy = record { kind = k; phases = done } in
-    let one = one_phase s n lanes before q f lit (omega arith) fine.0 made in
+    let one = one_phase s n version lanes before q f lit (omega arith) fine.0 made in
     let seam : (done ++ f ∷ []) ++ fs ≡ done ++ f ∷ fs = append_snoc done f fs in
-    subst (λ ps. IsMade s n (governed s lanes (before ++ record { kind = k; phases = ps } ∷ []))) seam
-    (phases_made s n lanes before k (done ++ f ∷ []) fs lit (rw seam room) fine.1 one)
+    subst (λ ps. IsMade s n version (governed s version lanes (before ++ record { kind = k; phases = ps } ∷ []))) seam
+    (phases_made s n version lanes before k (done ++ f ∷ []) fs lit (rw seam room) fine.1 one)
 
 -- what is needed of each policy
 record IsRuled (i : Intersection) (p : Policy) : Type 0 where
@@ -253,26 +253,26 @@ AreRuled : Intersection → List Policy → Type 0
 AreRuled i [] = Unit {0}
 AreRuled i (p ∷ ps) = IsRuled i p × AreRuled i ps
 
-policy_phases : (s : Site) (n : ℕ) (lanes : List Lane) (before : List Policy) (p : Policy) → IsRuled (governed s lanes []) p →
-    IsMade s n (governed s lanes (before ++ record { kind = p.kind; phases = [] } ∷ [])) → IsMade s n (governed s lanes (before ++ p ∷ []))
-policy_phases s n lanes before p ruled made = elim ruled.lit [
-  | inl lit ↦ phases_made s n lanes before p.kind [] p.phases lit ruled.count ruled.fine made
-  | inr none ↦ subst (λ fs. IsMade s n (governed s lanes (before ++ record { kind = p.kind; phases = fs } ∷ []))) (sym none) made
+policy_phases : (s : Site) (n version : ℕ) (lanes : List Lane) (before : List Policy) (p : Policy) → IsRuled (governed s version lanes []) p →
+    IsMade s n version (governed s version lanes (before ++ record { kind = p.kind; phases = [] } ∷ [])) → IsMade s n version (governed s version lanes (before ++ p ∷ []))
+policy_phases s n version lanes before p ruled made = elim ruled.lit [
+  | inl lit ↦ phases_made s n version lanes before p.kind [] p.phases lit ruled.count ruled.fine made
+  | inr none ↦ subst (λ fs. IsMade s n version (governed s version lanes (before ++ record { kind = p.kind; phases = fs } ∷ []))) (sym none) made
 ]
 
-policies_made : (s : Site) (n : ℕ) (lanes : List Lane) (before rest : List Policy) → length (before ++ rest) ≤ 8 → lacks_phase (last_policy (governed s lanes before)) ≡ false → AreRuled (governed s lanes []) rest →
-    IsMade s n (governed s lanes before) → IsMade s n (governed s lanes (before ++ rest))
+policies_made : (s : Site) (n version : ℕ) (lanes : List Lane) (before rest : List Policy) → length (before ++ rest) ≤ 8 → lacks_phase (last_policy (governed s version lanes before)) ≡ false → AreRuled (governed s version lanes []) rest →
+    IsMade s n version (governed s version lanes before) → IsMade s n version (governed s version lanes (before ++ rest))
 unfolding AreRuled
-policies_made s n lanes before [] room whole ruled made = rw (append-nil before) made
-policies_made s n lanes before (p ∷ ps) room whole ruled made =
+policies_made s n version lanes before [] room whole ruled made = rw (append-nil before) made
+policies_made s n version lanes before (p ∷ ps) room whole ruled made =
     let count = length-append before (p ∷ ps) in
     let few : nat_le 8 (length before) ≡ false = grind (arith, nat_tests) in
-    let fine : policy_fault (governed s lanes before) ≡ None = rw (few, whole) refl in
-    let begun = one_more s n (governed s lanes before) (AddPolicy p.kind) made fine in
-    let one = policy_phases s n lanes before p ruled.0 begun in
+    let fine : policy_fault (governed s version lanes before) ≡ None = rw (few, whole) refl in
+    let begun = one_more s n version (governed s version lanes before) (AddPolicy p.kind) made fine in
+    let one = policy_phases s n version lanes before p ruled.0 begun in
     let seam : (before ++ p ∷ []) ++ ps ≡ before ++ p ∷ ps = append_snoc before p ps in
-    subst (λ qs. IsMade s n (governed s lanes qs)) seam
-    (policies_made s n lanes (before ++ p ∷ []) ps (rw seam room) (rw (last_there s lanes before p) ruled.0.whole) ruled.1 one)
+    subst (λ qs. IsMade s n version (governed s version lanes qs)) seam
+    (policies_made s n version lanes (before ++ p ∷ []) ps (rw seam room) (rw (last_there s version lanes before p) ruled.0.whole) ruled.1 one)
 
 -- from what a valid layout says of places to what is needed of elements
 
@@ -291,10 +291,10 @@ unfolding AreRuled
 all_ruled i [] each = tt
 all_ruled i (p ∷ ps) each = (each 0 p refl, all_ruled i ps (λ k q e. each (suc k) q e))
 
-is_ruled : (i : Intersection) (p : Policy) → IsPolicy i p → lacks_phase (Some p) ≡ false → IsRuled (governed (record { grid = i.grid; times = i.times }) i.lanes []) p
+is_ruled : (i : Intersection) (p : Policy) → IsPolicy i p → lacks_phase (Some p) ≡ false → IsRuled (governed (record { grid = i.grid; times = i.times }) i.version i.lanes []) p
 is_ruled i p h whole = record {
   count = h.count;
-  fine = all_fine (governed (record { grid = i.grid; times = i.times }) i.lanes []) p.phases (λ k f e. IsPhase-governed (record { grid = i.grid; times = i.times }) i.lanes i.policies [] f (h.phases k f e));
+  fine = all_fine (governed (record { grid = i.grid; times = i.times }) i.version i.lanes []) p.phases (λ k f e. IsPhase-governed (record { grid = i.grid; times = i.times }) i.version i.lanes i.policies [] f (h.phases k f e));
   lit = go (has_lights p.kind) refl;
   whole = whole;
 }
@@ -304,12 +304,13 @@ is_ruled i p h whole = record {
     go false e = inr (h.dark e)
 
 -- A valid layout is the layout of some lines, each taken where it stands.
-pub valid_made : (i : Intersection) → IsValid i → (lines : List Added) × AreTaken (bare (record { grid = i.grid; times = i.times }) (length i.lanes)) lines × (layout_of (record { grid = i.grid; times = i.times }) (length i.lanes) lines ≡ i)
+pub valid_made : (i : Intersection) → IsValid i → (lines : List Added) × AreTaken (bare (record { grid = i.grid; times = i.times }) (length i.lanes) i.version) lines × (layout_of (record { grid = i.grid; times = i.times }) (length i.lanes) i.version lines ≡ i)
 valid_made i v =
     let s : Site = record { grid = i.grid; times = i.times } in
     let n = length i.lanes in
-    let start : IsMade s n (laned s (blanks i.lanes)) = record { lines = []; taken = tt; made = ap (λ ls. laned s ls) (sym (blanks_are i.lanes)) } in
-    let lanes = lanes_made s n [] i.lanes (all_offered i.grid i.lanes (λ k l e t ss f. v.sound.paths k t ss (rw e f))) start in
-    let made = policies_made s n i.lanes [] i.policies v.sound.policies refl
-    (all_ruled (governed s i.lanes []) i.policies (λ k p e. is_ruled i p (v.sound.each k p e) (v.whole k p e))) lanes in
-    (made.lines, made.taken, sym (layout_is_its_lines s n made.lines made.taken) ∙ made.made)
+    let version = i.version in
+    let start : IsMade s n version (laned s version (blanks i.lanes)) = record { lines = []; taken = tt; made = ap (λ ls. laned s version ls) (sym (blanks_are i.lanes)) } in
+    let lanes = lanes_made s n version [] i.lanes (all_offered i.grid i.lanes (λ k l e t ss f. v.sound.paths k t ss (rw e f))) start in
+    let made = policies_made s n version i.lanes [] i.policies v.sound.policies refl
+    (all_ruled (governed s version i.lanes []) i.policies (λ k p e. is_ruled i p (v.sound.each k p e) (v.whole k p e))) lanes in
+    (made.lines, made.taken, sym (layout_is_its_lines s n version made.lines made.taken) ∙ made.made)

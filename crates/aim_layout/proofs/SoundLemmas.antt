@@ -120,6 +120,8 @@ pub IsSound-move : (i : Intersection) (lane : ℕ) (turn : Turn) (s : Shape) →
 IsSound-move i lane turn s v m =
     let count : length (with_move i lane turn s).lanes ≡ length i.lanes = length-set i.lanes lane (with_path (get_or i.lanes lane no_paths) turn (stations_of s)) in
     record {
+      some_version = v.some_version;
+      version = v.version;
       grid = v.grid;
       times = v.times;
       some_lanes = let a = v.some_lanes in omega arith;
@@ -170,6 +172,8 @@ IsSound-policy i k v room h =
     let bare : Policy = record { kind = k; phases = [] } in
     let j = with_policy i k in
     record {
+      some_version = v.some_version;
+      version = v.version;
       grid = v.grid;
       times = v.times;
       some_lanes = v.some_lanes;
@@ -271,6 +275,8 @@ IsSound-phase i f q v last t =
     let count : length (set i.policies k new) ≡ length i.policies = length-set i.policies k new in
     let was = v.each k q last in
     record {
+      some_version = v.some_version;
+      version = v.version;
       grid = v.grid;
       times = v.times;
       some_lanes = v.some_lanes;
@@ -304,10 +310,12 @@ IsValid-finish i v h =
       whole = λ k q e. all_whole i k q v p.1 e;
     }
 
-pub IsSound-bare : (s : Site) (lanes : ℕ) → IsGrid s.grid → IsTimes s.times → 0 < lanes → lanes ≤ 16 → IsSound (bare s lanes)
-IsSound-bare s lanes g t a b =
+pub IsSound-bare : (s : Site) (lanes version : ℕ) → IsGrid s.grid → IsTimes s.times → 0 < lanes → lanes ≤ 16 → 0 < version → version ≤ 3 → IsSound (bare s lanes version)
+IsSound-bare s lanes version g t a b some most =
     let count = length-replicate lanes no_paths in
     record {
+      some_version = some;
+      version = most;
       grid = g;
       times = t;
       some_lanes = omega arith;

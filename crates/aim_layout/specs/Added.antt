@@ -76,8 +76,9 @@ policies_of (AddPolicy k ∷ xs) = record { kind = k; phases = phases_of xs } �
 policies_of (AddPhase f ∷ xs) = policies_of xs
 
 -- the layout of these lines
-abbrev pub layout_of : Site → ℕ → List Added → Intersection
-layout_of s lanes xs = record {
+abbrev pub layout_of : Site → ℕ → ℕ → List Added → Intersection
+layout_of s lanes version xs = record {
+  version = version;
   grid = s.grid;
   times = s.times;
   lanes = map (lane_of xs) (range_with_len 0 lanes);

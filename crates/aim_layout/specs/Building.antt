@@ -19,9 +19,9 @@ use Rattle.aim_layout.specs.LaneTiles.{in_lane_tiles}
 abbrev pub no_paths : Lane
 no_paths = record { left = None; straight = None; right = None }
 
--- a layout of so many lanes, with no path and no policy
-abbrev pub bare : Site → ℕ → Intersection
-bare s lanes = record { grid = s.grid; times = s.times; lanes = replicate lanes no_paths; policies = [] }
+-- a layout of so many lanes and of a version, with no path and no policy
+abbrev pub bare : Site → ℕ → ℕ → Intersection
+bare s lanes version = record { version = version; grid = s.grid; times = s.times; lanes = replicate lanes no_paths; policies = [] }
 
 abbrev pub with_path : Lane → Turn → List Station → Lane
 with_path l Left ss = record l { left = Some ss }

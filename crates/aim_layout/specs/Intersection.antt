@@ -18,7 +18,9 @@ pub record Policy : Type 0 where
   pub kind : PolicyKind
   pub phases : List Phase
 
+-- the version is that of the rules by which messages are answered
 pub record Intersection : Type 0 where
+  pub version : ℕ
   pub grid : Grid
   pub times : Times
   pub lanes : List Lane

@@ -37,6 +37,7 @@ pub enum LayoutFault {
 /// A layout in the making. It has all the room that a layout takes.
 #[derive(Drop)]
 pub struct Builder {
+    version: u8,
     ground: Ground,
     lanes: Vec<LanePaths>,
     tiles: Vec<[u64; 64]>,
@@ -53,25 +54,32 @@ impl Model for Builder {
     ghost use Rattle.aim_layout.specs.LaneRows.{HasTiles};
     ghost use Rattle.aim_layout.specs.Valid.{IsSound};
 
-    ghost view = { λ b. record { grid = b.ground.grid; times = b.ground.times; lanes = b.lanes.items; policies = b.policies.items } };
+    ghost view = { λ b. record { version = b.version; grid = b.ground.grid; times = b.ground.times; lanes = b.lanes.items; policies = b.policies.items } };
 
     ghost invariant = { λ b.
-        (IsSound (record { grid = b.ground.grid; times = b.ground.times; lanes = b.lanes.items; policies = b.policies.items }))
-        × (HasTiles (record { grid = b.ground.grid; times = b.ground.times; lanes = b.lanes.items; policies = b.policies.items }) b.tiles.items)
+        (IsSound (record { version = b.version; grid = b.ground.grid; times = b.ground.times; lanes = b.lanes.items; policies = b.policies.items }))
+        × (HasTiles (record { version = b.version; grid = b.ground.grid; times = b.ground.times; lanes = b.lanes.items; policies = b.policies.items }) b.tiles.items)
         × (8 ≤ vec_capacity b.policies) };
 }
 
 impl Builder {
-    /// The layout of so many lanes, with no path and no policy yet. Want of memory comes last.
-    pub fn new(alloc: Global, ground: Ground, lanes: u32) -> Result<Builder, LayoutFault>
+    /// The layout of so many lanes, of a version of the rules, with no path and no policy yet. Want of memory comes last.
+    pub fn new(
+        alloc: Global,
+        ground: Ground,
+        lanes: u32,
+        version: u8,
+    ) -> Result<Builder, LayoutFault>
+        requires some_version { 0 < version }
+        requires version { version ≤ 3 }
         ensures lane { (result ≡ Err LayoutFault.Lane) ↔ IsTrue (is_outside lanes 16) }
         ensures memory { IfErr result (λ e. (e ≡ LayoutFault.Lane) ⊎ (e ≡ LayoutFault.NoMemory)) }
-        ensures bare { IfOk result (λ b. b ≡ bare ground lanes) }
+        ensures bare { IfOk result (λ b. b ≡ bare ground lanes version) }
     {
         if lanes == 0 || lanes > 16 {
             return Err(LayoutFault::Lane);
         }
-        match make(alloc, ground, lanes) {
+        match make(alloc, ground, lanes, version) {
             Ok(builder) => Ok(builder),
             Err(_) => Err(LayoutFault::NoMemory),
         }
@@ -151,13 +159,14 @@ impl Builder {
             });
         }
         let Builder {
+            version,
             ground,
             lanes,
             tiles,
             policies,
             alloc,
         } = self;
-        Ok(Layout::of_parts(ground, lanes, tiles, policies, alloc))
+        Ok(Layout::of_parts(version, ground, lanes, tiles, policies, alloc))
     }
 
     // Adds a path that isn't refused.
@@ -310,13 +319,16 @@ fn share_bit(a: &[u64; 64], b: &[u64; 64]) -> bool
 }
 
 // A builder with all the room of a layout.
-fn make(alloc: Global, ground: Ground, lanes: u32) -> Result<Builder, NoMemory>
+fn make(alloc: Global, ground: Ground, lanes: u32, version: u8) -> Result<Builder, NoMemory>
     requires some { 0 < lanes }
     requires most { lanes ≤ 16 }
-    ensures { IfOk result (λ b. b ≡ bare ground lanes) }
+    requires some_version { 0 < version }
+    requires version { version ≤ 3 }
+    ensures { IfOk result (λ b. b ≡ bare ground lanes version) }
 {
     ground.has_ranges();
     Ok(Builder {
+        version,
         ground,
         lanes: bare_lanes(alloc, lanes)?,
         tiles: no_tiles(alloc, lanes)?,

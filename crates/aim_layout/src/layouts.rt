@@ -18,6 +18,7 @@ use std::marker::Model;
 /// A ground, lanes with their paths, and policies, to which no refusal applies.
 #[derive(Drop)]
 pub struct Layout {
+    version: u8,
     ground: Ground,
     lanes: Vec<LanePaths>,
     tiles: Vec<[u64; 64]>,
@@ -33,33 +34,43 @@ impl Model for Layout {
     ghost use Rattle.aim_layout.specs.LaneRows.{HasTiles};
     ghost use Rattle.aim_layout.specs.Valid.{IsValid};
 
-    ghost view = { λ l. record { grid = l.ground.grid; times = l.ground.times; lanes = l.lanes.items; policies = l.policies.items } };
+    ghost view = { λ l. record { version = l.version; grid = l.ground.grid; times = l.ground.times; lanes = l.lanes.items; policies = l.policies.items } };
 
     ghost invariant = { λ l.
-        (IsValid (record { grid = l.ground.grid; times = l.ground.times; lanes = l.lanes.items; policies = l.policies.items }))
-        × (HasTiles (record { grid = l.ground.grid; times = l.ground.times; lanes = l.lanes.items; policies = l.policies.items }) l.tiles.items) };
+        (IsValid (record { version = l.version; grid = l.ground.grid; times = l.ground.times; lanes = l.lanes.items; policies = l.policies.items }))
+        × (HasTiles (record { version = l.version; grid = l.ground.grid; times = l.ground.times; lanes = l.lanes.items; policies = l.policies.items }) l.tiles.items) };
 }
 
 impl Layout {
     /// The layout of these parts.
     pub(crate) fn of_parts(
+        version: u8,
         ground: Ground,
         lanes: Vec<LanePaths>,
         tiles: Vec<[u64; 64]>,
         policies: Vec<StoredPolicy>,
         alloc: Global,
     ) -> Layout
-        requires valid { IsValid (record { grid = ground.grid; times = ground.times; lanes = lanes.items; policies = policies.items }) }
-        requires tiles { HasTiles (record { grid = ground.grid; times = ground.times; lanes = lanes.items; policies = policies.items }) tiles.items }
-        ensures { result ≡ record { grid = ground.grid; times = ground.times; lanes = lanes.items; policies = policies.items } }
+        requires valid { IsValid (record { version = version; grid = ground.grid; times = ground.times; lanes = lanes.items; policies = policies.items }) }
+        requires tiles { HasTiles (record { version = version; grid = ground.grid; times = ground.times; lanes = lanes.items; policies = policies.items }) tiles.items }
+        ensures { result ≡ record { version = version; grid = ground.grid; times = ground.times; lanes = lanes.items; policies = policies.items } }
     {
         Layout {
+            version,
             ground,
             lanes,
             tiles,
             policies,
             alloc,
         }
+    }
+
+    /// The version of the rules by which messages are answered. The call also tells that the layout is valid.
+    pub fn version(&self) -> u8
+        ensures version { result ≡ self.now.version }
+        ensures valid { IsValid self.now }
+    {
+        self.version
     }
 
     /// The ground. The call also tells that the layout is valid.
@@ -135,6 +146,7 @@ impl Layout {
         let tiles = Vec::from_slice(self.alloc, self.tiles.as_slice())?;
         let lanes = copy_lanes(self.alloc, self.lanes.as_slice())?;
         Ok(Layout {
+            version: self.version,
             ground: self.ground,
             lanes,
             tiles,

@@ -37,7 +37,7 @@ same_line before l m is = go (kind_of_fault before l) is
 
 -- the line of the vehicles says nothing of the layout
 silent_vehicles : (l : Line) (n : ℕ) → vehicles_in l ≡ Some n → IsSilent l
-silent_vehicles (line.Vehicles m) n is = record { grid = refl; times = refl; lanes = refl; added = refl }
+silent_vehicles (line.Vehicles m) n is = record { version = refl; grid = refl; times = refl; lanes = refl; added = refl }
 silent_vehicles l n is = absurd (cc)
 
 -- the limit on the vehicles of a header
@@ -64,5 +64,5 @@ quiet_set before s set = ap (journal (layout_of before)) (set.no_calls (names_of
 -- nor has the line behind it one
 pub quiet_begin : (before : List Line) → journal_so_far (before ++ line.Begin ∷ []) ≡ journal_so_far before
 quiet_begin before =
-    let quiet : IsQuiet line.Begin = record { version = refl; vehicles = refl; name = refl; silent = record { grid = refl; times = refl; lanes = refl; added = refl } } in
+    let quiet : IsQuiet line.Begin = record { version = refl; vehicles = refl; name = refl; silent = record { version = refl; grid = refl; times = refl; lanes = refl; added = refl } } in
     same_journal before line.Begin quiet refl

@@ -86,7 +86,7 @@ body_of : {L : Type 0} (before : List Line) (s : Progress L) → Stands before s
 body_of before s st going = (rw going at st.lead).0
 
 quiet_event : (v at : ℕ) (m : Message) → IsQuiet (line.Event v at m)
-quiet_event v at m = record { version = refl; vehicles = refl; name = refl; silent = record { grid = refl; times = refl; lanes = refl; added = refl } }
+quiet_event v at m = record { version = refl; vehicles = refl; name = refl; silent = record { version = refl; grid = refl; times = refl; lanes = refl; added = refl } }
 
 -- a message was answered
 pub event_came : {L : Type 0} (before : List Line) (s : Progress L) (v at place : ℕ) (m : Message) (e : Entry) (server : DeskServer L) → s.ended ≡ false → Stands before s → event_kind s.server.vehicles v at ≡ None
@@ -122,10 +122,10 @@ past : (at : ℕ) → LATEST_MOMENT < at → nat_lt LATEST_MOMENT at ≡ true
 past at h = grind (arith, nat_tests)
 
 quiet_switch : (at : ℕ) (name : Name) → IsQuiet (line.SwitchTo at name)
-quiet_switch at name = record { version = refl; vehicles = refl; name = refl; silent = record { grid = refl; times = refl; lanes = refl; added = refl } }
+quiet_switch at name = record { version = refl; vehicles = refl; name = refl; silent = record { version = refl; grid = refl; times = refl; lanes = refl; added = refl } }
 
 quiet_stop : (at : ℕ) → IsQuiet (line.StopAt at)
-quiet_stop at = record { version = refl; vehicles = refl; name = refl; silent = record { grid = refl; times = refl; lanes = refl; added = refl } }
+quiet_stop at = record { version = refl; vehicles = refl; name = refl; silent = record { version = refl; grid = refl; times = refl; lanes = refl; added = refl } }
 
 -- an order was answered
 ordered : {L : Type 0} (before : List Line) (s new : Progress L) (l : Line) (at : ℕ) (o : Order) (a : Answered) → s.ended ≡ false → Stands before s → IsQuiet l → call_in (names_of before) l ≡ Some (order_call at o)
@@ -214,7 +214,7 @@ pub end_came : {L : Type 0} (before : List Line) (s : Progress L) → s.ended �
 end_came before s going st =
     let l = line.End in
     let p = st.played in
-    let quiet : IsQuiet l = record { version = refl; vehicles = refl; name = refl; silent = record { grid = refl; times = refl; lanes = refl; added = refl } } in
+    let quiet : IsQuiet l = record { version = refl; vehicles = refl; name = refl; silent = record { version = refl; grid = refl; times = refl; lanes = refl; added = refl } } in
     let same = same_journal before l quiet refl in (
       l,
       goes before l (end_kind before (body_of before s st going)) refl,
@@ -247,7 +247,7 @@ pub opened : {L : Type 0} (before : List Line) (s : Setting) (new : Progress L) 
     → Opens before s (Ok new)
 opened before s new version names going layout vehicles serves orders set =
     let l = line.Begin in
-    let silent : IsSilent l = record { grid = refl; times = refl; lanes = refl; added = refl } in
+    let silent : IsSilent l = record { version = refl; grid = refl; times = refl; lanes = refl; added = refl } in
     let none : calls_of (before ++ l ∷ []) ≡ [] = calls_same before l refl refl ∙ set.no_calls (names_of before) in
     let empty : journal_so_far (before ++ l ∷ []) ≡ [] = ap (journal (layout_of (before ++ l ∷ []))) none in (
       goes before l (begin_kind before set.part) refl,

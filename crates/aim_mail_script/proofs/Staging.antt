@@ -85,7 +85,7 @@ pub header_falls : (before : List Line) (l : Line) (h : Header) (kind : Kind) �
 header_falls before l h kind st is = falls before l kind (same_kind before h l st.says ∙ is)
 
 silent_vehicles : (l : Line) (n : ℕ) → vehicles_in l ≡ Some n → IsSilent l
-silent_vehicles (line.Vehicles m) n is = record { grid = refl; times = refl; lanes = refl; added = refl }
+silent_vehicles (line.Vehicles m) n is = record { version = refl; grid = refl; times = refl; lanes = refl; added = refl }
 silent_vehicles l n is = absurd (cc)
 
 limit_is : (before : List Line) (l : Line) (s : Setting) → vehicles_in l ≡ Some s.vehicles → IsSet (before ++ l ∷ []) s → limit_of before l ≡ vehicles_limit s.layout.grid.spans s.vehicles
@@ -131,7 +131,7 @@ begin_goes before s d version layout vehicles events st =
     let l = line.Begin in
     let set = st.says.0 in
     let open_ = st.says.1 in
-    let silent : IsSilent l = record { grid = refl; times = refl; lanes = refl; added = refl } in
+    let silent : IsSilent l = record { version = refl; grid = refl; times = refl; lanes = refl; added = refl } in
     let none : calls_of (before ++ l ∷ []) ≡ [] = calls_same before l refl refl ∙ set.no_calls (names_of before) in
     let said : events_of (before ++ l ∷ []) ≡ [] = filter_map-one event_in before l ∙ append-nil (events_of before) ∙ no_events [] before (set.no_calls []) in
     let draft : IsDraft (before ++ l ∷ []) d = record {
@@ -178,7 +178,7 @@ event_taken before d new v at m good version layout vehicles events st =
     let e : Event = record { vehicle = v; moment = at; message = m } in
     let part = st.says.0 in
     let draft = st.says.2 in
-    let silent : IsSilent l = record { grid = refl; times = refl; lanes = refl; added = refl } in
+    let silent : IsSilent l = record { version = refl; grid = refl; times = refl; lanes = refl; added = refl } in
     let calls : length (calls_of (before ++ l ∷ [])) ≡ length (calls_of before) + 1 = ap length (calls_more before l refl) ∙ length-append (calls_of before) _ in
     let longer : length new.script.events.items ≡ length d.script.events.items + 1 = ap length events ∙ length-append d.script.events.items (e ∷ []) in
     let lines : length (before ++ l ∷ []) ≡ length before + 1 = length-append before (l ∷ []) in
@@ -210,7 +210,7 @@ end_goes : (before : List Line) (d : Draft) → Stands before (stage.Body d) →
 end_goes before d st =
     let l = line.End in
     let draft = st.says.2 in
-    let silent : IsSilent l = record { grid = refl; times = refl; lanes = refl; added = refl } in
+    let silent : IsSilent l = record { version = refl; grid = refl; times = refl; lanes = refl; added = refl } in
     let next : IsDraft (before ++ l ∷ []) d = record {
       version = version_same before l refl ∙ draft.version;
       layout = layout_same before l silent ∙ draft.layout;

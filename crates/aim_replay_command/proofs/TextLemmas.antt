@@ -54,11 +54,11 @@ record Keeps (l : Line) : Type 0 where
   pub name : name_in l ≡ None
 
 keeps : (p : Part) (l : Line) → is_past p ≡ true → belongs p l ≡ true → Keeps l
-keeps to_begin line.Begin past is = record { past = refl; silent = record { grid = refl; times = refl; lanes = refl; added = refl }; name = refl }
-keeps in_body (line.Event v at m) past is = record { past = refl; silent = record { grid = refl; times = refl; lanes = refl; added = refl }; name = refl }
-keeps in_body (line.SwitchTo at name) past is = record { past = refl; silent = record { grid = refl; times = refl; lanes = refl; added = refl }; name = refl }
-keeps in_body (line.StopAt at) past is = record { past = refl; silent = record { grid = refl; times = refl; lanes = refl; added = refl }; name = refl }
-keeps in_body line.End past is = record { past = refl; silent = record { grid = refl; times = refl; lanes = refl; added = refl }; name = refl }
+keeps to_begin line.Begin past is = record { past = refl; silent = record { version = refl; grid = refl; times = refl; lanes = refl; added = refl }; name = refl }
+keeps in_body (line.Event v at m) past is = record { past = refl; silent = record { version = refl; grid = refl; times = refl; lanes = refl; added = refl }; name = refl }
+keeps in_body (line.SwitchTo at name) past is = record { past = refl; silent = record { version = refl; grid = refl; times = refl; lanes = refl; added = refl }; name = refl }
+keeps in_body (line.StopAt at) past is = record { past = refl; silent = record { version = refl; grid = refl; times = refl; lanes = refl; added = refl }; name = refl }
+keeps in_body line.End past is = record { past = refl; silent = record { version = refl; grid = refl; times = refl; lanes = refl; added = refl }; name = refl }
 keeps p l past is = absurd (cc)
 
 -- lines whose layout stays, and whose calls begin with some

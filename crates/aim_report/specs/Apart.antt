@@ -7,9 +7,10 @@ use Rattle.aim_messages.specs.Texts.{spaced}
 use Rattle.aim_text_words.specs.Ranges.{Is32, Is8}
 use Rattle.aim_geometry.specs.Cells.{Cell}
 use Rattle.aim_layout.specs.Intersection.{Intersection}
-use Rattle.aim_rules.specs.Cells.{IsIn, cells}
+use Rattle.aim_rules.specs.Cells.{IsIn}
 use Rattle.aim_rules.specs.Claims.{green}
-use Rattle.aim_rules.specs.Holds.{is_fast}
+use Rattle.aim_rules.specs.Holds.{granted_with}
+use Rattle.aim_rules.specs.Trials.{granted_trial}
 use Rattle.aim_safety.specs.Occupied.{params_in, is_occupied}
 use Rattle.aim_safety.specs.Reserved.{IsOwnConfirm}
 use Rattle.aim_safety.specs.Tiles.{EntersBy}
@@ -43,7 +44,7 @@ pub record IsOwn (i : Intersection) (h : List Entry) (v : ℕ) (c : Cell) : Type
   pub granted : IsOwnConfirm h v id entry
   pub params : Params
   pub asked : params_in entry ≡ Some params
-  pub cell : IsIn c (cells i params (is_fast entry.reply))
+  pub cell : IsIn c (granted_with i (granted_trial entry.reply) (Some params))
   pub clear : green i h c params.lane ≡ None
 
 -- all tiles of which the lines tell are

@@ -10,7 +10,8 @@ use Rattle.aim_geometry.specs.Bounded.{some_below}
 use Rattle.aim_geometry.specs.Cells.{Cell}
 use Rattle.aim_messages.specs.declared.messages.Params.{Params}
 use Rattle.aim_layout.specs.Intersection.{Intersection}
-use Rattle.aim_rules.specs.Bad.{is_fast_made, needs_too_many_spans, span_count}
+use Rattle.aim_rules.specs.Bad.{needs_too_many_spans, span_count}
+use Rattle.aim_rules.specs.Trials.{has_windows, is_fast_made, judged}
 use Rattle.aim_rules.specs.Cells.{cells, in_cells, steps_of}
 use Rattle.aim_rules.specs.Footprint.{crossing_steps}
 use Rattle.aim_rules.proofs.CellLemmas.{cells_needed}
@@ -38,7 +39,7 @@ span_count_most i p fast =
 
 -- so a sheet that has room for that many has room for both trials
 pub fits_sheet : (i : Intersection) (p : Params) (steps : ℕ) → 0 < p.speed → p.speed ≤ p.max_speed → steps ≡ crossing_steps i p false + 2 * i.times.edge → steps ≤ i.grid.spans / i.grid.n → needs_too_many_spans i p ≡ false
-fits_sheet i p steps moves most is fits = go (is_fast_made p) (le-ltb _ _ (fit false)) (le-ltb _ _ (fit true))
+fits_sheet i p steps moves most is fits = go (not (has_windows i)) (is_fast_made p) (le-ltb _ _ (fit (judged i p).fast)) (le-ltb _ _ (fit true))
   where
     fit : (fast : Bool) → span_count i p fast ≤ i.grid.spans
     fit fast =
@@ -48,15 +49,17 @@ fits_sheet i p steps moves most is fits = go (is_fast_made p) (le-ltb _ _ (fit f
         let w = div-mul-le_self i.grid.spans i.grid.n in
         omega arith
 
-    go : (b : Bool) {x y : Bool} → x ≡ false → y ≡ false → (x || (b && y)) ≡ false
-    go true e f = rw (e, f) refl
-    go false e f = rw e refl
+    go : (a b : Bool) {x y : Bool} → x ≡ false → y ≡ false → (x || (a && b && y)) ≡ false
+    go true true e f = rw (e, f) refl
+    go true false e f = rw e refl
+    go false b e f = rw e refl
 
 -- no cell is that late
-pub none_far : (i : Intersection) (p : Params) (step : ℕ) → i.times.early ≤ i.times.edge → i.times.late ≤ i.times.edge → p.arrive + crossing_steps i p false + i.times.edge ≤ step → list_any (λ c. nat_le step c.step) (cells i p false) ≡ false
-none_far i p step early late past =
-    false_from_ne_true (list_any (λ c. nat_le step c.step) (cells i p false)) (λ t. (
-    let s = some_passes (λ c. nat_le step c.step) (cells i p false) t in
+pub none_far : (i : Intersection) (p : Params) (fast : Bool) (step : ℕ) → 0 < p.speed → p.speed ≤ p.max_speed → i.times.early ≤ i.times.edge → i.times.late ≤ i.times.edge → p.arrive + crossing_steps i p false + i.times.edge ≤ step → list_any (λ c. nat_le step c.step) (cells i p fast) ≡ false
+none_far i p fast step moves most early late past =
+    false_from_ne_true (list_any (λ c. nat_le step c.step) (cells i p fast)) (λ t. (
+    let s = some_passes (λ c. nat_le step c.step) (cells i p fast) t in
     let l : step ≤ s.0.step = leb-true step s.0.step s.2 in
-    let near = (cells_near i p false s.0 early late (cells_needed i p false s.0 s.1)).1 in
+    let near = (cells_near i p fast s.0 early late (cells_needed i p fast s.0 s.1)).1 in
+    let fewer = steps_fewer i p fast moves most in
     absurd (omega arith)))

@@ -12,9 +12,10 @@ none_prepared i m first second none a b = record {
   field = rw none refl;
   first_room = rw a refl;
   second_room = rw b refl;
-  steady = λ p h. absurd (let e : None ≡ Some p = rw none at h in cc);
+  steady = λ p h _. absurd (let e : None ≡ Some p = rw none at h in cc);
   fast = λ p h _. absurd (let e : None ≡ Some p = rw none at h in cc);
   steps = λ p h. absurd (let e : None ≡ Some p = rw none at h in cc);
   unmade = λ p h _. absurd (let e : None ≡ Some p = rw none at h in cc);
+  untried = λ p h _. absurd (let e : None ≡ Some p = rw none at h in cc);
   empty = λ h. (rw a refl, rw b refl);
 }

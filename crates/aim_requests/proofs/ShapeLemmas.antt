@@ -12,11 +12,13 @@ use Rattle.aim_sheets.specs.declared.spans.Span.{Span}
 use Rattle.aim_sheets.specs.Moves.{MayMove, moved}
 use Rattle.aim_sheets.specs.Sheets.{Spans}
 use Rattle.aim_sheets.specs.Spans.{AreMarked}
-use Rattle.aim_rules.specs.Bad.{bad, is_fast_made}
+use Rattle.aim_rules.specs.Bad.{bad, has_bad_window}
+use Rattle.aim_rules.specs.Trials.{has_windows, is_fast_made, judged}
 use Rattle.aim_rules.specs.Footprint.{crossing_steps}
 use Rattle.aim_rules.specs.History.{params_of}
-use Rattle.aim_rules.proofs.GoodLemmas.{good_params, good_speed}
-use Rattle.aim_footprint.proofs.FieldLemmas.{steps_fewer}
+use Rattle.aim_rules.proofs.GoodLemmas.{good_params}
+use Rattle.aim_footprint.specs.Fields.{IsTried}
+use Rattle.aim_footprint.proofs.GoodLemmas.{fast_tried, few_steps, steady_tried}
 use Rattle.aim_requests.specs.declared.requests.TrialSteps.{TrialSteps}
 use Rattle.aim_requests.specs.Requests.{Request, IsPreparedFor, IsTrialOf, prepared_params}
 use Rattle.aim_requests.specs.Shapes.{arriving, AsksAnew, IsAnew}
@@ -27,7 +29,7 @@ pub record IsMove (i : Intersection) (r : Request) (from to edge : ℕ) (o : Opt
   pub times : IsTimes i.times
   pub edge_is : edge ≡ i.times.edge
   pub prepared : IsPreparedFor i r
-  pub asks : AsksAnew r from to o
+  pub asks : AsksAnew i r from to o
   pub from_edge : i.times.edge ≤ from
   pub to_edge : i.times.edge ≤ to
   pub last : to ≤ LATEST_MOMENT
@@ -46,19 +48,16 @@ good_asked i r p prepared asked =
     let w = whole_asked i r p prepared asked in
     sym (sym w.0 ∙ prepared.field ∙ ap (option_and_then (bad i)) w.1)
 
-few : (i : Intersection) (p : Params) (fast : Bool) → bad i p ≡ None → crossing_steps i p fast ≤ 2048
-few i p fast good =
-    let g = (good_params i p good).steps in
-    let s = good_speed i p good in
-    let f = steps_fewer i p fast s.0 s.1 in omega arith
+few : (i : Intersection) (p : Params) (fast : Bool) → bad i p ≡ None → IsTried i p fast → crossing_steps i p fast ≤ 2048
+few i p fast good tried = let g = good_params i p good in few_steps i p fast (has_windows i) (is_fast_made p) refl refl tried g.speed.0 g.speed.1 g.steps
 
 -- the cells of a trial that arrives at another step
-trial_shifted : (i : Intersection) (p : Params) (fast : Bool) (from to latest edge : ℕ) (spans : List Span) → IsTimes i.times → bad i p ≡ None → p.arrive ≡ from → edge ≡ i.times.edge →
+trial_shifted : (i : Intersection) (p : Params) (fast : Bool) (from to latest edge : ℕ) (spans : List Span) → IsTimes i.times → bad i p ≡ None → IsTried i p fast → p.arrive ≡ from → edge ≡ i.times.edge →
     i.times.edge ≤ from → i.times.edge ≤ to → to ≤ LATEST_MOMENT → IsTrialOf i p fast spans → AreMarked spans → IsTrialOf i (arriving p to latest) fast (map (moved (from - edge) (to - edge)) spans)
-trial_shifted i p fast from to latest edge spans times good a e f t last is marked =
+trial_shifted i p fast from to latest edge spans times good tried a e f t last is marked =
     let g : i.times.edge ≤ p.arrive = rw a f in
     rw (e, ← a) (record {
-      cells = have_moved i p fast to latest spans times.early times.late g t (may_move i p fast to spans times.early times.late times.edge (few i p fast good) g t last is.cells marked) is.cells;
+      cells = have_moved i p fast to latest spans times.early times.late g t (may_move i p fast to spans times.early times.late times.edge (few i p fast good tried) g t last is.cells marked) is.cells;
       count = length-map spans (moved (p.arrive - i.times.edge) (to - i.times.edge)) ∙ is.count ∙ sym (count_moved i p fast to latest g t);
     })
 
@@ -81,27 +80,35 @@ module _ (i : Intersection) (r : Request) (from to edge : ℕ) (o : Option Param
   unfolding p latest
   is_asked = m.asks.4
 
+  window : has_bad_window i (arriving p to latest) ≡ false
+  unfolding p latest
+  window = m.asks.5
+
   good : bad i p ≡ None
   good = good_asked i r p m.prepared asked
 
-  trial_may : (fast : Bool) (spans : List Span) → IsTrialOf i p fast spans → AreMarked spans → MayMove (from - edge) (to - edge) spans
-  trial_may fast spans is marked =
+  trial_may : (fast : Bool) (spans : List Span) → IsTried i p fast → IsTrialOf i p fast spans → AreMarked spans → MayMove (from - edge) (to - edge) spans
+  trial_may fast spans tried is marked =
       let a = arrives in
       let f = m.from_edge in
-      rw (m.edge_is, ← a) (may_move i p fast to spans m.times.early m.times.late m.times.edge (few i p fast good) (rw a f) m.to_edge m.last is.cells marked)
+      rw (m.edge_is, ← a) (may_move i p fast to spans m.times.early m.times.late m.times.edge (few i p fast good tried) (rw a f) m.to_edge m.last is.cells marked)
 
   pub second_may : (spans : List Span) → spans ≡ r.second.spans → AreMarked spans → MayMove (from - edge) (to - edge) spans
-  second_may spans same marked = trial_may false spans (rw same (m.prepared.steady p asked)) marked
+  second_may spans same marked = go (judged i p).fast refl
+    where
+      go : (b : Bool) → (judged i p).fast ≡ b → MayMove (from - edge) (to - edge) spans
+      go false steady = trial_may false spans (steady_tried i p steady) (rw same (m.prepared.steady p asked steady)) marked
+      go true fast = λ k d l. absurd (let n : length spans ≡ 0 = ap length (same ∙ m.prepared.untried p asked fast) in omega arith)
 
   pub first_may : (spans : List Span) → spans ≡ r.first.spans → AreMarked spans → MayMove (from - edge) (to - edge) spans
   first_may spans same marked = go (is_fast_made p) refl
     where
       go : (b : Bool) → is_fast_made p ≡ b → MayMove (from - edge) (to - edge) spans
-      go true made = trial_may true spans (rw same (m.prepared.fast p asked made)) marked
+      go true made = trial_may true spans (fast_tried i p made) (rw same (m.prepared.fast p asked made)) marked
       go false unmade = λ k d l. absurd (let n : length spans ≡ 0 = ap length (same ∙ m.prepared.unmade p asked unmade) in omega arith)
 
-  trial_moved : (fast : Bool) (spans : List Span) → IsTrialOf i p fast spans → AreMarked spans → IsTrialOf i (arriving p to latest) fast (map (moved (from - edge) (to - edge)) spans)
-  trial_moved fast spans is marked = trial_shifted i p fast from to latest edge spans m.times good arrives m.edge_is m.from_edge m.to_edge m.last is marked
+  trial_moved : (fast : Bool) (spans : List Span) → IsTried i p fast → IsTrialOf i p fast spans → AreMarked spans → IsTrialOf i (arriving p to latest) fast (map (moved (from - edge) (to - edge)) spans)
+  trial_moved fast spans tried is marked = trial_shifted i p fast from to latest edge spans m.times good tried arrives m.edge_is m.from_edge m.to_edge m.last is marked
 
   one : (q q2 : Params) (x : Option Params) → x ≡ Some q → x ≡ Some q2 → q ≡ q2
   one q q2 x a b = cc
@@ -114,18 +121,23 @@ module _ (i : Intersection) (r : Request) (from to edge : ℕ) (o : Option Param
   moved_request n steps first second fs ss body same_steps f s fm sm first_is second_is =
       let has : params_of n.body ≡ Some (arriving p to latest) = body ∙ is_asked in
       record {
-        field = sym (ap (option_and_then (bad i)) has ∙ good_moved i p to latest (let a = arrives in let l = m.from_edge in rw a l) m.to_edge m.last good);
+        field = sym (ap (option_and_then (bad i)) has ∙ good_moved i p to latest (let a = arrives in let l = m.from_edge in rw a l) m.to_edge m.last window good);
         first_room = ap (λ (x : Spans). x.room) first_is;
         second_room = ap (λ (x : Spans). x.room) second_is;
-        steady = λ q e. (let is : q ≡ arriving p to latest = one q (arriving p to latest) (params_of n.body) e has in
-            rw (is, second_is) (trial_moved false ss (rw s (m.prepared.steady p asked)) sm));
+        steady = λ q e alone. (let is : q ≡ arriving p to latest = one q (arriving p to latest) (params_of n.body) e has in
+            let steady : (judged i p).fast ≡ false = rw is at alone in
+            rw (is, second_is) (trial_moved false ss (steady_tried i p steady) (rw s (m.prepared.steady p asked steady)) sm));
         fast = λ q e made. (let is : q ≡ arriving p to latest = one q (arriving p to latest) (params_of n.body) e has in
-            rw (is, first_is) (trial_moved true fs (rw f (m.prepared.fast p asked (rw is at made))) fm));
+            let fast : is_fast_made p ≡ true = rw is at made in
+            rw (is, first_is) (trial_moved true fs (fast_tried i p fast) (rw f (m.prepared.fast p asked fast)) fm));
         steps = λ q e. (let is : q ≡ arriving p to latest = one q (arriving p to latest) (params_of n.body) e has in
             let was = m.prepared.steps p asked in rw (is, same_steps) (record { fast = was.fast; steady = was.steady }));
         unmade = λ q e made. (let is : q ≡ arriving p to latest = one q (arriving p to latest) (params_of n.body) e has in
             let none : fs ≡ [] = f ∙ m.prepared.unmade p asked (rw is at made) in
             ap (λ (x : Spans). x.spans) first_is ∙ ap (map (moved (from - edge) (to - edge))) none);
+        untried = λ q e fast. (let is : q ≡ arriving p to latest = one q (arriving p to latest) (params_of n.body) e has in
+            let none : ss ≡ [] = s ∙ m.prepared.untried p asked (rw is at fast) in
+            ap (λ (x : Spans). x.spans) second_is ∙ ap (map (moved (from - edge) (to - edge))) none);
         empty = λ e. absurd (let x : Some (arriving p to latest) ≡ None = sym has ∙ e in cc);
       }
 
@@ -135,4 +147,4 @@ known_good i r from p prepared a =
     let k = a.known in
     let e : k.0.arrive ≡ from = k.2 in
     let f : i.times.edge ≤ k.0.arrive = rw e a.from_edge in
-    rw k.3 (good_moved i k.0 p.arrive p.latest f a.to_edge a.last (good_asked i r k.0 prepared k.1))
+    rw k.3 (good_moved i k.0 p.arrive p.latest f a.to_edge a.last a.window (good_asked i r k.0 prepared k.1))

@@ -20,8 +20,9 @@ use Rattle.aim_sheets.specs.Moves.{MayMove, moved}
 use Rattle.aim_sheets.specs.Spans.{AreMarked, in_span, in_spans}
 use Rattle.aim_rules.specs.Footprint.{crossing_steps, in_footprint}
 use Rattle.aim_rules.specs.Cells.{in_cells, is_buffered}
-use Rattle.aim_rules.specs.Bad.{bad, span_count}
-use Rattle.aim_rules.proofs.GoodLemmas.{good_params, no_field}
+use Rattle.aim_rules.specs.Bad.{bad, has_bad_window, span_count}
+use Rattle.aim_rules.specs.Trials.{judged}
+use Rattle.aim_rules.proofs.GoodLemmas.{good_params, good_window, no_field}
 use Rattle.aim_footprint.proofs.Unions.{alike}
 use Rattle.aim_requests.specs.Cells.{HaveCells}
 use Rattle.aim_requests.specs.Shapes.{arriving}
@@ -139,22 +140,23 @@ count_moved i p fast to latest a b =
     (λ col m. cells_moved i p fast to latest (p.arrive - i.times.edge + j) (to - i.times.edge + j) r col (omega arith)))
     ∙ sym (rows_counted q (p.arrive - i.times.edge + j) i.grid.n))
 
--- A crossing of which no field is wrong has none where it arrives at another step.
-pub good_moved : (i : Intersection) (p : Params) (to latest : ℕ) → i.times.edge ≤ p.arrive → i.times.edge ≤ to → to ≤ LATEST_MOMENT → bad i p ≡ None → bad i (arriving p to latest) ≡ None
-good_moved i p to latest a b c good =
+-- A crossing of which no field is wrong has none where it arrives at another step, in a window that isn't bad.
+pub good_moved : (i : Intersection) (p : Params) (to latest : ℕ) → i.times.edge ≤ p.arrive → i.times.edge ≤ to → to ≤ LATEST_MOMENT → has_bad_window i (arriving p to latest) ≡ false → bad i p ≡ None → bad i (arriving p to latest) ≡ None
+good_moved i p to latest a b c w good =
     let g = good_params i p good in
     no_field i (arriving p to latest) (record {
       lane = g.lane;
       turn = g.turn;
       arrive = c;
+      window = good_window i (arriving p to latest) w;
       greatest = g.greatest;
       speed = g.speed;
       accel = g.accel;
       length = g.length;
       width = g.width;
       steps = g.steps;
-      steady = rw (count_moved i p false to latest a b) g.steady;
-      fast = λ made. rw (count_moved i p true to latest a b) (g.fast made);
+      judged = rw (count_moved i p (judged i p).fast to latest a b) g.judged;
+      fast = λ one made. rw (count_moved i p true to latest a b) (g.fast one made);
     })
 
 below_power : (n : ℕ) → n < 2 ^ n

@@ -7,9 +7,9 @@ use Rattle.aim_geometry.specs.declared.ground.Times.{Times}
 use Rattle.aim_geometry.specs.declared.stations.Station.{Station}
 use Rattle.aim_layout.specs.Intersection.{Intersection}
 
--- an intersection with one path alone
+-- an intersection with one path alone, whose version no cell depends on
 abbrev pub alone : Grid → Times → List Station → Intersection
-alone grid times stations = record { grid = grid; times = times; lanes = (record { left = Some stations; straight = None; right = None }) ∷ []; policies = [] }
+alone grid times stations = record { version = 1; grid = grid; times = times; lanes = (record { left = Some stations; straight = None; right = None }) ∷ []; policies = [] }
 
 -- the vehicle's crossing on that path
 abbrev pub on_it : Params → Params

@@ -6,14 +6,15 @@ use Rattle.aim_messages.specs.declared.replies.Field.{Field}
 use Rattle.aim_layout.specs.Intersection.{Intersection}
 use Rattle.aim_sheets.specs.declared.spans.Span.{Span}
 use Rattle.aim_sheets.specs.Sheets.{Spans}
-use Rattle.aim_rules.specs.Bad.{bad, is_fast_made, span_count}
+use Rattle.aim_rules.specs.Bad.{bad, span_count}
+use Rattle.aim_rules.specs.Trials.{is_fast_made, judged}
 use Rattle.aim_rules.specs.Footprint.{crossing_steps}
 use Rattle.aim_rules.specs.History.{params_of}
 use Rattle.aim_requests.specs.Cells.{HaveCells}
 use Rattle.aim_requests.specs.declared.requests.TrialSteps.{TrialSteps}
 
--- a message, which of its fields is wrong, how many crossing steps its trials have, and two sheets: the first is the fast
--- trial's, the second the steady one's
+-- A message, which of its fields is wrong, how many crossing steps its trials have, and two sheets: the first is the fast
+-- trial's, the second the steady one's. In a layout with windows the steady trial has none where the fast one is made.
 pub record Request : Type 0 where
   pub message : Message
   pub bad : Option Field
@@ -38,19 +39,20 @@ pub record IsTrialOf (i : Intersection) (p : Params) (fast : Bool) (spans : List
   pub cells : HaveCells i p fast spans
   pub count : length spans ≡ span_count i p fast
 
--- the crossing steps of the trials, 0 for a fast one that isn't made
+-- the crossing steps of the trials, 0 for one that has no sheet
 pub record IsStepsOf (i : Intersection) (p : Params) (s : TrialSteps) : Type 0 where
   pub fast : s.fast ≡ (if is_fast_made p then crossing_steps i p true else 0)
-  pub steady : s.steady ≡ crossing_steps i p false
+  pub steady : s.steady ≡ (if (judged i p).fast then 0 else crossing_steps i p false)
 
 -- The request was prepared for the layout: the field is that of its message, both sheets have the layout's room, and
--- each has the cells of its trial, or none.
+-- each has the cells of its trial, or none: the steady one only where it isn't the fast one that is judged.
 pub record IsPreparedFor (i : Intersection) (r : Request) : Type 0 where
   pub field : r.bad ≡ option_and_then (bad i) (params_of r.message.body)
   pub first_room : r.first.room ≡ i.grid.spans
   pub second_room : r.second.room ≡ i.grid.spans
-  pub steady : (p : Params) → prepared_params r ≡ Some p → IsTrialOf i p false r.second.spans
+  pub steady : (p : Params) → prepared_params r ≡ Some p → (judged i p).fast ≡ false → IsTrialOf i p false r.second.spans
   pub fast : (p : Params) → prepared_params r ≡ Some p → is_fast_made p ≡ true → IsTrialOf i p true r.first.spans
   pub steps : (p : Params) → prepared_params r ≡ Some p → IsStepsOf i p r.steps
   pub unmade : (p : Params) → prepared_params r ≡ Some p → is_fast_made p ≡ false → r.first.spans ≡ []
+  pub untried : (p : Params) → prepared_params r ≡ Some p → (judged i p).fast ≡ true → r.second.spans ≡ []
   pub empty : prepared_params r ≡ None → (r.first.spans ≡ []) × (r.second.spans ≡ [])

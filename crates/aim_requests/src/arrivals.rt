@@ -4,6 +4,7 @@ ghost use Rattle.std.specs.Prelude.{◌≡◌, ◌≤◌, IfSome, true};
 ghost use Rattle.aim_requests.specs.Shapes.{IsAnew, arriving};
 
 use crate::requests::Prepared;
+use aim_footprint::has_bad_window;
 use aim_layout::Layout;
 use aim_messages::{LATEST_MOMENT, Params};
 
@@ -21,14 +22,17 @@ fn is_alike(a: &Params, b: &Params) -> bool
         && a.emergency == b.emergency
 }
 
-// The step at which the crossing of a prepared request arrives, if it is the params' one but for the arrival, and no buffer
-// of either reaches back past step 0.
+// The step at which the crossing of a prepared request arrives, if it is the params' one but for the arrival, no buffer of
+// either reaches back past step 0, and the params have no bad window.
 #[inline]
 pub fn arrival_in(layout: &Layout, prepared: &Prepared, params: &Params) -> Option<u32>
     ensures { IfSome result (λ from. IsAnew layout.now prepared.now from params.now) }
 {
     let edge = layout.ground().times().edge;
     if params.arrive < edge || LATEST_MOMENT < params.arrive {
+        return None;
+    }
+    if has_bad_window(layout, params) {
         return None;
     }
     match prepared.asked() {

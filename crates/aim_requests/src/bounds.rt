@@ -6,6 +6,7 @@ ghost use Rattle.aim_messages.specs.declared.entries.TheConstants.{LATEST_MOMENT
 ghost use Rattle.aim_rules.specs.Bad.{bad, needs_too_many_spans};
 ghost use Rattle.aim_rules.specs.Cells.{cells};
 ghost use Rattle.aim_rules.specs.Footprint.{crossing_steps};
+ghost use Rattle.aim_rules.specs.Trials.{judged};
 ghost use Rattle.aim_footprint.specs.Fields.{bad_crossing as bad_crossing_of};
 
 use aim_footprint::{bad_crossing, steady_steps};
@@ -43,12 +44,12 @@ pub fn bad_field(layout: &Layout, params: &Params) -> Result<Option<Field>, Need
     }
 }
 
-/// Whether the steady trial might have a cell at the step or at a later one, by its number of steps. Where this says no, it
-/// has none.
+/// Whether the trial by which the request is judged might have a cell at the step or at a later one, by the number of steps
+/// of the steady one. Where this says no, it has none.
 pub fn may_reach(layout: &Layout, params: &Params, step: u32) -> bool
     requires good { bad_crossing_of layout.now params.now ≡ None }
     requires arrive { params.now.arrive ≤ LATEST_MOMENT }
-    ensures none { result ≡ false → list_any (λ c. nat_le step c.step) (cells layout.now params.now false) ≡ false }
+    ensures none { result ≡ false → list_any (λ c. nat_le step c.step) (cells layout.now params.now (judged layout.now params.now).fast) ≡ false }
     ensures within { result ≡ true → step < params.now.arrive + crossing_steps layout.now params.now false + layout.now.times.edge }
 {
     let edge = layout.ground().times().edge;

@@ -35,6 +35,7 @@ fn are_same_times(a: &Times, b: &Times) -> bool
         && a.early == b.early
         && a.late == b.late
         && a.edge == b.edge
+        && a.window == b.window
 }
 
 // Whether the lists have the same stations.
@@ -83,14 +84,16 @@ const NO_TIMES: Times = Times {
     early: 0,
     late: 0,
     edge: 0,
+    window: 0,
 };
 
-/// The request of which one caller prepared the cells last, and what they depend on beside it: the grid, the times and the
-/// stations of its path. What is answered by it is what would be answered without.
+/// The request of which one caller prepared the cells last, and what they depend on beside it: the version, the grid, the
+/// times and the stations of its path. What is answered by it is what would be answered without.
 ///
 /// Contracts see the request.
 #[derive(Drop)]
 pub struct Memo {
+    version: u8,
     grid: Grid,
     times: Times,
     stations: Vec<Station>,
@@ -106,7 +109,7 @@ impl Model for Memo {
 
     ghost view = { λ m. m.kept };
 
-    ghost invariant = { λ m. IsKept m.grid m.times m.stations.items m.kept × (4097 ≤ vec_capacity m.stations) };
+    ghost invariant = { λ m. IsKept m.version m.grid m.times m.stations.items m.kept × (4097 ≤ vec_capacity m.stations) };
 }
 
 impl Memo {
@@ -121,6 +124,7 @@ impl Memo {
             unreachable!()
         };
         Ok(Memo {
+            version: 0,
             grid: NO_GRID,
             times: NO_TIMES,
             stations,
@@ -136,7 +140,8 @@ impl Memo {
         let from = arrival_in(layout, &self.kept, params)?;
         let path = Path::of(layout, params.lane, params.turn)?;
         let ground = layout.ground();
-        if is_same_grid(&self.grid, &ground.grid())
+        if self.version == layout.version()
+            && is_same_grid(&self.grid, &ground.grid())
             && are_same_times(&self.times, &ground.times())
             && are_same_stations(&self.stations, path.stations())
         {
@@ -160,6 +165,7 @@ impl Memo {
             return;
         }
         let ground = layout.ground();
+        self.version = layout.version();
         self.grid = ground.grid();
         self.times = ground.times();
         replace(&mut self.stations, path.stations());

@@ -6,7 +6,8 @@ ghost use Rattle.aim_geometry.specs.Bounded.{ceil_div};
 ghost use Rattle.aim_layout.specs.Intersection.{Intersection, path as path_of, stations};
 ghost use Rattle.aim_layout.specs.Valid.{IsValid};
 ghost use Rattle.aim_rules.specs.History.{params_of};
-ghost use Rattle.aim_rules.specs.Bad.{bad as bad_of, is_fast_made as is_fast_made_of, needs_too_many_spans, span_count};
+ghost use Rattle.aim_rules.specs.Bad.{bad as bad_of, needs_too_many_spans, span_count};
+ghost use Rattle.aim_rules.specs.Trials.{is_fast_made as is_fast_made_of, judged};
 ghost use Rattle.aim_rules.specs.Footprint.{crossing_steps};
 ghost use Rattle.aim_footprint.specs.Fields.{bad_crossing as bad_crossing_of};
 ghost use Rattle.aim_footprint.specs.Fills.{AreRectsOf};
@@ -17,7 +18,7 @@ ghost use Rattle.aim_requests.specs.Requests.{IsPreparedFor, IsStepsOf, IsTrialO
 ghost use Rattle.aim_requests.specs.Shapes.{AsksAnew};
 
 use crate::trials::write_trial;
-use aim_footprint::{are_steady, bad_crossing, fill_rects};
+use aim_footprint::{are_steady, bad_crossing, fill_rects, is_fast_made, is_judged_fast};
 use aim_geometry::TileRect;
 use aim_layout::{Layout, Path};
 use aim_messages::{Body, Field, Message, Params};
@@ -32,13 +33,6 @@ pub fn params_in(body: &Body) -> Option<Params>
         Body::Request(params) | Body::Change(_, params) => Some(*params),
         Body::Cancel(_) | Body::Done(_) => None,
     }
-}
-
-// Whether the fast trial is made.
-fn is_fast_made(params: &Params) -> bool
-    ensures { result ≡ is_fast_made_of params.now }
-{
-    params.accel > 0 && params.speed < params.max_speed
 }
 
 // Writes the rectangles of the path's stations with the static buffer, and says whether they are steady.
@@ -62,7 +56,7 @@ fn fill_path(layout: &Layout, params: &Params, path: &Path, rects: &mut [TileRec
 pub struct TrialSteps {
     /// Those of the fast trial, 0 where it isn't made.
     pub fast: u32,
-    /// Those of the steady trial.
+    /// Those of the steady trial, 0 where the fast one is tried alone.
     pub steady: u32,
 }
 
@@ -94,6 +88,35 @@ fn write_fast(
     write_trial(sheet, layout, params, true, path, rects, is_steady)
 }
 
+// Writes the cells of the steady trial into an empty sheet, unless the fast one is tried alone, and says how many steps it
+// has.
+fn write_steady(
+    layout: &Layout,
+    params: &Params,
+    path: &Path,
+    rects: &[TileRect],
+    is_steady: bool,
+    sheet: &mut Sheet,
+) -> Result<u32, SheetFull>
+    requires valid { IsValid layout.now }
+    requires good { bad_crossing_of layout.now params.now ≡ None }
+    requires found { path_of layout.now params.now.lane params.now.turn ≡ Some path.now }
+    requires round { AreRectsOf layout.now.grid (ceil_div params.now.width 2 + layout.now.grid.spacing + layout.now.grid.fixed) (stations layout.now params.now.lane params.now.turn) rects.now }
+    requires steady { is_steady ≡ true → AreSteady rects.now }
+    requires empty { sheet.old ≡ record { spans = []; room = layout.now.grid.spans } }
+    ensures steady { OnOk result ((judged layout.now params.now).fast ≡ false → IsTrialOf layout.now params.now false sheet.new.spans) }
+    ensures steps { IfOk result (λ steps. steps ≡ (if (judged layout.now params.now).fast then 0 else crossing_steps layout.now params.now false)) }
+    ensures untried { OnOk result ((judged layout.now params.now).fast ≡ true → sheet.new.spans ≡ []) }
+    ensures fit { OnOk result ((judged layout.now params.now).fast ≡ false → nat_lt layout.now.grid.spans (span_count layout.now params.now false) ≡ false) }
+    ensures full { OnErr result (((judged layout.now params.now).fast ≡ false) × (nat_lt layout.now.grid.spans (span_count layout.now params.now false) ≡ true)) }
+    ensures room { sheet.new.room ≡ sheet.old.room }
+{
+    if is_judged_fast(layout, params) {
+        return Ok(0);
+    }
+    write_trial(sheet, layout, params, false, path, rects, is_steady)
+}
+
 // Writes the cells of the trials into two empty sheets, with a list of rectangles of the path's length.
 fn write_trials(
     layout: &Layout,
@@ -108,17 +131,18 @@ fn write_trials(
     requires rects { length rects.old ≡ length path.now }
     requires first { first.old ≡ record { spans = []; room = layout.now.grid.spans } }
     requires second { second.old ≡ record { spans = []; room = layout.now.grid.spans } }
-    ensures steady { OnOk result (IsTrialOf layout.now params.now false second.new.spans) }
+    ensures steady { OnOk result ((judged layout.now params.now).fast ≡ false → IsTrialOf layout.now params.now false second.new.spans) }
     ensures fast { OnOk result (is_fast_made_of params.now ≡ true → IsTrialOf layout.now params.now true first.new.spans) }
     ensures steps { IfOk result (IsStepsOf layout.now params.now) }
     ensures unmade { OnOk result (is_fast_made_of params.now ≡ false → first.new.spans ≡ []) }
+    ensures untried { OnOk result ((judged layout.now params.now).fast ≡ true → second.new.spans ≡ []) }
     ensures fit { OnOk result (needs_too_many_spans layout.now params.now ≡ false) }
     ensures full { OnErr result (needs_too_many_spans layout.now params.now ≡ true) }
     ensures first_room { first.new.room ≡ first.old.room }
     ensures second_room { second.new.room ≡ second.old.room }
 {
     let is_steady = fill_path(layout, params, path, rects);
-    let steady = write_trial(second, layout, params, false, path, rects, is_steady)?;
+    let steady = write_steady(layout, params, path, rects, is_steady, second)?;
     let fast = write_fast(layout, params, path, rects, is_steady, first)?;
     Ok(TrialSteps { fast, steady })
 }
@@ -133,10 +157,11 @@ fn write_request(
     requires first { first.old ≡ record { spans = []; room = layout.now.grid.spans } }
     requires second { second.old ≡ record { spans = []; room = layout.now.grid.spans } }
     ensures field { result_err result ≡ bad_of layout.now params.now }
-    ensures steady { OnOk result (IsTrialOf layout.now params.now false second.new.spans) }
+    ensures steady { OnOk result ((judged layout.now params.now).fast ≡ false → IsTrialOf layout.now params.now false second.new.spans) }
     ensures fast { OnOk result (is_fast_made_of params.now ≡ true → IsTrialOf layout.now params.now true first.new.spans) }
     ensures steps { IfOk result (IsStepsOf layout.now params.now) }
     ensures unmade { OnOk result (is_fast_made_of params.now ≡ false → first.new.spans ≡ []) }
+    ensures untried { OnOk result ((judged layout.now params.now).fast ≡ true → second.new.spans ≡ []) }
     ensures first_empty { OnErr result (first.new.spans ≡ []) }
     ensures second_empty { OnErr result (second.new.spans ≡ []) }
     ensures first_room { first.new.room ≡ first.old.room }
@@ -302,7 +327,7 @@ impl Prepared {
         mut second: Sheet,
     ) -> Prepared
         requires prepared { IsPreparedFor layout.now self.now }
-        requires asks { AsksAnew self.now from to (params_of message.now.body) }
+        requires asks { AsksAnew layout.now self.now from to (params_of message.now.body) }
         requires from { layout.now.times.edge ≤ from }
         requires to { layout.now.times.edge ≤ to }
         requires last { to ≤ LATEST_MOMENT }
@@ -335,7 +360,7 @@ impl Prepared {
         pool: &mut Pool,
     ) -> Prepared
         requires prepared { IsPreparedFor layout.now self.now }
-        requires asks { AsksAnew self.now from to (params_of message.now.body) }
+        requires asks { AsksAnew layout.now self.now from to (params_of message.now.body) }
         requires from { layout.now.times.edge ≤ from }
         requires to { layout.now.times.edge ≤ to }
         requires last { to ≤ LATEST_MOMENT }
@@ -413,7 +438,8 @@ impl Prepared {
         }
     }
 
-    /// The cells of the steady trial. None for a message that is no request, and where a field is wrong.
+    /// The cells of the steady trial, which has none where the fast one is tried alone. None for a message that is no
+    /// request, and where a field is wrong.
     pub fn cells_b(&self) -> Option<&Sheet>
         ensures { option_map (λ sheet. sheet.now) result ≡ steady_sheet self.now }
     {

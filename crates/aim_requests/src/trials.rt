@@ -7,7 +7,7 @@ ghost use Rattle.aim_layout.specs.Intersection.{path as path_of, stations};
 ghost use Rattle.aim_layout.specs.Valid.{IsValid};
 ghost use Rattle.aim_rules.specs.Bad.{span_count};
 ghost use Rattle.aim_rules.specs.Footprint.{crossing_steps};
-ghost use Rattle.aim_footprint.specs.Fields.{bad_crossing};
+ghost use Rattle.aim_footprint.specs.Fields.{IsTried, bad_crossing};
 ghost use Rattle.aim_footprint.specs.Fills.{AreRectsOf};
 ghost use Rattle.aim_footprint.specs.Windows.{AreRects, AreSteady, IsWindow, is_under};
 ghost use Rattle.aim_footprint.specs.Reaches.{AreReaches};
@@ -291,6 +291,7 @@ pub fn write_trial(
 ) -> Result<u32, SheetFull>
     requires valid { IsValid layout.now }
     requires good { bad_crossing layout.now params.now ≡ None }
+    requires tried { IsTried layout.now params.now fast }
     requires found { path_of layout.now params.now.lane params.now.turn ≡ Some path.now }
     requires round { AreRectsOf layout.now.grid (ceil_div params.now.width 2 + layout.now.grid.spacing + layout.now.grid.fixed) (stations layout.now params.now.lane params.now.turn) rects.now }
     requires steady { is_steady ≡ true → AreSteady rects.now }

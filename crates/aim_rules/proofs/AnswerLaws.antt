@@ -1,6 +1,6 @@
 -- The answer to a message by what is kept.
 use Rattle.std.proofs.Common.{◌≡◌, ℕ, zero, suc, ◌+◌, ◌<◌, ◌≤◌, Bool, true, false, ◌&&◌, ◌||◌, not, List, [], ◌∷◌, length, Option, Some, None, arith, refl, sym, ◌∙◌, ap, inl, inr}
-use Rattle.std.specs.Prelude.{if◌then◌else◌, option_map, option_and_then, is_none, nat_le, unwrap_or, slice_get}
+use Rattle.std.specs.Prelude.{if◌then◌else◌, option_map, option_and_then, is_none, find, nat_le, unwrap_or, slice_get}
 use Rattle.std.specs.Option.{option_or}
 use Rattle.aim_messages.specs.declared.messages.Params.{Params}
 use Rattle.aim_messages.specs.declared.messages.Message.{Message}
@@ -16,19 +16,20 @@ use Rattle.aim_messages.specs.declared.replies.Reply.TheVariants as reply
 use Rattle.aim_geometry.specs.Bounded.{least_below, find_map}
 use Rattle.aim_layout.specs.Intersection.{Intersection}
 use Rattle.aim_geometry.specs.Cells.{Cell}
-use Rattle.aim_rules.specs.Cells.{IsIn, cells}
-use Rattle.aim_rules.specs.Bad.{bad, is_fast_made}
+use Rattle.aim_rules.specs.Cells.{IsIn}
+use Rattle.aim_rules.specs.Bad.{bad}
+use Rattle.aim_rules.specs.Trials.{Trial, arriving_at, candidates, has_windows, judged, trial_cells}
 use Rattle.aim_rules.specs.History.{fresh, now_of}
 use Rattle.aim_rules.specs.Timeline.{InForce}
 use Rattle.aim_rules.specs.Claims.{green_by}
 use Rattle.aim_rules.specs.Distance.{asked_from}
 use Rattle.aim_rules.specs.Approach.{is_coming}
 use Rattle.aim_rules.specs.Known.{Exchange, Known, is_above_all, known_after, seq_in}
-use Rattle.aim_rules.specs.Answer.{answer, answer_message, answer_known, answer_fresh, answer_asking, answer_free, first_blocked, blocked_by, first_reason, own_refusal, where_so, exceeds, comes, confirmation, refusal, refused_or, gives_way, must_give_way, too_soon, too_late, too_far, too_distant, in_the_way}
+use Rattle.aim_rules.specs.Answer.{answer, answer_message, answer_known, answer_fresh, answer_asking, answer_free, granted_or_refused, is_free, ends_beyond, first_blocked, blocked_by, first_reason, own_refusal, where_so, exceeds, comes, confirmation, refusal, refused_or, gives_way, must_give_way, too_soon, too_late, too_far, too_distant, in_the_way}
 use Rattle.aim_rules.specs.Legal.{IsLegal}
 use Rattle.aim_rules.specs.Kept.{are_below, AreApart, IsKnown}
 use Rattle.aim_rules.proofs.CellLemmas.{cells_needed, cells_inside}
-use Rattle.aim_rules.proofs.GrantLemmas.{tests_passed}
+use Rattle.aim_rules.proofs.GrantLemmas.{starts_later, tests_passed}
 use Rattle.aim_rules.proofs.AheadLemmas.{needed_after}
 use Rattle.aim_rules.proofs.GoodLemmas.{good_params}
 use Rattle.aim_rules.proofs.HistoryLaws.{now_of-max}
@@ -43,6 +44,10 @@ use Rattle.aim_rules.proofs.TakenLaws.{taken_by-owner, are_below-legal, AreApart
 find_map-same : {X Y : Type 0} (f g : X → Option Y) (xs : List X) → ((x : X) → IsIn x xs → f x ≡ g x) → find_map f xs ≡ find_map g xs
 find_map-same f g [] same = refl
 find_map-same f g (x ∷ xs) same = rw (same x (inl refl), find_map-same f g xs (λ y m. same y (inr m))) refl
+
+find-same : {X : Type 0} (f g : X → Bool) (xs : List X) → ((x : X) → IsIn x xs → f x ≡ g x) → find f xs ≡ find g xs
+find-same f g [] same = refl
+find-same f g (x ∷ xs) same = rw (same x (inl refl), find-same f g xs (λ y m. same y (inr m))) refl
 
 least_below-same : (n : ℕ) (f g : ℕ → Bool) → ((k : ℕ) → k < n → f k ≡ g k) → least_below n f ≡ least_below n g
 least_below-same zero f g same = refl
@@ -60,14 +65,14 @@ record Agree (i : Intersection) (k : Known) (d : ℕ → Option ℕ) (e : ℕ �
   pub policy : (s : ℕ) → k.now < s + i.times.clearance → f s ≡ k.policy s
   pub taken : (c : Cell) → c.row < i.grid.n → c.col < i.grid.n → k.now ≤ c.step → t c ≡ k.taken c
 
-blocked_same : (i : Intersection) (k : Known) (d : ℕ → Option ℕ) (e : ℕ → Bool) (t : Cell → Option ℕ) (f : ℕ → InForce) (p : Params) (fast : Bool) → Agree i k d e t f → nat_le p.arrive (k.now + i.times.edge) ≡ false → first_blocked i (asking k d e t f) p fast ≡ first_blocked i k p fast
-blocked_same i k d e t f p fast s later = find_map-same (blocked_by i (asking k d e t f) p) (blocked_by i k p) (cells i p fast) each
+blocked_same : (i : Intersection) (k : Known) (d : ℕ → Option ℕ) (e : ℕ → Bool) (t : Cell → Option ℕ) (f : ℕ → InForce) (p : Params) (x : Trial) → Agree i k d e t f → nat_le x.start (k.now + i.times.edge) ≡ false → first_blocked i (asking k d e t f) p x ≡ first_blocked i k p x
+blocked_same i k d e t f p x s later = find_map-same (blocked_by i (asking k d e t f) p) (blocked_by i k p) (trial_cells i p x) each
   where
-    each : (c : Cell) → IsIn c (cells i p fast) → blocked_by i (asking k d e t f) p c ≡ blocked_by i k p c
+    each : (c : Cell) → IsIn c (trial_cells i p x) → blocked_by i (asking k d e t f) p c ≡ blocked_by i k p c
     each c m =
-        let n = cells_needed i p fast c m in
-        let inside = cells_inside i p fast c n in
-        let l : k.now < c.step = needed_after i p fast k.now c s.before s.after later n in
+        let n = cells_needed i (arriving_at p x.start) x.fast c m in
+        let inside = cells_inside i (arriving_at p x.start) x.fast c n in
+        let l : k.now < c.step = needed_after i (arriving_at p x.start) x.fast k.now c s.before s.after later n in
         let g : green_by i f c p.lane ≡ green_by i k.policy c p.lane = green_by-same i f k.policy c p.lane (λ s' m b. s.policy s' (omega arith)) in
         let held = s.taken c inside.0 inside.1 (omega arith) in
         λ j. option_or (option_map (λ lane. reason.Green c.row c.col c.step lane) (g j)) (option_map (λ by. reason.Taken c.row c.col c.step by) (held j))
@@ -89,12 +94,20 @@ refused_same i k d e t f p x y r s same replies = alike x ∙ (λ j. refused_or 
     alike (Some why) = refusal_same i k d e t f p.arrive why
 
 free_same : (i : Intersection) (k : Known) (d : ℕ → Option ℕ) (e : ℕ → Bool) (t : Cell → Option ℕ) (f : ℕ → InForce) (p : Params) → Agree i k d e t f → nat_le p.arrive (k.now + i.times.edge) ≡ false → answer_free i (asking k d e t f) p ≡ answer_free i k p
-free_same i k d e t f p s later =
-    λ j. (if is_fast_made p && is_none (blocked_same i k d e t f p true s later j) then confirmation i k p true
-    else refused_same i k d e t f p (first_blocked i (asking k d e t f) p false) (first_blocked i k p false) (confirmation i k p false) (confirmation i k p false) (blocked_same i k d e t f p false s later) refl j)
+free_same i k d e t f p s later = ap (granted_or_refused i (asking k d e t f) p) found ∙ alike (find (is_free i k p) (candidates i p))
+  where
+    free : (x : Trial) → IsIn x (candidates i p) → is_free i (asking k d e t f) p x ≡ is_free i k p x
+    free x m = λ j. not (ends_beyond i k p x) && is_none (blocked_same i k d e t f p x s (starts_later i p x (k.now + i.times.edge) m later) j)
+
+    found : find (is_free i (asking k d e t f) p) (candidates i p) ≡ find (is_free i k p) (candidates i p)
+    found = find-same (is_free i (asking k d e t f) p) (is_free i k p) (candidates i p) free
+
+    alike : (o : Option Trial) → granted_or_refused i (asking k d e t f) p o ≡ granted_or_refused i k p o
+    alike (Some x) = refl
+    alike None = refused_same i k d e t f p (first_blocked i (asking k d e t f) p (judged i p)) (first_blocked i k p (judged i p)) (confirmation i k p (judged i p)) (confirmation i k p (judged i p)) (blocked_same i k d e t f p (judged i p) s later) refl
 
 distant_same : (i : Intersection) (k : Known) (d : ℕ → Option ℕ) (e : ℕ → Bool) (t : Cell → Option ℕ) (f : ℕ → InForce) (p : Params) → Agree i k d e t f → p.lane < length i.lanes → too_distant i (asking k d e t f) p ≡ too_distant i k p
-distant_same i k d e t f p s l = ap (λ o. where_so (exceeds (asked_from k.now p) o) (reason.Distance (unwrap_or o 0))) (s.far p.lane l)
+distant_same i k d e t f p s l = ap (λ o. where_so (not (has_windows i) && exceeds (asked_from k.now p) o) (reason.Distance (unwrap_or o 0))) (s.far p.lane l)
 
 way_same : (i : Intersection) (k : Known) (d : ℕ → Option ℕ) (e : ℕ → Bool) (t : Cell → Option ℕ) (f : ℕ → InForce) (p : Params) → Agree i k d e t f → p.lane < length i.lanes → nat_le p.arrive (k.now + i.times.edge) ≡ false → in_the_way i (asking k d e t f) p ≡ in_the_way i k p
 way_same i k d e t f p s l later =

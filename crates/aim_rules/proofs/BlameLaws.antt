@@ -1,5 +1,5 @@
 -- What a refusal for a cell blames, and that it goes with its holder.
-use Rattle.std.proofs.Common.{◌≡◌, ℕ, ◌<◌, ◌≤◌, Bool, true, false, ◌&&◌, not, List, [], ◌∷◌, ◌++◌, length, Option, Some, None, is_none, arith, refl, sym, ap, subst, ◌∙◌, if◌then◌else◌, inl, inr}
+use Rattle.std.proofs.Common.{◌≡◌, ℕ, ◌<◌, ◌≤◌, Bool, true, false, ◌&&◌, not, List, [], ◌∷◌, ◌++◌, length, Option, Some, None, arith, refl, sym, ap, subst, ◌∙◌, if◌then◌else◌, inl, inr}
 use Rattle.std.specs.Prelude.{◌==◌, option_map, option_and_then, find}
 use Rattle.std.specs.Option.{option_or}
 use Rattle.std.proofs.lemmas.Bool.{eqb-true, eq-eqb, and_parts}
@@ -18,16 +18,18 @@ use Rattle.aim_messages.specs.declared.replies.Reply.TheVariants as reply
 use Rattle.aim_geometry.specs.Bounded.{find_map}
 use Rattle.aim_geometry.specs.Cells.{Cell, cell_at}
 use Rattle.aim_layout.specs.Intersection.{Intersection}
-use Rattle.aim_rules.specs.Cells.{IsIn, cells, in_cells}
-use Rattle.aim_rules.specs.Bad.{bad, is_fast_made}
+use Rattle.aim_rules.specs.Cells.{IsIn}
+use Rattle.aim_rules.specs.Bad.{bad}
+use Rattle.aim_rules.specs.Trials.{Trial, arriving_at, candidates, in_trial, judged, trial_cells}
 use Rattle.aim_rules.specs.Blame.{IsClaimedBy, IsHeldBy, IsYielded, Yielded, cell_blamed}
+use Rattle.aim_rules.specs.Windows.{IsBlockedFor}
 use Rattle.aim_rules.specs.Kept.{kept}
 use Rattle.aim_rules.specs.Timeline.{change_with}
 use Rattle.aim_rules.specs.Claims.{green, green_by, is_claimed}
 use Rattle.aim_rules.specs.History.{Fresh, fresh, given_up, is_confirm, is_fresh, is_fresh_seq, message_of, now_of, params_of}
 use Rattle.aim_rules.specs.Legal.{IsAnswered, IsLegal}
 use Rattle.aim_rules.specs.Holds.{reservations, taken_by, is_granted}
-use Rattle.aim_rules.specs.Answer.{answer, answer_fresh, answer_asking, answer_free, refused_or, refusal, confirmation, blocked_by, first_blocked, first_reason, own_refusal, where_so, too_soon, bad_field, too_late, too_far, too_distant, in_the_way}
+use Rattle.aim_rules.specs.Answer.{answer, answer_fresh, answer_asking, answer_free, granted_or_refused, is_free, refused_or, refusal, confirmation, blocked_by, first_blocked, first_reason, own_refusal, where_so, too_soon, bad_field, too_late, too_far, too_distant, in_the_way}
 use Rattle.aim_rules.specs.Known.{Known, known_after}
 use Rattle.aim_rules.proofs.CellLemmas.{cells_needed}
 use Rattle.std.proofs.Math.Seq.{append_snoc}
@@ -39,6 +41,7 @@ use Rattle.aim_rules.proofs.HistoryLaws.{fresh-one, now_of-max}
 use Rattle.aim_rules.proofs.LegalLemmas.{IsLegal-before}
 use Rattle.aim_rules.proofs.Lists.{differ, find-test, find-in, least_below_is}
 use Rattle.aim_rules.proofs.PolicyLaws.{green-none}
+use Rattle.aim_rules.proofs.TestLemmas.{not_true}
 use Rattle.aim_rules.proofs.TakenLaws.{AreApart-legal, last_legal, reservations-kept}
 use Rattle.aim_rules.proofs.VehicleLaws.{kept-snoc}
 
@@ -95,16 +98,19 @@ no_cell-tests i k p =
 -- A refusal for a cell comes where no test gives a reason, and its reason is that of the least blocked cell.
 pub record IsBlocked (i : Intersection) (k : Known) (p : Params) (why : Reason) : Type 0 where
   pub passed : first_reason i k p ≡ None
-  pub blocked : first_blocked i k p false ≡ Some why
+  pub blocked : first_blocked i k p (judged i p) ≡ Some why
 
 reason_said : (v w : Reason) (m n : ℕ) (x y : Option ℕ) → reply.Reject v m x ≡ reply.Reject w n y → v ≡ w
 reason_said v w m n x y h = cc
 
-free_blocked : (i : Intersection) (k : Known) (p : Params) (b : Bool) (o : Option Reason) (why : Reason) (next : ℕ) (held : Option ℕ) →
-    (if b then confirmation i k p true else refused_or i k p o (confirmation i k p false)) ≡ reply.Reject why next held → o ≡ Some why
-free_blocked i k p true o why next held h = absurd (cc)
-free_blocked i k p false None why next held h = absurd (cc)
-free_blocked i k p false (Some w) why next held h = ap Some (reason_said w why _ next _ held h)
+free_blocked : (i : Intersection) (k : Known) (p : Params) (o : Option Trial) (why : Reason) (next : ℕ) (held : Option ℕ) →
+    granted_or_refused i k p o ≡ reply.Reject why next held → first_blocked i k p (judged i p) ≡ Some why
+free_blocked i k p (Some t) why next held h = absurd (cc)
+free_blocked i k p None why next held h = go (first_blocked i k p (judged i p)) h
+  where
+    go : (o : Option Reason) → refused_or i k p o (confirmation i k p (judged i p)) ≡ reply.Reject why next held → o ≡ Some why
+    go None h = absurd (cc)
+    go (Some w) h = ap Some (reason_said w why _ next _ held h)
 
 asking_blocked : (i : Intersection) (k : Known) (b : Body) (p : Params) (why : Reason) (next : ℕ) (held : Option ℕ) (c : Cell) → cell_blamed why ≡ Some c →
     answer_asking i k b p ≡ reply.Reject why next held → IsBlocked i k p why
@@ -116,7 +122,7 @@ asking_blocked i k b p why next held c blames h = go (own_refusal i k b) (first_
     go : (x o : Option Reason) → own_refusal i k b ≡ x → first_reason i k p ≡ o → refused_or i k p (option_or x o) (answer_free i k p) ≡ reply.Reject why next held → IsBlocked i k p why
     go (Some w) o x y h = named (own_refusal i k b) (no_cell-own i k b) w x h
     go None (Some w) x y h = named (first_reason i k p) (no_cell-tests i k p) w y h
-    go None None x y h = record { passed = y; blocked = free_blocked i k p (is_fast_made p && is_none (first_blocked i k p true)) (first_blocked i k p false) why next held h }
+    go None None x y h = record { passed = y; blocked = free_blocked i k p (find (is_free i k p) (candidates i p)) why next held h }
 
 stopped_reject : (b : Bool) (r : Reply) (why : Reason) (next : ℕ) (held : Option ℕ) → (if b then reply.EmergencyStop else r) ≡ reply.Reject why next held → r ≡ reply.Reject why next held
 stopped_reject true r why next held h = absurd (cc)
@@ -139,7 +145,7 @@ blocked_of i h v moment m p why next held c new asks blames said =
 
 -- the cell of the first reason
 
-find_map-where : {X Y : Type 0} (f : X → Option Y) (xs : List X) (y : Y) → find_map f xs ≡ Some y → (x : X) × IsIn x xs × (f x ≡ Some y)
+pub find_map-where : {X Y : Type 0} (f : X → Option Y) (xs : List X) (y : Y) → find_map f xs ≡ Some y → (x : X) × IsIn x xs × (f x ≡ Some y)
 find_map-where f [] y h = absurd (cc)
 find_map-where f (x ∷ xs) y h = go (f x) refl (λ r. find_map-where f xs y r) h
   where
@@ -181,12 +187,8 @@ blocked_green i k p c row col step by h = go (green_by i k.policy c p.lane) refl
     go None e None h = absurd (cc)
     go None e (Some w) h = absurd (cc)
 
-not_true : (b : Bool) → not b ≡ true → b ≡ false
-not_true true h = absurd (cc)
-not_true false h = refl
-
 -- who holds a taken cell
-held_by : (rs : List Fresh) (i : Intersection) (v : ℕ) (c : Cell) (by : ℕ) → taken_by rs i v c ≡ Some by →
+pub held_by : (rs : List Fresh) (i : Intersection) (v : ℕ) (c : Cell) (by : ℕ) → taken_by rs i v c ≡ Some by →
     (x : Fresh) × IsIn x rs × (x.entry.caller ≡ by) × ((x.entry.caller == v) ≡ false) × (is_granted i x c ≡ true)
 held_by rs i v c by h = go (find (λ x. not (x.entry.caller == v) && is_granted i x c) rs) refl h
   where
@@ -200,30 +202,48 @@ held_by rs i v c by h = go (find (λ x. not (x.entry.caller == v) && is_granted 
 apart : (u v : ℕ) → (u == v) ≡ false → u ≡ v → ⊥
 apart u v n e = let t : (u == v) ≡ true = eq-eqb u v e in cc
 
+-- whoever blocks a cell is another
+pub blocked_who : (i : Intersection) (h : List Entry) (v moment : ℕ) (p : Params) (c : Cell) (why : Reason) → blocked_by i (known_after i h v moment) p c ≡ Some why → IsBlockedFor i h (now_of h moment) v p.lane c
+blocked_who i h v moment p c why blocked = go (green i h c p.lane) refl (taken_by rs i v c) refl blocked
+  where
+    rs : List Fresh
+    rs = reservations i (fresh h) (now_of h moment)
+
+    go : (g : Option ℕ) → green i h c p.lane ≡ g → (t : Option ℕ) → taken_by rs i v c ≡ t →
+        option_or (option_map (λ lane. reason.Green c.row c.col c.step lane) g) (option_map (λ by. reason.Taken c.row c.col c.step by) t) ≡ Some why → IsBlockedFor i h (now_of h moment) v p.lane c
+    go (Some lane) e t f b =
+        let l = least_below_is (length i.lanes) (λ other. not (other == p.lane) && is_claimed i h other c) lane e in
+        let parts = and_parts (not (lane == p.lane)) (is_claimed i h lane c) l.1 in
+        inr (lane, record { other = apart lane p.lane (not_true (lane == p.lane) parts.0); there = l.0; claimed = parts.1 })
+    go None e (Some by) f b =
+        let d = held_by rs i v c by f in
+        inl (by, d.0, record { other = λ s. apart d.0.entry.caller v d.3 (d.2 ∙ s); held = d.1; own = d.2; cell = d.4 })
+    go None e None f b = absurd (cc)
+
 -- A refusal `taken` blames another vehicle that holds the cell.
 pub taken_blames : (i : Intersection) (h : List Entry) (v moment : ℕ) (m : Message) (p : Params) (row col step by next : ℕ) (held : Option ℕ) →
     is_fresh_seq h v m.seq ≡ true → params_of m.body ≡ Some p → answer i h v moment (act.Message m) ≡ reply.Reject (reason.Taken row col step by) next held →
-    (in_cells i p false (cell_at step row col) ≡ true) × (x : Fresh) × IsHeldBy i h (now_of h moment) v by (cell_at step row col) x
+    (in_trial i p (judged i p) (cell_at step row col) ≡ true) × (x : Fresh) × IsHeldBy i h (now_of h moment) v by (cell_at step row col) x
 taken_blames i h v moment m p row col step by next held new asks said =
     let rs = reservations i (fresh h) (now_of h moment) in
     let b = blocked_of i h v moment m p (reason.Taken row col step by) next held (cell_at step row col) new asks refl said in
-    let w = find_map-where (blocked_by i (known_after i h v moment) p) (cells i p false) (reason.Taken row col step by) b.blocked in
+    let w = find_map-where (blocked_by i (known_after i h v moment) p) (trial_cells i p (judged i p)) (reason.Taken row col step by) b.blocked in
     let t = blocked_taken i (known_after i h v moment) p w.0 row col step by w.2 in
     let d = held_by rs i v w.0 by t.2 in
     let other : by ≡ v → ⊥ = λ s. apart d.0.entry.caller v d.3 (d.2 ∙ s) in
-    (subst (λ c. in_cells i p false c ≡ true) t.0 (cells_needed i p false w.0 w.1), d.0, record { other = other; held = d.1; own = d.2; cell = subst (λ c. is_granted i d.0 c ≡ true) t.0 d.4 })
+    (subst (λ c. in_trial i p (judged i p) c ≡ true) t.0 (cells_needed i (arriving_at p p.arrive) (judged i p).fast w.0 w.1), d.0, record { other = other; held = d.1; own = d.2; cell = subst (λ c. is_granted i d.0 c ≡ true) t.0 d.4 })
 
 -- A refusal `green` blames another lane that claims the cell.
 pub green_blames : (i : Intersection) (h : List Entry) (v moment : ℕ) (m : Message) (p : Params) (row col step lane next : ℕ) (held : Option ℕ) →
     is_fresh_seq h v m.seq ≡ true → params_of m.body ≡ Some p → answer i h v moment (act.Message m) ≡ reply.Reject (reason.Green row col step lane) next held →
-    (in_cells i p false (cell_at step row col) ≡ true) × IsClaimedBy i h p.lane lane (cell_at step row col)
+    (in_trial i p (judged i p) (cell_at step row col) ≡ true) × IsClaimedBy i h p.lane lane (cell_at step row col)
 green_blames i h v moment m p row col step lane next held new asks said =
     let b = blocked_of i h v moment m p (reason.Green row col step lane) next held (cell_at step row col) new asks refl said in
-    let w = find_map-where (blocked_by i (known_after i h v moment) p) (cells i p false) (reason.Green row col step lane) b.blocked in
+    let w = find_map-where (blocked_by i (known_after i h v moment) p) (trial_cells i p (judged i p)) (reason.Green row col step lane) b.blocked in
     let t = blocked_green i (known_after i h v moment) p w.0 row col step lane w.2 in
     let l = least_below_is (length i.lanes) (λ other. not (other == p.lane) && is_claimed i h other (cell_at step row col)) lane (rw t.0 at t.1) in
     let c = and_parts (not (lane == p.lane)) (is_claimed i h lane (cell_at step row col)) l.1 in
-    (rw t.0 at (cells_needed i p false w.0 w.1), record { other = apart lane p.lane (not_true (lane == p.lane) c.0); there = l.0; claimed = c.1 })
+    (rw t.0 at (cells_needed i (arriving_at p p.arrive) (judged i p).fast w.0 w.1), record { other = apart lane p.lane (not_true (lane == p.lane) c.0); there = l.0; claimed = c.1 })
 
 -- A reservation that is given up leaves its vehicle nothing.
 
@@ -295,18 +315,18 @@ over i n y k = record { ahead = ahead; clear = clear; apart = alone }
     blocked : IsBlocked i (known_after i h v y.refused.moment) y.params (reason.Taken c.row c.col c.step y.by)
     blocked = blocked_of i h v y.refused.moment y.message y.params (reason.Taken c.row c.col c.step y.by) k.reply.0 k.reply.1 c k.fresh k.asks refl answered
 
-    needed : in_cells i y.params false c ≡ true
+    needed : in_trial i y.params (judged i y.params) c ≡ true
     needed = (taken_blames i h v y.refused.moment y.message y.params c.row c.col c.step y.by k.reply.0 k.reply.1 k.fresh k.asks answered).0
 
     ahead : now_of h y.refused.moment < c.step
-    ahead = needed_after i y.params false (now_of h y.refused.moment) c k.early k.late (tests_passed i (known_after i h v y.refused.moment) y.params blocked.passed).1 needed
+    ahead = needed_after i (arriving_at y.params y.params.arrive) (judged i y.params).fast (now_of h y.refused.moment) c k.early k.late (tests_passed i (known_after i h v y.refused.moment) y.params blocked.passed).1 needed
 
     first : is_fresh h y.refused ≡ true
     first = rw k.message k.fresh
 
     clear_h : green i h c y.params.lane ≡ None
     clear_h =
-        let w = find_map-where (blocked_by i (known_after i h v y.refused.moment) y.params) (cells i y.params false) (reason.Taken c.row c.col c.step y.by) blocked.blocked in
+        let w = find_map-where (blocked_by i (known_after i h v y.refused.moment) y.params) (trial_cells i y.params (judged i y.params)) (reason.Taken c.row c.col c.step y.by) blocked.blocked in
         let t = blocked_taken i (known_after i h v y.refused.moment) y.params w.0 c.row c.col c.step y.by w.2 in
         subst (λ c. green i h c y.params.lane ≡ None) t.0 t.1
 

@@ -8,7 +8,8 @@ use Rattle.aim_messages.specs.declared.entries.Entry.{Entry}
 use Rattle.aim_geometry.specs.Bounded.{find_map}
 use Rattle.aim_layout.specs.Intersection.{Intersection}
 use Rattle.aim_geometry.specs.Cells.{Cell}
-use Rattle.aim_rules.specs.Cells.{IsIn, cells}
+use Rattle.aim_rules.specs.Cells.{IsIn}
+use Rattle.aim_rules.specs.Trials.{Trial, trial_cells}
 use Rattle.aim_rules.specs.Claims.{green}
 use Rattle.aim_rules.specs.History.{Fresh, fresh, now_of}
 use Rattle.aim_rules.specs.Holds.{reservations, taken_by, is_granted}
@@ -41,12 +42,12 @@ find-each p (y ∷ xs) x h (inl e) = rw e (find_none p y xs h).0
 find-each p (y ∷ xs) x h (inr m) = find-each p xs x (find_none p y xs h).1 m
 
 -- Where a crossing is granted, no other vehicle holds a cell of it.
-pub free-disjoint : (i : Intersection) (h : List Entry) (v moment : ℕ) (p : Params) (fast : Bool) (c : Cell) (x : Fresh) → first_blocked i (known_after i h v moment) p fast ≡ None → IsIn c (cells i p fast) →
+pub free-disjoint : (i : Intersection) (h : List Entry) (v moment : ℕ) (p : Params) (t : Trial) (c : Cell) (x : Fresh) → first_blocked i (known_after i h v moment) p t ≡ None → IsIn c (trial_cells i p t) →
     IsIn x (reservations i (fresh h) (now_of h moment)) → ((x.entry.caller == v) ≡ false) → is_granted i x c ≡ false
-free-disjoint i h v moment p fast c x none m n other =
+free-disjoint i h v moment p t c x none m n other =
     let rs = reservations i (fresh h) (now_of h moment) in
-    let b = find_map-each (blocked_by i (known_after i h v moment) p) (cells i p fast) c none m in
-    let t = (first_none (option_map (λ lane. reason.Green c.row c.col c.step lane) (green i h c p.lane)) (option_map (λ by. reason.Taken c.row c.col c.step by) (taken_by rs i v c)) b).1 in
-    let f = map_none (λ x. x.entry.caller) (find (λ x. not (x.entry.caller == v) && is_granted i x c) rs) (map_none (λ by. reason.Taken c.row c.col c.step by) (taken_by rs i v c) t) in
+    let b = find_map-each (blocked_by i (known_after i h v moment) p) (trial_cells i p t) c none m in
+    let y = (first_none (option_map (λ lane. reason.Green c.row c.col c.step lane) (green i h c p.lane)) (option_map (λ by. reason.Taken c.row c.col c.step by) (taken_by rs i v c)) b).1 in
+    let f = map_none (λ x. x.entry.caller) (find (λ x. not (x.entry.caller == v) && is_granted i x c) rs) (map_none (λ by. reason.Taken c.row c.col c.step by) (taken_by rs i v c) y) in
     let e = find-each (λ x. not (x.entry.caller == v) && is_granted i x c) rs x f n in
     rw other at e

@@ -11,7 +11,7 @@ use Rattle.aim_geometry.specs.Bounded.{least, since_last, some_below, min_with}
 use Rattle.aim_layout.specs.Intersection.{Intersection}
 use Rattle.aim_rules.specs.History.{Fresh, params_at, is_confirm, last_of_each, last_of}
 use Rattle.aim_rules.specs.Distance.{reservation_distance, in_lane, asked_from, asked_at, is_blocked_reply, is_lane}
-use Rattle.aim_rules.specs.Approach.{is_coming, others_come}
+use Rattle.aim_rules.specs.Approach.{is_coming, calling_at, others_come}
 use Rattle.aim_rules.proofs.HistoryLemmas.{since_last-append, last_of_each-append}
 use Rattle.aim_geometry.proofs.BoundedLemmas.{some_below_none}
 use Rattle.aim_rules.proofs.Lists.{from_front, least-snoc, list_all-snoc, find-test, list_any-filter, some_below-same, some_below-split}
@@ -102,13 +102,13 @@ last_of_each-each n xs q below = from_front Each none step xs q below
 -- Whether another vehicle's emergency comes in a lane, by each vehicle's last fresh message.
 pub others_come-each : (i : Intersection) (n : ℕ) (xs : List Fresh) (v now lane : ℕ) → are_below n xs ≡ true → others_come i xs v now lane ≡ is_coming_in i n xs v now lane
 others_come-each i n xs v now lane below =
-    last_of_each-each n xs (λ x. not (x.entry.caller == v) && is_coming i now lane (params_at x)) below
-    ∙ some_below-same n (λ w. passes (λ x. not (x.entry.caller == v) && is_coming i now lane (params_at x)) (last_of xs w)) (λ w. not (w == v) && is_coming_by i now lane (last_of xs w)) (λ w l. each w (last_of xs w) refl)
+    last_of_each-each n xs (λ x. not (x.entry.caller == v) && is_coming i now lane (calling_at i x)) below
+    ∙ some_below-same n (λ w. passes (λ x. not (x.entry.caller == v) && is_coming i now lane (calling_at i x)) (last_of xs w)) (λ w. not (w == v) && is_coming_by i now lane (last_of xs w)) (λ w l. each w (last_of xs w) refl)
   where
     nobody : (b : Bool) → false ≡ (b && false)
     nobody true = refl
     nobody false = refl
 
-    each : (w : ℕ) (o : Option Fresh) → last_of xs w ≡ o → passes (λ x. not (x.entry.caller == v) && is_coming i now lane (params_at x)) o ≡ (not (w == v) && is_coming_by i now lane o)
+    each : (w : ℕ) (o : Option Fresh) → last_of xs w ≡ o → passes (λ x. not (x.entry.caller == v) && is_coming i now lane (calling_at i x)) o ≡ (not (w == v) && is_coming_by i now lane o)
     each w None e = nobody (not (w == v))
-    each w (Some y) e = ap (λ u. not (u == v) && is_coming i now lane (params_at y)) (last_of-caller xs w y e)
+    each w (Some y) e = ap (λ u. not (u == v) && is_coming i now lane (calling_at i y)) (last_of-caller xs w y e)

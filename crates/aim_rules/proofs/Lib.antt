@@ -18,6 +18,9 @@ pub mod PolicyLaws
 pub mod TakenLaws
 pub mod AnswerLaws
 pub mod BlameLaws
+pub mod WindowLaws
+pub mod WaitLaws
+pub mod OneArrival
 pub mod TimeLaws
 pub mod TableLaws
 pub mod RunLaws

@@ -7,6 +7,7 @@ pub mod Drive
 pub mod Large
 pub mod Bounds
 pub mod Acts
+pub mod Windows
 use Rattle.std.proofs.Common.{◌≡◌, ℕ, ◌+◌, Bool, true, false, List, [], ◌∷◌, map, Option, Some, None}
 use Rattle.aim_messages.specs.declared.messages.Params.{Params}
 use Rattle.aim_messages.specs.declared.entries.TheConstants.{OPERATOR}
@@ -37,8 +38,9 @@ lights = record {
   phases = record { red = 20; green = 80; lanes = 1 } ∷ record { red = 20; green = 80; lanes = 2 } ∷ [];
 }
 
-abbrev pub crossing : Times → List Policy → Intersection
-crossing times policies = record {
+abbrev pub crossing_of : ℕ → Times → List Policy → Intersection
+crossing_of version times policies = record {
+  version = version;
   grid = record { side = 4000; n = 4; spacing = 100; fixed = 0; half = 450; spans = 4096 };
   times = times;
   lanes = record { left = None; straight = Some (line 0 1500 4000 1500 40); right = None }
@@ -46,14 +48,17 @@ crossing times policies = record {
   policies = policies;
 }
 
+abbrev pub crossing : Times → List Policy → Intersection
+crossing = crossing_of 3
+
 abbrev pub small : Intersection
-small = crossing (record { horizon = 1500; longest = 25; clearance = 20; early = 0; late = 0; edge = 0 }) (plain ∷ lights ∷ siren ∷ [])
+small = crossing (record { horizon = 1500; longest = 25; clearance = 20; early = 0; late = 0; edge = 0; window = 0 }) (plain ∷ lights ∷ siren ∷ [])
 
 abbrev pub buffered_small : Intersection
-buffered_small = crossing (record { horizon = 1500; longest = 25; clearance = 20; early = 1; late = 1; edge = 2 }) (plain ∷ lights ∷ siren ∷ [])
+buffered_small = crossing (record { horizon = 1500; longest = 25; clearance = 20; early = 1; late = 1; edge = 2; window = 0 }) (plain ∷ lights ∷ siren ∷ [])
 
 abbrev pub siren_small : Intersection
-siren_small = crossing (record { horizon = 1500; longest = 25; clearance = 20; early = 0; late = 0; edge = 0 }) (siren ∷ plain ∷ lights ∷ [])
+siren_small = crossing (record { horizon = 1500; longest = 25; clearance = 20; early = 0; late = 0; edge = 0; window = 0 }) (siren ∷ plain ∷ lights ∷ [])
 
 abbrev pub car : ℕ → ℕ → Params
 car lane arrive = record {

@@ -3,6 +3,7 @@ use Rattle.std.proofs.Common.{◌≡◌, ℕ, ◌+◌, ◌<◌, ◌≤◌, Bool,
 use Rattle.std.specs.Prelude.{◌==◌, if◌then◌else◌, option_and_then, option_map, filter_map, unwrap_or}
 use Rattle.std.proofs.lemmas.Bool.{eqb-true, eq-eqb}
 use Rattle.aim_messages.specs.declared.messages.Message.{Message}
+use Rattle.aim_messages.specs.declared.messages.Params.{Params}
 use Rattle.aim_messages.specs.declared.entries.Act.{Act}
 use Rattle.aim_messages.specs.declared.entries.Act.TheVariants as act
 use Rattle.aim_messages.specs.declared.entries.Entry.{Entry}
@@ -10,9 +11,10 @@ use Rattle.aim_geometry.specs.Bounded.{least_below}
 use Rattle.aim_geometry.proofs.BoundedLemmas.{least_below_none, least_below_at, least_below_found}
 use Rattle.aim_layout.specs.Intersection.{Intersection}
 use Rattle.aim_geometry.specs.Cells.{Cell}
-use Rattle.aim_rules.specs.History.{Fresh, fresh, is_fresh, is_fresh_message, now_of, message_of, message_at, params_of, params_at, is_stop, last_of}
+use Rattle.aim_rules.specs.Trials.{has_windows}
+use Rattle.aim_rules.specs.History.{Fresh, fresh, is_confirm, is_fresh, is_fresh_message, now_of, message_of, message_at, params_of, params_at, is_stop, last_of}
 use Rattle.aim_rules.specs.Timeline.{policy_at, change_with}
-use Rattle.aim_rules.specs.Approach.{is_coming}
+use Rattle.aim_rules.specs.Approach.{calling, calling_at, is_coming}
 use Rattle.aim_rules.specs.Asking.{standing_next, next_with}
 use Rattle.aim_rules.specs.Distance.{reservation_distance}
 use Rattle.aim_rules.specs.Legal.{IsLegal}
@@ -26,7 +28,7 @@ use Rattle.aim_rules.proofs.PolicyLaws.{policy_in-snoc, policy_in-pruned, policy
 use Rattle.aim_rules.proofs.TakenLaws.{last_legal, AreApart-legal, AreApart-later}
 use Rattle.aim_rules.specs.Kept.{kept, kept_next, if_lasts, has_cell, owns, holder, owner, other_than, is_coming_by, distance_next, policy_in, pruned, in_force, AreApart, IsKnown}
 use Rattle.aim_rules.specs.Known.{is_stopped, is_above_all, exchange_at, exchange_of, seq_in}
-use Rattle.aim_rules.specs.Tables.{Tables, AreTables, empty, params_in, known_by, is_fresh_after, is_fresh_by, served_by, taken_next, tables_with, tables_next}
+use Rattle.aim_rules.specs.Tables.{Tables, AreTables, empty, calling_in, known_by, is_fresh_after, is_fresh_by, served_by, taken_next, tables_with, tables_next}
 
 -- the vehicle that keeps a cell
 
@@ -106,12 +108,16 @@ AreTables-empty i n = record {
   taken = λ c row col m. sym (least_below_none n (owns i [] c) (λ w l. refl));
 }
 
-params_in-of : (o : Option Fresh) → params_in (exchange_of o) ≡ option_and_then params_at o
-params_in-of None = refl
-params_in-of (Some x) = go (message_at x)
+calling_in-of : (i : Intersection) (o : Option Fresh) → calling_in i (exchange_of o) ≡ option_and_then (calling_at i) o
+calling_in-of i None = refl
+calling_in-of i (Some x) = go (message_at x)
   where
-    go : (m : Option Message) → params_in (option_map (λ m. record { message = m; reply = x.entry.reply }) m) ≡ option_and_then (λ m. params_of m.body) m
-    go None = refl
+    none : (b : Bool) → ◌≡◌ {A = Option Params} None (if b then None else None)
+    none true = refl
+    none false = refl
+
+    go : (m : Option Message) → calling_in i (option_map (λ m. record { message = m; reply = x.entry.reply }) m) ≡ calling i x.entry.reply (option_and_then (λ m. params_of m.body) m)
+    go None = none (has_windows i && is_confirm x.entry.reply)
     go (Some m) = refl
 
 -- What the tables say is what is known for an answer.
@@ -125,8 +131,8 @@ IsKnown-tables i n h t v moment before after l legal f = record {
   holds = λ j. if_lasts i (now j) (f.kept v l j);
   policy = λ s l. f.policy s (omega (arith, now_of-max h moment));
   distance = f.distance;
-  coming = λ lane m. some_below-same n (λ w. not (w == v) && is_coming i (max t.now moment) lane (params_in (t.last w))) (λ w. not (w == v) && is_coming_by i (now_of h moment) lane (last_of (fresh h) w))
-      (λ w k. (λ j. not (w == v) && is_coming i (now j) lane ((ap params_in (f.last w k) ∙ params_in-of (last_of (fresh h) w)) j)));
+  coming = λ lane m. some_below-same n (λ w. not (w == v) && is_coming i (max t.now moment) lane (calling_in i (t.last w))) (λ w. not (w == v) && is_coming_by i (now_of h moment) lane (last_of (fresh h) w))
+      (λ w k. (λ j. not (w == v) && is_coming i (now j) lane ((ap (calling_in i) (f.last w k) ∙ calling_in-of i (last_of (fresh h) w)) j)));
   taken = λ c row col m. ap (other_than v) (f.taken c row col (omega (arith, now_of-max h moment))) ∙ sym (owner-holder i n (fresh h) (now_of h moment) v c apart m);
 }
   where

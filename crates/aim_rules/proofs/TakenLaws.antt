@@ -15,9 +15,10 @@ use Rattle.aim_geometry.specs.Bounded.{some_below}
 use Rattle.aim_geometry.proofs.BoundedLemmas.{least_below_none, least_below_at, some_below_none}
 use Rattle.aim_layout.specs.Intersection.{Intersection}
 use Rattle.aim_geometry.specs.Cells.{Cell}
-use Rattle.aim_rules.specs.Cells.{IsIn, cells}
+use Rattle.aim_rules.specs.Cells.{IsIn}
+use Rattle.aim_rules.specs.Trials.{Trial, arriving_at, granted_trial, trial_cells}
 use Rattle.aim_rules.specs.History.{Fresh, fresh, is_fresh, is_fresh_seq, is_confirm, of_vehicle, params_of, params_at, given_up_at, now_of}
-use Rattle.aim_rules.specs.Holds.{is_number, is_fast, granted_with, is_granted, is_granted_with, last_confirm, is_given_up, holding, holds, reservations, taken_by}
+use Rattle.aim_rules.specs.Holds.{is_number, granted_with, is_granted, is_granted_with, last_confirm, is_given_up, holding, holds, reservations, taken_by}
 use Rattle.aim_rules.specs.Answer.{answer}
 use Rattle.aim_rules.specs.Legal.{IsLegal, IsAnswered, IsWellFormed, MayAct}
 use Rattle.aim_rules.proofs.CellLemmas.{cells_has}
@@ -116,11 +117,12 @@ reservations-kept i h now x m = go (holding i (fresh h) x.entry.caller now) refl
 
 -- a reservation with a cell that is not past lasts
 pub granted-lasts : (i : Intersection) (now : ℕ) (x : Fresh) (c : Cell) → i.times.early ≤ i.times.edge → i.times.late ≤ i.times.edge → now ≤ c.step → is_granted i x c ≡ true → lasts i now x ≡ true
-granted-lasts i now x c before after l g = go (params_at x) g
+granted-lasts i now x c before after l g = go (granted_trial x.entry.reply) (params_at x) g
   where
-    go : (o : Option Params) → is_granted_with i x.entry.reply c o ≡ true → list_any (λ c. nat_le now c.step) (granted_with i x.entry.reply o) ≡ true
-    go None g = absurd (cc)
-    go (Some p) g = IsIn-test (λ c. nat_le now c.step) (cells i p (is_fast x.entry.reply)) c (cells_has i p (is_fast x.entry.reply) c before after g) (grind (arith, nat_tests))
+    go : (t : Option Trial) (o : Option Params) → is_granted_with i t c o ≡ true → list_any (λ c. nat_le now c.step) (granted_with i t o) ≡ true
+    go t None g = absurd (cc)
+    go None (Some p) g = absurd (cc)
+    go (Some t) (Some p) g = IsIn-test (λ c. nat_le now c.step) (trial_cells i p t) c (cells_has i (arriving_at p t.start) t.fast c before after g) (grind (arith, nat_tests))
 
 -- so what is kept and has a cell that is not past is held
 owns-held : (i : Intersection) (xs : List Fresh) (now : ℕ) (c : Cell) (w : ℕ) (o : Option Fresh) → i.times.early ≤ i.times.edge → i.times.late ≤ i.times.edge → now ≤ c.step →
@@ -181,10 +183,10 @@ are_below-legal i vehicles h legal = from_front (λ h. IsLegal i vehicles h → 
 
 -- a Confirm grants no cell that another vehicle holds
 confirm_free : (i : Intersection) (h : List Entry) (v moment : ℕ) (m : Message) (r : Reply) (c : Cell) (y : Fresh) → i.times.early ≤ i.times.edge → i.times.late ≤ i.times.edge → r ≡ answer i h v moment (act.Message m) → is_fresh_seq h v m.seq ≡ true → is_confirm r ≡ true →
-    is_granted_with i r c (params_of m.body) ≡ true → IsIn y (reservations i (fresh h) (now_of h moment)) → (y.entry.caller == v) ≡ false → is_granted i y c ≡ false
+    is_granted_with i (granted_trial r) c (params_of m.body) ≡ true → IsIn y (reservations i (fresh h) (now_of h moment)) → (y.entry.caller == v) ≡ false → is_granted i y c ≡ false
 confirm_free i h v moment m r c y before after answered new confirms grants there other = go (params_of m.body) refl grants
   where
-    go : (o : Option Params) → params_of m.body ≡ o → is_granted_with i r c o ≡ true → is_granted i y c ≡ false
+    go : (o : Option Params) → params_of m.body ≡ o → is_granted_with i (granted_trial r) c o ≡ true → is_granted i y c ≡ false
     go None asks g = absurd (cc)
     go (Some p) asks g = granted_free i h v moment m p c y before after new asks (rw answered at confirms) (rw answered at g) there other
 

@@ -14,6 +14,7 @@ use Rattle.aim_messages.specs.declared.replies.Reply.TheVariants as reply
 use Rattle.aim_geometry.specs.Bounded.{greatest, max_with}
 use Rattle.aim_layout.specs.Intersection.{Intersection}
 use Rattle.aim_geometry.specs.Cells.{Cell}
+use Rattle.aim_rules.specs.Trials.{granted_trial}
 use Rattle.aim_rules.specs.Bad.{bad}
 use Rattle.aim_rules.specs.History.{Fresh, fresh, is_fresh, is_fresh_seq, is_confirm, params_of, given_up_at, message_of, now_of, last_of}
 use Rattle.aim_rules.specs.Holds.{is_number, granted, is_granted, is_granted_with, holding}
@@ -99,10 +100,10 @@ is_coming-earlier i now later lane (Some p) l h = go p.emergency (p.lane == lane
 
 -- how far ahead cells are kept
 message_ahead : (i : Intersection) (h : List Entry) (v moment : ℕ) (m : Message) (r : Reply) (c : Cell) → 0 < i.grid.spacing → i.times.early ≤ i.times.edge → i.times.late ≤ i.times.edge → r ≡ answer i h v moment (act.Message m) → is_fresh_seq h v m.seq ≡ true → is_confirm r ≡ true →
-    is_granted_with i r c (params_of m.body) ≡ true → c.step < now_of h moment + i.times.horizon
+    is_granted_with i (granted_trial r) c (params_of m.body) ≡ true → c.step < now_of h moment + i.times.horizon
 message_ahead i h v moment m r c spaced before after answered new confirms grants = go (params_of m.body) refl grants
   where
-    go : (o : Option Params) → params_of m.body ≡ o → is_granted_with i r c o ≡ true → c.step < now_of h moment + i.times.horizon
+    go : (o : Option Params) → params_of m.body ≡ o → is_granted_with i (granted_trial r) c o ≡ true → c.step < now_of h moment + i.times.horizon
     go None asks g = absurd (cc)
     go (Some p) asks g = (granted_ahead i h v moment m p c spaced before after new asks (rw answered at confirms) (rw answered at g)).1
 

@@ -1,6 +1,6 @@
 -- What the manager answers, by what is known. The lines are those of the table in docs/ANSWERS.md: the first that applies
 -- decides.
-use Rattle.std.specs.Prelude.{ℕ, ◌+◌, ◌-◌, Bool, true, false, ◌&&◌, ◌||◌, not, nat_lt, nat_le, List, [], ◌∷◌, map, length, Option, Some, None, option_map, option_and_then, is_none, unwrap_or, slice_get, if◌then◌else◌}
+use Rattle.std.specs.Prelude.{ℕ, ◌+◌, ◌-◌, Bool, true, false, ◌&&◌, ◌||◌, not, nat_lt, nat_le, List, [], ◌∷◌, map, length, Option, Some, None, option_map, option_and_then, is_none, unwrap_or, find, slice_get, if◌then◌else◌}
 use Rattle.std.specs.List.{list_any}
 use Rattle.std.specs.Option.{option_or}
 use Rattle.aim_messages.specs.declared.messages.Params.{Params}
@@ -22,8 +22,8 @@ use Rattle.aim_geometry.specs.Bounded.{least, least_below, find_map}
 use Rattle.aim_layout.specs.Intersection.{Intersection}
 use Rattle.aim_rules.specs.Footprint.{crossing_steps}
 use Rattle.aim_geometry.specs.Cells.{Cell}
-use Rattle.aim_rules.specs.Cells.{cells}
-use Rattle.aim_rules.specs.Bad.{bad, is_fast_made}
+use Rattle.aim_rules.specs.Trials.{Trial, trial_cells, has_windows, judged, candidates}
+use Rattle.aim_rules.specs.Bad.{bad}
 use Rattle.aim_rules.specs.History.{Fresh}
 use Rattle.aim_rules.specs.Holds.{granted, is_number}
 use Rattle.aim_rules.specs.Claims.{green_by}
@@ -44,9 +44,9 @@ next_for i k arrive _ = next_allowed k.now arrive i.times.longest
 abbrev pub refusal : Intersection → Known → ℕ → Reason → Reply
 refusal i k arrive why = reply.Reject why (next_for i k arrive why) (option_map (λ x. x.place) k.holds)
 
-abbrev pub confirmation : Intersection → Known → Params → Bool → Reply
-confirmation i k p fast =
-    reply.Confirm k.place p.arrive i.times.early i.times.late fast (p.arrive + crossing_steps i p fast - 1)
+abbrev pub confirmation : Intersection → Known → Params → Trial → Reply
+confirmation i k p t =
+    reply.Confirm k.place t.start i.times.early i.times.late t.fast (t.start + crossing_steps i p t.fast - 1)
 
 -- a reason where the test holds
 abbrev pub where_so : Bool → Reason → Option Reason
@@ -98,13 +98,17 @@ bad_field i k p = option_map (λ field. reason.Bad field) (bad i p)
 abbrev pub too_late : Intersection → Known → Params → Option Reason
 too_late i k p = where_so (nat_le p.arrive (k.now + i.times.edge)) (reason.Late k.now)
 
-abbrev pub too_far : Intersection → Known → Params → Option Reason
-too_far i k p =
-    where_so (list_any (λ c. nat_le (k.now + i.times.horizon) c.step) (cells i p false)) (reason.Far (k.now + i.times.horizon))
+-- whether the trial has a cell from the horizon on
+abbrev pub ends_beyond : Intersection → Known → Params → Trial → Bool
+ends_beyond i k p t = list_any (λ c. nat_le (k.now + i.times.horizon) c.step) (trial_cells i p t)
 
+abbrev pub too_far : Intersection → Known → Params → Option Reason
+too_far i k p = where_so (ends_beyond i k p (judged i p)) (reason.Far (k.now + i.times.horizon))
+
+-- from version 4 on no lane has a distance
 abbrev pub too_distant : Intersection → Known → Params → Option Reason
 too_distant i k p =
-    where_so (exceeds (asked_from k.now p) (k.distance p.lane)) (reason.Distance (unwrap_or (k.distance p.lane) 0))
+    where_so (not (has_windows i) && exceeds (asked_from k.now p) (k.distance p.lane)) (reason.Distance (unwrap_or (k.distance p.lane) 0))
 
 abbrev pub in_the_way : Intersection → Known → Params → Option Reason
 in_the_way i k p =
@@ -123,20 +127,28 @@ blocked_by i k p c =
     option_or (option_map (λ lane. reason.Green c.row c.col c.step lane) (green_by i k.policy c p.lane))
     (option_map (λ by. reason.Taken c.row c.col c.step by) (k.taken c))
 
--- why the least cell of a crossing can't be had that can't, by step, row and column
-abbrev pub first_blocked : Intersection → Known → Params → Bool → Option Reason
-first_blocked i k p fast = find_map (blocked_by i k p) (cells i p fast)
+-- why the least cell of a trial can't be had that can't, by step, row and column
+abbrev pub first_blocked : Intersection → Known → Params → Trial → Option Reason
+first_blocked i k p t = find_map (blocked_by i k p) (trial_cells i p t)
+
+-- whether the trial's cells lie before the horizon, and all can be had
+abbrev pub is_free : Intersection → Known → Params → Trial → Bool
+is_free i k p t = not (ends_beyond i k p t) && is_none (first_blocked i k p t)
 
 -- a refusal where there is a reason
 abbrev pub refused_or : Intersection → Known → Params → Option Reason → Reply → Reply
 refused_or i k p None r = r
 refused_or i k p (Some why) r = refusal i k p.arrive why
 
--- lines 15 to 17: the fast crossing where it is free, or else the steady one where that is, or else neither
+-- The trial that is granted, or else a refusal for what blocks the trial by which the request is judged: where that one
+-- ends before the horizon and isn't granted, something does.
+abbrev pub granted_or_refused : Intersection → Known → Params → Option Trial → Reply
+granted_or_refused i k p (Some t) = confirmation i k p t
+granted_or_refused i k p None = refused_or i k p (first_blocked i k p (judged i p)) (confirmation i k p (judged i p))
+
+-- lines 15 to 17: the first trial that is free, or else none
 abbrev pub answer_free : Intersection → Known → Params → Reply
-answer_free i k p =
-    if is_fast_made p && is_none (first_blocked i k p true) then confirmation i k p true
-    else refused_or i k p (first_blocked i k p false) (confirmation i k p false)
+answer_free i k p = granted_or_refused i k p (find (is_free i k p) (candidates i p))
 
 -- lines 6 to 17
 abbrev pub answer_asking : Intersection → Known → Body → Params → Reply

@@ -7,7 +7,7 @@ use Rattle.aim_messages.specs.declared.replies.Reply.TheVariants as reply
 use Rattle.aim_geometry.specs.Bounded.{last, since_last}
 use Rattle.aim_layout.specs.Intersection.{Intersection}
 use Rattle.aim_geometry.specs.Cells.{Cell}
-use Rattle.aim_rules.specs.Cells.{in_cells, cells}
+use Rattle.aim_rules.specs.Trials.{Trial, in_trial, trial_cells, granted_trial}
 use Rattle.aim_rules.specs.History.{Fresh, of_vehicle, params_at, given_up_at, is_confirm}
 
 -- whether the option is that number
@@ -15,26 +15,28 @@ abbrev pub is_number : Option ℕ → ℕ → Bool
 is_number None n = false
 is_number (Some m) n = m == n
 
--- the trial that was granted
+-- whether the fast trial was granted
 abbrev pub is_fast : Reply → Bool
 is_fast (reply.Confirm id start before after accelerate end) = accelerate
 is_fast _ = false
 
-abbrev pub granted_with : Intersection → Reply → Option Params → List Cell
-granted_with i r None = []
-granted_with i r (Some p) = cells i p (is_fast r)
+abbrev pub granted_with : Intersection → Option Trial → Option Params → List Cell
+granted_with i t None = []
+granted_with i None (Some p) = []
+granted_with i (Some t) (Some p) = trial_cells i p t
 
 -- the cells of the granted trial
 abbrev pub granted : Intersection → Fresh → List Cell
-granted i x = granted_with i x.entry.reply (params_at x)
+granted i x = granted_with i (granted_trial x.entry.reply) (params_at x)
 
-abbrev pub is_granted_with : Intersection → Reply → Cell → Option Params → Bool
-is_granted_with i r c None = false
-is_granted_with i r c (Some p) = in_cells i p (is_fast r) c
+abbrev pub is_granted_with : Intersection → Option Trial → Cell → Option Params → Bool
+is_granted_with i t c None = false
+is_granted_with i None c (Some p) = false
+is_granted_with i (Some t) c (Some p) = in_trial i p t c
 
 -- whether the cell is one of the granted trial's
 abbrev pub is_granted : Intersection → Fresh → Cell → Bool
-is_granted i x c = is_granted_with i x.entry.reply c (params_at x)
+is_granted i x c = is_granted_with i (granted_trial x.entry.reply) c (params_at x)
 
 -- the vehicle's last fresh message whose answer is Confirm
 abbrev pub last_confirm : List Fresh → ℕ → Option Fresh

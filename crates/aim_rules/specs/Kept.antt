@@ -8,11 +8,11 @@ use Rattle.aim_messages.specs.declared.replies.Reply.{Reply}
 use Rattle.aim_geometry.specs.Bounded.{last, min_with, least_below, some_below}
 use Rattle.aim_layout.specs.Intersection.{Intersection}
 use Rattle.aim_geometry.specs.Cells.{Cell}
-use Rattle.aim_rules.specs.History.{Fresh, fresh, last_of, now_of, message_at, params_at, given_up_at, is_confirm}
+use Rattle.aim_rules.specs.History.{Fresh, fresh, last_of, now_of, message_at, given_up_at, is_confirm}
 use Rattle.aim_rules.specs.Holds.{is_number, granted, is_granted, last_confirm, is_given_up}
 use Rattle.aim_rules.specs.Asking.{standing_next}
 use Rattle.aim_rules.specs.Distance.{is_blocked_reply, asked_from, reservation_distance}
-use Rattle.aim_rules.specs.Approach.{is_coming}
+use Rattle.aim_rules.specs.Approach.{is_coming, calling_at}
 use Rattle.aim_rules.specs.Timeline.{InForce, change_with, policy_at}
 use Rattle.aim_rules.specs.Known.{Known, exchange_of, is_stopped}
 
@@ -70,7 +70,7 @@ policy_in fs s = unwrap_or (last (λ f. nat_le f.from s) fs) (record { policy = 
 
 -- whether an emergency comes in the lane, by a vehicle's last fresh message
 abbrev pub is_coming_by : Intersection → ℕ → ℕ → Option Fresh → Bool
-is_coming_by i now lane o = is_coming i now lane (option_and_then params_at o)
+is_coming_by i now lane o = is_coming i now lane (option_and_then (calling_at i) o)
 
 -- whether an emergency comes in the lane, by the last fresh message of a vehicle below n other than v
 abbrev pub is_coming_in : Intersection → ℕ → List Fresh → ℕ → ℕ → ℕ → Bool

@@ -1,6 +1,7 @@
 pub mod Motion
 pub mod Footprint
 pub mod Cells
+pub mod Trials
 pub mod Bad
 pub mod History
 pub mod Holds
@@ -13,6 +14,7 @@ pub mod Approach
 pub mod Known
 pub mod Answer
 pub mod Blame
+pub mod Windows
 pub mod Legal
 pub mod Journals
 pub mod Charts

@@ -12,7 +12,7 @@ use Rattle.aim_layout.specs.Intersection.{Intersection}
 use Rattle.aim_geometry.specs.Cells.{Cell}
 use Rattle.aim_rules.specs.History.{Fresh, fresh, last_of, now_of, params_of, params_at, message_of, is_stop}
 use Rattle.aim_rules.specs.Timeline.{InForce, change_with, policy_at}
-use Rattle.aim_rules.specs.Approach.{is_coming}
+use Rattle.aim_rules.specs.Approach.{is_coming, calling}
 use Rattle.aim_rules.specs.Asking.{standing_next, next_with}
 use Rattle.aim_rules.specs.Distance.{reservation_distance}
 use Rattle.aim_rules.specs.Answer.{answer_act}
@@ -56,9 +56,9 @@ empty = record {
   taken = λ c. None;
 }
 
--- the params of what was said
-abbrev pub params_in : Option Exchange → Option Params
-params_in o = option_and_then (λ s. params_of s.message.body) o
+-- the params of what was said, while it still calls
+abbrev pub calling_in : Intersection → Option Exchange → Option Params
+calling_in i o = option_and_then (λ s. calling i s.reply (params_of s.message.body)) o
 
 -- what is known for the answer to a vehicle
 abbrev pub known_by : Intersection → ℕ → Tables → ℕ → ℕ → Known
@@ -71,7 +71,7 @@ known_by i n t v moment = record {
   holds = if_lasts i (max t.now moment) (t.kept v);
   policy = policy_in t.changes;
   distance = t.distance;
-  coming = λ lane. some_below n (λ w. not (w == v) && is_coming i (max t.now moment) lane (params_in (t.last w)));
+  coming = λ lane. some_below n (λ w. not (w == v) && is_coming i (max t.now moment) lane (calling_in i (t.last w)));
   taken = λ c. other_than v (t.taken c);
 }
 

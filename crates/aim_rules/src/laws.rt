@@ -4,6 +4,8 @@
 ghost use Rattle.std.specs.Prelude.{◌≡◌, ◌↔◌, ◌==◌, ℕ, ◌+◌, ◌-◌, ◌<◌, ◌≤◌, Bool, true, false, List, [], ◌∷◌, ◌++◌, Option, Some, None, map};
 ghost use Rattle.aim_messages.specs.declared.messages.Params.{Params};
 ghost use Rattle.aim_messages.specs.declared.messages.Message.{Message};
+ghost use Rattle.aim_messages.specs.declared.messages.Body.{Body};
+ghost use Rattle.std.specs.Option.{option_or};
 ghost use Rattle.aim_messages.specs.declared.entries.Entry.{Entry};
 ghost use Rattle.aim_messages.specs.declared.entries.Act.{Act};
 ghost use Rattle.aim_messages.specs.declared.replies.Reply.{Reply};
@@ -13,10 +15,13 @@ ghost use Rattle.aim_rules.specs.Motion.{front, speed_in, sum_below};
 ghost use Rattle.aim_rules.specs.Footprint.{crossing_steps, path_length};
 ghost use Rattle.aim_geometry.specs.Cells.{Cell, cell_at};
 ghost use Rattle.aim_rules.specs.Cells.{IsIn, cells, in_cells};
-ghost use Rattle.aim_rules.specs.Bad.{IsGood, bad};
-ghost use Rattle.aim_rules.specs.History.{Fresh, fresh, is_confirm, is_fresh_seq, now_of, params_of};
-ghost use Rattle.aim_rules.specs.Holds.{reservations, is_fast, is_granted};
-ghost use Rattle.aim_rules.specs.Answer.{answer};
+ghost use Rattle.aim_rules.specs.Trials.{Trial, arriving_at, granted_trial, has_windows, in_trial, is_fast_made, judged, trial_cells};
+ghost use Rattle.aim_rules.specs.Bad.{IsGood, bad, span_count};
+ghost use Rattle.aim_rules.specs.History.{Fresh, fresh, is_confirm, is_fresh_seq, now_of, params_at, params_of};
+ghost use Rattle.aim_rules.specs.Holds.{reservations, is_granted, is_granted_with};
+ghost use Rattle.aim_rules.specs.Known.{Known};
+ghost use Rattle.aim_rules.specs.Answer.{answer, answer_asking, first_reason, own_refusal, refused_or};
+ghost use Rattle.aim_rules.specs.Windows.{IsBlockedFor, IsTried, WaitsForAll, later, trial_at, two_trials};
 ghost use Rattle.aim_rules.specs.Blame.{IsClaimedBy, IsHeldBy, IsYielded, Yielded, cell_blamed};
 ghost use Rattle.aim_rules.specs.Journals.{Call, MayCall, call_of, journal};
 ghost use Rattle.aim_rules.specs.Legal.{IsLegal};
@@ -57,7 +62,7 @@ pub fn granted_cells_are_within_the_horizon()
     ensures { (i : Intersection) (h : List Entry) (v moment : ℕ) (m : Message) (p : Params) (c : Cell) →
         0 < i.grid.spacing → i.times.early ≤ i.times.edge → i.times.late ≤ i.times.edge →
         is_fresh_seq h v m.seq ≡ true → params_of m.body ≡ Some p → is_confirm (answer i h v moment (Act.Message m)) ≡ true →
-        in_cells i p (is_fast (answer i h v moment (Act.Message m))) c ≡ true →
+        is_granted_with i (granted_trial (answer i h v moment (Act.Message m))) c (Some p) ≡ true →
         (now_of h moment < c.step) × (c.step < now_of h moment + i.times.horizon) }
 {}
 
@@ -66,25 +71,25 @@ pub fn granted_cells_are_free()
     ensures { (i : Intersection) (h : List Entry) (v moment : ℕ) (m : Message) (p : Params) (c : Cell) (x : Fresh) →
         i.times.early ≤ i.times.edge → i.times.late ≤ i.times.edge →
         is_fresh_seq h v m.seq ≡ true → params_of m.body ≡ Some p → is_confirm (answer i h v moment (Act.Message m)) ≡ true →
-        in_cells i p (is_fast (answer i h v moment (Act.Message m))) c ≡ true →
+        is_granted_with i (granted_trial (answer i h v moment (Act.Message m))) c (Some p) ≡ true →
         IsIn x (reservations i (fresh h) (now_of h moment)) → (x.entry.caller == v) ≡ false → is_granted i x c ≡ false }
 {}
 
-/// A refusal for a cell blames rightly: the cell is one that the steady trial needs, and another vehicle holds it then, or
-/// another lane claims it by its green.
+/// A refusal for a cell blames rightly: the cell is one that the trial needs by which the request is judged, and
+/// another vehicle holds it then, or another lane claims it by its green.
 pub fn refusals_for_a_cell_blame_another()
     ensures taken { (i : Intersection) (h : List Entry) (v moment : ℕ) (m : Message) (p : Params) (row col step by next : ℕ) (held : Option ℕ) →
         is_fresh_seq h v m.seq ≡ true → params_of m.body ≡ Some p →
         answer i h v moment (Act.Message m) ≡ Reply.Reject (Reason.Taken row col step by) next held →
-        (in_cells i p false (cell_at step row col) ≡ true) × (x : Fresh) × IsHeldBy i h (now_of h moment) v by (cell_at step row col) x }
+        (in_trial i p (judged i p) (cell_at step row col) ≡ true) × (x : Fresh) × IsHeldBy i h (now_of h moment) v by (cell_at step row col) x }
     ensures green { (i : Intersection) (h : List Entry) (v moment : ℕ) (m : Message) (p : Params) (row col step lane next : ℕ) (held : Option ℕ) →
         is_fresh_seq h v m.seq ≡ true → params_of m.body ≡ Some p →
         answer i h v moment (Act.Message m) ≡ Reply.Reject (Reason.Green row col step lane) next held →
-        (in_cells i p false (cell_at step row col) ≡ true) × IsClaimedBy i h p.lane lane (cell_at step row col) }
+        (in_trial i p (judged i p) (cell_at step row col) ≡ true) × IsClaimedBy i h p.lane lane (cell_at step row col) }
 {}
 
-/// A refusal for a cell goes with its holder: once that vehicle has given its reservation up, nothing else having changed,
-/// a fresh request for the same crossing isn't refused for that cell.
+/// A refusal for a cell goes with its holder: once that vehicle has given its reservation up, nothing else having
+/// changed, a fresh request for the same crossing isn't refused for that cell.
 pub fn refusals_for_a_cell_go_with_its_holder()
     ensures { (i : Intersection) (n : ℕ) (y : Yielded) (moment : ℕ) (again : Message) (why : Reason) (next : ℕ) (held : Option ℕ) → IsYielded i n y →
         is_fresh_seq (y.history ++ y.refused ∷ y.gone ∷ []) y.refused.caller again.seq ≡ true → params_of again.body ≡ Some y.params →
@@ -105,4 +110,42 @@ pub fn legal_history_is_the_journal_of_its_calls()
 /// What a legal history begins with is legal.
 pub fn beginning_of_a_legal_history_is_legal()
     ensures { (i : Intersection) (vehicles : ℕ) (h more : List Entry) → IsLegal i vehicles (h ++ more) → IsLegal i vehicles h }
+{}
+
+/// From the edge buffer on, where no step is cut off at 0, a trial that starts later needs the same cells, as much
+/// later, and so as many spans.
+pub fn trials_move_with_their_start()
+    ensures cells { (i : Intersection) (p : Params) (s d : ℕ) (fast : Bool) → i.times.edge ≤ s →
+        trial_cells i p (record { start = s + d; fast = fast }) ≡ map (later d) (trial_cells i p (record { start = s; fast = fast })) }
+    ensures spans { (i : Intersection) (p : Params) (s d : ℕ) (fast : Bool) → i.times.edge ≤ s →
+        span_count i (arriving_at p (s + d)) fast ≡ span_count i (arriving_at p s) fast }
+{}
+
+/// A Confirm of a window has a step of the window, the one trial that is made there, and the least step that can be
+/// had: at each earlier one another vehicle holds a cell of the trial at that point of the history, or another lane
+/// claims one.
+pub fn windows_are_granted_their_least_step()
+    ensures window { (i : Intersection) (h : List Entry) (v moment : ℕ) (m : Message) (p : Params) (id start early late end : ℕ) (fast : Bool) → has_windows i ≡ true →
+        is_fresh_seq h v m.seq ≡ true → params_of m.body ≡ Some p → answer i h v moment (Act.Message m) ≡ Reply.Confirm id start early late fast end →
+        (p.arrive ≤ start) × (start ≤ p.latest) × (fast ≡ is_fast_made p) }
+    ensures least { (i : Intersection) (h : List Entry) (v moment : ℕ) (m : Message) (p : Params) (s id start early late end : ℕ) (fast : Bool) →
+        i.times.early ≤ i.times.edge → i.times.late ≤ i.times.edge → has_windows i ≡ true →
+        is_fresh_seq h v m.seq ≡ true → params_of m.body ≡ Some p → answer i h v moment (Act.Message m) ≡ Reply.Confirm id start early late fast end →
+        p.arrive ≤ s → s < start → (c : Cell) × (in_trial i p (trial_at p s) c ≡ true) × IsBlockedFor i h (now_of h moment) v p.lane c }
+{}
+
+/// Who may wait is let in: a message that nothing before the trials refuses is confirmed where a step of its window
+/// comes behind all that other vehicles hold, ends before the horizon, and meets no green.
+pub fn who_may_wait_is_let_in()
+    ensures { (i : Intersection) (h : List Entry) (v moment : ℕ) (m : Message) (p : Params) (s : ℕ) → i.times.early ≤ i.times.edge → i.times.late ≤ i.times.edge → has_windows i ≡ true →
+        IsTried i h v moment m p → WaitsForAll i h v (now_of h moment) p s → is_confirm (answer i h v moment (Act.Message m)) ≡ true }
+{}
+
+/// In versions 1 to 3 a request that nothing before the trials refuses is answered by its two trials at its arrival,
+/// and a Confirm starts there.
+pub fn one_arrival_has_two_trials()
+    ensures answer { (i : Intersection) (k : Known) (b : Body) (p : Params) → 0 < i.grid.spacing → i.times.early ≤ i.times.edge → i.times.late ≤ i.times.edge → has_windows i ≡ false →
+        answer_asking i k b p ≡ refused_or i k p (option_or (own_refusal i k b) (first_reason i k p)) (two_trials i k p) }
+    ensures starts { (i : Intersection) (vehicles : ℕ) (h : List Entry) (x : Fresh) (p : Params) (t : Trial) → has_windows i ≡ false → IsLegal i vehicles h →
+        IsIn x (fresh h) → params_at x ≡ Some p → granted_trial x.entry.reply ≡ Some t → t.start ≡ p.arrive }
 {}

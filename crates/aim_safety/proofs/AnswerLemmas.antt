@@ -1,6 +1,6 @@
 -- Where in a legal history a reply comes from that a driver heard.
 use Rattle.std.proofs.Common.{◌≡◌, ◌⊎◌, inl, inr, ℕ, ◌<◌, ◌≤◌, Bool, true, false, ◌&&◌, nat_lt, List, length, take, Option, Some, None, is_none, arith, refl, sym, ap, ◌∙◌, slice_get}
-use Rattle.std.specs.Prelude.{◌==◌, if◌then◌else◌, option_map}
+use Rattle.std.specs.Prelude.{find, ◌==◌, if◌then◌else◌, option_map}
 use Rattle.std.specs.Option.{option_or}
 use Rattle.std.proofs.lemmas.Bool.{eqb-true}
 use Rattle.std.proofs.lemmas.Option.{slice_get_within}
@@ -17,10 +17,10 @@ use Rattle.aim_messages.specs.declared.entries.Act.TheVariants as act
 use Rattle.aim_messages.specs.declared.entries.Entry.{Entry}
 use Rattle.aim_messages.specs.Same.{same_body, same_message}
 use Rattle.aim_layout.specs.Intersection.{Intersection}
-use Rattle.aim_rules.specs.Bad.{is_fast_made}
+use Rattle.aim_rules.specs.Trials.{Trial, judged, candidates}
 use Rattle.aim_rules.specs.History.{Fresh, fresh, is_fresh_seq, is_confirm, last_of, message_of}
 use Rattle.aim_rules.specs.Known.{Known, exchange_of, known_after}
-use Rattle.aim_rules.specs.Answer.{answer, answer_message, answer_known, answer_fresh, answer_asking, answer_free, refused_or, refusal, confirmation, first_blocked, first_reason, own_refusal}
+use Rattle.aim_rules.specs.Answer.{answer, answer_message, answer_known, answer_fresh, answer_asking, answer_free, refused_or, refusal, confirmation, first_blocked, is_free, granted_or_refused, first_reason, own_refusal}
 use Rattle.aim_rules.specs.Legal.{IsLegal}
 use Rattle.aim_rules.proofs.AheadLemmas.{fresh_answer}
 use Rattle.aim_rules.proofs.HistoryLaws.{seq_said}
@@ -46,11 +46,14 @@ says_refused : (i : Intersection) (k : Known) (p : Params) (o : Option Reason) (
 says_refused i k p None r x = x
 says_refused i k p (Some why) r x = refl
 
+says_granted : (i : Intersection) (k : Known) (p : Params) (o : Option Trial) → Says k (granted_or_refused i k p o)
+says_granted i k p (Some t) = refl
+says_granted i k p None = says_refused i k p (first_blocked i k p (judged i p)) (confirmation i k p (judged i p)) refl
+
 says_asking : (i : Intersection) (k : Known) (b : Body) (p : Params) → Says k (answer_asking i k b p)
 says_asking i k b p =
     says_refused i k p (option_or (own_refusal i k b) (first_reason i k p)) (answer_free i k p)
-    (says_if k (is_fast_made p && is_none (first_blocked i k p true)) (confirmation i k p true) (refused_or i k p (first_blocked i k p false) (confirmation i k p false)) refl
-    (says_refused i k p (first_blocked i k p false) (confirmation i k p false) refl))
+    (says_granted i k p (find (is_free i k p) (candidates i p)))
 
 pub says_fresh : (i : Intersection) (k : Known) (b : Body) → Says k (answer_fresh i k b)
 says_fresh i k (body.Cancel id) = tt

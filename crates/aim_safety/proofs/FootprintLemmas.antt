@@ -1,5 +1,5 @@
 -- The tiles that a visitor saw are those on which the crossing is.
-use Rattle.std.proofs.Common.{◌≡◌, ℕ, zero, suc, ◌+◌, ◌-◌, ◌<◌, ◌≤◌, Bool, true, false, ◌&&◌, cond, List, [], ◌∷◌, ◌++◌, length, get_or, filter, Some, None, arith, refl, sym, ap, ◌∙◌, length-append, add-one}
+use Rattle.std.proofs.Common.{◌≡◌, ℕ, zero, suc, ◌+◌, ◌-◌, ◌<◌, ◌≤◌, Bool, true, false, ◌&&◌, not, cond, List, [], ◌∷◌, ◌++◌, length, get_or, filter, Some, None, arith, refl, sym, ap, ◌∙◌, length-append, add-one}
 use Rattle.std.specs.Prelude.{◌==◌, flat_map, if◌then◌else◌, Result, Ok, Err, OnOk}
 use Rattle.std.specs.Result.{result_err}
 use Rattle.std.specs.List.{range_with_len}
@@ -20,12 +20,13 @@ use Rattle.aim_geometry.specs.Cells as rules
 use Rattle.aim_rules.proofs.FreeLemmas.{first_none}
 use Rattle.aim_rules.proofs.TestLemmas.{both}
 use Rattle.aim_footprint.specs.declared.visits.RowRange.{RowRange}
-use Rattle.aim_footprint.specs.Fields.{bad_crossing}
+use Rattle.aim_footprint.specs.Fields.{bad_crossing, IsTried}
+use Rattle.aim_rules.specs.Trials.{is_fast_made}
 use Rattle.aim_footprint.specs.Visits.{IsFootprint, Visited}
 use Rattle.aim_footprint.proofs.FieldLemmas.{fields}
 use Rattle.aim_footprint.proofs.GoodLemmas.{good_crossing}
 use Rattle.aim_safety.specs.declared.traces.Trace.{Trace}
-use Rattle.aim_safety.specs.Occupied.{is_on}
+use Rattle.aim_safety.specs.Occupied.{is_on, is_tried}
 use Rattle.aim_safety.specs.Tiles.{of_tile, of_row, of_rows}
 use Rattle.aim_safety.specs.Traces.{IsTraced, AreFootprints, is_traced}
 use Rattle.aim_safety.proofs.TraceLemmas.{parts_more}
@@ -34,8 +35,17 @@ use Rattle.aim_safety.proofs.TraceLemmas.{parts_more}
 pub good_fields : (i : Intersection) (p : Params) → bad i p ≡ None → bad_crossing i p ≡ None
 good_fields i p h = (first_none (bad_crossing i p) (if needs_too_many_spans i p then Some field.Spans else None) (sym (fields i p) ∙ h)).0
 
-pub few_steps : (i : Intersection) (p : Params) (fast : Bool) → bad i p ≡ None → crossing_steps i p fast ≤ 2048
-few_steps i p fast h = (good_crossing i p (good_fields i p h)).steps fast
+-- a trial that may be made with the params is one of them
+pub trial_tried : (i : Intersection) (p : Params) (fast : Bool) → is_tried i p fast ≡ true → IsTried i p fast
+trial_tried i p fast tried = λ windows. go fast (is_fast_made p) (rw windows at tried)
+  where
+    go : (b m : Bool) → (if b then m else not m) ≡ true → b ≡ m
+    go true m h = sym h
+    go false true h = absurd (cc)
+    go false false h = refl
+
+pub few_steps : (i : Intersection) (p : Params) (fast : Bool) → bad i p ≡ None → is_tried i p fast ≡ true → crossing_steps i p fast ≤ 2048
+few_steps i p fast h tried = (good_crossing i p (good_fields i p h)).steps fast (trial_tried i p fast tried)
 
 -- one more step
 traced_more : (i : Intersection) (p : Params) (fast : Bool) (n : ℕ) (xs : List (List ℕ)) (rows : RowRange) (masks : List ℕ) → AreFootprints i p fast n xs → IsFootprint i p fast 0 n rows masks → AreFootprints i p fast (suc n) (xs ++ masks ∷ [])

@@ -7,7 +7,8 @@ use Rattle.aim_messages.specs.declared.entries.Entry.{Entry}
 use Rattle.aim_messages.specs.declared.replies.Reason.TheVariants as reason
 use Rattle.aim_layout.specs.Intersection.{Intersection}
 use Rattle.aim_geometry.specs.Cells.{Cell}
-use Rattle.aim_rules.specs.Cells.{IsIn, cells}
+use Rattle.aim_rules.specs.Cells.{IsIn}
+use Rattle.aim_rules.specs.Trials.{Trial, trial_cells}
 use Rattle.aim_rules.specs.Claims.{green, green_by}
 use Rattle.aim_rules.specs.History.{now_of}
 use Rattle.aim_rules.specs.Known.{Known}
@@ -19,11 +20,11 @@ use Rattle.aim_rules.proofs.TimeLaws.{green-legal}
 use Rattle.aim_safety.proofs.PlaceLemmas.{take_next, legal_at, entry_at, now_next}
 
 -- a cell that is granted is no other lane's green then
-pub free_green : (i : Intersection) (k : Known) (p : Params) (fast : Bool) (c : Cell) → first_blocked i k p fast ≡ None → IsIn c (cells i p fast) → green_by i k.policy c p.lane ≡ None
-free_green i k p fast c h m =
+pub free_green : (i : Intersection) (k : Known) (p : Params) (trial : Trial) (c : Cell) → first_blocked i k p trial ≡ None → IsIn c (trial_cells i p trial) → green_by i k.policy c p.lane ≡ None
+free_green i k p trial c h m =
     let o = option_map (λ lane. reason.Green c.row c.col c.step lane) (green_by i k.policy c p.lane) in
     let t = option_map (λ by. reason.Taken c.row c.col c.step by) (k.taken c) in
-    map_none (λ lane. reason.Green c.row c.col c.step lane) (green_by i k.policy c p.lane) (first_none o t (find_map-each (blocked_by i k p) (cells i p fast) c h m)).0
+    map_none (λ lane. reason.Green c.row c.col c.step lane) (green_by i k.policy c p.lane) (first_none o t (find_map-each (blocked_by i k p) (trial_cells i p trial) c h m)).0
 
 -- no later entry makes a cell green that lies below the horizon
 stays : (i : Intersection) (vehicles : ℕ) (h : List Entry) (c : Cell) (lane k : ℕ) → IsLegal i vehicles h → c.step < now_of (take k h) 0 + i.times.horizon → (n : ℕ) → k + n ≤ length h →

@@ -14,7 +14,7 @@ use Rattle.aim_messages.specs.declared.entries.Entry.{Entry}
 use Rattle.aim_layout.specs.Intersection.{Intersection}
 use Rattle.aim_rules.specs.Footprint.{crossing_steps}
 use Rattle.aim_rules.specs.History.{Fresh, fresh, is_fresh, is_fresh_seq, is_confirm, params_of, given_up, given_up_at, now_of}
-use Rattle.aim_rules.specs.Holds.{holds, is_fast}
+use Rattle.aim_rules.specs.Holds.{holds}
 use Rattle.aim_rules.specs.Answer.{answer_fresh}
 use Rattle.aim_rules.specs.Known.{Known, known_after}
 use Rattle.aim_rules.specs.Kept.{kept, kept_next, lasts, if_lasts}
@@ -40,10 +40,10 @@ pub record Grants (i : Intersection) (h : List Entry) (v id : ℕ) (w : Window) 
   pub new : is_fresh_seq (take id h) v message.seq ≡ true
   pub confirms : is_confirm entry.reply ≡ true
   pub rests : IsGranted i (known_after i (take id h) v entry.moment) params entry.reply
-  pub start : w.start ≡ params.arrive
+  pub start : w.start ≡ rests.trial.start
   pub early : w.early ≡ i.times.early
   pub late : w.late ≡ i.times.late
-  pub last : w.last ≡ params.arrive + crossing_steps i params (is_fast entry.reply) - 1
+  pub last : w.last ≡ rests.trial.start + crossing_steps i params rests.trial.fast - 1
 
 -- the numbers of a Confirm
 record SameConfirm (k start early late last l s e t m : ℕ) : Type 0 where
@@ -56,10 +56,10 @@ record SameConfirm (k start early late last l s e t m : ℕ) : Type 0 where
 confirm_same : (k start early late last l s e t m : ℕ) (f g : Bool) → reply.Confirm k start early late f last ≡ reply.Confirm l s e t g m → SameConfirm k start early late last l s e t m
 confirm_same k start early late last l s e t m f g p = record { same_id = cc; same_start = cc; same_early = cc; same_late = cc; same_last = cc }
 
-grants_at : (i : Intersection) (h : List Entry) (v k id : ℕ) (w : Window) (e : Entry) (m : Message) (p : Params) (fast : Bool) → k ≡ id → slice_get h k ≡ Some e → e.caller ≡ v → e.act ≡ act.Message m → params_of m.body ≡ Some p →
-    is_fresh_seq (take k h) v m.seq ≡ true → e.reply ≡ reply.Confirm id w.start w.early w.late fast w.last → IsGranted i (known_after i (take k h) v e.moment) p e.reply →
-    w.start ≡ p.arrive → w.early ≡ i.times.early → w.late ≡ i.times.late → w.last ≡ p.arrive + crossing_steps i p fast - 1 → Grants i h v id w
-grants_at i h v k id w e m p fast q stands own carried asks new told rests start early late last = record {
+grants_at : (i : Intersection) (h : List Entry) (v k id : ℕ) (w : Window) (e : Entry) (m : Message) (p : Params) → k ≡ id → slice_get h k ≡ Some e → e.caller ≡ v → e.act ≡ act.Message m → params_of m.body ≡ Some p →
+    is_fresh_seq (take k h) v m.seq ≡ true → is_confirm e.reply ≡ true → (rests : IsGranted i (known_after i (take k h) v e.moment) p e.reply) →
+    w.start ≡ rests.trial.start → w.early ≡ i.times.early → w.late ≡ i.times.late → w.last ≡ rests.trial.start + crossing_steps i p rests.trial.fast - 1 → Grants i h v id w
+grants_at i h v k id w e m p q stands own carried asks new confirms rests start early late last = record {
   entry = e;
   message = m;
   params = p;
@@ -68,13 +68,19 @@ grants_at i h v k id w e m p fast q stands own carried asks new told rests start
   carried = carried;
   asks = asks;
   new = rw (← q) new;
-  confirms = ap is_confirm told;
-  rests = rw (← q) rests;
-  start = start;
+  confirms = confirms;
+  rests = granted_there.0;
+  start = start ∙ ap (λ t. t.start) granted_there.1;
   early = early;
   late = late;
-  last = last ∙ ap (λ f. p.arrive + crossing_steps i p f - 1) (sym (ap is_fast told));
+  last = last ∙ ap (λ t. t.start + crossing_steps i p t.fast - 1) granted_there.1;
 }
+  where
+    Rests : ℕ → Type 0
+    Rests n = IsGranted i (known_after i (take n h) v e.moment) p e.reply
+
+    granted_there : (r : Rests id) × (rests.trial ≡ r.trial)
+    granted_there = subst (λ (n : ℕ). (r : Rests n) × (rests.trial ≡ r.trial)) q (rests, refl)
 
 first_grants : (i : Intersection) (vehicles : ℕ) (h : List Entry) (v seq id : ℕ) (w : Window) (fast : Bool) → IsLegal i vehicles h → First h v seq (reply.Confirm id w.start w.early w.late fast w.last) → Grants i h v id w
 first_grants i vehicles h v seq id w fast legal f = at_place (sym n.same_id)
@@ -94,20 +100,19 @@ first_grants i vehicles h v seq id w fast legal f = at_place (sym n.same_id)
     p : (p : Params) × (params_of f.message.body ≡ Some p)
     p = confirmed_asks i k f.message.body confirmed
 
-    g : IsGranted i k p.0 r
-    g = let P : Reply → Type 0 = λ r. IsGranted i k p.0 r in subst P (sym answered) (fresh_grants i k f.message.body p.0 p.1 confirmed)
+    rests : IsGranted i k p.0 f.entry.reply
+    rests = let P : Reply → Type 0 = λ r. IsGranted i k p.0 r in subst P (sym answered ∙ sym f.told) (fresh_grants i k f.message.body p.0 p.1 confirmed)
 
     within : f.place < length h
     within = slice_get_within h f.place f.entry f.stands
 
-    n : SameConfirm id w.start w.early w.late w.last (length (take f.place h)) p.0.arrive i.times.early i.times.late (p.0.arrive + crossing_steps i p.0 fast - 1)
-    n = confirm_same id w.start w.early w.late w.last (length (take f.place h)) p.0.arrive i.times.early i.times.late (p.0.arrive + crossing_steps i p.0 fast - 1) fast fast g.form
+    n : SameConfirm id w.start w.early w.late w.last (length (take f.place h)) rests.trial.start i.times.early i.times.late (rests.trial.start + crossing_steps i p.0 rests.trial.fast - 1)
+    n = confirm_same id w.start w.early w.late w.last (length (take f.place h)) rests.trial.start i.times.early i.times.late (rests.trial.start + crossing_steps i p.0 rests.trial.fast - 1) fast rests.trial.fast (sym f.told ∙ rests.form)
 
     at_place : length (take f.place h) ≡ id → Grants i h v id w
     at_place e =
         let l = within in
-        let P : Reply → Type 0 = λ r. IsGranted i k p.0 r in
-        grants_at i h v f.place id w f.entry f.message p.0 fast (omega (arith, length-take f.place h)) f.stands f.own f.carried p.1 f.new f.told (subst P (sym f.told) g) n.same_start n.same_early n.same_late n.same_last
+        grants_at i h v f.place id w f.entry f.message p.0 (omega (arith, length-take f.place h)) f.stands f.own f.carried p.1 f.new (ap is_confirm f.told) rests n.same_start n.same_early n.same_late n.same_last
 
 -- a Confirm that was heard is one that the history grants
 pub grants : (i : Intersection) (vehicles : ℕ) (h : List Entry) (v id : ℕ) (w : Window) → IsLegal i vehicles h → Granted (fits.HasReply h v) id w → Grants i h v id w

@@ -21,7 +21,7 @@ use Rattle.aim_rules.specs.Holds.{is_fast}
 use Rattle.aim_rules.proofs.TestLemmas.{and_left, and_right, both, same_number, is_most, le_true}
 use Rattle.aim_driver.specs.declared.logs.Entrance.{Entrance}
 use Rattle.aim_driver.specs.declared.logs.LogItem.{LogItem}
-use Rattle.aim_safety.specs.Occupied.{Grant, Passage, params_in, grant_of, passage_from, passage, is_on}
+use Rattle.aim_safety.specs.Occupied.{is_tried, Grant, Passage, params_in, grant_of, passage_from, passage, is_on}
 use Rattle.aim_safety.proofs.PlaceLemmas.{some_same}
 
 any_more : {X : Type 0} (p q : X → Bool) (xs : List X) → ((x : X) → p x ≡ true → q x ≡ true) → list_any p xs ≡ true → list_any q xs ≡ true
@@ -101,7 +101,7 @@ passage_at i h log x e = go (first_entrance log) refl e
 
 -- what the entry grants are its params and its trial
 pub grant_is : (i : Intersection) (e : Entry) (p : Params) (g : Grant) → params_in e ≡ Some p → grant_of i (Some e) ≡ Some g → (g ≡ record { params = p; fast = is_fast e.reply })
-grant_is i e p g asks h = go (is_confirm e.reply && is_none (bad i p)) (rw asks at h)
+grant_is i e p g asks h = go (is_confirm e.reply && (is_tried i p (is_fast e.reply) && is_none (bad i p))) (rw asks at h)
   where
     go : (b : Bool) → (if b then Some (record { params = p; fast = is_fast e.reply }) else None) ≡ Some g → g ≡ record { params = p; fast = is_fast e.reply }
     go true h = sym (some_same (record { params = p; fast = is_fast e.reply }) g h)

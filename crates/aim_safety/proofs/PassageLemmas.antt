@@ -12,7 +12,7 @@ use Rattle.aim_driver.specs.declared.logs.Entrance.{Entrance}
 use Rattle.aim_driver.specs.declared.logs.LogItem.{LogItem}
 use Rattle.aim_driver.specs.declared.logs.LogItem.TheVariants as item
 use Rattle.aim_safety.specs.Tiles.{EntersBy}
-use Rattle.aim_safety.specs.Occupied.{Grant, Passage, params_in, grant_with, grant_of, passage_from, passage}
+use Rattle.aim_safety.specs.Occupied.{Grant, Passage, is_tried, params_in, grant_with, grant_of, passage_from, passage}
 use Rattle.aim_safety.specs.Begun.{grant_as}
 use Rattle.aim_safety.specs.declared.grants.Grant.{Grant as Granted}
 use Rattle.aim_safety.proofs.PlaceLemmas.{some_same}
@@ -30,17 +30,16 @@ none_where None h = refl
 none_where (Some x) h = absurd (cc)
 
 -- what a Confirm of good params grants
-pub grant_found : (i : Intersection) (e : Entry) (p : Params) (fast good : Bool) → params_in e ≡ Some p → (if is_confirm e.reply then Some (is_fast e.reply) else None) ≡ Some fast → good ≡ is_none (bad i p) →
+pub grant_found : (i : Intersection) (e : Entry) (p : Params) (fast good : Bool) → params_in e ≡ Some p → (if is_confirm e.reply then Some (is_fast e.reply) else None) ≡ Some fast → good ≡ (is_tried i p fast && is_none (bad i p)) →
     grant_of i (Some e) ≡ (if good then Some (record { params = p; fast = fast }) else None)
-grant_found i e p fast good asks trial same = ap (grant_with i e.reply) asks ∙ ap (λ b. if is_confirm e.reply && b then trial_of (is_fast e.reply) else None) (sym same) ∙ go (is_confirm e.reply) good trial
+grant_found i e p fast good asks trial same = ap (grant_with i e.reply) asks ∙ go (is_confirm e.reply) (is_fast e.reply) trial
   where
     trial_of : Bool → Option Grant
     trial_of f = Some (record { params = p; fast = f })
 
-    go : (b good : Bool) → (if b then Some (is_fast e.reply) else None) ≡ Some fast → (if b && good then trial_of (is_fast e.reply) else None) ≡ (if good then trial_of fast else None)
-    go true true t = ap trial_of (some_same (is_fast e.reply) fast t)
-    go true false t = refl
-    go false good t = absurd (cc)
+    go : (b f : Bool) → (if b then Some f else None) ≡ Some fast → (if b && (is_tried i p f && is_none (bad i p)) then trial_of f else None) ≡ (if good then trial_of fast else None)
+    go true f t = rw (some_same f fast t) (ap (λ b. if b then trial_of fast else None) (sym same))
+    go false f t = absurd (cc)
 
 -- the crossing of a driver that entered, from what the entry of that id grants
 pub passage_on : (i : Intersection) (h : List Entry) (log : List LogItem) (t : Entrance) (e : Entry) (o : Option Granted) → first_entrance log ≡ Some t → slice_get h t.id ≡ Some e → option_map grant_as o ≡ grant_of i (Some e) →
@@ -57,16 +56,35 @@ no_passage i h log t entered at = rw (entered, at) refl
 pub passage_good : (i : Intersection) (h : List Entry) (log : List LogItem) (x : Passage) → passage i h log ≡ Some x → bad i x.grant.params ≡ None
 passage_good i h log x is = let at = passage_at i h log x is in granted (slice_get h at.0.id) at.3
   where
-    test : (e : Entry) (p : Params) (b n : Bool) → is_none (bad i p) ≡ n → (if b && n then Some (record { params = p; fast = is_fast e.reply }) else None) ≡ Some x.grant → bad i x.grant.params ≡ None
-    test e p true true good is = subst (λ (g : Grant). bad i g.params ≡ None) (some_same (record { params = p; fast = is_fast e.reply }) x.grant is) (none_where (bad i p) good)
-    test e p true false good is = absurd (cc)
-    test e p false n good is = absurd (cc)
+    test : (e : Entry) (p : Params) (b t n : Bool) → is_none (bad i p) ≡ n → (if b && (t && n) then Some (record { params = p; fast = is_fast e.reply }) else None) ≡ Some x.grant → bad i x.grant.params ≡ None
+    test e p true true true good is = subst (λ (g : Grant). bad i g.params ≡ None) (some_same (record { params = p; fast = is_fast e.reply }) x.grant is) (none_where (bad i p) good)
+    test e p true true false good is = absurd (cc)
+    test e p true false n good is = absurd (cc)
+    test e p false t n good is = absurd (cc)
 
     asked : (e : Entry) (o : Option Params) → grant_with i e.reply o ≡ Some x.grant → bad i x.grant.params ≡ None
     asked e None is = absurd (cc)
-    asked e (Some p) is = test e p (is_confirm e.reply) (is_none (bad i p)) refl is
+    asked e (Some p) is = test e p (is_confirm e.reply) (is_tried i p (is_fast e.reply)) (is_none (bad i p)) refl is
 
     granted : (o : Option Entry) → grant_of i o ≡ Some x.grant → bad i x.grant.params ≡ None
+    granted None is = absurd (cc)
+    granted (Some e) is = asked e (params_in e) is
+
+-- so does one whose trial may be made with them
+pub passage_tried : (i : Intersection) (h : List Entry) (log : List LogItem) (x : Passage) → passage i h log ≡ Some x → is_tried i x.grant.params x.grant.fast ≡ true
+passage_tried i h log x is = let at = passage_at i h log x is in granted (slice_get h at.0.id) at.3
+  where
+    test : (e : Entry) (p : Params) (b t n : Bool) → is_tried i p (is_fast e.reply) ≡ t → (if b && (t && n) then Some (record { params = p; fast = is_fast e.reply }) else None) ≡ Some x.grant → is_tried i x.grant.params x.grant.fast ≡ true
+    test e p true true true tried is = subst (λ (g : Grant). is_tried i g.params g.fast ≡ true) (some_same (record { params = p; fast = is_fast e.reply }) x.grant is) tried
+    test e p true true false tried is = absurd (cc)
+    test e p true false n tried is = absurd (cc)
+    test e p false t n tried is = absurd (cc)
+
+    asked : (e : Entry) (o : Option Params) → grant_with i e.reply o ≡ Some x.grant → is_tried i x.grant.params x.grant.fast ≡ true
+    asked e None is = absurd (cc)
+    asked e (Some p) is = test e p (is_confirm e.reply) (is_tried i p (is_fast e.reply)) (is_none (bad i p)) refl is
+
+    granted : (o : Option Entry) → grant_of i o ≡ Some x.grant → is_tried i x.grant.params x.grant.fast ≡ true
     granted None is = absurd (cc)
     granted (Some e) is = asked e (params_in e) is
 

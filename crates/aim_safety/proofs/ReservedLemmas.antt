@@ -15,7 +15,7 @@ use Rattle.aim_safety.specs.Tiles.{EntersBy}
 use Rattle.aim_safety.proofs.FootprintLemmas.{few_steps}
 use Rattle.aim_safety.proofs.MeetLemmas.{occupied_passage}
 use Rattle.aim_safety.proofs.OccupiedLemmas.{passage_at, grant_is, inside_grid}
-use Rattle.aim_safety.proofs.PassageLemmas.{passage_by, passage_good}
+use Rattle.aim_safety.proofs.PassageLemmas.{passage_by, passage_good, passage_tried}
 use Rattle.aim_safety.proofs.PlaceLemmas.{some_same}
 
 pub record IsWithin (i : Intersection) (most : ℕ) (c : Cell) : Type 0 where
@@ -31,7 +31,7 @@ occupied_within most i h log c enters on =
     let same = same_number c.step (x.0.step + f.0) (and_left (c.step == x.0.step + f.0) (in_footprint i x.0.grant.params x.0.grant.fast 0 f.0 c.row c.col) f.2) in
     let b = inside_grid i x.0.grant.params x.0.grant.fast 0 f.0 c.row c.col (and_right (c.step == x.0.step + f.0) (in_footprint i x.0.grant.params x.0.grant.fast 0 f.0 c.row c.col) f.2) in
     let below = f.1 in
-    let few = few_steps i x.0.grant.params x.0.grant.fast (passage_good i h log x.0 x.1) in
+    let few = few_steps i x.0.grant.params x.0.grant.fast (passage_good i h log x.0 x.1) (passage_tried i h log x.0 x.1) in
     let by = passage_by most i h log x.0 enters x.1 in
     record { row = b.0; col = b.1; step = omega arith }
 

@@ -1,5 +1,5 @@
 -- The tiles on which a driver is, step by step.
-use Rattle.std.specs.Prelude.{ℕ, ◌+◌, Bool, false, ◌&&◌, ◌==◌, List, Option, Some, None, is_none, option_and_then, option_map, slice_get, if◌then◌else◌}
+use Rattle.std.specs.Prelude.{ℕ, ◌+◌, Bool, true, false, not, ◌&&◌, ◌==◌, List, Option, Some, None, is_none, option_and_then, option_map, slice_get, if◌then◌else◌}
 use Rattle.aim_messages.specs.declared.messages.Params.{Params}
 use Rattle.aim_messages.specs.declared.replies.Reply.{Reply}
 use Rattle.aim_messages.specs.declared.entries.Entry.{Entry}
@@ -8,6 +8,7 @@ use Rattle.aim_layout.specs.Intersection.{Intersection}
 use Rattle.aim_rules.specs.Footprint.{crossing_steps, in_footprint}
 use Rattle.aim_geometry.specs.Cells.{Cell}
 use Rattle.aim_rules.specs.Bad.{bad}
+use Rattle.aim_rules.specs.Trials.{has_windows, is_fast_made}
 use Rattle.aim_rules.specs.History.{message_of, params_of, is_confirm}
 use Rattle.aim_rules.specs.Holds.{is_fast}
 use Rattle.aim_driver.specs.declared.logs.Entrance.{Entrance}
@@ -23,12 +24,17 @@ pub record Grant : Type 0 where
   pub params : Params
   pub fast : Bool
 
+-- whether the trial is one that may be made with these params: where requests have windows, one of the two is
+abbrev pub is_tried : Intersection → Params → Bool → Bool
+is_tried i p fast = if has_windows i then (if fast then is_fast_made p else not (is_fast_made p)) else true
+
 abbrev pub grant_with : Intersection → Reply → Option Params → Option Grant
 grant_with i r None = None
 grant_with i r (Some p) =
-    if is_confirm r && is_none (bad i p) then Some (record { params = p; fast = is_fast r }) else None
+    if is_confirm r && (is_tried i p (is_fast r) && is_none (bad i p)) then Some (record { params = p; fast = is_fast r }) else None
 
--- what the entry grants, if there is one and its reply is a Confirm of params of which no field is wrong
+-- what the entry grants, if there is one and its reply is a Confirm of params of which no field is wrong, and of a trial
+-- that may be made with them
 abbrev pub grant_of : Intersection → Option Entry → Option Grant
 grant_of i None = None
 grant_of i (Some e) = grant_with i e.reply (params_in e)

@@ -4,9 +4,10 @@ use Rattle.aim_messages.specs.declared.messages.Params.{Params}
 use Rattle.aim_messages.specs.declared.entries.Entry.{Entry}
 use Rattle.aim_geometry.specs.Cells.{Cell}
 use Rattle.aim_layout.specs.Intersection.{Intersection}
-use Rattle.aim_rules.specs.Cells.{IsIn, cells}
+use Rattle.aim_rules.specs.Cells.{IsIn}
+use Rattle.aim_rules.specs.Trials.{granted_trial}
 use Rattle.aim_rules.specs.History.{is_confirm}
-use Rattle.aim_rules.specs.Holds.{is_fast}
+use Rattle.aim_rules.specs.Holds.{granted_with}
 use Rattle.aim_driver.specs.declared.logs.Entrance.{Entrance}
 use Rattle.aim_driver.specs.declared.logs.LogItem.{LogItem}
 use Rattle.aim_driver.specs.Crossings.{first_entrance}
@@ -33,4 +34,4 @@ pub record IsReserved (i : Intersection) (h : List Entry) (v : ℕ) (log : List 
   pub granted : IsOwnConfirm h v entrance.id entry
   pub params : Params
   pub asked : params_in entry ≡ Some params
-  pub cell : IsIn c (cells i params (is_fast entry.reply))
+  pub cell : IsIn c (granted_with i (granted_trial entry.reply) (Some params))

@@ -5,11 +5,12 @@ ghost use Rattle.std.specs.Prelude.{◌≡◌, ℕ, [], IfOk, None, Some, if◌t
 ghost use Rattle.aim_rules.specs.Bad.{bad as bad_of};
 ghost use Rattle.aim_rules.specs.History.{is_confirm};
 ghost use Rattle.aim_rules.specs.Holds.{is_fast};
-ghost use Rattle.aim_safety.specs.Occupied.{grant_of, params_in as params_of_entry, passage};
+ghost use Rattle.aim_safety.specs.Occupied.{grant_of, is_tried as is_tried_of, params_in as params_of_entry, passage};
 ghost use Rattle.aim_safety.specs.Begun.{grant_as, passage_as};
 
 use crate::NoMemory;
 use aim_driver::{Entrance, LogItem};
+use aim_footprint::fields::{has_windows, is_fast_made};
 use aim_layout::Layout;
 use aim_messages::{Act, Body, Entry, Message, Params, Reply};
 use aim_requests::{NeedsCells, bad_field, prepare};
@@ -105,13 +106,24 @@ pub fn are_good(alloc: Global, layout: &Layout, params: &Params) -> Result<bool,
     }
 }
 
-/// What an entry grants, if its reply is a Confirm of params of which no field is wrong.
+// Whether the trial is one that may be made with these params.
+fn is_tried(layout: &Layout, params: &Params, fast: bool) -> bool
+    ensures { result ≡ is_tried_of layout.now params.now fast }
+{
+    !has_windows(layout) || fast == is_fast_made(params)
+}
+
+/// What an entry grants, if its reply is a Confirm of params of which no field is wrong, and of a trial that may be made
+/// with them.
 pub fn granted(alloc: Global, layout: &Layout, entry: &Entry) -> Result<Option<Grant>, NoMemory>
     ensures { IfOk result (λ grant. option_map grant_as grant ≡ grant_of layout.now (Some entry.now)) }
 {
     let (Some(params), Some(fast)) = (params_in(entry), granted_trial(&entry.reply)) else {
         return Ok(None);
     };
+    if !is_tried(layout, &params, fast) {
+        return Ok(None);
+    }
     if are_good(alloc, layout, &params)? {
         Ok(Some(Grant { params, fast }))
     } else {

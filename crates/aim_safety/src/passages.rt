@@ -1,7 +1,8 @@
 //! The tiles on which a driver is.
 
-ghost use Rattle.std.specs.Prelude.{◌≡◌, ℕ, ◌≤◌, IfOk, None, Some, false, map};
+ghost use Rattle.std.specs.Prelude.{◌≡◌, ℕ, ◌≤◌, IfOk, None, Some, false, true, map};
 ghost use Rattle.aim_rules.specs.Bad.{bad};
+ghost use Rattle.aim_safety.specs.Occupied.{is_tried};
 ghost use Rattle.aim_safety.specs.Tiles.{EntersBy, cell_of, cells_of_passage, occupied_cells};
 ghost use Rattle.aim_safety.specs.Traces.{AreFootprints};
 ghost use Rattle.aim_rules.specs.Footprint.{crossing_steps};
@@ -23,7 +24,8 @@ fn footprints(
     params: &Params,
     fast: bool,
 ) -> Result<Vec<[u64; 64]>, NoMemory>
-    requires { bad layout.now params.now ≡ None }
+    requires good { bad layout.now params.now ≡ None }
+    requires tried { is_tried layout.now params.now fast ≡ true }
     ensures { IfOk result (λ steps.
         AreFootprints layout.now params.now fast (crossing_steps layout.now params.now fast) steps.items) }
 {
@@ -45,6 +47,7 @@ fn passage_cells(
     step: u32,
 ) -> Result<Vec<Cell>, NoMemory>
     requires good { bad layout.now params.now ≡ None }
+    requires tried { is_tried layout.now params.now fast ≡ true }
     requires step { step ≤ 2147483648 }
     ensures { IfOk result (λ cells. map cell_of cells.items ≡ cells_of_passage layout.now
         (Some (record { step = step; grant = record { params = params.now; fast = fast } }))) }

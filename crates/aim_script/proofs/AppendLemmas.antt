@@ -61,6 +61,7 @@ described_more before l =
 
 -- a line that says nothing of a layout
 pub record IsSilent (l : Line) : Type 0 where
+  pub version : version_in l ≡ None
   pub grid : grid_in l ≡ None
   pub times : times_in l ≡ None
   pub lanes : lanes_in l ≡ None
@@ -70,14 +71,17 @@ pub layout_same : (before : List Line) (l : Line) → IsSilent l → layout_of (
 unfolding layout_of
 layout_same before l s =
     rw (
+      find_map-one version_in before l,
       find_map-one grid_in before l,
       find_map-one times_in before l,
       find_map-one lanes_in before l,
       filter_map-one added_in before l,
+      s.version,
       s.grid,
       s.times,
       s.lanes,
       s.added,
+      or_none (find_map version_in before),
       or_none (find_map grid_in before),
       or_none (find_map times_in before),
       or_none (find_map lanes_in before),
@@ -103,8 +107,9 @@ pub layout_built : (before : List Line) (i : Intersection) (names : List (List �
 unfolding layout_of
 layout_built before i names b =
     let s : Site = record { grid = i.grid; times = i.times } in
-    ap (λ (d : Described). layout_of_lines (site_of d) (unwrap_or d.lanes 0) d.added) b.header.said
-    ∙ sym (layout_is_its_lines s b.lanes b.lines b.taken)
+    ap (λ (d : Described). layout_of_lines (site_of d) (unwrap_or d.lanes 0) (version_after before) d.added) b.header.said
+    ∙ ap (λ version. layout_of_lines s b.lanes version b.lines) b.version
+    ∙ sym (layout_is_its_lines s b.lanes i.version b.lines b.taken)
     ∙ b.made
 
 taken_more : (i : Intersection) (xs : List Added) (x : Added) → AreTaken i xs → added_fault (fold added i xs) x ≡ None → AreTaken i (xs ++ x ∷ [])
@@ -113,23 +118,26 @@ taken_more i (y ∷ xs) x t good = (t.0, taken_more (added i y) xs x t.1 good)
 
 -- a line more that is added to the lanes
 pub built_more : (before : List Line) (i : Intersection) (names : List (List ℕ)) (l : Line) (x : Added) → IsBuilt before i names → Describes l → added_in l ≡ Some x → grid_in l ≡ None → times_in l ≡ None → lanes_in l ≡ None
-    → added_fault i x ≡ None → (added i x).grid ≡ i.grid → (added i x).times ≡ i.times → IsBuilt (before ++ l ∷ []) (added i x) (names ++ option_to_list (name_in l))
-built_more before i names l x b says is no_grid no_times no_lanes good same_grid same_times =
+    → version_in l ≡ None → added_fault i x ≡ None → (added i x).version ≡ i.version → (added i x).grid ≡ i.grid → (added i x).times ≡ i.times → IsBuilt (before ++ l ∷ []) (added i x) (names ++ option_to_list (name_in l))
+built_more before i names l x b says is no_grid no_times no_lanes no_version good same_version same_grid same_times =
     let s : Site = record { grid = i.grid; times = i.times } in
     let now = names ++ option_to_list (name_in l) in
     let header = header_more before _ names l b.header says in
     let same : Site = record { grid = (added i x).grid; times = (added i x).times } in
     let at : same ≡ s = rw (same_grid, same_times) refl in
     let more = b.lines ++ x ∷ [] in
-    let taken : AreTaken (bare s b.lanes) more = taken_more (bare s b.lanes) b.lines x b.taken (rw b.made good) in
-    let made : fold added (bare s b.lanes) more ≡ added i x = fold-append added (bare s b.lanes) b.lines (x ∷ []) ∙ ap (λ (j : Intersection). added j x) b.made in
+    let taken : AreTaken (bare s b.lanes i.version) more = taken_more (bare s b.lanes i.version) b.lines x b.taken (rw b.made good) in
+    let made : fold added (bare s b.lanes i.version) more ≡ added i x = fold-append added (bare s b.lanes i.version) b.lines (x ∷ []) ∙ ap (λ (j : Intersection). added j x) b.made in
     let said : IsHeader (before ++ l ∷ []) (record { grid = Some i.grid; times = Some i.times; lanes = Some b.lanes; added = more }) now = rw is at header in
     record {
       lanes = b.lanes;
       lines = more;
       header = subst (λ (g : Site). IsHeader (before ++ l ∷ []) (record { grid = Some g.grid; times = Some g.times; lanes = Some b.lanes; added = more }) now) (sym at) said;
-      taken = subst (λ (g : Site). AreTaken (bare g b.lanes) more) (sym at) taken;
-      made = subst (λ (g : Site). fold added (bare g b.lanes) more ≡ added i x) (sym at) made;
+      version = version_same before l no_version ∙ b.version ∙ sym same_version;
+      taken = subst (λ version. AreTaken (bare same b.lanes version) more) (sym same_version) (subst (λ (g : Site). AreTaken (bare g b.lanes i.version) more) (sym at) taken);
+      made =
+          subst (λ version. fold added (bare same b.lanes version) more ≡ added i x) (sym same_version)
+          (subst (λ (g : Site). fold added (bare g b.lanes i.version) more ≡ added i x) (sym at) made);
     }
 
 pub vehicles_same : (before : List Line) (l : Line) → vehicles_in l ≡ None → vehicles_of (before ++ l ∷ []) ≡ vehicles_of before

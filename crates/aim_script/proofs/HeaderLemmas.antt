@@ -114,15 +114,16 @@ lanes_inside n b f only = elim (cases_Bool (is_outside n 16)) [
   | inr inside ↦ inside
 ]
 
-pub lanes_taken : (before : List Line) (p : Place) (site : Site) (n : ℕ) (b : Intersection) → p ≡ place.Lanes site → is_outside n 16 ≡ false → b ≡ bare site n → StandsAt before p → Goes before (line.Lanes n) (Ok (place.Moves b))
-lanes_taken before p site n b at inside same st =
+pub lanes_taken : (before : List Line) (p : Place) (site : Site) (n version : ℕ) (b : Intersection) → p ≡ place.Lanes site → is_outside n 16 ≡ false → b ≡ bare site n version
+    → version_after before ≡ version → StandsAt before p → Goes before (line.Lanes n) (Ok (place.Moves b))
+lanes_taken before p site n version b at inside same of st =
     let st : StandsAt before (place.Lanes site) = subst (StandsAt before) at st in
     let l = line.Lanes n in
     let d : Described = record unsaid { grid = Some site.grid; times = Some site.times } in
-    let taken : Goes before l (Ok (place.Moves (bare site n))) = (
+    let taken : Goes before l (Ok (place.Moves (bare site n version))) = (
       lanes_kind before n st.part ∙ rw inside refl,
-      stands_after before l (place.Moves (bare site n)) refl refl
-          (record { lanes = n; lines = []; header = header_more before d [] l st.says (record { vehicles = refl; call = λ _. refl }); taken = tt; made = refl }, refl),
+      stands_after before l (place.Moves (bare site n version)) refl refl
+          (record { lanes = n; lines = []; version = version_same before l refl ∙ of; header = header_more before d [] l st.says (record { vehicles = refl; call = λ _. refl }); taken = tt; made = refl }, refl),
     ) in
     subst (λ x. Goes before l (Ok (place.Moves x))) (sym same) taken
 
@@ -139,7 +140,7 @@ move_taken before p b new lane turn shape at fault same st =
     let taken : Goes before l (Ok (place.Moves next)) = (
       move_kind before lane turn shape st.part ∙ rw (layout_built before b [] st.says.0, good.0, near) refl,
       stands_after before l (place.Moves next) refl refl
-          (built_more before b [] l (AddMove lane turn path) st.says.0 (record { vehicles = refl; call = λ _. refl }) refl refl refl refl (sym fault) refl refl, st.says.1),
+          (built_more before b [] l (AddMove lane turn path) st.says.0 (record { vehicles = refl; call = λ _. refl }) refl refl refl refl refl (sym fault) refl refl refl, st.says.1),
     ) in
     subst (λ x. Goes before l (Ok (place.Moves x))) (sym same) taken
 
@@ -190,7 +191,7 @@ policy_line before i names name k r b adds = go r adds
         let taken : Goes before (line.Policy name k) (Ok next) = (
           policy_kind before name k b.part ∙ rw (b.built.header.named, layout_built before i names b.built, new, fault) refl,
           stands_after before (line.Policy name k) next refl refl
-              (built_more before i names (line.Policy name k) (AddPolicy (kind_of k)) b.built (record { vehicles = refl; call = λ _. refl }) refl refl refl refl fault refl refl),
+              (built_more before i names (line.Policy name k) (AddPolicy (kind_of k)) b.built (record { vehicles = refl; call = λ _. refl }) refl refl refl refl refl fault refl refl refl),
         ) in
         subst (λ x. Goes before (line.Policy name k) (Ok x)) (sym same) taken
     go (Err (refusal.Bad why.Policy)) given = policy_kind before name k b.part ∙ rw (b.built.header.named, given) refl
@@ -212,17 +213,17 @@ phase_taken before p b new names red green lanes at fault same st =
     let f : Phase = record { red = red; green = green; lanes = lanes } in
     let next = with_phase b f in
     let good : is_some (phase_fault b f) ≡ false = rw (sym fault) refl in
-    let grids = with_phase_keeps b f (last_policy b) in
+    let stays = with_phase_keeps b f (last_policy b) in
     let taken : Goes before l (Ok (place.Policies next names)) = (
       phase_kind before red green lanes st.part ∙ rw (layout_built before b names st.says, good) refl,
       stands_after before l (place.Policies next names) refl refl
-          (subst (λ ns. IsBuilt (before ++ l ∷ []) next ns) (append-nil names) (built_more before b names l (AddPhase f) st.says (record { vehicles = refl; call = λ _. refl }) refl refl refl refl (sym fault) grids.0 grids.1)),
+          (subst (λ ns. IsBuilt (before ++ l ∷ []) next ns) (append-nil names) (built_more before b names l (AddPhase f) st.says (record { vehicles = refl; call = λ _. refl }) refl refl refl refl refl (sym fault) stays.0 stays.1 stays.2)),
     ) in
     subst (λ x. Goes before l (Ok (place.Policies x names))) (sym same) taken
   where
-    with_phase_keeps : (i : Intersection) (f : Phase) (o : Option Policy) → ((with_phase_of i f o).grid ≡ i.grid) × ((with_phase_of i f o).times ≡ i.times)
-    with_phase_keeps i f None = (refl, refl)
-    with_phase_keeps i f (Some q) = (refl, refl)
+    with_phase_keeps : (i : Intersection) (f : Phase) (o : Option Policy) → ((with_phase_of i f o).version ≡ i.version) × ((with_phase_of i f o).grid ≡ i.grid) × ((with_phase_of i f o).times ≡ i.times)
+    with_phase_keeps i f None = (refl, refl, refl)
+    with_phase_keeps i f (Some q) = (refl, refl, refl)
 
 pub phase_falls : (before : List Line) (p : Place) (b : Intersection) (names : List (List ℕ)) (red green lanes : ℕ) (f : LayoutFault) → p ≡ place.Policies b names → Some f ≡ phase_fault b (record { red = red; green = green; lanes = lanes })
     → StandsAt before p → kind_of_fault before (line.Phase red green lanes) ≡ Some why.Phase
@@ -259,7 +260,7 @@ vehicles_line before p v b names n r at closes version st =
           part = rw (last_of_more before l) refl;
           over = rw (last_of_more before l) refl;
           version = version_same before l refl ∙ version;
-          layout = layout_same before l (record { grid = refl; times = refl; lanes = refl; added = refl }) ∙ built;
+          layout = layout_same before l (record { version = refl; grid = refl; times = refl; lanes = refl; added = refl }) ∙ built;
           named = names_same before l refl ∙ header.named;
           numbered = ap length (sym header.named) ∙ names_are_policies before b built;
           declared = vehicles_first before n header.no_vehicles;

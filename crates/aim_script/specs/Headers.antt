@@ -41,13 +41,15 @@ pub record IsHeader (before : List Line) (d : Described) (names : List (List ℕ
   pub no_vehicles : find_map vehicles_in before ≡ None
   pub no_calls : (given : List (List ℕ)) → filter_map (call_in given) before ≡ []
 
--- lines that add moves, policies and phases to the lanes, each of which is taken where it stands; they make this layout
+-- lines that add moves, policies and phases to the lanes, each of which is taken where it stands; they make this layout,
+-- which has the version of the script
 pub record IsBuilt (before : List Line) (i : Intersection) (names : List (List ℕ)) : Type 0 where
   pub lanes : ℕ
   pub lines : List Added
+  pub version : version_after before ≡ i.version
   pub header : IsHeader before (record { grid = Some i.grid; times = Some i.times; lanes = Some lanes; added = lines }) names
-  pub taken : AreTaken (bare (record { grid = i.grid; times = i.times }) lanes) lines
-  pub made : fold added (bare (record { grid = i.grid; times = i.times }) lanes) lines ≡ i
+  pub taken : AreTaken (bare (record { grid = i.grid; times = i.times }) lanes i.version) lines
+  pub made : fold added (bare (record { grid = i.grid; times = i.times }) lanes i.version) lines ≡ i
 
 -- the part of the script that goes on there
 abbrev pub part_of : Place → Part

@@ -35,12 +35,12 @@ version_after lines = unwrap_or (find_map version_in lines) 1
 abbrev pub grid_of : Grid6 → Grid
 grid_of g = record { side = g.side; n = g.n; spacing = g.spacing; fixed = g.fixed; half = g.half; spans = g.spans }
 
--- in version 1 the time buffer of inner tiles is the same before and after
+-- In these versions no request has a window. In version 1 the time buffer of inner tiles is the same before and after
 abbrev pub times_of : Times5 → Times
-times_of t = record { horizon = t.horizon; longest = t.longest; clearance = t.clearance; early = t.internal; late = t.internal; edge = t.edge }
+times_of t = record { horizon = t.horizon; longest = t.longest; clearance = t.clearance; early = t.internal; late = t.internal; edge = t.edge; window = 0 }
 
 abbrev pub times6_of : Times6 → Times
-times6_of t = record { horizon = t.horizon; longest = t.longest; clearance = t.clearance; early = t.early; late = t.late; edge = t.edge }
+times6_of t = record { horizon = t.horizon; longest = t.longest; clearance = t.clearance; early = t.early; late = t.late; edge = t.edge; window = 0 }
 
 abbrev pub kind_of : ℕ → PolicyKind
 kind_of k = if k == 0 then kind.Fcfs else if k == 1 then kind.Emerg else if k == 2 then kind.Light else kind.LightEmerg
@@ -88,12 +88,12 @@ described lines = record {
 abbrev pub site_of : Described → Site
 site_of d = record {
   grid = unwrap_or d.grid (record { side = 0; n = 0; spacing = 0; fixed = 0; half = 0; spans = 0 });
-  times = unwrap_or d.times (record { horizon = 0; longest = 0; clearance = 0; early = 0; late = 0; edge = 0 });
+  times = unwrap_or d.times (record { horizon = 0; longest = 0; clearance = 0; early = 0; late = 0; edge = 0; window = 0 });
 }
 
--- the layout that the lines describe
+-- the layout that the lines describe, of the version that they say
 unfoldable pub layout_of : List Line → Intersection
-layout_of lines = let d = described lines in layout_of_lines (site_of d) (unwrap_or d.lanes 0) d.added
+layout_of lines = let d = described lines in layout_of_lines (site_of d) (unwrap_or d.lanes 0) (version_after lines) d.added
 
 abbrev pub name_in : Line → Option (List ℕ)
 name_in (line.Policy name k) = Some (name_word name)

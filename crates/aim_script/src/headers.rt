@@ -85,6 +85,7 @@ fn times_of(times: &Times5) -> Times
         early: times.internal,
         late: times.internal,
         edge: times.edge,
+        window: 0,
     }
 }
 
@@ -99,6 +100,7 @@ fn times_of_six(times: &Times6) -> Times
         early: times.early,
         late: times.late,
         edge: times.edge,
+        window: 0,
     }
 }
 
@@ -271,11 +273,16 @@ impl Place {
     }
 
     // Takes the line of the lanes.
-    fn lanes(&self, alloc: Global, lanes: u32) -> Result<Place, HeaderRefusal>
-        ensures { (before : List Line) → StandsAt before self.now → Goes before (Line.Lanes lanes) result }
+    fn lanes(
+        &self,
+        alloc: Global,
+        version: ScriptVersion,
+        lanes: u32,
+    ) -> Result<Place, HeaderRefusal>
+        ensures { (before : List Line) → version_after before ≡ version_number version → StandsAt before self.now → Goes before (Line.Lanes lanes) result }
     {
         match self {
-            Place::Lanes(ground) => match Builder::new(alloc, *ground, lanes) {
+            Place::Lanes(ground) => match Builder::new(alloc, *ground, lanes, version.number()) {
                 Ok(builder) => Ok(Place::Moves(builder)),
                 Err(LayoutFault::NoMemory) => Err(HeaderRefusal::NoMemory),
                 Err(_) => Err(HeaderRefusal::Bad(Kind::Lane)),
@@ -321,31 +328,41 @@ impl Place {
     }
 
     // Takes a line of the ground, up to the lanes on it.
-    fn ground(&self, alloc: Global, line: &Line) -> Result<Place, HeaderRefusal>
+    fn ground(
+        &self,
+        alloc: Global,
+        version: ScriptVersion,
+        line: &Line,
+    ) -> Result<Place, HeaderRefusal>
         requires line { SaysNoMore line.now }
         requires adds { adds line.now ≡ false }
-        ensures { (before : List Line) → StandsAt before self.now → Goes before line.now result }
+        ensures { (before : List Line) → version_after before ≡ version_number version → StandsAt before self.now → Goes before line.now result }
     {
         match line {
             Line::Grid(grid) => self.grid(grid),
             Line::Times(times) => self.times(times_of(times)),
             Line::Times6(times) => self.times(times_of_six(times)),
-            Line::Lanes(lanes) => self.lanes(alloc, *lanes),
+            Line::Lanes(lanes) => self.lanes(alloc, version, *lanes),
             _ => Err(HeaderRefusal::Bad(Kind::Order)),
         }
     }
 
     // Takes a line that names neither a version nor the vehicles.
-    fn next(self, alloc: Global, line: &Line) -> Result<Place, HeaderRefusal>
+    fn next(
+        self,
+        alloc: Global,
+        version: ScriptVersion,
+        line: &Line,
+    ) -> Result<Place, HeaderRefusal>
         requires name { HasName line.now }
         requires line { SaysNoMore line.now }
-        ensures { (before : List Line) → StandsAt before self → Goes before line.now result }
+        ensures { (before : List Line) → version_after before ≡ version_number version → StandsAt before self → Goes before line.now result }
     {
         match line {
             Line::Move { lane, turn, shape } => self.turn(*lane, *turn, shape),
             Line::Policy { name, kind } => self.policy(alloc, name, *kind),
             Line::Phase { red, green, lanes } => self.phase(*red, *green, *lanes),
-            _ => self.ground(alloc, line),
+            _ => self.ground(alloc, version, line),
         }
     }
 
@@ -417,7 +434,7 @@ impl Header {
         match line {
             Line::Version(number) => place.version(*number),
             Line::Vehicles(vehicles) => place.vehicles(version, *vehicles),
-            _ => more(version, place.next(alloc, line)),
+            _ => more(version, place.next(alloc, version, line)),
         }
     }
 }

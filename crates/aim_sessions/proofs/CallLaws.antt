@@ -10,9 +10,9 @@ use Rattle.aim_messages.specs.declared.messages.Message.{Message}
 use Rattle.aim_messages.specs.declared.messages.Params.{Params}
 use Rattle.aim_geometry.specs.Bounded.{some_below}
 use Rattle.aim_layout.specs.Intersection.{Intersection}
-use Rattle.aim_rules.specs.Approach.{is_coming, others_come}
+use Rattle.aim_rules.specs.Approach.{calling, calling_at, is_coming, others_come}
 use Rattle.aim_rules.specs.Bad.{bad}
-use Rattle.aim_rules.specs.History.{Fresh, fresh, is_fresh, params_at, params_of, last_of}
+use Rattle.aim_rules.specs.History.{Fresh, fresh, is_fresh, params_of, last_of}
 use Rattle.aim_rules.specs.Kept.{are_below, is_coming_by}
 use Rattle.aim_rules.proofs.HistoryLaws.{fresh-one, fresh-none, last_of-snoc}
 use Rattle.aim_rules.proofs.HistoryLemmas.{served}
@@ -28,23 +28,23 @@ pub calls_same : (i : Intersection) (calls : List (Option (ℕ × ℕ))) (h : Li
 calls_same i calls h e old are = rw (fresh-none h e old) are
 
 pub calls_more : (i : Intersection) (calls : List (Option (ℕ × ℕ))) (h : List Entry) (e : Entry) (m : Message) → AreCalls i calls (fresh h) → e.caller < length calls → is_fresh h e ≡ true → e.act ≡ act.Message m →
-    AreCalls i (set calls e.caller (call_of i (params_of m.body))) (fresh (h ++ e ∷ []))
+    AreCalls i (set calls e.caller (call_of i (calling i e.reply (params_of m.body)))) (fresh (h ++ e ∷ []))
 calls_more i calls h e m are l new is v k = rw (fresh-one h e new) (go (e.caller == v) refl)
   where
-    says : params_at (served h e) ≡ params_of m.body
+    says : calling_at i (served h e) ≡ calling i e.reply (params_of m.body)
     says = rw is refl
 
     last : (b : Bool) → (e.caller == v) ≡ b → last_of (fresh h ++ served h e ∷ []) v ≡ (if b then Some (served h e) else last_of (fresh h) v)
     last b c = last_of-snoc (fresh h) (served h e) v ∙ rw c refl
 
-    go : (b : Bool) → (e.caller == v) ≡ b → get_or (set calls e.caller (call_of i (params_of m.body))) v None ≡ call_of i (option_and_then params_at (last_of (fresh h ++ served h e ∷ []) v))
+    go : (b : Bool) → (e.caller == v) ≡ b → get_or (set calls e.caller (call_of i (calling i e.reply (params_of m.body)))) v None ≡ call_of i (option_and_then (calling_at i) (last_of (fresh h ++ served h e ∷ []) v))
     go true c =
         let s : e.caller ≡ v = eqb-true e.caller v c in
-        ap (λ k. get_or (set calls e.caller (call_of i (params_of m.body))) k None) (sym s) ∙ get_or-set_same calls e.caller (call_of i (params_of m.body)) None l
-        ∙ ap (call_of i) (sym says) ∙ ap (λ o. call_of i (option_and_then params_at o)) (sym (last true c))
+        ap (λ k. get_or (set calls e.caller (call_of i (calling i e.reply (params_of m.body)))) k None) (sym s) ∙ get_or-set_same calls e.caller (call_of i (calling i e.reply (params_of m.body))) None l
+        ∙ ap (call_of i) (sym says) ∙ ap (λ o. call_of i (option_and_then (calling_at i) o)) (sym (last true c))
     go false c =
-        get_or-set_other calls e.caller v (call_of i (params_of m.body)) None (λ s. let t : (e.caller == v) ≡ true = eq-eqb e.caller v (sym s) in cc)
-        ∙ are v (let n = length-set calls e.caller (call_of i (params_of m.body)) in omega arith) ∙ ap (λ o. call_of i (option_and_then params_at o)) (sym (last false c))
+        get_or-set_other calls e.caller v (call_of i (calling i e.reply (params_of m.body))) None (λ s. let t : (e.caller == v) ≡ true = eq-eqb e.caller v (sym s) in cc)
+        ∙ are v (let n = length-set calls e.caller (call_of i (calling i e.reply (params_of m.body))) in omega arith) ∙ ap (λ o. call_of i (option_and_then (calling_at i) o)) (sym (last false c))
 
 -- a call is of a lane and not past where an emergency comes in the lane
 call_coming : (i : Intersection) (now lane : ℕ) (o : Option Params) → is_call_in now i.times.horizon lane (call_of i o) ≡ is_coming i now lane o
@@ -82,5 +82,5 @@ lanes_approached i calls xs v p now lane are below l =
     others : (w : ℕ) → w < length calls → (not (w == v) && at w) ≡ (not (w == v) && is_coming_by i now lane (last_of xs w))
     others w m = elim (cases_eq w v) [
       | inl e ↦ (let s : (w == v) ≡ true = eq-eqb w v e in rw s refl)
-      | inr n ↦ ap (λ b. not (w == v) && b) (ap (λ o. is_call_in now i.times.horizon lane o) (get_or-set_other calls v w (call_of i (Some p)) None n ∙ are w m) ∙ call_coming i now lane (option_and_then params_at (last_of xs w)))
+      | inr n ↦ ap (λ b. not (w == v) && b) (ap (λ o. is_call_in now i.times.horizon lane o) (get_or-set_other calls v w (call_of i (Some p)) None n ∙ are w m) ∙ call_coming i now lane (option_and_then (calling_at i) (last_of xs w)))
     ]

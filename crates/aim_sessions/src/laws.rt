@@ -10,7 +10,7 @@ ghost use Rattle.aim_messages.specs.declared.replies.Reply.{Reply};
 ghost use Rattle.aim_messages.specs.declared.messages.Params.{Params};
 ghost use Rattle.aim_layout.specs.Intersection.{Intersection};
 ghost use Rattle.aim_rules.specs.Answer.{answer};
-ghost use Rattle.aim_rules.specs.Approach.{is_coming, others_come};
+ghost use Rattle.aim_rules.specs.Approach.{calling, is_coming, others_come};
 ghost use Rattle.aim_rules.specs.Asking.{standing_next};
 ghost use Rattle.aim_rules.specs.History.{Fresh, fresh, is_fresh, now_of, params_of};
 ghost use Rattle.aim_rules.specs.Holds.{holds};
@@ -48,7 +48,7 @@ pub fn answers_by_the_look()
 pub fn calls_are_those_of_the_history()
     ensures none { (i : Intersection) (vehicles : ℕ) → AreCalls i (replicate vehicles None) [] }
     ensures more { (i : Intersection) (calls : List (Option (ℕ × ℕ))) (h : List Entry) (e : Entry) (m : Message) → AreCalls i calls (fresh h) → e.caller < length calls →
-        is_fresh h e ≡ true → e.act ≡ Act.Message m → AreCalls i (slice_set calls e.caller (call_of i (params_of m.body))) (fresh (h ++ e ∷ [])) }
+        is_fresh h e ≡ true → e.act ≡ Act.Message m → AreCalls i (slice_set calls e.caller (call_of i (calling i e.reply (params_of m.body)))) (fresh (h ++ e ∷ [])) }
     ensures same { (i : Intersection) (calls : List (Option (ℕ × ℕ))) (h : List Entry) (e : Entry) → is_fresh h e ≡ false → AreCalls i calls (fresh h) → AreCalls i calls (fresh (h ++ e ∷ [])) }
 {}
 

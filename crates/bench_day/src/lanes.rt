@@ -67,6 +67,7 @@ fn ground() -> Result<Ground> {
         early: 2,
         late: 2,
         edge: 5,
+        window: 0,
     };
     match Ground::build(grid, times) {
         Ok(ground) => Ok(ground),
@@ -115,7 +116,7 @@ fn fill(builder: &mut Builder, kind: PolicyKind) -> Result<()> {
 
 /// The layout with one policy. Where that has lights, the lanes of each side are green in turn.
 pub fn twelve_lanes(alloc: Global, kind: PolicyKind) -> Result<Layout> {
-    let Ok(mut builder) = Builder::new(alloc, ground()?, 12) else {
+    let Ok(mut builder) = Builder::new(alloc, ground()?, 12, 3) else {
         bail!("the layout finds no memory");
     };
     fill(&mut builder, kind)?;

@@ -42,6 +42,7 @@ pub const TIMES: Times = Times {
     early: 0,
     late: 0,
     edge: 0,
+    window: 0,
 };
 
 /// With a time buffer of a step, and of two at the border.
@@ -219,7 +220,7 @@ fn adds_policies(builder: &mut Builder, policies: &[Policy]) -> bool {
 /// The layout of the site with these times, where all of it is taken.
 pub fn built(alloc: Global, site: &Site, times: Times) -> Option<Layout> {
     let ground = Ground::build(site.grid, times).ok()?;
-    let mut builder = Builder::new(alloc, ground, site.lanes).ok()?;
+    let mut builder = Builder::new(alloc, ground, site.lanes, 3).ok()?;
     if !adds_moves(&mut builder, site.moves) || !adds_policies(&mut builder, site.policies) {
         return None;
     }

@@ -1,6 +1,9 @@
 //! Prepared requests, and crossings step by step.
 
-use aim_footprint::{RowRange, Visit, bad_crossing, simulate, steady_steps};
+use aim_footprint::{
+    RowRange, Visit, bad_crossing, has_bad_window, has_windows, is_fast_made, is_judged_fast,
+    simulate, steady_steps,
+};
 use aim_geometry::Times;
 use aim_layout::Layout;
 use aim_messages::{Body, Field, Message, Params, Turn};
@@ -177,6 +180,21 @@ fn wrong_fields(rt: HostRuntime) {
     drop(layout);
 }
 
+#[test]
+fn without_windows_the_steady_trial_judges(rt: HostRuntime) {
+    let layout = built(rt.alloc(), &SMALL, TIMES).expect(&rt, "no layout");
+    let faster = Params {
+        latest: 9,
+        max_speed: 1000,
+        accel: 250,
+        ..CAR
+    };
+    assert!(rt; is_fast_made(&faster) && !is_fast_made(&CAR));
+    assert!(rt; !has_windows(&layout) && !is_judged_fast(&layout, &faster));
+    assert!(rt; !has_bad_window(&layout, &faster) && bad_crossing(&layout, &faster).is_none());
+    drop(layout);
+}
+
 /// Keeps the mask of row 1 in some steps, and counts the steps.
 #[derive(Drop)]
 struct Watch {
@@ -212,6 +230,7 @@ const VISITS: [(Turn, u32, u64, u64, u64); 2] = [
 #[test]
 fn a_crossing_is_visited_step_by_step(rt: HostRuntime) {
     let layout = built(rt.alloc(), &SMALL, TIMES).expect(&rt, "no layout");
+    assert!(rt; layout.version() == 3);
     for (turn, steps, first, middle, last) in &VISITS {
         let mut watch = Watch {
             steps: 0,

@@ -79,10 +79,22 @@ fn two_lanes(rt: HostRuntime) {
     let layout = built(rt.alloc(), &SMALL, TIMES).expect(&rt, "no layout");
     let copy = layout.copy().expect(&rt, "no memory for a copy");
     drop(layout);
+    assert!(rt; copy.version() == 3);
     check_policies(&rt, &copy);
     check_lanes(&rt, &copy);
     check_paths(&rt, &copy);
     drop(copy);
+}
+
+#[test]
+fn the_longest_window_ends_with_the_horizon(rt: HostRuntime) {
+    for (window, is_good) in &[(0, true), (1500, true), (1501, false)] {
+        let times = Times {
+            window: *window,
+            ..TIMES
+        };
+        assert!(rt; Ground::build(GRID, times).is_ok() == *is_good);
+    }
 }
 
 // Three lanes from each side, of which the first turns left and the third right.
@@ -133,6 +145,7 @@ const LONG: Times = Times {
     early: 2,
     late: 2,
     edge: 5,
+    window: 0,
 };
 
 // The greatest step from a station to the next, in x or in y.

@@ -159,10 +159,10 @@ pub least_distance : replies small (ask 0 0 1 0 10 ∷ ask 1 0 1 1 10 ∷ ask 2 
 least_distance = refl
 
 -- an emergency is approaching until its arrival and the horizon are past
-pub emergency_that_is_past : replies (record siren_small { times = record { horizon = 30; longest = 25; clearance = 20; early = 0; late = 0; edge = 0 } }) (send 1 0 1 (Request (ambulance 1 5)) ∷ ask 0 35 1 0 40 ∷ ask 0 36 2 0 40 ∷ []) ≡ steady 0 5 15 ∷ reject (Emergency 1) 37 None ∷ reject (TooSoon 37) 37 None ∷ []
+pub emergency_that_is_past : replies (record siren_small { times = record { horizon = 30; longest = 25; clearance = 20; early = 0; late = 0; edge = 0; window = 0 } }) (send 1 0 1 (Request (ambulance 1 5)) ∷ ask 0 35 1 0 40 ∷ ask 0 36 2 0 40 ∷ []) ≡ steady 0 5 15 ∷ reject (Emergency 1) 37 None ∷ reject (TooSoon 37) 37 None ∷ []
 emergency_that_is_past = refl
 
-pub emergency_that_is_long_past : replies (record siren_small { times = record { horizon = 30; longest = 25; clearance = 20; early = 0; late = 0; edge = 0 } }) (send 1 0 1 (Request (ambulance 1 5)) ∷ ask 0 36 1 0 40 ∷ []) ≡ steady 0 5 15 ∷ steady 1 40 50 ∷ []
+pub emergency_that_is_long_past : replies (record siren_small { times = record { horizon = 30; longest = 25; clearance = 20; early = 0; late = 0; edge = 0; window = 0 } }) (send 1 0 1 (Request (ambulance 1 5)) ∷ ask 0 36 1 0 40 ∷ []) ≡ steady 0 5 15 ∷ steady 1 40 50 ∷ []
 emergency_that_is_long_past = refl
 
 -- it is approaching from its own call on, though it is refused; after another message of its own it is no more

@@ -10,8 +10,9 @@ use Rattle.aim_rules.specs.Cells.{in_cells}
 
 abbrev large : Intersection
 large = record {
+  version = 3;
   grid = record { side = 24000; n = 48; spacing = 100; fixed = 250; half = 1200; spans = 8192 };
-  times = record { horizon = 3000; longest = 100; clearance = 100; early = 2; late = 2; edge = 5 };
+  times = record { horizon = 3000; longest = 100; clearance = 100; early = 2; late = 2; edge = 5; window = 0 };
   lanes = record { left = Some (curve 0 10500 13500 10500 13500 24000 280); straight = None; right = None } ∷ [];
   policies = record { kind = Fcfs; phases = [] } ∷ [];
 }

@@ -80,7 +80,7 @@ entered_twice = refl
 -- a driver that enters a step early
 
 abbrev pub windows : Intersection
-windows = crossing (record { horizon = 1500; longest = 25; clearance = 20; early = 1; late = 3; edge = 4 }) (plain ∷ lights ∷ siren ∷ [])
+windows = crossing (record { horizon = 1500; longest = 25; clearance = 20; early = 1; late = 3; edge = 4; window = 0 }) (plain ∷ lights ∷ siren ∷ [])
 
 abbrev pub early_history : List Entry
 early_history = journal windows (ask 0 0 1 0 10 ∷ finish 0 20 2 0 ∷ [])

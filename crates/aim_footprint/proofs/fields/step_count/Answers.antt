@@ -4,8 +4,8 @@ use Rattle.aim_rules.specs.Footprint.{path_length}
 use Rattle.aim_footprint.proofs.FieldLemmas.{steps_steady}
 use Rattle.aim_footprint.proofs.fields.step_count.Goals as goal
 
-pub returns : goal.returns
-returns c =
+pub returns-clause-steps : goal.returns-clause-steps
+returns-clause-steps c =
     let m = c.requires.moving in
     let there : stations c.args.layout.now c.args.params.now.lane c.args.params.now.turn ≡ c.args.found.now = rw c.requires.found refl in
     let parts : c.parts.result ≡ length c.args.found.now - 1 = omega arith in

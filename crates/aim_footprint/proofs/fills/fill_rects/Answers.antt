@@ -1,4 +1,4 @@
-use Rattle.std.proofs.Common.{◌≡◌, ◌≤◌, arith, length-set}
+use Rattle.std.proofs.Common.{◌≡◌, arith, length-set}
 use Rattle.aim_geometry.specs.Ground.{is_touched}
 use Rattle.aim_geometry.specs.Rects.{in_rect, IsRect}
 use Rattle.aim_geometry.specs.declared.tiles.TileRect.{TileRect}

@@ -20,7 +20,7 @@ pub fill_reaches-count-requires-clause-moving : goal.fill_reaches-count-requires
 fill_reaches-count-requires-clause-moving g c = (good_crossing c.args.layout.now c.args.params.now c.requires.good).moving
 
 pub fill_reaches-count-requires-clause-steps : goal.fill_reaches-count-requires-clause-steps
-fill_reaches-count-requires-clause-steps g c = (good_crossing c.args.layout.now c.args.params.now c.requires.good).steps c.args.accelerate
+fill_reaches-count-requires-clause-steps g c = (good_crossing c.args.layout.now c.args.params.now c.requires.good).steps c.args.accelerate c.requires.tried
 
 pub returns-clause-visits : goal.returns-clause-visits
 returns-clause-visits g c =
@@ -73,7 +73,7 @@ run-requires-clause-rects g c = c.fill_rects.ensures.whole
 pub run-requires-clause-few : goal.run-requires-clause-few
 run-requires-clause-few g c =
     let count = c.fill_reaches-count.ensures.reaches.count in
-    let steps = (good_crossing c.args.layout.now c.args.params.now c.requires.good).steps c.args.accelerate in
+    let steps = (good_crossing c.args.layout.now c.args.params.now c.requires.good).steps c.args.accelerate c.requires.tried in
     omega arith
 
 pub run-requires-clause-reaches : goal.run-requires-clause-reaches
@@ -83,7 +83,7 @@ run-requires-clause-reaches g c =
 
 pub slice_bounds-reaches-end : goal.slice_bounds-reaches-end
 slice_bounds-reaches-end g c =
-    let steps = (good_crossing c.args.layout.now c.args.params.now c.requires.good).steps c.args.accelerate in
+    let steps = (good_crossing c.args.layout.now c.args.params.now c.requires.good).steps c.args.accelerate c.requires.tried in
     omega (arith, steps, c.fill_reaches-count.ensures.count, c.type_inv.reaches)
 
 pub run-requires-clause-some : goal.run-requires-clause-some
@@ -91,5 +91,5 @@ run-requires-clause-some g c = omega (arith, c.fill_rects.ensures.count, c.stati
 
 pub overflow_cast-result : goal.overflow_cast-result
 overflow_cast-result g c =
-    let steps = (good_crossing c.args.layout.now c.args.params.now c.requires.good).steps c.args.accelerate in
+    let steps = (good_crossing c.args.layout.now c.args.params.now c.requires.good).steps c.args.accelerate c.requires.tried in
     omega (arith, steps, c.fill_reaches-count.ensures.count)

@@ -8,7 +8,7 @@ use Rattle.aim_requests.proofs.requests.no_request.Goals as goal
 
 -- an intersection whose sheets have so much room
 with_room : ℕ → Intersection
-with_room room = alone (record { side = 0; n = 0; spacing = 0; fixed = 0; half = 0; spans = room }) (record { horizon = 0; longest = 0; clearance = 0; early = 0; late = 0; edge = 0 }) []
+with_room room = alone (record { side = 0; n = 0; spacing = 0; fixed = 0; half = 0; spans = room }) (record { horizon = 0; longest = 0; clearance = 0; early = 0; late = 0; edge = 0; window = 0 }) []
 
 -- for which no request is prepared in two empty sheets of that room
 is_none_for : (first second : Spans) → first.spans ≡ [] → second.spans ≡ [] → first.room ≡ second.room →
@@ -18,10 +18,11 @@ is_none_for first second f s room = record {
   field = refl;
   first_room = refl;
   second_room = sym room;
-  steady = λ p e. absurd (cc e);
+  steady = λ p e _. absurd (cc e);
   fast = λ p e made. absurd (cc e);
   steps = λ p e. absurd (cc e);
   unmade = λ p e made. absurd (cc e);
+  untried = λ p e _. absurd (cc e);
   empty = λ e. (f, s);
 }
 

@@ -5,7 +5,7 @@ use Rattle.aim_requests.proofs.SpanLemmas.{some_steps}
 use Rattle.aim_requests.proofs.trials.write_trial.Goals as goal
 
 pub fill_reaches-count-requires-clause-steps : goal.fill_reaches-count-requires-clause-steps
-fill_reaches-count-requires-clause-steps c = (good_crossing c.args.layout.now c.args.params.now c.requires.good).steps c.args.fast
+fill_reaches-count-requires-clause-steps c = (good_crossing c.args.layout.now c.args.params.now c.requires.good).steps c.args.fast c.requires.tried
 
 pub write_cells-requires-clause-trial : goal.write_cells-requires-clause-trial
 write_cells-requires-clause-trial c =
@@ -15,7 +15,7 @@ write_cells-requires-clause-trial c =
     let valid = c.requires.valid in
     let reach = c.fill_reaches-count.ensures.reaches in
     let count = reach.count in
-    let few = good.steps c.args.fast in
+    let few = good.steps c.args.fast c.requires.tried in
     let some = some_steps i p c.args.fast good.moving.speed good.moving.most in
     let here : length (stations i p.lane p.turn) ≡ length c.args.path.now = rw c.requires.found refl in
     let same = c.requires.round.count in
@@ -61,10 +61,10 @@ returns-clause-steps c = c.fill_reaches-count.ensures.count
 
 pub slice_bounds-reaches-end : goal.slice_bounds-reaches-end
 slice_bounds-reaches-end c =
-    let steps = (good_crossing c.args.layout.now c.args.params.now c.requires.good).steps c.args.fast in
+    let steps = (good_crossing c.args.layout.now c.args.params.now c.requires.good).steps c.args.fast c.requires.tried in
     omega (arith, steps, c.fill_reaches-count.ensures.count, c.type_inv.reaches)
 
 pub overflow_cast-result : goal.overflow_cast-result
 overflow_cast-result c =
-    let steps = (good_crossing c.args.layout.now c.args.params.now c.requires.good).steps c.args.fast in
+    let steps = (good_crossing c.args.layout.now c.args.params.now c.requires.good).steps c.args.fast c.requires.tried in
     omega (arith, steps, c.fill_reaches-count.ensures.count)

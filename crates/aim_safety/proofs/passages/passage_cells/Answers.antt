@@ -7,7 +7,7 @@ use Rattle.aim_safety.proofs.passages.passage_cells.Goals as goal
 
 pub shown_tiles-requires-clause-few : goal.shown_tiles-requires-clause-few
 shown_tiles-requires-clause-few c =
-    let few = few_steps c.args.layout.now c.args.params.now c.args.fast c.requires.good in
+    let few = few_steps c.args.layout.now c.args.params.now c.args.fast c.requires.good c.requires.tried in
     let all = ap length c.deref.ensures.value ∙ c.in_ok-steps.ensures.all in
     omega arith
 

@@ -16,7 +16,7 @@ returns-in-Some-early_reason-clause-reply g c = λ k tells calling.
 pub returns-in-None-clause-reply : goal.returns-in-None-clause-reply
 returns-in-None-clause-reply g c = λ k tells calling.
     let own : c.own_refusal.result ≡ own_refusal c.args.layout.now k c.args.prepared.now.message.body = rw (← c.message.ensures.message) (c.own_refusal.ensures c.args.layout.now k c.args.place tells) in
-    asked_free c.args.layout.now k c.args.prepared.now.message.body c.args.params.now c.own_refusal.result c.early_reason.result c.answer_free.result own c.in_default.is (c.early_reason.ensures.reason k c.args.place tells calling) c.in-None.is (c.answer_free.ensures.reply k tells)
+    asked_free c.args.layout.now k c.args.prepared.now.message.body c.args.params.now c.own_refusal.result c.early_reason.result c.answer_free.result tells.valid own c.in_default.is (c.early_reason.ensures.reason k c.args.place tells calling) c.in-None.is (c.answer_free.ensures.reply k tells)
 
 pub early_reason-requires-clause-there : goal.early_reason-requires-clause-there
 early_reason-requires-clause-there g c = c.requires.there

@@ -1,4 +1,5 @@
 use Rattle.std.proofs.Common.{refl, false}
+use Rattle.aim_requests.proofs.GoodLemmas.{windowless}
 use Rattle.aim_book.proofs.EarlyLemmas.{steady_is}
 use Rattle.aim_book.proofs.FreeLemmas.{asked_of, fast_steps, free_fast, free_refused, free_steady, never_none, steady_steps, tiles_of}
 use Rattle.aim_book.proofs.StepLemmas.{both_cost, steady_second}
@@ -10,18 +11,18 @@ returns-then-is_fast_free-clause-reply g c = λ k tells.
 
 pub conflict-requires-clause-tiles : goal.conflict-requires-clause-tiles
 conflict-requires-clause-tiles g c =
-    tiles_of c.args.layout.now c.args.params.now false c.in-Some.sheet.now.spans (steady_is c.args.layout.now c.args.params.now c.args.prepared.now c.in-Some.sheet.now c.requires.asking c.requires.good c.in-Some.ensures)
+    tiles_of c.args.layout.now c.args.params.now false c.in-Some.sheet.now.spans (steady_is c.args.layout.now c.args.params.now c.args.prepared.now c.in-Some.sheet.now (windowless c.args.layout.now c.version.ensures.valid) c.requires.asking c.requires.good c.in-Some.ensures)
 
 pub returns-in-Some-conflict-clause-reply : goal.returns-in-Some-conflict-clause-reply
 returns-in-Some-conflict-clause-reply g c = λ k tells.
-    let have = steady_is c.args.layout.now c.args.params.now c.args.prepared.now c.in-Some.sheet.now c.requires.asking c.requires.good c.in-Some.ensures in
+    let have = steady_is c.args.layout.now c.args.params.now c.args.prepared.now c.in-Some.sheet.now (windowless c.args.layout.now c.version.ensures.valid) c.requires.asking c.requires.good c.in-Some.ensures in
     let asked = asked_of c.args.layout.now c.args.vehicle c.args.place k c.args.params.now false c.in-Some.sheet.now.spans c.args.self.now tells have c.requires.ahead in
     free_refused c.args.layout.now k c.args.params.now c.is_fast_free.result c.refuse.result c.in-Some-conflict.reason c.conflict.result (c.is_fast_free.ensures.free k c.args.place tells) c.if-is_fast_free.false
     (c.conflict.ensures.reason k c.args.params.now false c.args.place tells asked refl) c.in-Some-conflict.is (c.refuse.ensures k c.args.place tells)
 
 pub returns-in-None-clause-reply : goal.returns-in-None-clause-reply
 returns-in-None-clause-reply g c = λ k tells.
-    let have = steady_is c.args.layout.now c.args.params.now c.args.prepared.now c.in-Some.sheet.now c.requires.asking c.requires.good c.in-Some.ensures in
+    let have = steady_is c.args.layout.now c.args.params.now c.args.prepared.now c.in-Some.sheet.now (windowless c.args.layout.now c.version.ensures.valid) c.requires.asking c.requires.good c.in-Some.ensures in
     let asked = asked_of c.args.layout.now c.args.vehicle c.args.place k c.args.params.now false c.in-Some.sheet.now.spans c.args.self.now tells have c.requires.ahead in
     free_steady c.args.layout.now k c.args.params.now c.is_fast_free.result c.confirm-in-None.result c.conflict.result (c.is_fast_free.ensures.free k c.args.place tells) c.if-is_fast_free.false
     (c.conflict.ensures.reason k c.args.params.now false c.args.place tells asked refl) c.in-None.is (c.confirm-in-None.ensures k tells.place_is)
@@ -32,7 +33,7 @@ confirm-requires-clause-steps g c =
 
 pub confirm-requires-in-None-clause-steps : goal.confirm-requires-in-None-clause-steps
 confirm-requires-in-None-clause-steps g c =
-    steady_steps c.args.layout.now c.args.params.now c.args.prepared.now c.steps-in-None.result c.requires.asking c.requires.good c.steps-in-None.ensures
+    steady_steps c.args.layout.now c.args.params.now c.args.prepared.now c.steps-in-None.result (windowless c.args.layout.now c.version.ensures.valid) c.requires.asking c.requires.good c.steps-in-None.ensures
 
 pub unreachable-requires : goal.unreachable-requires
 unreachable-requires g c =

@@ -94,7 +94,7 @@ returns-clause-managed g c = λ h moment m place late.
     = c.answer_fresh-reply.ensures.reply k (tells_noted _ _ _ _ _ _ told) (calling_noted i n h c.args.vehicle moment c.args.place c.args.self.now r m c.requires.vehicle c.requires.fresh c.requires.prepared c.note.new.self noted) in
     managed_next i n h c.args.vehicle moment c.args.place c.args.self.now r m c.requires.vehicle c.requires.fresh c.requires.prepared
     c.answer_fresh-reply.result said place late _
-    ((λ j. (c.keep_distance.ensures.rest j).approaches) ∙ noted)
+    ((λ j. (c.keep_distance.ensures.rest j).approaches) ∙ c.end_call.ensures c.args.self.now.approaches (params_of r.message.body) noted)
     ((λ j. (c.keep_distance.ensures.rest j).sessions) ∙ c.keep.ensures ∙ ap (λ e. slice_set c.args.self.now.sessions c.args.vehicle (session_after e c.answer_fresh-reply.result (slice_index_or c.args.self.now.sessions c.args.vehicle no_session).next)) c.message.ensures.message)
     (c.keep_distance.ensures.distances ∙ ap (λ (e : Message). distances_with c.args.self.now.distances c.args.self.now.reservations.table.current c.answer_fresh-reply.result (params_of e.body)) c.message.ensures.message)
     (λ j. (c.keep_distance.ensures.rest j).timeline)

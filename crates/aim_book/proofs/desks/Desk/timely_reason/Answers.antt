@@ -1,10 +1,8 @@
-use Rattle.std.proofs.Common.{◌≡◌, ◌+◌, ◌<◌, ◌∙◌, sym, refl, true, false, nat_le, None, Some, arith, slice_index_or}
+use Rattle.std.proofs.Common.{◌≡◌, ◌+◌, ◌∙◌, ap, sym, refl, true, false, nat_le, None, Some}
 use Rattle.std.specs.List.{list_any}
 use Rattle.std.proofs.lemmas.Bool.{lt-leb}
 use Rattle.aim_rules.specs.Cells.{cells}
-use Rattle.aim_rules.specs.Distance.{asked_from}
-use Rattle.aim_rules.proofs.GoodLemmas.{good_params}
-use Rattle.aim_sessions.specs.Distances.{exceeded}
+use Rattle.aim_rules.specs.Trials.{judged}
 use Rattle.aim_book.proofs.EarlyLemmas.{or_none, timely_is}
 use Rattle.aim_rules.specs.Answer.{in_the_way, too_distant, too_far}
 use Rattle.std.specs.Option.{option_or}
@@ -14,31 +12,37 @@ use Rattle.aim_book.proofs.desks.Desk.timely_reason.Goals as goal
 pub returns-then-is_far-clause-reason : goal.returns-then-is_far-clause-reason
 returns-then-is_far-clause-reason g c = λ k v place tells calling.
     let i = c.args.layout.now in
+    let p = c.args.params.now in
     let valid = c.ground.ensures.valid in
-    let lane : c.args.params.now.lane < 16 = (let l = (good_params i c.args.params.now c.requires.good).lane in let m = valid.sound.lanes in omega arith) in
-    let told : c.is_far.result ≡ list_any (λ e. nat_le (c.now-now.result + c.times-times.result.horizon) e.step) (cells i c.args.params.now false) = c.is_far.ensures i c.args.params.now valid.sound.times.early valid.sound.times.late c.requires.asking c.requires.good in
-    let far : list_any (λ e. nat_le (c.now-now.result + c.times-times.result.horizon) e.step) (cells i c.args.params.now false) ≡ true = sym told ∙ c.if-is_far.true in
-    sym (timely_is i v place k c.args.params.now c.args.self.now c.now-now.result c.times-times.result.edge c.times-times.result.horizon false true (option_or (in_the_way i k c.args.params.now) None) tells c.now-now.ensures.now (rw (c.times-times.ensures.times, c.ground.ensures.times) refl) (rw (c.times-times.ensures.times, c.ground.ensures.times) refl) lane (lt-leb _ _ c.if-params-now.false) far)
+    let far : list_any (λ e. nat_le (c.now-now.result + c.times-times.result.horizon) e.step) (cells i p (judged i p).fast) ≡ true =
+    sym (c.is_far.ensures p valid.sound.times.early valid.sound.times.late c.requires.asking c.requires.good) ∙ c.if-is_far.true in
+    sym (timely_is i v place k p c.args.self.now c.now-now.result c.times-times.result.edge c.times-times.result.horizon false true (option_or (too_distant i k p) (option_or (in_the_way i k p) None)) tells c.now-now.ensures.now
+    (rw (c.times-times.ensures.times, c.ground.ensures.times) refl) (rw (c.times-times.ensures.times, c.ground.ensures.times) refl) (lt-leb _ _ c.if-params-now.false) far)
 
-pub returns-in-Err-clause-reason : goal.returns-in-Err-clause-reason
-returns-in-Err-clause-reason g c = λ k v place tells calling.
+pub returns-in-Some-clause-reason : goal.returns-in-Some-clause-reason
+returns-in-Some-clause-reason g c = λ k v place tells calling.
     let i = c.args.layout.now in
+    let p = c.args.params.now in
     let valid = c.ground.ensures.valid in
-    let lane : c.args.params.now.lane < 16 = (let l = (good_params i c.args.params.now c.requires.good).lane in let m = valid.sound.lanes in omega arith) in
-    let told : c.is_far.result ≡ list_any (λ e. nat_le (c.now-now.result + c.times-times.result.horizon) e.step) (cells i c.args.params.now false) = c.is_far.ensures i c.args.params.now valid.sound.times.early valid.sound.times.late c.requires.asking c.requires.good in
-    let far : list_any (λ e. nat_le (c.now-now.result + c.times-times.result.horizon) e.step) (cells i c.args.params.now false) ≡ false = sym told ∙ c.if-is_far.false in
-    let most : exceeded (asked_from c.now-now.result c.args.params.now) (slice_index_or c.args.self.now.distances c.args.params.now.lane None) ≡ Some c.in-Err.least = rw (← c.asked_from.ensures, ← c.test.ensures, c.in-Err.is) refl in
-    rw (timely_is i v place k c.args.params.now c.args.self.now c.now-now.result c.times-times.result.edge c.times-times.result.horizon false false (option_or (in_the_way i k c.args.params.now) None) tells c.now-now.ensures.now (rw (c.times-times.ensures.times, c.ground.ensures.times) refl) (rw (c.times-times.ensures.times, c.ground.ensures.times) refl) lane (lt-leb _ _ c.if-params-now.false) far, most) refl
+    let far : list_any (λ e. nat_le (c.now-now.result + c.times-times.result.horizon) e.step) (cells i p (judged i p).fast) ≡ false =
+    sym (c.is_far.ensures p valid.sound.times.early valid.sound.times.late c.requires.asking c.requires.good) ∙ c.if-is_far.false in
+    let distant : too_distant i k p ≡ Some c.in-Some.reason = sym (c.too_distant.ensures k v place tells) ∙ c.in-Some.is in
+    sym (timely_is i v place k p c.args.self.now c.now-now.result c.times-times.result.edge c.times-times.result.horizon false false (option_or (too_distant i k p) (option_or (in_the_way i k p) None)) tells c.now-now.ensures.now
+    (rw (c.times-times.ensures.times, c.ground.ensures.times) refl) (rw (c.times-times.ensures.times, c.ground.ensures.times) refl) (lt-leb _ _ c.if-params-now.false) far
+    ∙ ap (λ o. option_or o (option_or (in_the_way i k p) None)) distant)
 
-pub returns-in-Ok-clause-reason : goal.returns-in-Ok-clause-reason
-returns-in-Ok-clause-reason g c = λ k v place tells calling.
+pub returns-in-None-clause-reason : goal.returns-in-None-clause-reason
+returns-in-None-clause-reason g c = λ k v place tells calling.
     let i = c.args.layout.now in
+    let p = c.args.params.now in
     let valid = c.ground.ensures.valid in
-    let lane : c.args.params.now.lane < 16 = (let l = (good_params i c.args.params.now c.requires.good).lane in let m = valid.sound.lanes in omega arith) in
-    let told : c.is_far.result ≡ list_any (λ e. nat_le (c.now-now.result + c.times-times.result.horizon) e.step) (cells i c.args.params.now false) = c.is_far.ensures i c.args.params.now valid.sound.times.early valid.sound.times.late c.requires.asking c.requires.good in
-    let far : list_any (λ e. nat_le (c.now-now.result + c.times-times.result.horizon) e.step) (cells i c.args.params.now false) ≡ false = sym told ∙ c.if-is_far.false in
-    let most : exceeded (asked_from c.now-now.result c.args.params.now) (slice_index_or c.args.self.now.distances c.args.params.now.lane None) ≡ None = rw (← c.asked_from.ensures, ← c.test.ensures, c.in-Ok.is) refl in
-    rw (timely_is i v place k c.args.params.now c.args.self.now c.now-now.result c.times-times.result.edge c.times-times.result.horizon false false (option_or (in_the_way i k c.args.params.now) None) tells c.now-now.ensures.now (rw (c.times-times.ensures.times, c.ground.ensures.times) refl) (rw (c.times-times.ensures.times, c.ground.ensures.times) refl) lane (lt-leb _ _ c.if-params-now.false) far, most) (c.in_the_way.ensures k v place tells calling ∙ sym (or_none (in_the_way i k c.args.params.now)))
+    let far : list_any (λ e. nat_le (c.now-now.result + c.times-times.result.horizon) e.step) (cells i p (judged i p).fast) ≡ false =
+    sym (c.is_far.ensures p valid.sound.times.early valid.sound.times.late c.requires.asking c.requires.good) ∙ c.if-is_far.false in
+    let distant : too_distant i k p ≡ None = sym (c.too_distant.ensures k v place tells) ∙ c.in-None.is in
+    c.in_the_way.ensures k v place tells calling ∙ sym (or_none (in_the_way i k p))
+    ∙ sym (timely_is i v place k p c.args.self.now c.now-now.result c.times-times.result.edge c.times-times.result.horizon false false (option_or (too_distant i k p) (option_or (in_the_way i k p) None)) tells c.now-now.ensures.now
+    (rw (c.times-times.ensures.times, c.ground.ensures.times) refl) (rw (c.times-times.ensures.times, c.ground.ensures.times) refl) (lt-leb _ _ c.if-params-now.false) far
+    ∙ ap (λ o. option_or o (option_or (in_the_way i k p) None)) distant)
 
 pub returns-then-params-now-clause-reason : goal.returns-then-params-now-clause-reason
 returns-then-params-now-clause-reason g c = λ k v place tells calling.
@@ -47,8 +51,8 @@ returns-then-params-now-clause-reason g c = λ k v place tells calling.
     late_first i v place k p c.args.self.now c.now-now.result c.times-times.result.edge (option_or (too_far i k p) (option_or (too_distant i k p) (option_or (in_the_way i k p) None))) tells c.now-now.ensures.now
     (rw (c.times-times.ensures.times, c.ground.ensures.times) refl) c.if-params-now.true
 
-pub returns-in-Ok-clause-ahead : goal.returns-in-Ok-clause-ahead
-returns-in-Ok-clause-ahead g c =
+pub returns-in-None-clause-ahead : goal.returns-in-None-clause-ahead
+returns-in-None-clause-ahead g c =
     ahead_then c.in_the_way.result c.args.params.now.arrive c.now-now.result c.times-times.result.edge c.args.self.now.reservations.table.current c.args.layout.now.times.edge c.now-now.ensures.now
     (rw (c.times-times.ensures.times, c.ground.ensures.times) refl) c.if-params-now.false
 
@@ -58,5 +62,5 @@ in_the_way-requires-clause-lane g c = (call_range c.args.layout.now c.args.param
 pub in_the_way-requires-clause-there : goal.in_the_way-requires-clause-there
 in_the_way-requires-clause-there g c = c.requires.there
 
-pub test-requires : goal.test-requires
-test-requires g c = (call_range c.args.layout.now c.args.params.now c.ground.ensures.valid c.requires.good).0
+pub too_distant-requires : goal.too_distant-requires
+too_distant-requires g c = (call_range c.args.layout.now c.args.params.now c.ground.ensures.valid c.requires.good).0

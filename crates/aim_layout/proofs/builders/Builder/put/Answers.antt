@@ -9,7 +9,7 @@ use Rattle.aim_layout.proofs.builders.Builder.put.Goals as goal
 
 pub invariant_of-self : goal.invariant_of-self
 invariant_of-self c =
-    let i : Intersection = record { grid = c.self.inside.ground.grid; times = c.self.inside.ground.times; lanes = c.self.inside.lanes.items; policies = c.self.inside.policies.items } in
+    let i : Intersection = record { version = c.self.inside.version; grid = c.self.inside.ground.grid; times = c.self.inside.ground.times; lanes = c.self.inside.lanes.items; policies = c.self.inside.policies.items } in
     let m : IsMove i c.args.lane c.args.turn c.args.shape.now = IsMove-tests i c.args.lane c.args.turn c.args.shape.now (rw (← c.self.view_is) at c.requires) in
     let paths : get_or i.lanes c.args.lane no_paths ≡ c.index_mut-paths.result.now = get_or-read i.lanes c.args.lane c.index_mut-paths.result.now no_paths m.there c.index_mut-paths.ensures.value in
     let row : c.args.lane < length c.self.inside.tiles.items = let t = c.self.invariant.1.count in let l = m.there in omega arith in
@@ -20,24 +20,24 @@ invariant_of-self c =
 
 pub index_mut-paths-requires : goal.index_mut-paths-requires
 index_mut-paths-requires c =
-    let i : Intersection = record { grid = c.self.inside.ground.grid; times = c.self.inside.ground.times; lanes = c.self.inside.lanes.items; policies = c.self.inside.policies.items } in
+    let i : Intersection = record { version = c.self.inside.version; grid = c.self.inside.ground.grid; times = c.self.inside.ground.times; lanes = c.self.inside.lanes.items; policies = c.self.inside.policies.items } in
     let m : IsMove i c.args.lane c.args.turn c.args.shape.now = IsMove-tests i c.args.lane c.args.turn c.args.shape.now (rw (← c.self.view_is) at c.requires) in
     let l = m.there in omega arith
 
 pub index_mut-rows-requires : goal.index_mut-rows-requires
 index_mut-rows-requires c =
-    let i : Intersection = record { grid = c.self.inside.ground.grid; times = c.self.inside.ground.times; lanes = c.self.inside.lanes.items; policies = c.self.inside.policies.items } in
+    let i : Intersection = record { version = c.self.inside.version; grid = c.self.inside.ground.grid; times = c.self.inside.ground.times; lanes = c.self.inside.lanes.items; policies = c.self.inside.policies.items } in
     let m : IsMove i c.args.lane c.args.turn c.args.shape.now = IsMove-tests i c.args.lane c.args.turn c.args.shape.now (rw (← c.self.view_is) at c.requires) in
     let t = c.self.invariant.1.count in let l = m.there in omega arith
 
 pub add_path-requires-clause-shape : goal.add_path-requires-clause-shape
 add_path-requires-clause-shape c =
-    let i : Intersection = record { grid = c.self.inside.ground.grid; times = c.self.inside.ground.times; lanes = c.self.inside.lanes.items; policies = c.self.inside.policies.items } in
+    let i : Intersection = record { version = c.self.inside.version; grid = c.self.inside.ground.grid; times = c.self.inside.ground.times; lanes = c.self.inside.lanes.items; policies = c.self.inside.policies.items } in
     let m : IsMove i c.args.lane c.args.turn c.args.shape.now = IsMove-tests i c.args.lane c.args.turn c.args.shape.now (rw (← c.self.view_is) at c.requires) in
     m.shape
 
 pub add_path-requires-clause-none : goal.add_path-requires-clause-none
 add_path-requires-clause-none c =
-    let i : Intersection = record { grid = c.self.inside.ground.grid; times = c.self.inside.ground.times; lanes = c.self.inside.lanes.items; policies = c.self.inside.policies.items } in
+    let i : Intersection = record { version = c.self.inside.version; grid = c.self.inside.ground.grid; times = c.self.inside.ground.times; lanes = c.self.inside.lanes.items; policies = c.self.inside.policies.items } in
     let m : IsMove i c.args.lane c.args.turn c.args.shape.now = IsMove-tests i c.args.lane c.args.turn c.args.shape.now (rw (← c.self.view_is) at c.requires) in
     path_read i c.args.lane c.args.turn c.index_mut-paths.result.now m.there c.index_mut-paths.ensures.value ∙ m.free

@@ -8,26 +8,26 @@ use Rattle.aim_layout.proofs.builders.Builder.put_phase.Goals as goal
 
 pub overflow_sub-count : goal.overflow_sub-count
 overflow_sub-count c =
-    let i : Intersection = record { grid = c.self.inside.ground.grid; times = c.self.inside.ground.times; lanes = c.self.inside.lanes.items; policies = c.self.inside.policies.items } in
+    let i : Intersection = record { version = c.self.inside.version; grid = c.self.inside.ground.grid; times = c.self.inside.ground.times; lanes = c.self.inside.lanes.items; policies = c.self.inside.policies.items } in
     let some : 0 < length i.policies = phase_there i c.args.phase (rw (← c.self.view_is) at c.requires) in
     omega arith
 
 pub index_mut-last-requires : goal.index_mut-last-requires
 index_mut-last-requires c =
-    let i : Intersection = record { grid = c.self.inside.ground.grid; times = c.self.inside.ground.times; lanes = c.self.inside.lanes.items; policies = c.self.inside.policies.items } in
+    let i : Intersection = record { version = c.self.inside.version; grid = c.self.inside.ground.grid; times = c.self.inside.ground.times; lanes = c.self.inside.lanes.items; policies = c.self.inside.policies.items } in
     let some : 0 < length i.policies = phase_there i c.args.phase (rw (← c.self.view_is) at c.requires) in
     omega arith
 
 pub add-requires : goal.add-requires
 add-requires c =
-    let i : Intersection = record { grid = c.self.inside.ground.grid; times = c.self.inside.ground.times; lanes = c.self.inside.lanes.items; policies = c.self.inside.policies.items } in
+    let i : Intersection = record { version = c.self.inside.version; grid = c.self.inside.ground.grid; times = c.self.inside.ground.times; lanes = c.self.inside.lanes.items; policies = c.self.inside.policies.items } in
     let count : c.len-count.result ≡ length i.policies = omega arith in
     let last = phase_last i c.args.phase c.len-count.result c.index_mut-last.result.now (rw (← c.self.view_is) at c.requires) count c.index_mut-last.ensures.value in
     last.1.room
 
 pub returns : goal.returns
 returns c =
-    let i : Intersection = record { grid = c.self.inside.ground.grid; times = c.self.inside.ground.times; lanes = c.self.inside.lanes.items; policies = c.self.inside.policies.items } in
+    let i : Intersection = record { version = c.self.inside.version; grid = c.self.inside.ground.grid; times = c.self.inside.ground.times; lanes = c.self.inside.lanes.items; policies = c.self.inside.policies.items } in
     let count : c.len-count.result ≡ length i.policies = omega arith in
     let p = c.index_mut-last.result.now in
     let last = phase_last i c.args.phase c.len-count.result p (rw (← c.self.view_is) at c.requires) count c.index_mut-last.ensures.value in
@@ -35,7 +35,7 @@ returns c =
 
 pub invariant_of-self : goal.invariant_of-self
 invariant_of-self c =
-    let i : Intersection = record { grid = c.self.inside.ground.grid; times = c.self.inside.ground.times; lanes = c.self.inside.lanes.items; policies = c.self.inside.policies.items } in
+    let i : Intersection = record { version = c.self.inside.version; grid = c.self.inside.ground.grid; times = c.self.inside.ground.times; lanes = c.self.inside.lanes.items; policies = c.self.inside.policies.items } in
     let count : c.len-count.result ≡ length i.policies = omega arith in
     let p = c.index_mut-last.result.now in
     let last = phase_last i c.args.phase c.len-count.result p (rw (← c.self.view_is) at c.requires) count c.index_mut-last.ensures.value in

@@ -17,7 +17,7 @@ answer i a b x y false h k few some none = sym (share_tile-none i a b x y h k fe
 
 pub returns : goal.returns
 returns c =
-    let i : Intersection = record { grid = c.self.inside.ground.grid; times = c.self.inside.ground.times; lanes = c.self.inside.lanes.items; policies = c.self.inside.policies.items } in
+    let i : Intersection = record { version = c.self.inside.version; grid = c.self.inside.ground.grid; times = c.self.inside.ground.times; lanes = c.self.inside.lanes.items; policies = c.self.inside.policies.items } in
     let t = c.self.invariant.1 in
     let tiles = c.self.inside.tiles.items in
     let count : length c.args.self.now.lanes ≡ length i.lanes = sym (ap (λ i. length i.lanes) c.self.view_is) in

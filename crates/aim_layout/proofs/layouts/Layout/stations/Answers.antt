@@ -6,13 +6,13 @@ use Rattle.aim_layout.proofs.layouts.Layout.stations.Goals as goal
 
 pub returns-then-lane-len-clause-some : goal.returns-then-lane-len-clause-some
 returns-then-lane-len-clause-some c =
-    let i : Intersection = record { grid = c.self.inside.ground.grid; times = c.self.inside.ground.times; lanes = c.self.inside.lanes.items; policies = c.self.inside.policies.items } in
+    let i : Intersection = record { version = c.self.inside.version; grid = c.self.inside.ground.grid; times = c.self.inside.ground.times; lanes = c.self.inside.lanes.items; policies = c.self.inside.policies.items } in
     let e : offered c.stations.result.now ≡ path i c.args.lane c.args.turn = c.stations.ensures ∙ path_read i c.args.lane c.args.turn c.index.result.now (omega arith) c.index.ensures in
     stations_some i c.args.lane c.args.turn c.stations.result.now c.self.invariant.0.sound e
 
 pub returns-then-lane-len-clause-most : goal.returns-then-lane-len-clause-most
 returns-then-lane-len-clause-most c =
-    let i : Intersection = record { grid = c.self.inside.ground.grid; times = c.self.inside.ground.times; lanes = c.self.inside.lanes.items; policies = c.self.inside.policies.items } in
+    let i : Intersection = record { version = c.self.inside.version; grid = c.self.inside.ground.grid; times = c.self.inside.ground.times; lanes = c.self.inside.lanes.items; policies = c.self.inside.policies.items } in
     let e : offered c.stations.result.now ≡ path i c.args.lane c.args.turn = c.stations.ensures ∙ path_read i c.args.lane c.args.turn c.index.result.now (omega arith) c.index.ensures in
     stations_most i c.args.lane c.args.turn c.stations.result.now c.self.invariant.0.sound e
 
@@ -23,5 +23,5 @@ returns-else-lane-len-clause-stations c =
 
 pub returns-then-lane-len-clause-stations : goal.returns-then-lane-len-clause-stations
 returns-then-lane-len-clause-stations c =
-    let i : Intersection = record { grid = c.self.inside.ground.grid; times = c.self.inside.ground.times; lanes = c.self.inside.lanes.items; policies = c.self.inside.policies.items } in
+    let i : Intersection = record { version = c.self.inside.version; grid = c.self.inside.ground.grid; times = c.self.inside.ground.times; lanes = c.self.inside.lanes.items; policies = c.self.inside.policies.items } in
     rw (← c.self.view_is) (c.stations.ensures ∙ path_read i c.args.lane c.args.turn c.index.result.now (omega arith) c.index.ensures)

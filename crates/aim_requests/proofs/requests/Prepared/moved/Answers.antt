@@ -12,7 +12,7 @@ use Rattle.aim_requests.proofs.ShapeLemmas.{IsMove, first_may, second_may, moved
 use Rattle.aim_requests.proofs.requests.Prepared.moved.Goals as goal
 
 -- what the function is called with, and the times of its layout
-is_move : (i : Intersection) (r : Request) (from to : ℕ) (times : Times) (o : Option Params) → times ≡ i.times → IsTimes times → IsPreparedFor i r → AsksAnew r from to o →
+is_move : (i : Intersection) (r : Request) (from to : ℕ) (times : Times) (o : Option Params) → times ≡ i.times → IsTimes times → IsPreparedFor i r → AsksAnew i r from to o →
     i.times.edge ≤ from → i.times.edge ≤ to → to ≤ LATEST_MOMENT → IsMove i r from to times.edge o
 is_move i r from to times o same valid prepared asks a b last = record {
   times = rw same at valid;

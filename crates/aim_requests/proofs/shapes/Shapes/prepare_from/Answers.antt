@@ -5,10 +5,10 @@ use Rattle.aim_requests.specs.Requests.{Request, prepared_params}
 use Rattle.aim_requests.specs.Shapes.{AsksAnew, IsAnew}
 use Rattle.aim_requests.proofs.shapes.Shapes.prepare_from.Goals as goal
 
-asks_anew : (i : Intersection) (r s : Request) (from : ℕ) (p : Params) (o : Option Params) → IsAnew i s from p → r ≡ s → o ≡ Some p → AsksAnew r from p.arrive o
+asks_anew : (i : Intersection) (r s : Request) (from : ℕ) (p : Params) (o : Option Params) → IsAnew i s from p → r ≡ s → o ≡ Some p → AsksAnew i r from p.arrive o
 asks_anew i r s from p o a same asked =
     let k = a.known in
-    (k.0, ap prepared_params same ∙ k.1, k.2, p.latest, asked ∙ ap Some k.3)
+    (k.0, ap prepared_params same ∙ k.1, k.2, p.latest, asked ∙ ap Some k.3, a.window)
 
 pub moved_from-requires-clause-asks : goal.moved_from-requires-clause-asks
 moved_from-requires-clause-asks c =

@@ -15,4 +15,4 @@ no_vehicles _ other = refl
 pub returns-in_default : goal.returns-in_default
 returns-in_default c before st =
     let l = c.args.line.now in
-    c.more.ensures before l st.version (record { version = no_version l c.in_default.not-Version; vehicles = no_vehicles l c.in_default.not-Vehicles }) (c.next.ensures before st.place)
+    c.more.ensures before l st.version (record { version = no_version l c.in_default.not-Version; vehicles = no_vehicles l c.in_default.not-Vehicles }) (c.next.ensures before st.version st.place)

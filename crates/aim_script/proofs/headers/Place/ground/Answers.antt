@@ -1,7 +1,7 @@
 use Rattle.aim_script.proofs.headers.Place.ground.Goals as goal
 
 pub returns-in-Times : goal.returns-in-Times
-returns-in-Times c before st = rw c.in-Times.is (c.times.ensures.five before c.in-Times.times c.times_of.ensures st)
+returns-in-Times c before version st = rw c.in-Times.is (c.times.ensures.five before c.in-Times.times c.times_of.ensures st)
 
 pub returns-in-Times6 : goal.returns-in-Times6
-returns-in-Times6 c before st = rw c.in-Times6.is (c.times-in-Times6.ensures.six before c.in-Times6.times c.times_of_six.ensures st)
+returns-in-Times6 c before version st = rw c.in-Times6.is (c.times-in-Times6.ensures.six before c.in-Times6.times c.times_of_six.ensures st)
