@@ -27,8 +27,8 @@ def test_whole_scripts(command, output):
 
 def test_lines_between(command):
     """Lines at fault before and behind each line of a script: each is answered, and the other answers stay."""
-    between = [(b"nothing", b"unknown"), (b"", b"words"), (b"aim 9", None), (b"x" * 401, b"long"), (b"y" * 300_000, b"long"),
-               (b"begin", None), (b"0 0 request 1", b"words"), (b"stop 0 0", b"words")]
+    between = [(b"nothing", b"unknown"), (b"", b"unknown"), (b"aim 9", None), (b"x" * 401, b"long"), (b"y" * 300_000, b"long"),
+               (b"begin", None), (b"0 0 request 1", b"words"), (b"operator 0 stop 0", b"words")]
     lines, script, wanted = SESSION.splitlines(), [], ANSWERED.splitlines()
     answers = iter(wanted)
     text = []
@@ -37,7 +37,7 @@ def test_lines_between(command):
         script += [bad] if kind else []
         text += [b"bad line %d %s" % (len(script), kind)] if kind else []
         script.append(line)
-        if re.match(rb"(switch|stop|end|\d)", line):
+        if re.match(rb"(operator|end|\d)", line):
             text.append(next(answers))
     assert command.run("session", script=b"".join(line + b"\n" for line in script)) == (0, b"".join(line + b"\n" for line in text))
 
@@ -72,7 +72,7 @@ def test_the_end_of_the_input(command, checks):
 def test_answers_come_at_once(command, checks):
     """The answer to each line is awaited before the next is given, also of one at fault, and `end` ends it with the input open."""
     run = command.start("session", stderr=subprocess.DEVNULL)
-    asked = [(b"nothing\n", b"bad line 1 unknown\n"), (HEAD + b"stop\n", b"bad line %d words\n" % (HEAD.count(b"\n") + 2)),
+    asked = [(b"nothing\n", b"bad line 1 unknown\n"), (HEAD + b"operator 0\n", b"bad line %d words\n" % (HEAD.count(b"\n") + 2)),
              (FIRST[len(HEAD):].splitlines(True)[0], (EXAMPLES / "first.out").read_bytes().splitlines(True)[0]), (b"end\n", b"end 1\n")]
     for line, wanted in asked:
         run.stdin.write(line)
@@ -96,7 +96,7 @@ def test_more_lines_than_a_script_has(command):
 def test_more_orders_than_there_is_room_for(command):
     """Each further one is answered so, and vehicles are answered as before."""
     room = 262_144
-    ran = command.run("session", script=HEAD + b"stop 0\n" * (room + 2) + b"0 0 done 1 7\nend\n")
+    ran = command.run("session", script=HEAD + b"operator 0 stop\n" * (room + 2) + b"0 0 done 1 7\nend\n")
     lines = ran.output.splitlines()
     assert (ran.status, len(lines), lines[room:-2]) == (0, room + 4, [b"limit orders"] * 2)
     assert lines[-2].startswith(b"%d 0 0 done 1 7 -> " % room) and lines[-1] == b"end %d" % (room + 1)

@@ -162,6 +162,7 @@ fn status_of(decision: Decision) -> u8
 /// for one. A line that isn't taken is answered with what is wrong, changes nothing, and the session goes on. It ends with
 /// `end`, or with the input. The status is 0 where `end` was taken, 3 where the input ended without it, 4 where the source
 /// fails, 5 where the sink fails, 6 for a limit, and 7 where memory runs out.
+#[inline(never)]
 pub fn session<S: Source, K: Sink>(alloc: Global, source: &mut S, sink: &mut K) -> u8
     ensures { HoldsSession by_words (source.new ≡ source.old) (K.kept_back sink.new ≡ []) (S.last_read source.new)
         (record { left = S.left source.old; source_faults = S.faults source.old; held = K.held sink.old; sink_faults = K.faults sink.old })
