@@ -35,7 +35,7 @@ follows : (ls : List Line) (l : Line) (p : Place) (b : Bool) → p ≡ place_aft
 follows ls l p b at is = is (last_of ls) ∙ ap (λ q. belongs q (last_of ls) l) at
 
 pub out_of_place : (ls : List Line) (l : Line) (p : Place) (b : Bool) → p ≡ place_after (last_of ls) → ((before : Option Line) → b ≡ belongs p before l) → b ≡ false → not b ≡ is_out_of_order ls l
-out_of_place ls l p b at is false_is = ap not false_is ∙ ap (λ m. not m || lacks_plan ls l) (sym false_is ∙ follows ls l p b at is)
+out_of_place ls l p b at is false_is = ap not false_is ∙ ap (λ m. not m || (lacks_plan ls l || is_of_later ls l)) (sym false_is ∙ follows ls l p b at is)
 
-pub in_place : (ls : List Line) (l : Line) (p : Place) (b lacks : Bool) → p ≡ place_after (last_of ls) → ((before : Option Line) → b ≡ belongs p before l) → b ≡ true → lacks ≡ lacks_plan ls l → lacks ≡ is_out_of_order ls l
-in_place ls l p b lacks at is true_is e = e ∙ ap (λ m. not m || lacks_plan ls l) (sym true_is ∙ follows ls l p b at is)
+pub in_place : (ls : List Line) (l : Line) (p : Place) (b lacks : Bool) → p ≡ place_after (last_of ls) → ((before : Option Line) → b ≡ belongs p before l) → b ≡ true → lacks ≡ (lacks_plan ls l || is_of_later ls l) → lacks ≡ is_out_of_order ls l
+in_place ls l p b lacks at is true_is e = e ∙ ap (λ m. not m || (lacks_plan ls l || is_of_later ls l)) (sym true_is ∙ follows ls l p b at is)

@@ -5,5 +5,6 @@ pub mod UnitedRows
 pub mod Greens
 pub mod Instants
 pub mod Windows
+mod Lulls
 pub mod Histories
 mod Pushes

@@ -37,6 +37,7 @@ Says k reply.EmergencyStop = Unit {0}
 Says k (reply.Stale most) = Unit {0}
 Says k (reply.Switched from) = Unit {0}
 Says k reply.Stopped = Unit {0}
+Says k reply.Quieted = Unit {0}
 
 says_if : (k : Known) (b : Bool) (r s : Reply) → Says k r → Says k s → Says k (if b then r else s)
 says_if k true r s x y = x
