@@ -331,7 +331,7 @@ IsValid-finish i v h =
       whole = λ k q e. all_whole i k q v p.1 e;
     }
 
-pub IsSound-bare : (s : Site) (lanes version : ℕ) → IsGrid s.grid → IsTimes s.times → 0 < lanes → lanes ≤ 16 → 0 < version → version ≤ 3 → IsSound (bare s lanes version)
+pub IsSound-bare : (s : Site) (lanes version : ℕ) → IsGrid s.grid → IsTimes s.times → 0 < lanes → lanes ≤ 16 → 0 < version → version ≤ 4 → IsSound (bare s lanes version)
 IsSound-bare s lanes version g t a b some most =
     let count = length-replicate lanes no_paths in
     record {

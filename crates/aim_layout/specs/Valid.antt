@@ -41,7 +41,7 @@ pub record IsPolicy (i : Intersection) (p : Policy) : Type 0 where
 -- nothing that was added so far is refused
 pub record IsSound (i : Intersection) : Type 0 where
   pub some_version : 0 < i.version
-  pub version : i.version ≤ 3
+  pub version : i.version ≤ 4
   pub grid : IsGrid i.grid
   pub times : IsTimes i.times
   pub some_lanes : 0 < length i.lanes

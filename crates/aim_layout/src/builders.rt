@@ -74,7 +74,7 @@ impl Builder {
         version: u8,
     ) -> Result<Builder, LayoutFault>
         requires some_version { 0 < version }
-        requires version { version ≤ 3 }
+        requires version { version ≤ 4 }
         ensures lane { (result ≡ Err LayoutFault.Lane) ↔ IsTrue (is_outside lanes 16) }
         ensures memory { IfErr result (λ e. (e ≡ LayoutFault.Lane) ⊎ (e ≡ LayoutFault.NoMemory)) }
         ensures bare { IfOk result (λ b. b ≡ bare ground lanes version) }
@@ -337,7 +337,7 @@ fn make(alloc: Global, ground: Ground, lanes: u32, version: u8) -> Result<Builde
     requires some { 0 < lanes }
     requires most { lanes ≤ 16 }
     requires some_version { 0 < version }
-    requires version { version ≤ 3 }
+    requires version { version ≤ 4 }
     ensures { IfOk result (λ b. b ≡ bare ground lanes version) }
 {
     ground.has_ranges();
