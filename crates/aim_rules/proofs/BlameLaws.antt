@@ -25,6 +25,7 @@ use Rattle.aim_rules.specs.Blame.{IsClaimedBy, IsHeldBy, IsYielded, Yielded, cel
 use Rattle.aim_rules.specs.Windows.{IsBlockedFor}
 use Rattle.aim_rules.specs.Kept.{kept}
 use Rattle.aim_rules.specs.Timeline.{change_with}
+use Rattle.aim_rules.specs.Quiets.{quiet_with}
 use Rattle.aim_rules.specs.Claims.{green, green_by, is_claimed}
 use Rattle.aim_rules.specs.History.{Fresh, fresh, given_up, is_confirm, is_fresh, is_fresh_seq, message_of, now_of, params_of}
 use Rattle.aim_rules.specs.Legal.{IsAnswered, IsLegal}

@@ -30,15 +30,15 @@ use Rattle.aim_rules.proofs.TakenLaws.{last_legal}
 -- what passes one test of some steps passes another that each of them passes
 any_more : (a n : ℕ) (p q : ℕ → Bool) → ((s : ℕ) → a ≤ s → s < a + n → p s ≡ true → q s ≡ true) → list_any p (range_with_len a n) ≡ true → list_any q (range_with_len a n) ≡ true
 any_more a zero p q more h = h
-any_more a (suc n) p q more h = go (p a) refl h
+any_more a (suc n) p q more h = go (p a) refl h (any_more (a + 1) n p q (λ s l m. more s (omega arith) (omega arith)))
   where
-    go : (b : Bool) → p a ≡ b → list_any p (range_with_len a (suc n)) ≡ true → list_any q (range_with_len a (suc n)) ≡ true
-    go true e h = rw (more a (omega arith) (omega arith) e) refl
-    go false e h = or_second (q a) (list_any q (range_with_len (a + 1) n)) (any_more (a + 1) n p q (λ s l m. more s (omega arith) (omega arith)) (rw e at h))
-      where
-        or_second : (x y : Bool) → y ≡ true → (x || y) ≡ true
-        or_second true y e = refl
-        or_second false y e = e
+    or_second : (x y : Bool) → y ≡ true → (x || y) ≡ true
+    or_second true y e = refl
+    or_second false y e = e
+
+    go : (b : Bool) → p a ≡ b → list_any p (range_with_len a (suc n)) ≡ true → (list_any p (range_with_len (a + 1) n) ≡ true → list_any q (range_with_len (a + 1) n) ≡ true) → list_any q (range_with_len a (suc n)) ≡ true
+    go true e h rest = rw (more a (omega arith) (omega arith) e) refl
+    go false e h rest = or_second (q a) (list_any q (range_with_len (a + 1) n)) (rest (rw e at h))
 
 -- a lane that is quiet in more steps claims no further cell
 claimed_by-less : (i : Intersection) (f g : ℕ → InForce) (q r : ℕ → ℕ → Bool) (lane : ℕ) (c : Cell) → ((s : ℕ) → s ≤ c.step → c.step ≤ s + i.times.clearance → f s ≡ g s) → ((s : ℕ) → r lane s ≡ true → q lane s ≡ true) →
