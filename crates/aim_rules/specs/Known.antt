@@ -41,8 +41,8 @@ is_stopped h = list_any (λ e. is_stop e.act) h
 
 -- What is known at a time for the answer to a vehicle: the place that the answer gets, the time, whether a Stop stands,
 -- the vehicle's last fresh message with its answer, its standing next and the reservation that it holds; and, of all
--- vehicles, the policy of each step, in which steps each lane is quiet, each lane's distance, the lanes in which others' emergencies come, and who else has
--- taken a cell.
+-- vehicles, the policy of each step, in which steps each lane is quiet, each lane's distance, the lanes in which others'
+-- emergencies come, and who else has taken a cell.
 pub record Known : Type 0 where
   pub place : ℕ
   pub now : ℕ
