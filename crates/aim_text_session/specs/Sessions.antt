@@ -35,10 +35,10 @@ reads_text version bytes = if nat_lt 400 (length bytes) then Err kind.Long else 
 abbrev pub judged : List Line → List ℕ → Judgement
 judged before bytes = of_read before (reads_text (version_after before) bytes)
 
--- the line goes on behind these lines, and the session stands for it, too; the journal of its lines gets the entry that is given, or stays
-pub record IsTaken (before : List Line) (bytes : List ℕ) (new : Standing) (made : Option Answered) : Type 0 where
+-- the line that was judged so goes on behind these lines, and the session stands for it, too; the journal of its lines gets the entry that is given, or stays
+pub record IsTaken (before : List Line) (j : Judgement) (new : Standing) (made : Option Answered) : Type 0 where
   pub line : Line
-  pub goes : judged before bytes ≡ goes_on line
+  pub goes : j ≡ goes_on line
   pub stands : Stands (before ++ line ∷ []) new
   pub makes : Makes (journal_so_far before) (journal_so_far (before ++ line ∷ [])) made
 
@@ -47,16 +47,20 @@ abbrev pub HasNoRoom : Line → Standing → Type 0
 HasNoRoom l (InHeader lines) = ⊥
 HasNoRoom l (InBody p) = IsFull l p.server
 
--- What further bytes come to: a line that is taken, by what a script decides of it behind the lines so far; or one that is not, and
--- the session is as it was. Memory runs out before the first entry alone.
+-- What a further line comes to, of which a script decides that behind the lines so far: it is taken; or it is not, and the session
+-- is as it was. Memory runs out before the first entry alone.
+abbrev pub ComesBy : List Line → Judgement → Standing → Standing → LineOutcome → Type 0
+ComesBy before j old new outcome.Taken = IsTaken before j new None
+ComesBy before j old new (outcome.Made a) = IsTaken before j new (Some a)
+ComesBy before j old new (outcome.Bad why) = (j ≡ decides (decision.Bad (number_after before) why)) × (new ≡ old)
+ComesBy before j old new (outcome.Limit which) = (j ≡ decides (decision.Limit which)) × (new ≡ old)
+ComesBy before j old new outcome.Full = (l : Line) × (j ≡ goes_on l) × HasNoRoom l old × (new ≡ old)
+ComesBy before j old new outcome.NoMemory = (journal_so_far before ≡ []) × (new ≡ old)
+ComesBy before j old new outcome.Ended = (is_end (last_of before) ≡ true) × (new ≡ old)
+
+-- what further bytes come to that are words
 abbrev pub Comes : List Line → List ℕ → Standing → Standing → LineOutcome → Type 0
-Comes before bytes old new outcome.Taken = IsTaken before bytes new None
-Comes before bytes old new (outcome.Made a) = IsTaken before bytes new (Some a)
-Comes before bytes old new (outcome.Bad why) = (judged before bytes ≡ decides (decision.Bad (number_after before) why)) × (new ≡ old)
-Comes before bytes old new (outcome.Limit which) = (judged before bytes ≡ decides (decision.Limit which)) × (new ≡ old)
-Comes before bytes old new outcome.Full = (l : Line) × (judged before bytes ≡ goes_on l) × HasNoRoom l old × (new ≡ old)
-Comes before bytes old new outcome.NoMemory = (journal_so_far before ≡ []) × (new ≡ old)
-Comes before bytes old new outcome.Ended = (is_end (last_of before) ≡ true) × (new ≡ old)
+Comes before bytes = ComesBy before (judged before bytes)
 
 -- what a session that has begun says of a line
 abbrev pub outcome_of : Result (Option Answered) Untaken → LineOutcome
