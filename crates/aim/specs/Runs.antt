@@ -4,8 +4,9 @@ use Rattle.std.specs.Io.KnownBytes.{Appends, IsAtEnd}
 use Rattle.aim_io.specs.Causes.{Rose}
 use Rattle.aim_io.specs.Known.{AppendsFront}
 use Rattle.aim_script_reading.specs.Commands.{Completes, Ends as EndsCommand, IsOfScript, Puts, Reports, Streams}
-use Rattle.aim_script.specs.Spellings.{Spelled, by_words}
-use Rattle.aim_replay_command.specs.Replays.{LastNeededBy, ReplaysBy, StopsShortBy, TakesAtMost, WritesFront}
+use Rattle.aim_script_reading.specs.Short.{LastNeededBy, TakesAtMost}
+use Rattle.aim_script.specs.Spellings.{Spelled, by_words, rules_of}
+use Rattle.aim_replay_command.specs.Replays.{ReplaysBy, StopsShortBy, WritesFront}
 use Rattle.aim_replay_command.specs.Spelling.{by_json}
 use Rattle.aim_replay_command.specs.Texts.{status_by, text_by}
 use Rattle.aim_session_command.specs.Commands.{HoldsSession}
@@ -39,8 +40,8 @@ pub record Prints (IsText : List ℕ → Type 0) (old new : Streams) (result : �
   pub statuses : (result ≡ 0) ⊎ ((result ≡ 5) ⊎ (result ≡ 7))
 
 -- What a replay does with a script in this spelling, with the chart of that step. With status 0, 3 or 6 the whole text of the source's bytes is written, and the
--- status is theirs; else a front of it, with 7 nothing but where reading takes memory. With status 4 no whole line that was read decides, and the lines of the
--- entries of all of them are written and handed on. Whatever the status, no more than one byte past the greatest input is taken, and nothing is read behind bytes
+-- status is theirs; else a front of it, with 7 nothing but where reading takes memory. With status 4 what was read decides nothing, and the lines of the
+-- entries of all its whole lines are written and handed on. Whatever the status, no more than one byte past the greatest input is taken, and nothing is read behind bytes
 -- that decide: `unread` says that nothing was read, `settled` that the sink keeps nothing back, and `last` is what the last read gave.
 pub record Replays (w : Spelled) (asked : Option ℕ) (unread settled : Type 0) (last : Option ℕ) (old new : Streams) (result : ℕ) : Type 0 where
   pub whole : IsOfScript result → IfSome old.left (λ bytes. ReplaysBy w asked bytes old.held new.held result)
@@ -50,7 +51,7 @@ pub record Replays (w : Spelled) (asked : Option ℕ) (unread settled : Type 0) 
   pub short : result ≡ 4 → StopsShortBy w old.left new.left old.held new.held
   pub waited : result ≡ 4 → settled
   pub most : TakesAtMost 67108865 old.left new.left
-  pub needed : unread ⊎ LastNeededBy w old.left new.left last
+  pub needed : unread ⊎ LastNeededBy (rules_of w) old.left new.left last
   pub complete : IfSome old.left (λ bytes. Completes (status_by w) bytes old new result)
   pub ends : EndsCommand old new result
 

@@ -11,7 +11,7 @@ use Rattle.aim_script.specs.declared.decisions.Decision.{Decision}
 use Rattle.aim_script.specs.declared.decisions.Decision.TheVariants as decision
 use Rattle.aim_script.specs.Decided.{decision_words, printed, status_of}
 use Rattle.aim_script.specs.Said.{calls_of}
-use Rattle.aim_script.specs.Verdicts.{Verdict}
+use Rattle.aim_script.specs.Told.{Verdict}
 use Rattle.aim_drive_script.specs.declared.scripts.DriveScript.{DriveScript}
 use Rattle.aim_drive_script.specs.declared.scripts.Ending.{Ending}
 use Rattle.aim_drive_script.specs.declared.scripts.Ending.TheVariants as ending

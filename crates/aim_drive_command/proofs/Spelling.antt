@@ -23,7 +23,7 @@ use Rattle.aim_geometry.specs.Bounded.{find_map}
 use Rattle.aim_script.specs.declared.decisions.Decision.{Decision}
 use Rattle.aim_script.specs.declared.decisions.Decision.TheVariants as decision
 use Rattle.aim_script.specs.Said.{names_of, version_after, version_in}
-use Rattle.aim_script.specs.Verdicts.{Verdict}
+use Rattle.aim_script.specs.Told.{Verdict}
 use Rattle.aim_script.proofs.AppendLemmas.{find_map-one}
 use Rattle.aim_drive_script.specs.Kinds.{kind_of_fault, limit_of}
 use Rattle.aim_drive_script.specs.Scripts.{IsDrive}

@@ -101,7 +101,7 @@ not_over before h st = st.place.over
 -- a line that is taken, behind lines that are these
 pub taken_behind : (before lines items : List Line) (l : Line) → before ≡ lines → kind_of_fault before l ≡ None → limit_of before l ≡ None → items ≡ before ++ l ∷ [] → (of_read lines (Ok l) ≡ goes_on l) × (items ≡ lines ++ l ∷ [])
 taken_behind before lines items l same kind limit is =
-    (ap (λ ls. unless_bad drive_rules ls l (kind_of_fault ls l)) (sym same) ∙ ap (unless_bad drive_rules before l) kind ∙ ap (unless_limited l) limit, is ∙ ap (λ ls. ls ++ l ∷ []) same)
+    (ap (λ ls. unless_bad ls l (limit_of ls l) (kind_of_fault ls l)) (sym same) ∙ ap (unless_bad before l (limit_of before l)) kind ∙ ap (unless_limited l) limit, is ∙ ap (λ ls. ls ++ l ∷ []) same)
 
 read_as : (before : List Line) (bytes : List ℕ) (n : ℕ) (r : Result Line LineKind) → version_after before ≡ n → r ≡ line_at n bytes → judge before (LineOf bytes) ≡ of_read before r
 read_as before bytes n r version read = ap (λ v. of_read before (line_at v bytes)) version ∙ ap (of_read before) (sym read)

@@ -11,8 +11,7 @@ use Rattle.aim_script.specs.declared.decisions.Limit.{Limit}
 use Rattle.aim_script.specs.Order.{is_end}
 use Rattle.aim_script.specs.Said.{last_of, version_after}
 use Rattle.aim_script.specs.Spellings.{of_words, reads_words}
-use Rattle.aim_script.specs.Told.{decision_told, verdict_told}
-use Rattle.aim_script.specs.Verdicts.{Verdict}
+use Rattle.aim_script.specs.Told.{Verdict, decision_told, verdict_told}
 use Rattle.aim_drive_script.specs.Kinds.{kind_of_fault, limit_of}
 
 abbrev pub drive_rules : Rules Line Kind Limit

@@ -1,5 +1,5 @@
 -- What a reader does that reads pieces until what it holds decides, and what is answered then.
-use Rattle.std.proofs.Common.{◌≡◌, ◌≢◌, ◌⊎◌, ℕ, ◌+◌, ◌<◌, ◌≤◌, Bool, true, false, inl, inr, List, [], ◌∷◌, ◌++◌, length, take, drop, nat_lt, if◌then◌else◌, Some, None, Ok, Err, Result, IfOk, IfErr, OnErr, OnOk, IfSome, refl, sym, ap, ◌∙◌, subst, arith}
+use Rattle.std.proofs.Common.{◌≡◌, ◌≢◌, ◌⊎◌, ℕ, ◌+◌, ◌<◌, ◌≤◌, Bool, true, false, inl, inr, List, [], ◌∷◌, ◌++◌, length, take, drop, nat_lt, if◌then◌else◌, Some, None, Ok, Err, Result, IfSome, refl, sym, ap, ◌∙◌, subst, arith}
 use Rattle.std.proofs.lemmas.Bool.{lt-ltb}
 use Rattle.std.proofs.lemmas.List.{length-take, length-drop, append-nil, append_assoc, length-append, take_all}
 use Rattle.std.proofs.KnownBytes.{Keeps-refl, Keeps-trans, prepend_known-read}
@@ -13,7 +13,7 @@ use Rattle.aim_io.specs.declared.lines.Look.TheVariants as look
 use Rattle.aim_io.specs.Causes.{Rose}
 use Rattle.aim_io.specs.Lines.{IsOpen, ShowsNothing, ShowsFault, with_end}
 use Rattle.aim_io.specs.Look.{ShowsLine, SaysOf, ReadOn, FaultNext, ShowsNext, CanAnswer, Answered, behind_line, behind_all}
-use Rattle.aim_io.specs.Reader.{Reader, input, IsSound, KnowsEnd, Answers, taken_by, after_call}
+use Rattle.aim_io.specs.Reader.{Reader, input, Asks, Faulted, Gave, Gives, IsSound, KnowsEnd, Answers, after_call}
 use Rattle.aim_io.proofs.FillLemmas.{not_both}
 use Rattle.aim_io.proofs.InputLemmas.{begins_trans, needed_now, same_as_first, answers_line, answers_rest, answers_fault}
 
@@ -113,23 +113,6 @@ can_answer reader before after AtEnd (look.Line len) shows = shows
 can_answer reader before after AtEnd (look.Stop fault) shows = tt
 can_answer reader before after AtEnd look.Open shows = shows.0
 
--- what `advance` says of a call that answers no earlier fault
-pub record Advanced {S : Type 0} (left : S → Option (List ℕ)) (faults : S → ℕ) (old new : Reader) (before after : S) (result : Result Bool LineFault) : Type 0 where
-  pub step : KnowsEnd old (left before) → Answers old new (input old (left before)) (input new (left after)) result
-  pub knows : KnowsEnd old (left before) → KnowsEnd new (left after)
-  pub line : IfOk result (λ more. OnTrue more (IsOpen new.line))
-  pub taken : IfOk result (λ more. Consumes (input old (left before)) (input new (left after)) (taken_by new more))
-  pub behind : IfOk result (λ more. new ≡ after_call old new more)
-  pub end : IfOk result (λ more. OnFalse more (new.ended ≡ true))
-  pub going : IfOk result (λ more. OnTrue more (old.ended ≡ false))
-  pub last : IfOk result (λ more. new.ended ≡ true → OnTrue more (0 < length new.line) × (new.held ≡ []))
-  pub sound : IsSound new
-  pub fault : IfErr result (λ f. old.fault ≡ None → new ≡ record old { held = new.held; line = []; fault = Some f })
-  pub keeps : OnErr result (Keeps (input old (left before)) (input new (left after)))
-  pub shows : IfErr result (λ f. old.fault ≡ None → (f ≡ Read) ⊎ ShowsFault new.given new.place new.held f)
-  pub read : IfErr result (λ f. f ≡ Read → ShowsNothing new.given new.place new.held × (new.ended ≡ false) × Rose (faults before) (faults after))
-  pub asked : IfErr result (λ f. f ≡ Read → IsOpen old.held)
-
 -- what is gone is what was held before what is held now
 gone : (old now : Reader) (before left : Option (List ℕ)) (line rest : List ℕ) → Keeps before (input now left) → now.held ≡ line ++ rest
     → Consumes before (prepend_known rest left) line
@@ -147,21 +130,22 @@ behind_one old now len same size going =
     let behind : now.place + len + 1 ≡ old.place + length (with_end now.ended line) = omega (arith, place, all) in
     cc (given, behind, fault)
 
-advanced_line : {S : Type 0} (left : S → Option (List ℕ)) (faults : S → ℕ) (last : S → Option ℕ) (old now : Reader) (before after : S) (len : ℕ)
+gave_line : {S : Type 0} (left : S → Option (List ℕ)) (faults : S → ℕ) (last : S → Option ℕ) (old now : Reader) (before after : S) (len : ℕ) → old.fault ≡ None
     → ReadOn left faults last old now before after → IsSound now → ShowsLine now.given now.place now.held len → now.ended ≡ false
-    → Advanced left faults old (behind_line now len) before after (Ok true)
-advanced_line left faults last old now before after len on sound shows going =
+    → Gave old (behind_line now len) (left before) (left after) true
+gave_line left faults last old now before after len none on sound shows going =
     let line = take len now.held in
     let rest = drop (len + 1) now.held in
     let size : length line ≡ len = length-take len now.held ∙ omega (arith, shows.ends.fits) in
     let ended : now.ended ≡ old.ended = ap (λ (r : Reader). r.ended) on.same in
     let split : now.held ≡ (line ++ 10 ∷ []) ++ rest = shows.ends.split ∙ sym (append_assoc line (10 ∷ []) rest) in
     record {
+      no_fault = none;
       step = λ knows. answers_line old now _ (left after) len on.same on.keeps shows;
       knows = on.knows;
-      line = record { no_end = shows.ends.no_end; short = omega (arith, size, shows.short) };
+      is_open = record { no_end = shows.ends.no_end; short = omega (arith, size, shows.short) };
       taken = subst (λ b. Consumes (input old (left before)) (prepend_known rest (left after)) (with_end b line)) (sym going) (gone old now _ (left after) _ rest on.keeps split);
-      behind = behind_one old now len on.same size going;
+      after = behind_one old now len on.same size going;
       end = tt;
       going = sym ended ∙ going;
       last = λ over. not_both now.ended going over;
@@ -170,11 +154,6 @@ advanced_line left faults last old now before after len on sound shows going =
         read = omega (arith, sound.read, length-drop (len + 1) now.held, shows.ends.fits);
         ended = λ over. not_both now.ended going over;
       };
-      fault = tt;
-      keeps = tt;
-      shows = tt;
-      read = tt;
-      asked = tt;
     }
 
 on_true : (b : Bool) (P : Type 0) → P → OnTrue b P
@@ -213,19 +192,20 @@ behind_rest old now more test same =
     let behind : now.place + length now.held ≡ old.place + length (if more then now.held else []) = omega (arith, place, all) in
     cc (given, behind, fault)
 
-advanced_rest : {S : Type 0} (left : S → Option (List ℕ)) (faults : S → ℕ) (last : S → Option ℕ) (old now : Reader) (before after : S)
+gave_rest : {S : Type 0} (left : S → Option (List ℕ)) (faults : S → ℕ) (last : S → Option ℕ) (old now : Reader) (before after : S) → old.fault ≡ None
     → ReadOn left faults last old now before after → IsSound now → ShowsNothing now.given now.place now.held → (KnowsEnd old (left before) → IsAtEnd (left after))
-    → Advanced left faults old (behind_all now (nat_lt 0 (length now.held))) before after (Ok (nat_lt 0 (length now.held)))
-advanced_rest left faults last old now before after on sound shows at_end =
+    → Gave old (behind_all now (nat_lt 0 (length now.held))) (left before) (left after) (nat_lt 0 (length now.held))
+gave_rest left faults last old now before after none on sound shows at_end =
     let more = nat_lt 0 (length now.held) in
     let ended : now.ended ≡ old.ended = ap (λ (r : Reader). r.ended) on.same in
     let split : now.held ≡ (if more then now.held else []) ++ [] = sym (append-nil (if more then now.held else []) ∙ rest_taken now.held) in
     record {
+      no_fault = none;
       step = λ knows. answers_rest old now _ (left after) more on.same on.keeps shows (at_end knows) refl;
       knows = λ knows _. at_end knows;
-      line = on_true more _ shows.is_open;
+      is_open = on_true more _ shows.is_open;
       taken = gone old now _ (left after) _ [] on.keeps split;
-      behind = behind_rest old now more refl on.same;
+      after = behind_rest old now more refl on.same;
       end = on_false more _ refl;
       going = subst (λ b. OnTrue more (b ≡ false)) ended (rest_going now.ended now.held sound.ended);
       last = λ _. (rest_some now.held, refl);
@@ -234,11 +214,6 @@ advanced_rest left faults last old now before after on sound shows at_end =
         read = omega (arith, shows.within);
         ended = λ _. refl;
       };
-      fault = tt;
-      keeps = tt;
-      shows = tt;
-      read = tt;
-      asked = tt;
     }
 
 answers_read : (old now new : Reader) (before left : Option (List ℕ)) → Keeps before (input now left) → new.held ≡ now.held
@@ -264,60 +239,101 @@ fault_shows now was is (Long number) next = inr next
 fault_shows now was is Bytes next = inr next
 fault_shows now was is Lines next = inr next
 
+faulted : {S : Type 0} (left : S → Option (List ℕ)) (faults : S → ℕ) (last : S → Option ℕ) (old now : Reader) (before after : S) (fault : LineFault)
+    → ReadOn left faults last old now before after → IsSound now → FaultNext now (faults before) (faults after) fault
+    → Faulted old (failed now fault) (left before) (left after) fault
+faulted left faults last old now before after fault on sound next = record {
+  after = ap (λ (r : Reader). failed r fault) on.same;
+  keeps = on.keeps;
+  shows = fault_shows now (faults before) (faults after) fault next;
+  read = λ is. (let shown = subst (λ f. FaultNext now (faults before) (faults after) f) is next in (shown.0, shown.1));
+  sound = record { few = sound.few; read = sound.read; ended = sound.ended };
+  knows = on.knows;
+  step = λ knows. fault_step old now _ (left after) (faults before) (faults after) fault on.same on.keeps next;
+}
+
+-- the call that read on and then answered what was held
+pub gives : {S : Type 0} (left : S → Option (List ℕ)) (faults : S → ℕ) (last : S → Option ℕ) (old now new : Reader) (before after : S) (shown : Look)
+    (result : Result Bool LineFault) → old.fault ≡ None → ReadOn left faults last old now before after → IsSound now
+    → ShowsNext now (faults before) (faults after) (KnowsEnd old (left before) → IsAtEnd (left after)) shown → Answered now new shown result
+    → Gives old new (left before) (left after) result
+gives left faults last old now new before after (look.Line len) result none on sound shows answered =
+    let going : now.ended ≡ false = sym (ap (λ (r : Reader). r.ended) answered.1) ∙ answered.2 in
+    subst (λ r. Gives old new (left before) (left after) r) (sym answered.0)
+    (subst (λ n. Gave old n (left before) (left after) true) (sym answered.1) (gave_line left faults last old now before after len none on sound shows going))
+gives left faults last old now new before after (look.Stop fault) result none on sound shows answered =
+    subst (λ r. Gives old new (left before) (left after) r) (sym answered.0)
+    (
+      λ _. subst (λ n. Faulted old n (left before) (left after) fault) (sym answered.1) (faulted left faults last old now before after fault on sound shows),
+      subst (λ first. IfSome first (λ first. (fault ≡ first) × (new ≡ old))) (sym none) tt,
+    )
+gives left faults last old now new before after look.Open result none on sound shows answered =
+    subst (λ r. Gives old new (left before) (left after) r) (sym answered.0)
+    (subst (λ n. Gave old n (left before) (left after) (nat_lt 0 (length now.held))) (sym answered.1)
+    (gave_rest left faults last old now before after none on sound shows.0 shows.1))
+
+lazy_on : {S : Type 0} (before after : S) (old now : List ℕ) → ((after ≡ before) × (now ≡ old)) ⊎ IsOpen old → (IsOpen old → ⊥) → after ≡ before
+lazy_on before after old now (inl none) closed = none.0
+lazy_on before after old now (inr is_open) closed = absurd (closed is_open)
+
 -- a source was asked, which failed, where what was held showed nothing
 open_before : {S : Type 0} (before after : S) (old now : List ℕ) → ((after ≡ before) × (now ≡ old)) ⊎ IsOpen old → IsOpen now → IsOpen old
 open_before before after old now (inl none) is_open = subst IsOpen none.1 is_open
 open_before before after old now (inr was_open) is_open = was_open
 
-advanced_fault : {S : Type 0} (left : S → Option (List ℕ)) (faults : S → ℕ) (last : S → Option ℕ) (old now : Reader) (before after : S) (fault : LineFault)
-    → ReadOn left faults last old now before after → IsSound now → FaultNext now (faults before) (faults after) fault
-    → Advanced left faults old (failed now fault) before after (Err fault)
-advanced_fault left faults last old now before after fault on sound next = record {
-  step = λ knows. fault_step old now _ (left after) (faults before) (faults after) fault on.same on.keeps next;
-  knows = on.knows;
-  line = tt;
-  taken = tt;
-  behind = tt;
-  end = tt;
-  going = tt;
-  last = tt;
-  sound = record { few = sound.few; read = sound.read; ended = sound.ended };
-  fault = λ _. ap (λ (r : Reader). failed r fault) on.same;
-  keeps = on.keeps;
-  shows = λ _. fault_shows now (faults before) (faults after) fault next;
-  read = λ is. subst (λ f. FaultNext now (faults before) (faults after) f) is next;
-  asked = λ is. open_before before after old.held now.held on.ahead (subst (λ f. FaultNext now (faults before) (faults after) f) is next).0.is_open;
-}
+-- it answers that the source failed only where that did
+read_failed : (now new : Reader) (was is : ℕ) (AtEnd : Type 0) (shown : Look) (result : Result Bool LineFault) → ShowsNext now was is AtEnd shown → Answered now new shown result → result ≡ Err Read
+    → IsOpen now.held × Rose was is
+read_failed now new was is AtEnd (look.Line len) result shows answered read = let no : ◌≡◌ {A = Result Bool LineFault} (Ok true) (Err Read) = sym answered.0 ∙ read in absurd (cc no)
+read_failed now new was is AtEnd (look.Stop fault) result shows answered read =
+    let both : ◌≡◌ {A = Result Bool LineFault} (Err fault) (Err Read) = sym answered.0 ∙ read in
+    let one : fault ≡ Read = cc both in
+    let shown = subst (λ f. FaultNext now was is f) one shows in
+    (shown.0.is_open, shown.2)
+read_failed now new was is AtEnd look.Open result shows answered read =
+    let no : ◌≡◌ {A = Result Bool LineFault} (Ok (nat_lt 0 (length now.held))) (Err Read) = sym answered.0 ∙ read in absurd (cc no)
 
--- the call that read on and then answered what was held
-pub advanced : {S : Type 0} (left : S → Option (List ℕ)) (faults : S → ℕ) (last : S → Option ℕ) (old now new : Reader) (before after : S) (shown : Look)
-    (result : Result Bool LineFault) → ReadOn left faults last old now before after → IsSound now
+-- when it read
+pub asks : {S : Type 0} (left : S → Option (List ℕ)) (faults : S → ℕ) (last : S → Option ℕ) (old now new : Reader) (before after : S) (shown : Look)
+    (result : Result Bool LineFault) → old.fault ≡ None → ReadOn left faults last old now before after
     → ShowsNext now (faults before) (faults after) (KnowsEnd old (left before) → IsAtEnd (left after)) shown → Answered now new shown result
-    → Advanced left faults old new before after result
-advanced left faults last old now new before after (look.Line len) result on sound shows answered =
-    let going : now.ended ≡ false = sym (ap (λ (r : Reader). r.ended) answered.1) ∙ answered.2 in
-    subst (λ r. Advanced left faults old new before after r) (sym answered.0)
-    (subst (λ n. Advanced left faults old n before after (Ok true)) (sym answered.1) (advanced_line left faults last old now before after len on sound shows going))
-advanced left faults last old now new before after (look.Stop fault) result on sound shows answered =
-    subst (λ r. Advanced left faults old new before after r) (sym answered.0)
-    (subst (λ n. Advanced left faults old n before after (Err fault)) (sym answered.1) (advanced_fault left faults last old now before after fault on sound shows))
-advanced left faults last old now new before after look.Open result on sound shows answered =
-    subst (λ r. Advanced left faults old new before after r) (sym answered.0)
-    (subst (λ n. Advanced left faults old n before after (Ok (nat_lt 0 (length now.held)))) (sym answered.1)
-    (advanced_rest left faults last old now before after on sound shows.0 shows.1))
-
-pub on_ok : (result : Result Bool LineFault) (P : Type 0) → P → OnOk result P
-on_ok (Ok more) P p = p
-on_ok (Err fault) P p = tt
-
-pub lazy_on : {S : Type 0} (before after : S) (old now : List ℕ) → ((after ≡ before) × (now ≡ old)) ⊎ IsOpen old → (IsOpen old → ⊥) → after ≡ before
-lazy_on before after old now (inl none) closed = none.0
-lazy_on before after old now (inr is_open) closed = absurd (closed is_open)
-
-pub read_told : (result : Result Bool LineFault) (P : Type 0) → IfErr result (λ f. f ≡ Read → P) → result ≡ Err Read → P
-read_told result P told is = subst (λ r. IfErr r (λ f. f ≡ Read → P)) is told refl
+    → Asks left faults last old before after (result ≡ Err Read)
+asks left faults last old now new before after shown result none on shows answered = record {
+  later = on.later;
+  lazy = lazy_on before after old.held now.held on.ahead;
+  needed = on.needed;
+  ended = on.quiet;
+  again = subst (λ first. IfSome first (λ _. after ≡ before)) (sym none) tt;
+  failed = λ read _.
+      let failed = read_failed now new (faults before) (faults after) _ shown result shows answered read in
+      (open_before before after old.held now.held on.ahead failed.0, failed.1);
+}
 
 -- an earlier fault stands
 pub has_fault : (old : Option LineFault) (fault : LineFault) → Some fault ≡ old → old ≢ None
 has_fault None fault is none = cc
 has_fault (Some first) fault is none = cc
+
+-- behind a fault it reads nothing
+pub asks_nothing : {S : Type 0} (left : S → Option (List ℕ)) (faults : S → ℕ) (last : S → Option ℕ) (old : Reader) (source : S) (fault : LineFault) (Failed : Type 0) → Some fault ≡ old.fault
+    → Asks left faults last old source source Failed
+asks_nothing left faults last old source fault Failed is = record {
+  later = omega arith;
+  lazy = λ _. refl;
+  needed = inl refl;
+  ended = λ _. refl;
+  again = subst (λ first. IfSome first (λ _. source ≡ source)) is refl;
+  failed = λ _ none. absurd (has_fault old.fault fault is none);
+}
+
+-- the same of an answer of another type
+pub asks_same : {S : Type 0} (left : S → Option (List ℕ)) (faults : S → ℕ) (last : S → Option ℕ) (old : Reader) (before after : S) (Failed Other : Type 0) → Asks left faults last old before after Failed → (Other → Failed)
+    → Asks left faults last old before after Other
+asks_same left faults last old before after Failed Other a same = record {
+  later = a.later;
+  lazy = a.lazy;
+  needed = a.needed;
+  ended = a.ended;
+  again = a.again;
+  failed = λ other. a.failed (same other);
+}

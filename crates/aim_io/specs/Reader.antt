@@ -6,6 +6,7 @@ use Rattle.std.specs.declared.option.Option.{Option}
 use Rattle.std.specs.Io.KnownBytes.{Consumes, IsAtEnd, Keeps, prepend_known}
 use Rattle.aim_io.specs.declared.lines.LineFault.{LineFault}
 use Rattle.aim_io.specs.declared.lines.LineFault.TheVariants.{Read, Long, Bytes, Lines}
+use Rattle.aim_io.specs.Causes.{Rose}
 use Rattle.aim_io.specs.Known.{WhereKnown}
 use Rattle.aim_io.specs.Lines.{LongLine, TooManyBytes, TooManyLines, Outcome, Line, Stop, outcomes, with_end, IsOpen, ShowsFault, ShowsNothing}
 
@@ -95,17 +96,35 @@ pub record Gave (old new : Reader) (left_old left_new : Option (List ℕ)) (more
   pub knows : KnowsEnd old left_old → KnowsEnd new left_new
   pub step : KnowsEnd old left_old → Answers old new (input old left_old) (input new left_new) (Ok more)
 
--- a call answered this fault for the first time
+-- a call answered this fault for the first time: it takes nothing, and stays
 pub record Faulted (old new : Reader) (left_old left_new : Option (List ℕ)) (fault : LineFault) : Type 0 where
   pub after : new ≡ record old { held = new.held; line = []; fault = Some fault }
   pub keeps : Keeps (input old left_old) (input new left_new)
   pub shows : (fault ≡ Read) ⊎ ShowsFault new.given new.place new.held fault
   pub read : fault ≡ Read → ShowsNothing new.given new.place new.held × (new.ended ≡ false)
+  pub sound : IsSound new
+  pub knows : KnowsEnd old left_old → KnowsEnd new left_new
   pub step : KnowsEnd old left_old → Answers old new (input old left_old) (input new left_new) (Err fault)
 
--- what a call that gives the next line answers, and how it leaves the reader once the line is no longer used
-abbrev pub GivesLine : Reader → Reader → Option (List ℕ) → Option (List ℕ) → Result (Option (Bor (List ℕ))) LineFault → Type 0
-GivesLine old new left_old left_new (Ok (Some line)) = (new.line ≡ line.now) × Gave old new left_old left_new true
-GivesLine old new left_old left_new (Ok None) = Gave old new left_old left_new false
-GivesLine old new left_old left_new (Err fault) =
+-- What a call that asks for the next line answers, by the reader and the bytes left before and after it: a line or none at
+-- the end, or a fault, which is answered again for ever.
+abbrev pub Gives : Reader → Reader → Option (List ℕ) → Option (List ℕ) → Result Bool LineFault → Type 0
+Gives old new left_old left_new (Ok more) = Gave old new left_old left_new more
+Gives old new left_old left_new (Err fault) =
     (old.fault ≡ None → Faulted old new left_old left_new fault) × IfSome old.fault (λ first. (fault ≡ first) × (new ≡ old))
+
+-- what a call that gives the next line itself answers, and how it leaves the reader once the line is no longer used
+abbrev pub GivesLine : Reader → Reader → Option (List ℕ) → Option (List ℕ) → Result (Option (Bor (List ℕ))) LineFault → Type 0
+GivesLine old new left_old left_new (Ok (Some line)) = (new.line ≡ line.now) × Gives old new left_old left_new (Ok true)
+GivesLine old new left_old left_new (Ok None) = Gives old new left_old left_new (Ok false)
+GivesLine old new left_old left_new (Err fault) = Gives old new left_old left_new (Err fault)
+
+-- When a call that asks for the next line reads, by the source before and after it: only where what was held leaves the
+-- answer open, never behind the end or a fault, and it answers that the source failed only where the source did.
+pub record Asks {S : Type 0} (left : S → Option (List ℕ)) (faults : S → ℕ) (last_read : S → Option ℕ) (old : Reader) (before after : S) (Failed : Type 0) : Type 0 where
+  pub later : faults before ≤ faults after
+  pub lazy : (IsOpen old.held → ⊥) → after ≡ before
+  pub needed : (after ≡ before) ⊎ Needed old (left before) (left after) (last_read after)
+  pub ended : old.ended ≡ true → after ≡ before
+  pub again : IfSome old.fault (λ _. after ≡ before)
+  pub failed : Failed → old.fault ≡ None → IsOpen old.held × Rose (faults before) (faults after)

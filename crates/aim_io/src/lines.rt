@@ -181,7 +181,7 @@ impl LineReader {
     ghost use Rattle.std.specs.Borrow.{sem};
     ghost use Rattle.std.specs.Io.BufRead.{Rests};
     ghost use Rattle.aim_io.specs.contracts.lines.LineReader.{the_row};
-    ghost use Rattle.aim_io.specs.Reader.{fresh, input, IsSound, KnowsEnd, Answers, Needed, taken_by, after_call, GivesLine};
+    ghost use Rattle.aim_io.specs.Reader.{fresh, input, Asks, Gives, GivesLine, IsSound, KnowsEnd};
 
     /// A reader that has read nothing.
     pub fn new() -> LineReader
@@ -377,35 +377,8 @@ impl LineReader {
     /// the bytes already read hold neither the end of the next line nor its 401st byte. Takes no
     /// memory.
     pub fn advance<S: Source>(&mut self, source: &mut S) -> Result<bool, LineFault>
-        // What is answered, by the bytes to come alone.
-        ensures step { KnowsEnd self.old (S.left source.old) → self.old.fault ≡ None
-            → Answers self.old self.new (input self.old (S.left source.old)) (input self.new (S.left source.new)) result }
-        ensures knows { KnowsEnd self.old (S.left source.old) → KnowsEnd self.new (S.left source.new) }
-
-        // A line, or the end of the input.
-        ensures line { IfOk result (λ more. OnTrue more (IsOpen self.new.line)) }
-        ensures taken { IfOk result (λ more. Consumes (input self.old (S.left source.old)) (input self.new (S.left source.new)) (taken_by self.new more)) }
-        ensures after { IfOk result (λ more. self.new ≡ after_call self.old self.new more) }
-        ensures end { IfOk result (λ more. OnFalse more (self.new.ended ≡ true)) }
-        ensures going { IfOk result (λ more. OnTrue more (self.old.ended ≡ false)) }
-        ensures last { IfOk result (λ more. self.new.ended ≡ true → OnTrue more (0 < length self.new.line) × (self.new.held ≡ [])) }
-        ensures no_fault { OnOk result (self.old.fault ≡ None) }
-        ensures sound { IsSound self.new }
-
-        // A fault takes nothing, and stays.
-        ensures fault { IfErr result (λ f. self.old.fault ≡ None → self.new ≡ record self.old { held = self.new.held; line = []; fault = Some f }) }
-        ensures keeps { OnErr result (Keeps (input self.old (S.left source.old)) (input self.new (S.left source.new))) }
-        ensures shows { IfErr result (λ f. self.old.fault ≡ None → (f ≡ LineFault.Read) ⊎ ShowsFault self.new.given self.new.place self.new.held f) }
-        ensures read { result ≡ Err LineFault.Read → self.old.fault ≡ None
-            → ShowsNothing self.new.given self.new.place self.new.held × (self.new.ended ≡ false) × Rose (S.faults source.old) (S.faults source.new) }
-        ensures asked { result ≡ Err LineFault.Read → self.old.fault ≡ None → IsOpen self.old.held }
-        ensures again { IfSome self.old.fault (λ f. (result ≡ Err f) × (self.new ≡ self.old) × (source.new ≡ source.old)) }
-
-        // When it reads.
-        ensures later { S.faults source.old ≤ S.faults source.new }
-        ensures lazy { (IsOpen self.old.held → ⊥) → source.new ≡ source.old }
-        ensures needed { (source.new ≡ source.old) ⊎ Needed self.old (S.left source.old) (S.left source.new) (S.last_read source.new) }
-        ensures ended { self.old.ended ≡ true → source.new ≡ source.old }
+        ensures gives { Gives self.old self.new (S.left source.old) (S.left source.new) result }
+        ensures asks { Asks S.left S.faults S.last_read self.old source.old source.new (result ≡ Err LineFault.Read) }
     {
         if let Some(fault) = self.stopped() {
             return Err(fault);
@@ -418,12 +391,7 @@ impl LineReader {
     /// reads as `advance` does, and answers as that.
     pub fn next<S: Source>(&mut self, source: &mut S) -> Result<Option<&[u8]>, LineFault>
         ensures* rests { sem 𝓛 (Rests the_row self.entry (λ new. GivesLine self.old new (S.left source.old) (S.left source.new) result)) }
-        ensures read { result ≡ Err LineFault.Read → self.old.fault ≡ None → Rose (S.faults source.old) (S.faults source.new) }
-        ensures again { IfSome self.old.fault (λ _. source.new ≡ source.old) }
-        ensures later { S.faults source.old ≤ S.faults source.new }
-        ensures lazy { (IsOpen self.old.held → ⊥) → source.new ≡ source.old }
-        ensures needed { (source.new ≡ source.old) ⊎ Needed self.old (S.left source.old) (S.left source.new) (S.last_read source.new) }
-        ensures ended { self.old.ended ≡ true → source.new ≡ source.old }
+        ensures asks { Asks S.left S.faults S.last_read self.old source.old source.new (result ≡ Err LineFault.Read) }
     {
         match self.advance(source) {
             Ok(true) => Ok(Some(self.line())),

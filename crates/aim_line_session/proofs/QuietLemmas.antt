@@ -4,7 +4,7 @@ use Rattle.std.specs.Prelude.{Option}
 use Rattle.aim_messages.specs.declared.script.Line.{Line}
 use Rattle.aim_messages.specs.declared.script.Line.TheVariants as line
 use Rattle.aim_rules.specs.Journals.{journal}
-use Rattle.aim_script.specs.declared.decisions.Decision.TheVariants as decision
+use Rattle.aim_script_reading.specs.Verdicts.{decides, goes_on, unless_bad, unless_limited}
 use Rattle.aim_script.specs.declared.decisions.Kind.{Kind}
 use Rattle.aim_script.specs.declared.decisions.Limit.{Limit}
 use Rattle.aim_script.specs.declared.headers.Header.{Header}
@@ -14,24 +14,24 @@ use Rattle.aim_script.specs.declared.settings.Setting.{Setting}
 use Rattle.aim_script.specs.Headers.{IsSet, Says, Stands as StandsAsHeader}
 use Rattle.aim_script.specs.Kinds.{kind_of_fault, limit_of, vehicles_limit}
 use Rattle.aim_script.specs.Said.{names_of, layout_of, vehicles_in, calls_of}
-use Rattle.aim_script.specs.Verdicts.{of_read, goes_on, decides, unless_bad, unless_limited}
+use Rattle.aim_script.specs.Verdicts.{of_read, past}
 use Rattle.aim_script.proofs.AppendLemmas.{IsSilent, layout_same}
 use Rattle.aim_line_session.specs.Sessions.{journal_so_far}
 use Rattle.aim_line_session.proofs.SessionLemmas.{IsQuiet, same_journal}
 
 -- a line without a kind that goes past a limit
-pub passes : (before : List Line) (l : Line) (which : Limit) → kind_of_fault before l ≡ None → limit_of before l ≡ Some which → of_read before (Ok l) ≡ decides (decision.Limit which)
+pub passes : (before : List Line) (l : Line) (which : Limit) → kind_of_fault before l ≡ None → limit_of before l ≡ Some which → of_read before (Ok l) ≡ decides (past which)
 passes before l which no_kind past = rw (no_kind, past) refl
 
 -- a line that goes on is the one that was read
 pub same_line : (before : List Line) (l m : Line) → of_read before (Ok l) ≡ goes_on m → l ≡ m
 same_line before l m is = go (kind_of_fault before l) is
   where
-    there : (x : Option Limit) → unless_limited l x ≡ goes_on m → l ≡ m
+    there : (x : Option Limit) → unless_limited {K = Kind} l x ≡ goes_on m → l ≡ m
     there None e = cc
     there (Some which) e = absurd (cc)
 
-    go : (k : Option Kind) → unless_bad before l k ≡ goes_on m → l ≡ m
+    go : (k : Option Kind) → unless_bad before l (limit_of before l) k ≡ goes_on m → l ≡ m
     go None e = there (limit_of before l) e
     go (Some kind) e = absurd (cc)
 

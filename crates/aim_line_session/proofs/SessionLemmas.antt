@@ -16,14 +16,14 @@ use Rattle.aim_messages.specs.declared.entries.Order.TheVariants as order
 use Rattle.aim_messages.specs.declared.entries.Act.TheVariants as act
 use Rattle.aim_messages.specs.declared.entries.TheConstants.{LATEST_MOMENT}
 use Rattle.aim_rules.specs.Journals.{Call, journal, entry_of}
-use Rattle.aim_script.specs.declared.decisions.Decision.TheVariants as decision
 use Rattle.aim_script.specs.declared.decisions.Kind.{Kind}
 use Rattle.aim_script.specs.declared.decisions.Kind.TheVariants as why
 use Rattle.aim_script.specs.declared.settings.Setting.{Setting}
 use Rattle.aim_script.specs.Order.{part_after, is_end, in_body, nothing, belongs}
 use Rattle.aim_script.specs.Said.{version_in, name_in, names_of, number_of, layout_of, vehicles_in, call_in, calls_of, last_of}
 use Rattle.aim_script.specs.Kinds.{kind_of_fault, limit_of}
-use Rattle.aim_script.specs.Verdicts.{of_read, goes_on, decides, number_after}
+use Rattle.aim_script.specs.Verdicts.{bad, of_read}
+use Rattle.aim_script_reading.specs.Verdicts.{decides, goes_on}
 use Rattle.aim_script.specs.Headers.{IsSet}
 use Rattle.aim_script.proofs.AppendLemmas.{IsSilent, last_of_more, version_same, names_same, layout_same, vehicles_same, calls_more, calls_same, journal_more}
 use Rattle.aim_script.proofs.KindLemmas.{event_kind as event_kind_of, switch_kind, stop_kind, begin_kind, end_kind, out_of_order}
@@ -40,7 +40,7 @@ pub goes : (before : List Line) (l : Line) → kind_of_fault before l ≡ None �
 goes before l no_kind no_limit = rw (no_kind, no_limit) refl
 
 -- a line with a kind decides
-pub falls : (before : List Line) (l : Line) (kind : Kind) → kind_of_fault before l ≡ Some kind → of_read before (Ok l) ≡ decides (decision.Bad (number_after before) kind)
+pub falls : (before : List Line) (l : Line) (kind : Kind) → kind_of_fault before l ≡ Some kind → of_read before (Ok l) ≡ decides (bad before kind)
 falls before l kind is = rw is refl
 
 -- a line that says nothing of the layout, of its version, of its names and of the number of vehicles

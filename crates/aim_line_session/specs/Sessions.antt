@@ -7,14 +7,14 @@ use Rattle.aim_messages.specs.declared.entries.Order.{Order}
 use Rattle.aim_messages.specs.declared.script.Line.{Line}
 use Rattle.aim_messages.specs.declared.script.Line.TheVariants as line
 use Rattle.aim_rules.specs.Journals.{Call, journal, entry_of}
-use Rattle.aim_script.specs.declared.decisions.Decision.TheVariants as decision
+use Rattle.aim_script_reading.specs.Verdicts.{decides, goes_on}
 use Rattle.aim_script.specs.declared.decisions.Kind.{Kind}
 use Rattle.aim_script.specs.declared.decisions.Kind.TheVariants as kind
 use Rattle.aim_script.specs.declared.settings.Setting.{Setting}
 use Rattle.aim_script.specs.Kinds.{vehicles_limit}
 use Rattle.aim_script.specs.Order.{part_after, is_end, in_body, nothing}
 use Rattle.aim_script.specs.Said.{version_after, names_of, layout_of, vehicles_of, calls_of, last_of}
-use Rattle.aim_script.specs.Verdicts.{of_read, goes_on, decides, number_after}
+use Rattle.aim_script.specs.Verdicts.{bad, of_read}
 use Rattle.aim_script.specs.Versions.{version_number}
 use Rattle.aim_line_session.specs.declared.servers.DeskServer.{DeskServer}
 use Rattle.aim_line_session.specs.declared.progress.Answered.{Answered}
@@ -84,7 +84,7 @@ IsFull _ s = ⊥
 -- it is at fault, or there is no room, and the session is as it was.
 abbrev pub Comes : {L : Type 0} → List Line → Result Line Kind → Progress L → Progress L → Result (Option Answered) Untaken → Type 0
 Comes before read old new (Ok made) = (l : Line) × (of_read before read ≡ goes_on l) × Stands (before ++ l ∷ []) new × Makes (journal_so_far before) (journal_so_far (before ++ l ∷ [])) made
-Comes before read old new (Err (untaken.Bad why)) = (of_read before read ≡ decides (decision.Bad (number_after before) why)) × (new ≡ old)
+Comes before read old new (Err (untaken.Bad why)) = (of_read before read ≡ decides (bad before why)) × (new ≡ old)
 Comes before read old new (Err untaken.Full) = (l : Line) × (of_read before read ≡ goes_on l) × IsFull l old.server × (new ≡ old)
 
 -- what opening a session for these lines comes to: it stands for them and `begin`, or its vehicles are too many

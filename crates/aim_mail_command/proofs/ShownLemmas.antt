@@ -10,7 +10,7 @@ use Rattle.aim_script_reading.proofs.EndingLemmas.{IsOf, failed, forgone, told}
 use Rattle.aim_script.specs.declared.decisions.Decision.{Decision}
 use Rattle.aim_script.specs.declared.decisions.Decision.TheVariants as decision
 use Rattle.aim_script.specs.Decided.{decision_words, printed, status_of}
-use Rattle.aim_script.specs.Verdicts.{Verdict}
+use Rattle.aim_script.specs.Told.{Verdict}
 use Rattle.aim_mail_script.specs.declared.scripts.EventScript.{EventScript}
 use Rattle.aim_mail_script.specs.declared.scripts.EventEnding.{EventEnding}
 use Rattle.aim_mail_script.specs.declared.scripts.EventEnding.TheVariants as ending

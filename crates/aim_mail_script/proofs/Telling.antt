@@ -8,8 +8,7 @@ use Rattle.aim_script.specs.declared.decisions.Decision.TheVariants as decision
 use Rattle.aim_script.specs.declared.decisions.Kind.{Kind}
 use Rattle.aim_script.specs.declared.decisions.Limit.{Limit}
 use Rattle.aim_script.specs.Said.{calls_of}
-use Rattle.aim_script.specs.Told.{verdict_told}
-use Rattle.aim_script.specs.Verdicts.{Verdict as ToldVerdict}
+use Rattle.aim_script.specs.Told.{Verdict as ToldVerdict, verdict_told}
 use Rattle.aim_mail_script.specs.declared.scripts.EventScript.{EventScript}
 use Rattle.aim_mail_script.specs.declared.scripts.EventEnding.{EventEnding}
 use Rattle.aim_mail_script.specs.declared.scripts.EventEnding.TheVariants as ending

@@ -8,8 +8,7 @@ use Rattle.aim_script.specs.declared.decisions.Limit.{Limit}
 use Rattle.aim_script.specs.Order.{is_end}
 use Rattle.aim_script.specs.Said.{last_of, version_after}
 use Rattle.aim_script.specs.Spellings.{reads_words}
-use Rattle.aim_script.specs.Told.{verdict_told}
-use Rattle.aim_script.specs.Verdicts.{Verdict}
+use Rattle.aim_script.specs.Told.{Verdict, verdict_told}
 use Rattle.aim_mail_script.specs.Kinds.{kind_of_fault, limit_of}
 
 abbrev pub event_rules : Rules Line Kind Limit

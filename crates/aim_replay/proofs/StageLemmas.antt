@@ -13,7 +13,8 @@ use Rattle.aim_script.specs.declared.settings.Setting.{Setting}
 use Rattle.aim_script.specs.Order.{is_end}
 use Rattle.aim_script.specs.Said.{version_after, layout_of, calls_of, last_of}
 use Rattle.aim_script.specs.Kinds.{vehicles_limit}
-use Rattle.aim_script.specs.Verdicts.{of_read, goes_on, decides, at_end}
+use Rattle.aim_script.specs.Verdicts.{Reads, at_end, of_read, past}
+use Rattle.aim_script_reading.specs.Verdicts.{decides, goes_on}
 use Rattle.aim_script.specs.Headers.{Heeds}
 use Rattle.aim_script.specs.declared.headers.Headed.TheVariants as headed
 use Rattle.aim_line_session.specs.declared.progress.Answered.{Answered}
@@ -53,15 +54,15 @@ entries_of_calls i h [] = omega arith
 entries_of_calls i h (c ∷ calls) = omega (arith, entries_of_calls i (h ++ entry_of i h c ∷ []) calls, length-append h (entry_of i h c ∷ []))
 
 -- the script is whole where its input ends behind its `end`
-pub ends_whole : {L : Type 0} (before : List Line) (p : Progress L) → StandsAsSession before p → p.ended ≡ true → decision.Whole p.server.entries ≡ at_end before
-ends_whole before p st over =
+pub ends_whole : {L : Type 0} (reads : Reads) (before : List Line) (p : Progress L) → StandsAsSession before p → p.ended ≡ true → decision.Whole p.server.entries ≡ at_end reads before
+ends_whole reads before p st over =
     let last : is_end (last_of before) ≡ true = (rw over at st.lead).1 in
     let entries : length (calls_of before) ≡ p.server.entries = omega (arith, entries_of_calls (layout_of before) [] (calls_of before), st.played.serves.place) in
     rw (last, entries) refl
 
 -- and it lacks its `end` where it ends before
-pub ends_early : {L : Type 0} (before : List Line) (p : Progress L) (lines : ℕ) → StandsAsSession before p → p.ended ≡ false → length before ≡ lines → decision.Bad (lines + 1) why.End ≡ at_end before
-ends_early before p lines st going count =
+pub ends_early : {L : Type 0} (reads : Reads) (before : List Line) (p : Progress L) (lines : ℕ) → StandsAsSession before p → p.ended ≡ false → length before ≡ lines → decision.Bad (lines + 1) why.End ≡ at_end reads before
+ends_early reads before p lines st going count =
     let last : is_end (last_of before) ≡ false = (rw going at st.lead).1 in
     rw (last, count) refl
 
@@ -80,6 +81,6 @@ header_whole L before l s n (kind, vehicles, set) spans within =
 
 -- the line of too many
 pub header_past : (before : List Line) (l : Line) (s : Setting) (n : ℕ) (which : Limit) → Heeds before l (Ok (headed.Whole s)) → n ≡ s.layout.grid.spans → Some which ≡ vehicles_limit n s.vehicles
-    → of_read before (Ok l) ≡ decides (decision.Limit which)
+    → of_read before (Ok l) ≡ decides (past which)
 header_past before l s n which (kind, vehicles, set) spans past =
     passes before l which kind (limit_is before l s vehicles set ∙ rw (← spans) (sym past))

@@ -2,10 +2,11 @@
 use Rattle.std.specs.Prelude.{◌≡◌, ℕ, ◌<◌, List, [], ◌∷◌, ◌++◌, None, Result, Ok, Err}
 use Rattle.aim_messages.specs.declared.entries.TheConstants.{MOST_ENTRIES}
 use Rattle.aim_messages.specs.declared.script.Line.{Line}
+use Rattle.aim_script_reading.specs.Verdicts.{decides, goes_on}
 use Rattle.aim_script.specs.declared.decisions.Decision.{Decision}
 use Rattle.aim_script.specs.declared.decisions.Decision.TheVariants as decision
 use Rattle.aim_script.specs.Kinds.{vehicles_limit}
-use Rattle.aim_script.specs.Verdicts.{of_read, goes_on, decides, number_after}
+use Rattle.aim_script.specs.Verdicts.{bad, of_read, past}
 use Rattle.aim_script.specs.Versions.{version_number}
 use Rattle.aim_script.specs.Headers.{Stands as StandsAsHeader, IsSet}
 use Rattle.aim_script.specs.declared.settings.Setting.{Setting}
@@ -44,8 +45,8 @@ version_at (stage.Body p) = version_number p.version
 -- what a further line comes to
 abbrev pub Takes : {L : Type 0} → List Line → Line → Result (Stage L) StageRefusal → Type 0
 Takes before l (Ok next) = (of_read before (Ok l) ≡ goes_on l) × Stands (before ++ l ∷ []) next
-Takes before l (Err (refusal.Bad why)) = of_read before (Ok l) ≡ decides (decision.Bad (number_after before) why)
-Takes before l (Err (refusal.Limit which)) = of_read before (Ok l) ≡ decides (decision.Limit which)
+Takes before l (Err (refusal.Bad why)) = of_read before (Ok l) ≡ decides (bad before why)
+Takes before l (Err (refusal.Limit which)) = of_read before (Ok l) ≡ decides (past which)
 Takes before l (Err refusal.NoMemory) = Unit {0}
 
 -- the stage that is reached

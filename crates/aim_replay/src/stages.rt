@@ -3,7 +3,7 @@
 ghost use Rattle.std.specs.Prelude.{◌≡◌, ◌≤◌, List, [], ◌∷◌, ◌++◌, length, None, Ok, Err, IfOk};
 ghost use Rattle.aim_script.specs.Versions.{version_number};
 ghost use Rattle.aim_messages.specs.declared.script.Line.{Line};
-ghost use Rattle.aim_script.specs.Verdicts.{at_end};
+ghost use Rattle.aim_script.specs.Verdicts.{Reads, at_end};
 ghost use Rattle.aim_script.specs.Headers.{HasName, IsSet, Stands as StandsAsHeader};
 ghost use Rattle.aim_line_session.specs.Sessions.{Makes, Stands as StandsAsSession, journal_so_far};
 ghost use Rattle.aim_replay.specs.Stages.{IsOfLines, IsOpen, MayTake, Stands, Takes, decision_of, stage_of, version_at};
@@ -135,7 +135,7 @@ fn played<L: Ledger>(
 // What a session comes to if the input ends behind so many lines.
 fn ended<L: Ledger>(session: LineSession<L>, lines: u32) -> Finish<L>
     requires lines { lines ≤ 262144 }
-    ensures decision { (before : List Line) → StandsAsSession before session → length before ≡ lines → decision_of result ≡ at_end before }
+    ensures decision { (reads : Reads) (before : List Line) → StandsAsSession before session → length before ≡ lines → decision_of result ≡ at_end reads before }
     ensures lines { (before : List Line) → StandsAsSession before session → IsOfLines before result }
 {
     if session.is_ended() {
@@ -182,7 +182,7 @@ impl<L: Ledger> Stage<L> {
     /// What the script comes to if its input ends here, behind so many lines.
     pub fn at_end(self, lines: u32) -> Finish<L>
         requires lines { lines ≤ 262144 }
-        ensures decision { (before : List Line) → Stands before self → length before ≡ lines → decision_of result ≡ at_end before }
+        ensures decision { (reads : Reads) (before : List Line) → Stands before self → length before ≡ lines → decision_of result ≡ at_end reads before }
         ensures lines { (before : List Line) → Stands before self → IsOfLines before result }
     {
         match self {

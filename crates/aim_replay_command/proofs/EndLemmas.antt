@@ -6,17 +6,13 @@ use Rattle.aim_io.specs.Causes.{Rose}
 use Rattle.aim_io.specs.Known.{AppendsFront}
 use Rattle.aim_io.specs.declared.lines.LineFault.{LineFault}
 use Rattle.aim_io.specs.declared.lines.LineFault.TheVariants as fault
-use Rattle.aim_io.specs.Lines.{LongLine, TooManyBytes, TooManyLines, ShowsNothing}
-use Rattle.aim_io.specs.Reader.{Reader, input, taken_by, Answers, KnowsEnd, IsSound, after_call}
 use Rattle.aim_messages.specs.declared.script.Line.{Line}
 use Rattle.aim_script.specs.declared.decisions.Decision.{Decision}
 use Rattle.aim_script.specs.declared.decisions.Decision.TheVariants as decision
-use Rattle.aim_script.specs.declared.decisions.Kind.TheVariants as why
-use Rattle.aim_script.specs.declared.decisions.Limit.TheVariants as limit
-use Rattle.aim_script.specs.Verdicts.{at_end, verdict}
+use Rattle.aim_script.specs.Verdicts.{verdict}
+use Rattle.aim_script_reading.specs.Short.{TakesAtMost}
 use Rattle.aim_script.specs.Decided.{status_of}
 use Rattle.aim_script.specs.Spellings.{Spelled}
-use Rattle.aim_replay.specs.declared.stages.Stage.{Stage}
 use Rattle.aim_replay.specs.declared.stages.Finish.{Finish}
 use Rattle.aim_replay.specs.declared.stages.Finish.TheVariants as finish
 use Rattle.aim_replay.specs.declared.stages.StageRefusal.TheVariants as refusal
@@ -28,127 +24,34 @@ use Rattle.aim_replay_command.specs.declared.session.Halt.TheVariants as halt
 use Rattle.aim_replay_command.specs.declared.session.Stop.{Stop}
 use Rattle.aim_replay_command.specs.declared.session.Stop.TheVariants as stop
 use Rattle.aim_replay_command.specs.Texts.{text_by}
-use Rattle.aim_replay_command.specs.Replays.{ReplaysBy, Writes, WritesFront}
+use Rattle.aim_replay_command.specs.Replays.{ReplaysBy, StopsShortBy, Writes, WritesFront, entries_text}
 use Rattle.aim_replay_command.specs.Written.{HasPutCause, Puts}
-use Rattle.aim_replay_command.specs.Sessions.{Reached, Responds, Comes, Ran, Came, Caused, IsSettled, at_fault, cut_by, halted, status_for, ending_text}
-use Rattle.aim_replay_command.proofs.SessionLemmas.{Gives, front_reached, short_reached, fault_told, fault_written, end_told, end_written, bad_told, bad_written, limit_told, stops_inside, memory_front, memory_nothing, most_between, most_call, most_fault, left_at_end, all_written, front_first, front_second, front_of_text, front_written}
+use Rattle.aim_replay_command.specs.Sessions.{Comes, Ran, Came, Caused, IsSettled, at_fault, cut_by, halted, is_whole, status_for, ending_text}
+use Rattle.aim_replay_command.proofs.SessionLemmas.{all_written, front_first, front_second, front_of_text, front_written}
 
--- a fault of the input
-pub ran_fault : {L : Type 0} (w : Spelled) (P : Type 0) (start left after held now : Option (List ℕ)) (old new : Reader) (s : Stage L) (f : LineFault) → Reached w start (input old left) held now old s → Answers old new (input old left) (input new after) (Err f)
-    → new ≡ record old { held = new.held; line = []; fault = Some f } → (f ≡ fault.Read → ShowsNothing new.given new.place new.held × (new.ended ≡ false) × P) → Keeps (input old left) (input new after) → IsSound new → Ran {L = L} w (at_fault f) start after held now
-ran_fault w P start left after held now old new s fault.Read r step same shows kept sound = record {
+-- what a script comes to, behind all its lines
+pub ran_told : {L : Type 0} (w : Spelled) (x : Finish L) (start after held now : Option (List ℕ)) → Comes w x start → Writes start held now (entries_text w) → (is_whole (decision_of x) ≡ true → IsAtEnd after) → TakesAtMost 67108865 start after
+    → Ran w (Ok x) start after held now
+ran_told w x start after held now verdict written ended most = record { verdict = verdict; written = written; front = tt; ended = ended; most = most; short = λ is. absurd (cc); memory = λ is without. absurd (cc) }
+
+-- a stop, and what it tells where the source failed and where memory ran out
+pub ran_stop : {L : Type 0} (w : Spelled) (e : Stop) (start after held now : Option (List ℕ)) → WritesFront start held now (entries_text w) → TakesAtMost 67108865 start after → (e ≡ stop.Read → StopsShortBy w start after held now)
+    → (e ≡ stop.NoMemory → w.takes_memory ≡ false → Appends held now []) → Ran {L = L} w (Err e) start after held now
+ran_stop {L = L} w e start after held now front most short memory = record {
   verdict = tt;
   written = tt;
-  front = front_reached w start (input old left) held now old s r;
+  front = front;
   ended = tt;
-  most = most_fault w start left after held now old new s fault.Read r same kept sound;
-  short = λ is. short_reached w start left after held now old new fault.Read P s r same (shows refl) kept;
-  memory = λ is without. absurd (cc);
+  most = most;
+  short = λ is. short (same stop.Read is);
+  memory = λ is without. memory (same stop.NoMemory is) without;
 }
-ran_fault w P start left after held now old new s (fault.Long number) r step same shows kept sound = record {
-  verdict = fault_told w start (input old left) (input new after) held now old new s (LongLine number) (finish.Bad number why.Long) r step refl (λ before. tt);
-  written = fault_written w start (input old left) (input new after) held now old new s (LongLine number) r step;
-  front = tt;
-  ended = λ is. absurd (cc);
-  most = most_fault w start left after held now old new s (fault.Long number) r same kept sound;
-  short = λ is. absurd (cc);
-  memory = λ is without. absurd (cc);
-}
-ran_fault w P start left after held now old new s fault.Bytes r step same shows kept sound = record {
-  verdict = fault_told w start (input old left) (input new after) held now old new s TooManyBytes (finish.Limit limit.Bytes) r step refl (λ before. tt);
-  written = fault_written w start (input old left) (input new after) held now old new s TooManyBytes r step;
-  front = tt;
-  ended = λ is. absurd (cc);
-  most = most_fault w start left after held now old new s fault.Bytes r same kept sound;
-  short = λ is. absurd (cc);
-  memory = λ is without. absurd (cc);
-}
-ran_fault w P start left after held now old new s fault.Lines r step same shows kept sound = record {
-  verdict = fault_told w start (input old left) (input new after) held now old new s TooManyLines (finish.Limit limit.Lines) r step refl (λ before. tt);
-  written = fault_written w start (input old left) (input new after) held now old new s TooManyLines r step;
-  front = tt;
-  ended = λ is. absurd (cc);
-  most = most_fault w start left after held now old new s fault.Lines r same kept sound;
-  short = λ is. absurd (cc);
-  memory = λ is without. absurd (cc);
-}
+  where
+    same : (f : Stop) → ◌≡◌ {A = Result (Finish L) Stop} (Err e) (Err f) → e ≡ f
+    same f is = cc
 
--- the end of the input
-pub ran_end : {L : Type 0} (w : Spelled) (start left after held now : Option (List ℕ)) (old new : Reader) (s : Stage L) (x : Finish L) (r : Reached w start (input old left) held now old s) → Answers old new (input old left) (input new after) (Ok false)
-    → decision_of x ≡ at_end r.before → IsOfLines r.before x → KnowsEnd new after → new.ended ≡ true → Consumes (input old left) (input new after) (taken_by new false) → new ≡ after_call old new false → IsSound new → Ran w (Ok x) start after held now
-ran_end w start left after held now old new s x r step is lines knows ended taken same sound = record {
-  verdict = end_told w start (input old left) (input new after) held now old new s x r step is lines;
-  written = end_written w start (input old left) (input new after) held now old new s r step;
-  front = tt;
-  ended = λ whole. left_at_end new after knows ended;
-  most = most_call w start left after held now old new s false r taken same sound;
-  short = λ is. absurd (cc);
-  memory = λ is without. absurd (cc);
-}
-
--- the sink failed before a further line was asked for
-pub ran_cut : {L : Type 0} (w : Spelled) (start left held now : Option (List ℕ)) (reader : Reader) (s : Stage L) → Reached w start (input reader left) held now reader s → IsSound reader → Ran {L = L} w (Err stop.Write) start left held now
-ran_cut w start left held now reader s r sound = record {
-  verdict = tt;
-  written = tt;
-  front = front_reached w start (input reader left) held now reader s r;
-  ended = tt;
-  most = most_between w start left held now reader s r sound;
-  short = λ is. absurd (cc);
-  memory = λ is without. absurd (cc);
-}
-
-taken_or_not : (b : Bool) → b ≡ true → b ≡ false → ⊥
+pub taken_or_not : (b : Bool) → b ≡ true → b ≡ false → ⊥
 taken_or_not b is not = cc
-
--- a line that isn't answered
-pub ran_halt : {L : Type 0} (w : Spelled) (start left after held mid now : Option (List ℕ)) (old new : Reader) (s : Stage L) (number : ℕ) (h : Halt) (r : Reached w start (input old left) held mid old s) → Gives old new (input old left) (input new after) → IsSound new → number ≡ old.given + 1
-    → Responds w r.before s new.line mid now (Err h) → Ran {L = L} w (halted number h) start after held now
-ran_halt w start left after held mid now old new s number (halt.Refused (refusal.Bad kind)) r gives sound count responds = record {
-  verdict = bad_told w start (input old left) (input new after) held mid old new s number kind r gives.step responds.0 count;
-  written = bad_written w start (input old left) (input new after) held mid now old new s _ r gives.step responds.0 responds.2;
-  front = tt;
-  ended = λ is. absurd (cc);
-  most = most_call w start left after held mid old new s true r gives.taken gives.after sound;
-  short = λ is. absurd (cc);
-  memory = λ is without. absurd (cc);
-}
-ran_halt w start left after held mid now old new s number (halt.Refused (refusal.Limit which)) r gives sound count responds = record {
-  verdict = limit_told w start (input old left) (input new after) held mid old new s which r gives.step responds.0;
-  written = bad_written w start (input old left) (input new after) held mid now old new s _ r gives.step responds.0 responds.2;
-  front = tt;
-  ended = λ is. absurd (cc);
-  most = most_call w start left after held mid old new s true r gives.taken gives.after sound;
-  short = λ is. absurd (cc);
-  memory = λ is without. absurd (cc);
-}
-ran_halt w start left after held mid now old new s number (halt.Refused refusal.NoMemory) r gives sound count responds = record {
-  verdict = tt;
-  written = tt;
-  front = memory_front w start (input old left) held mid now old s r responds.2;
-  ended = tt;
-  most = most_call w start left after held mid old new s true r gives.taken gives.after sound;
-  short = λ is. absurd (cc);
-  memory = λ is without. memory_nothing w start (input old left) held mid now old s r (responds.1 refl without) responds.2;
-}
-ran_halt w start left after held mid now old new s number (halt.Unwritten unwritten.Write) r gives sound count responds = record {
-  verdict = tt;
-  written = tt;
-  front = stops_inside w r.before s old new start (input old left) (input new after) held mid now r.decides gives.step r.written (responds.0, responds.1, responds.2, responds.3, responds.4);
-  ended = tt;
-  most = most_call w start left after held mid old new s true r gives.taken gives.after sound;
-  short = λ is. absurd (cc);
-  memory = λ is without. absurd (cc);
-}
-ran_halt w start left after held mid now old new s number (halt.Unwritten unwritten.NoMemory) r gives sound count responds = record {
-  verdict = tt;
-  written = tt;
-  front = stops_inside w r.before s old new start (input old left) (input new after) held mid now r.decides gives.step r.written (responds.0, responds.1, responds.2, responds.3, responds.4);
-  ended = tt;
-  most = most_call w start left after held mid old new s true r gives.taken gives.after sound;
-  short = λ is. absurd (cc);
-  memory = λ is without. absurd (taken_or_not w.takes_memory (responds.5 refl) without);
-}
 
 -- what stops the lines stops the replay
 pub came_stop : {L : Type 0} (w : Spelled) (asked : Option ℕ) (e : Stop) (start after held now : Option (List ℕ)) → Ran {L = L} w (Err e) start after held now → Came w asked (Err e) start after held now

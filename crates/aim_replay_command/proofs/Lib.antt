@@ -9,4 +9,3 @@ pub mod StepLemmas
 pub mod JsonScriptExamples
 pub mod DecisionLemmas
 pub mod SpellingLemmas
-pub mod ReadLaws

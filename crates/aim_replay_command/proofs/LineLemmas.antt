@@ -7,11 +7,11 @@ use Rattle.aim_messages.specs.declared.script.Line.{Line}
 use Rattle.aim_messages.specs.declared.script.Line.TheVariants as line
 use Rattle.aim_text_lines.proofs.LineSpelled.{line_was_spelled}
 use Rattle.aim_text_lines.specs.Reading.{line_at}
-use Rattle.aim_script.specs.declared.decisions.Decision.TheVariants as decision
 use Rattle.aim_script.specs.declared.decisions.Kind.{Kind}
-use Rattle.aim_script.specs.Verdicts.{judge, decides, number_after}
+use Rattle.aim_script.specs.Verdicts.{bad}
+use Rattle.aim_script_reading.specs.Verdicts.{judge, decides}
 use Rattle.aim_script.specs.Headers.{HasName}
-use Rattle.aim_script.specs.Spellings.{Spelled}
+use Rattle.aim_script.specs.Spellings.{Spelled, rules_of}
 use Rattle.aim_replay.specs.declared.stages.Stage.{Stage}
 use Rattle.aim_replay.specs.declared.stages.StageRefusal.{StageRefusal}
 use Rattle.aim_replay.specs.declared.stages.StageRefusal.TheVariants as refusal
@@ -35,7 +35,7 @@ taken w before s bytes n l (Ok t) st version is takes makes = ((l, rw (version_i
 taken w before s bytes n l (Err why) st version is takes makes = judged w before s bytes n l (Err why) st version is takes
 
 -- bytes that spell no line
-pub unread : {L : Type 0} (w : Spelled) (before : List Line) (s : Stage L) (bytes : List ℕ) (n : ℕ) (kind : Kind) → Stands before s → n ≡ version_at s → w.reads n bytes ≡ Err kind → judge w.reads before (LineOf bytes) ≡ decides (decision.Bad (number_after before) kind)
+pub unread : {L : Type 0} (w : Spelled) (before : List Line) (s : Stage L) (bytes : List ℕ) (n : ℕ) (kind : Kind) → Stands before s → n ≡ version_at s → w.reads n bytes ≡ Err kind → judge (rules_of w) before (LineOf bytes) ≡ decides (bad before kind)
 unread w before s bytes n kind st version is = rw (version_is before s st, ← version, is) refl
 
 named : (n : ℕ) (l : Line) → KeepsRanges n l → HasName l

@@ -2,7 +2,7 @@
 use Rattle.std.proofs.Common.{◌≡◌, ℕ, ◌+◌, Bool, true, false, List, [], ◌∷◌, ◌++◌, length, fold, Some, None, refl, sym, ap, ◌∙◌, arith}
 use Rattle.std.proofs.lemmas.List.{append-nil, append_assoc}
 use Rattle.std.proofs.lemmas.List.Sums.{fold-append}
-use Rattle.aim_io.specs.Lines.{Outcome}
+use Rattle.aim_io.specs.Lines.{Outcome, Line as LineOf, Stop}
 use Rattle.aim_messages.specs.declared.script.Line.{Line}
 use Rattle.aim_messages.specs.declared.script.Line.TheVariants as line
 use Rattle.aim_messages.specs.declared.entries.Entry.{Entry}
@@ -10,12 +10,16 @@ use Rattle.aim_layout.specs.Intersection.{Intersection}
 use Rattle.aim_rules.specs.Journals.{Call, journal, entry_of}
 use Rattle.aim_script.specs.Order.{Part, part_after, belongs, to_begin, in_body, nothing}
 use Rattle.aim_script.specs.Said.{layout_of, calls_of, names_of, last_of, name_in, call_in}
-use Rattle.aim_script.specs.Verdicts.{Reads, Verdict, journal_of, Judgement, judge, goes_on, decides, then_on, verdict_from}
+use Rattle.aim_script.specs.declared.decisions.Kind.{Kind}
+use Rattle.aim_script.specs.declared.decisions.Limit.{Limit}
+use Rattle.aim_script.specs.Verdicts.{Reads, replay_rules}
+use Rattle.aim_script_reading.specs.Verdicts.{Judgement, judge, goes_on, decides, then_on, verdict_from}
+use Rattle.aim_script_reading.proofs.First.{goes_none}
 use Rattle.aim_replay_command.specs.Texts.{entry_lines}
 use Rattle.aim_script.specs.Decided.{printed}
 use Rattle.aim_script.specs.Spellings.{Spelled}
 use Rattle.aim_script.proofs.AppendLemmas.{last_of_more, IsSilent, layout_same, calls_more}
-use Rattle.aim_script.proofs.LineLemmas.{goes_on_says, in_order}
+use Rattle.aim_script.proofs.LineLemmas.{in_order}
 use Rattle.std.specs.Option.{option_to_list}
 
 -- entries' lines, and the lines of more entries
@@ -79,24 +83,27 @@ extends_one before all l k e =
       calls = e.calls ∙ ap (λ (cs : List Call). cs ++ e.more) (calls_more before l k.name) ∙ append_assoc (calls_of before) first e.more;
     }
 
-extends : (reads : Reads) (before : List Line) (os : List Outcome) → is_past (part_after (last_of before)) ≡ true → Extends before (verdict_from reads before os).before
+extends : (reads : Reads) (before : List Line) (os : List Outcome) → is_past (part_after (last_of before)) ≡ true → Extends before (verdict_from (replay_rules reads) before os).before
 extends reads before [] past = extends_self before
-extends reads before (o ∷ os) past = go (judge reads before o) refl (λ l. extends reads (before ++ l ∷ []) os)
+extends reads before (Stop f ∷ os) past = extends_self before
+extends reads before (LineOf bytes ∷ os) past = go (judge (replay_rules reads) before (LineOf bytes)) refl (λ l. extends reads (before ++ l ∷ []) os)
   where
-    go : (j : Judgement) → judge reads before o ≡ j → ((l : Line) → is_past (part_after (last_of (before ++ l ∷ []))) ≡ true → Extends (before ++ l ∷ []) (verdict_from reads (before ++ l ∷ []) os).before)
-        → Extends before (then_on before j (λ more. verdict_from reads more os)).before
+    go : (j : Judgement Line Kind Limit) → judge (replay_rules reads) before (LineOf bytes) ≡ j
+        → ((l : Line) → is_past (part_after (last_of (before ++ l ∷ []))) ≡ true → Extends (before ++ l ∷ []) (verdict_from (replay_rules reads) (before ++ l ∷ []) os).before)
+        → Extends before (then_on before j (λ more. verdict_from (replay_rules reads) more os)).before
     go (decides d) is later = extends_self before
     go (goes_on l) is later =
-        let kept = keeps (part_after (last_of before)) l past (in_order before l (goes_on_says reads before o l is)) in
-        extends_one before (verdict_from reads (before ++ l ∷ []) os).before l kept (later l (rw (last_of_more before l) kept.past))
+        let none = goes_none (replay_rules reads) before bytes l is in
+        let kept = keeps (part_after (last_of before)) l past (in_order before l (record { no_fault = none.0; no_limit = none.1 })) in
+        extends_one before (verdict_from (replay_rules reads) (before ++ l ∷ []) os).before l kept (later l (rw (last_of_more before l) kept.past))
 
 -- the journal so far is the first of that of the whole script
-pub record Begins (h : List Entry) (v : Verdict) : Type 0 where
+pub record Begins (h : List Entry) (lines : List Line) : Type 0 where
   pub rest : List Entry
-  pub all : journal_of v ≡ h ++ rest
+  pub all : journal (layout_of lines) (calls_of lines) ≡ h ++ rest
 
 pub journal_of_begins : (reads : Reads) (before : List Line) (os : List Outcome) (h : List Entry) → is_past (part_after (last_of before)) ≡ true → journal (layout_of before) (calls_of before) ≡ h
-    → Begins h (verdict_from reads before os)
+    → Begins h (verdict_from (replay_rules reads) before os).before
 journal_of_begins reads before os h past is =
     let e = extends reads before os past in
     let found = journal_begins (layout_of before) (calls_of before) e.more in
@@ -105,5 +112,5 @@ journal_of_begins reads before os h past is =
       all = rw (e.layout, e.calls) (found.1 ∙ ap (λ (g : List Entry). g ++ found.0) is);
     }
 
-pub nothing_begins : (v : Verdict) → Begins [] v
-nothing_begins v = record { rest = journal_of v; all = refl }
+pub nothing_begins : (lines : List Line) → Begins [] lines
+nothing_begins lines = record { rest = journal (layout_of lines) (calls_of lines); all = refl }

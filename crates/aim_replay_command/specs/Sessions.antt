@@ -14,9 +14,12 @@ use Rattle.aim_script.specs.declared.decisions.Decision.{Decision}
 use Rattle.aim_script.specs.declared.decisions.Decision.TheVariants as decision
 use Rattle.aim_script.specs.declared.decisions.Kind.TheVariants as kind
 use Rattle.aim_script.specs.declared.decisions.Limit.TheVariants as limit
-use Rattle.aim_script.specs.Verdicts.{Verdict, decides, goes_on, judge, number_after, verdict_from, verdict}
+use Rattle.aim_script.specs.Told.{Verdict}
+use Rattle.aim_script.specs.Verdicts.{bad, past, verdict}
+use Rattle.aim_script_reading.specs.Short.{TakesAtMost}
+use Rattle.aim_script_reading.specs.Verdicts.{decides, goes_on, judge}
 use Rattle.aim_script.specs.Decided.{printed, status_of}
-use Rattle.aim_script.specs.Spellings.{Spelled}
+use Rattle.aim_script.specs.Spellings.{Spelled, rules_of}
 use Rattle.aim_line_session.specs.declared.progress.Answered.{Answered}
 use Rattle.aim_line_session.specs.Sessions.{Makes, journal_so_far}
 use Rattle.aim_replay.specs.declared.stages.Stage.{Stage}
@@ -33,7 +36,7 @@ use Rattle.aim_replay_command.specs.declared.session.Halt.TheVariants as halt
 use Rattle.aim_replay_command.specs.declared.session.Stop.{Stop}
 use Rattle.aim_replay_command.specs.declared.session.Stop.TheVariants as stop
 use Rattle.aim_replay_command.specs.Texts.{entry_lines, text_by}
-use Rattle.aim_replay_command.specs.Replays.{AreWhole, StopsShortBy, TakesAtMost, Writes, WritesFront, entries_text}
+use Rattle.aim_replay_command.specs.Replays.{StopsShortBy, Writes, WritesFront, entries_text}
 
 -- the line of an entry that was made, if one was
 abbrev pub made_line : Spelled → Option Answered → List ℕ
@@ -42,45 +45,15 @@ made_line w (Some m) = printed (w.entry_text m.position m.entry)
 
 -- what further bytes come to
 abbrev pub Judged : {L : Type 0} → Spelled → List Line → List ℕ → Result (Stage L) StageRefusal → Type 0
-Judged w before bytes (Ok next) = (l : Line) × (judge w.reads before (LineOf bytes) ≡ goes_on l) × Stands (before ++ l ∷ []) next
-Judged w before bytes (Err (refusal.Bad why)) = judge w.reads before (LineOf bytes) ≡ decides (decision.Bad (number_after before) why)
-Judged w before bytes (Err (refusal.Limit which)) = judge w.reads before (LineOf bytes) ≡ decides (decision.Limit which)
+Judged w before bytes (Ok next) = (l : Line) × (judge (rules_of w) before (LineOf bytes) ≡ goes_on l) × Stands (before ++ l ∷ []) next
+Judged w before bytes (Err (refusal.Bad why)) = judge (rules_of w) before (LineOf bytes) ≡ decides (bad before why)
+Judged w before bytes (Err (refusal.Limit which)) = judge (rules_of w) before (LineOf bytes) ≡ decides (past which)
 Judged w before bytes (Err refusal.NoMemory) = Unit {0}
 
 -- what further bytes come to, and the entry that they make behind the journal of the lines
 abbrev pub IsTaken : {L : Type 0} → Spelled → List Line → List ℕ → Result (Taken L) StageRefusal → Type 0
 IsTaken {L = L} w before bytes (Ok t) = (j : Judged {L = L} w before bytes (Ok t.stage)) × Makes (journal_so_far before) (journal_so_far (before ++ j.0 ∷ [])) t.made
 IsTaken {L = L} w before bytes (Err why) = Judged {L = L} w before bytes (Err why)
-
--- what is still to come decides the same as all
-abbrev pub Decides : Spelled → List Line → Reader → Option (List ℕ) → Option (List ℕ) → Type 0
-Decides w before reader None rest = Unit {0}
-Decides w before reader (Some bytes) None = ⊥
-Decides w before reader (Some bytes) (Some rest) = verdict_from w.reads before (coming reader rest) ≡ verdict w.reads bytes
-
--- so many bytes are gone, up to those that are to come
-pub record Placed (bytes rest : Option (List ℕ)) (place : ℕ) : Type 0 where
-  pub gone : List ℕ
-  pub taken : Consumes bytes rest gone
-  pub count : length gone ≡ place
-
--- whole lines were taken that make this script
-pub record Took (w : Spelled) (before : List Line) (reader : Reader) (bytes rest : Option (List ℕ)) : Type 0 where
-  pub lines : List (List ℕ)
-  pub taken : Consumes bytes rest (joined_lines lines)
-  pub whole : AreWhole w.reads lines before
-  pub count : length lines ≡ reader.given
-  pub place : length (joined_lines lines) ≡ reader.place
-
--- how far a replay has come: the lines so far, for which the stage stands, and whose entries' lines were written
-pub record Reached {L : Type 0} (w : Spelled) (bytes rest old now : Option (List ℕ)) (reader : Reader) (s : Stage L) : Type 0 where
-  pub before : List Line
-  pub stands : Stands before s
-  pub count : length before ≡ reader.given
-  pub decides : Decides w before reader bytes rest
-  pub placed : Placed bytes rest reader.place
-  pub took : reader.ended ≡ false → Took w before reader bytes rest
-  pub written : Appends old now (entry_lines w 0 (journal_so_far before))
 
 -- what a line comes to, and what was written of it
 abbrev pub Responds : {L : Type 0} → Spelled → List Line → Stage L → List ℕ → Option (List ℕ) → Option (List ℕ) → Result (Stage L) Halt → Type 0

@@ -6,7 +6,8 @@ use Rattle.aim_rules.specs.Charts.{chart}
 use Rattle.aim_script.specs.declared.decisions.Decision.{Decision}
 use Rattle.aim_script.specs.declared.decisions.Decision.TheVariants as decision
 use Rattle.aim_script.specs.Said.{layout_of}
-use Rattle.aim_script.specs.Verdicts.{Verdict, verdict, journal_of}
+use Rattle.aim_script.specs.Told.{Verdict}
+use Rattle.aim_script.specs.Verdicts.{verdict, journal_of}
 use Rattle.aim_script.specs.Decided.{printed, status_of}
 use Rattle.aim_script.specs.Spellings.{Spelled, by_words}
 

@@ -4,7 +4,6 @@
 mod faults;
 mod json_decisions;
 mod json_lines;
-pub mod laws;
 mod outputs;
 mod session;
 mod spellings;

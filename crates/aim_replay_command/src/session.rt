@@ -6,10 +6,12 @@ ghost use Rattle.aim_io.specs.Causes.{HasCause, Rose};
 ghost use Rattle.aim_io.specs.Lines.{IsOpen};
 ghost use Rattle.aim_io.specs.Reader.{fresh};
 ghost use Rattle.aim_messages.specs.declared.script.Line.{Line};
+ghost use Rattle.aim_script.specs.Spellings.{rules_of};
+ghost use Rattle.aim_script_reading.specs.Short.{LastNeededBy, TakesAtMost};
 ghost use Rattle.aim_line_session.specs.Sessions.{journal_so_far};
 ghost use Rattle.aim_replay.specs.Stages.{MayTake, Stands};
 ghost use Rattle.aim_replay_command.specs.Texts.{text_by};
-ghost use Rattle.aim_replay_command.specs.Replays.{LastNeededBy, ReplaysBy, StopsShortBy, TakesAtMost, WritesFront};
+ghost use Rattle.aim_replay_command.specs.Replays.{ReplaysBy, StopsShortBy, WritesFront};
 ghost use Rattle.aim_replay_command.specs.Sessions.{Came, Caused, IsSettled, IsTaken, Played, Responds, at_fault, cut_by, halted, status_for};
 
 use crate::faults::{Unread, Unwritten};
@@ -147,7 +149,7 @@ fn replay_lines<P: Spelling, S: Source, K: Sink, L: Ledger>(
     steps: &mut Steps<L>,
 ) -> Result<Finish<L>, Stop>
     requires { reader.old ≡ fresh }
-    ensures { Played P.spelled result ((source.new ≡ source.old) ⊎ LastNeededBy P.spelled (S.left source.old) (S.left source.new) (S.last_read source.new))
+    ensures { Played P.spelled result ((source.new ≡ source.old) ⊎ LastNeededBy (rules_of P.spelled) (S.left source.old) (S.left source.new) (S.last_read source.new))
         (K.kept_back sink.new ≡ []) (S.left source.old) (S.left source.new) (K.held sink.old) (K.held sink.new)
         (S.faults source.old) (S.faults source.new) (K.faults sink.old) (K.faults sink.new) }
 {
@@ -183,7 +185,7 @@ fn replay_script<P: Spelling, S: Source, K: Sink, L: Ledger>(
     requires parts { blank.parts ≡ L.parts }
     requires some { 0 < blank.parts }
     ensures came { Came P.spelled chart result (S.left source.old) (S.left source.new) (K.held sink.old) (K.held sink.new) }
-    ensures needed { (source.new ≡ source.old) ⊎ LastNeededBy P.spelled (S.left source.old) (S.left source.new) (S.last_read source.new) }
+    ensures needed { (source.new ≡ source.old) ⊎ LastNeededBy (rules_of P.spelled) (S.left source.old) (S.left source.new) (S.last_read source.new) }
     ensures settled { IsSettled result (K.kept_back sink.new ≡ []) }
     ensures caused { Caused result (S.faults source.old) (S.faults source.new) (K.faults sink.old) (K.faults sink.new) }
 {
@@ -236,7 +238,7 @@ pub fn replay<P: Spelling, S: Source, K: Sink>(
     // Whatever the status, no more than one byte past the greatest input is taken, and nothing is read behind bytes that
     // decide.
     ensures most { TakesAtMost 67108865 (S.left source.old) (S.left source.new) }
-    ensures needed { (source.new ≡ source.old) ⊎ LastNeededBy P.spelled (S.left source.old) (S.left source.new) (S.last_read source.new) }
+    ensures needed { (source.new ≡ source.old) ⊎ LastNeededBy (rules_of P.spelled) (S.left source.old) (S.left source.new) (S.last_read source.new) }
 
     // With another status what is written is a front of that text.
     ensures front { (result ≡ 4) ⊎ ((result ≡ 5) ⊎ (result ≡ 7)) → WritesFront (S.left source.old) (K.held sink.old) (K.held sink.new) (text_by P.spelled chart) }

@@ -6,7 +6,6 @@ use Rattle.std.specs.Option.{option_or}
 use Rattle.std.proofs.lemmas.List.{take-append-drop}
 use Rattle.std.proofs.lemmas.List.Elements.{filter_map-append}
 use Rattle.std.proofs.lemmas.Bool.Decides.{nat_tests}
-use Rattle.aim_io.specs.Lines.{Outcome}
 use Rattle.aim_messages.specs.declared.script.Line.{Line}
 use Rattle.aim_messages.specs.declared.script.Line.TheVariants as line
 use Rattle.aim_messages.specs.Lines.{name_word}
@@ -15,13 +14,14 @@ use Rattle.aim_geometry.specs.Bounded.{find_map}
 use Rattle.aim_rules.specs.Journals.{Call, MayCall}
 use Rattle.aim_rules.specs.Legal.{IsLegal, MayAct}
 use Rattle.aim_rules.proofs.LegalLemmas.{IsLegal-journal}
+use Rattle.aim_script_reading.specs.Verdicts.{IsScript}
 use Rattle.aim_script.specs.declared.decisions.Limit.TheVariants as limit
 use Rattle.aim_script.specs.Said.{layout_of, name_in, names_of, is_named, number_of, vehicles_in, vehicles_of, call_in, calls_of}
 use Rattle.aim_script.specs.Kinds.{vehicles_limit}
-use Rattle.aim_script.specs.Verdicts.{Reads, Verdict, journal_of}
-use Rattle.aim_script.specs.First.{IsOfTheFirst}
+use Rattle.aim_script.specs.Told.{Verdict}
+use Rattle.aim_script.specs.Verdicts.{Reads, journal_of, replay_rules}
 use Rattle.aim_script.proofs.AppendLemmas.{names_are_policies}
-use Rattle.aim_script.proofs.LineLemmas.{GoesOn, goes_on_says, passes}
+use Rattle.aim_script.proofs.LineLemmas.{GoesOn, each_goes_on, passes}
 
 -- a name that was given has a number below the number of names
 number_below : (names : List (List ℕ)) (name : List ℕ) → 0 < length names → number_of names name < length names
@@ -126,12 +126,12 @@ within spans n h = go (nat_lt MOST_VEHICLES n) refl h
     go false e h = grind (arith, nat_tests)
 
 -- a script whose lines go on declares as many vehicles as there may be
-few_vehicles : (reads : Reads) (input : List Outcome) (v : Verdict) → IsOfTheFirst reads input v → vehicles_of v.before ≤ MOST_VEHICLES
-few_vehicles reads input v f =
-    first_of vehicles_in MOST_VEHICLES v.before (λ k l n at e.
-    let g = f.goes_on_at k l at in
-    let i = layout_of (take k v.before) in
-    within i.grid.spans n (rw e at ((goes_on_says reads (take k v.before) g.0 l g.2).no_limit)))
+few_vehicles : (reads : Reads) (lines : List Line) → IsScript (replay_rules reads) lines → vehicles_of lines ≤ MOST_VEHICLES
+few_vehicles reads lines s =
+    first_of vehicles_in MOST_VEHICLES lines (λ k l n at e.
+    let g = each_goes_on reads lines s k l at in
+    let i = layout_of (take k lines) in
+    within i.grid.spans n (rw e at g.no_limit))
 
 -- a fact of what each element gives
 all_given : {X Y : Type 0} (f : X → Option Y) (P : Y → Type 0) (xs : List X) → ((k : ℕ) (x : X) (y : Y) → slice_get xs k ≡ Some x → f x ≡ Some y → P y) → AllByRecursion P (filter_map f xs)
@@ -142,10 +142,9 @@ all_given {Y = Y} f P (x ∷ xs) each = go (f x) refl (all_given f P xs (λ k y 
     go None e rest = rest
     go (Some y) e rest = (each 0 x y refl e, rest)
 
-pub calls_may_be : (reads : Reads) (input : List Outcome) (v : Verdict) → IsOfTheFirst reads input v → MayCall (layout_of v.before) (vehicles_of v.before) (calls_of v.before)
-calls_may_be reads input v f =
-    all_given (call_in (names_of v.before)) (MayBe v.before) v.before
-    (λ k l c at e. let g = f.goes_on_at k l at in call_may_be v.before k l c (few_vehicles reads input v f) (goes_on_says reads (take k v.before) g.0 l g.2) e)
+pub calls_may_be : (reads : Reads) (lines : List Line) → IsScript (replay_rules reads) lines → MayCall (layout_of lines) (vehicles_of lines) (calls_of lines)
+calls_may_be reads lines s =
+    all_given (call_in (names_of lines)) (MayBe lines) lines (λ k l c at e. call_may_be lines k l c (few_vehicles reads lines s) (each_goes_on reads lines s k l at) e)
 
-pub journal_legal : (reads : Reads) (input : List Outcome) (v : Verdict) → IsOfTheFirst reads input v → IsLegal (layout_of v.before) (vehicles_of v.before) (journal_of v)
-journal_legal reads input v f = IsLegal-journal (layout_of v.before) (vehicles_of v.before) (calls_of v.before) (calls_may_be reads input v f)
+pub journal_legal : (reads : Reads) (v : Verdict) → IsScript (replay_rules reads) v.before → IsLegal (layout_of v.before) (vehicles_of v.before) (journal_of v)
+journal_legal reads v s = IsLegal-journal (layout_of v.before) (vehicles_of v.before) (calls_of v.before) (calls_may_be reads v.before s)

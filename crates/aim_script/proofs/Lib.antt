@@ -1,4 +1,3 @@
-pub mod FirstLemmas
 pub mod LineLemmas
 pub mod AppendLemmas
 pub mod KindLemmas

@@ -1,39 +1,22 @@
 -- What a line that goes on says of the lines before it.
-use Rattle.std.proofs.Common.{◌≡◌, ℕ, zero, suc, Bool, true, false, cond, not, List, [], ◌∷◌, Option, Some, None, Result, Ok, Err, refl, take, slice_get}
+use Rattle.std.proofs.Common.{◌≡◌, ℕ, zero, suc, Bool, true, false, cond, not, List, [], ◌∷◌, Option, Some, None, refl, take, slice_get}
 use Rattle.std.specs.Prelude.{find, option_map}
-use Rattle.aim_io.specs.Lines.{Outcome, Line, Stop}
 use Rattle.aim_messages.specs.declared.script.Line.{Line as ScriptLine}
+use Rattle.aim_script_reading.specs.Verdicts.{IsScript}
 use Rattle.aim_script.specs.declared.decisions.Kind.{Kind}
-use Rattle.aim_script.specs.declared.decisions.Limit.{Limit}
 use Rattle.aim_script.specs.Order.{may_follow}
-use Rattle.aim_script.specs.Said.{version_after, last_of}
+use Rattle.aim_script.specs.Said.{last_of}
 use Rattle.aim_script.specs.Kinds.{Test, kinds, kind_of_fault, limit_of}
-use Rattle.aim_script.specs.Verdicts.{Reads, Verdict, judge, goes_on, of_read, unless_bad, unless_limited}
-use Rattle.aim_script.specs.First.{IsOfTheFirst}
+use Rattle.aim_script.specs.Verdicts.{Reads, replay_rules}
 
--- the line was read, has no fault, and goes past no limit
+-- the line has no fault, and goes past no limit
 pub record GoesOn (before : List ScriptLine) (l : ScriptLine) : Type 0 where
   pub no_fault : kind_of_fault before l ≡ None
   pub no_limit : limit_of before l ≡ None
 
-same_line : (l m : ScriptLine) → goes_on l ≡ goes_on m → l ≡ m
-same_line l m e = cc
-
-limited : (before : List ScriptLine) (l m : ScriptLine) (o : Option Limit) → kind_of_fault before l ≡ None → limit_of before l ≡ o → unless_limited l o ≡ goes_on m → GoesOn before m
-limited before l m None f e h = rw (← same_line l m h) (record { no_fault = f; no_limit = e })
-limited before l m (Some which) f e h = absurd (cc)
-
-faulty : (before : List ScriptLine) (l m : ScriptLine) (o : Option Kind) → kind_of_fault before l ≡ o → unless_bad before l o ≡ goes_on m → GoesOn before m
-faulty before l m None f h = limited before l m (limit_of before l) f refl h
-faulty before l m (Some kind) f h = absurd (cc)
-
-read : (before : List ScriptLine) (m : ScriptLine) (r : Result ScriptLine Kind) → of_read before r ≡ goes_on m → GoesOn before m
-read before m (Ok l) h = faulty before l m (kind_of_fault before l) refl h
-read before m (Err kind) h = absurd (cc)
-
-pub goes_on_says : (reads : Reads) (before : List ScriptLine) (o : Outcome) (l : ScriptLine) → judge reads before o ≡ goes_on l → GoesOn before l
-goes_on_says reads before (Stop f) l h = absurd (cc)
-goes_on_says reads before (Line bytes) l h = read before l (reads (version_after before) bytes) h
+-- so it is with each line of a script
+pub each_goes_on : (reads : Reads) (lines : List ScriptLine) → IsScript (replay_rules reads) lines → (k : ℕ) (l : ScriptLine) → slice_get lines k ≡ Some l → GoesOn (take k lines) l
+each_goes_on reads lines s k l at = record { no_fault = s.no_fault k l at; no_limit = s.no_limit k l at }
 
 -- a row that stands in a table without a fault has none
 map_none : {X Y : Type 0} (f : X → Y) (o : Option X) → option_map f o ≡ None → o ≡ None
@@ -76,5 +59,5 @@ passes before l n g = row_none before l n kinds (map_none (λ row. row.0) (find 
 pub in_order : (before : List ScriptLine) (l : ScriptLine) → GoesOn before l → may_follow (last_of before) l ≡ true
 in_order before l g = not_false (may_follow (last_of before) l) (passes before l 0 g)
 
-pub lines_in_order : (reads : Reads) (input : List Outcome) (v : Verdict) → IsOfTheFirst reads input v → (k : ℕ) (l : ScriptLine) → slice_get v.before k ≡ Some l → may_follow (last_of (take k v.before)) l ≡ true
-lines_in_order reads input v f k l at = let g = f.goes_on_at k l at in in_order (take k v.before) l (goes_on_says reads (take k v.before) g.0 l g.2)
+pub lines_in_order : (reads : Reads) (lines : List ScriptLine) → IsScript (replay_rules reads) lines → (k : ℕ) (l : ScriptLine) → slice_get lines k ≡ Some l → may_follow (last_of (take k lines)) l ≡ true
+lines_in_order reads lines s k l at = in_order (take k lines) l (each_goes_on reads lines s k l at)

@@ -1,9 +1,8 @@
 pub mod Order
 pub mod Said
 pub mod Kinds
-pub mod Verdicts
-pub mod First
 pub mod Told
+pub mod Verdicts
 pub mod Decided
 pub mod Refusals
 pub mod Versions

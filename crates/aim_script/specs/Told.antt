@@ -15,7 +15,11 @@ use Rattle.aim_script.specs.declared.decisions.Kind.TheVariants as kind
 use Rattle.aim_script.specs.declared.decisions.Limit.{Limit}
 use Rattle.aim_script.specs.declared.decisions.Limit.TheVariants as limit
 use Rattle.aim_script.specs.Said.{calls_of}
-use Rattle.aim_script.specs.Verdicts.{Verdict}
+
+-- the lines before the one that decides, and the decision
+pub record Verdict : Type 0 where
+  pub before : List Line
+  pub decision : Decision
 
 -- the kind of a line at fault
 abbrev pub kind_told : Why Kind → Kind

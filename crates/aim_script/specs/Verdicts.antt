@@ -1,78 +1,53 @@
--- What a script comes to: the first line that decides.
-use Rattle.std.specs.Prelude.{ℕ, ◌+◌, List, [], ◌∷◌, ◌++◌, length, Option, Some, None, Result, Ok, Err, if◌then◌else◌}
-use Rattle.aim_io.specs.Lines.{InputFault, LongLine, TooManyBytes, TooManyLines, Outcome, Line, Stop, outcomes_of}
-use Rattle.aim_messages.specs.declared.script.Line.{Line as ScriptLine}
-use Rattle.aim_script.specs.declared.decisions.Decision.{Decision}
-use Rattle.aim_script.specs.declared.decisions.Decision.TheVariants as decision
-use Rattle.aim_script.specs.declared.decisions.Kind.{Kind}
-use Rattle.aim_script.specs.declared.decisions.Kind.TheVariants as kind
-use Rattle.aim_script.specs.declared.decisions.Limit.{Limit}
-use Rattle.aim_script.specs.declared.decisions.Limit.TheVariants as limit
-use Rattle.aim_script.specs.Order.{is_end}
-use Rattle.aim_rules.specs.Journals.{journal}
+-- What tells scripts that are replayed from other scripts, and what one comes to.
+use Rattle.std.specs.Prelude.{ℕ, List, Result}
 use Rattle.aim_messages.specs.declared.entries.Entry.{Entry}
-use Rattle.aim_script.specs.Said.{version_after, layout_of, calls_of, last_of}
+use Rattle.aim_messages.specs.declared.script.Line.{Line}
+use Rattle.aim_rules.specs.Journals.{journal}
+use Rattle.aim_script_reading.specs.declared.decisions.Bound.TheVariants as bound
+use Rattle.aim_script_reading.specs.declared.decisions.Refused.{Refused}
+use Rattle.aim_script_reading.specs.declared.decisions.Refused.TheVariants as refused
+use Rattle.aim_script_reading.specs.declared.decisions.Why.TheVariants as reason
+use Rattle.aim_script_reading.specs.Rules.{Rules}
+use Rattle.aim_script_reading.specs.Verdicts.{Judgement, at_end as at_end_by, number_after, of_read as of_read_by, verdict as verdict_by}
+use Rattle.aim_script.specs.declared.decisions.Decision.{Decision}
+use Rattle.aim_script.specs.declared.decisions.Kind.{Kind}
+use Rattle.aim_script.specs.declared.decisions.Limit.{Limit}
 use Rattle.aim_script.specs.Kinds.{kind_of_fault, limit_of}
-
--- the lines before the one that decides, and the decision
-pub record Verdict : Type 0 where
-  pub before : List ScriptLine
-  pub decision : Decision
-
--- a line decides, or it is one more of the script
-pub data Judgement : Type 0 where
-  decides : Decision → Judgement
-  goes_on : ScriptLine → Judgement
+use Rattle.aim_script.specs.Order.{is_end}
+use Rattle.aim_script.specs.Said.{calls_of, last_of, layout_of, version_after}
+use Rattle.aim_script.specs.Told.{Verdict, decision_told, verdict_told}
 
 -- which line bytes spell in a version, or why they spell none
 abbrev pub Reads : Type 0
-Reads = ℕ → List ℕ → Result ScriptLine Kind
+Reads = ℕ → List ℕ → Result Line Kind
 
--- the number of the line behind those
-abbrev pub number_after : List ScriptLine → ℕ
-number_after before = length before + 1
+-- the rules of scripts whose lines are read so
+abbrev pub replay_rules : Reads → Rules Line Kind Limit
+replay_rules reads = record {
+  reads = λ before bytes. reads (version_after before) bytes;
+  kind_of_fault = kind_of_fault;
+  limit_of = limit_of;
+  is_whole = λ before. is_end (last_of before);
+}
 
--- what a fault of the input decides, in the place of a line
-abbrev pub of_fault : InputFault → Decision
-of_fault (LongLine number) = decision.Bad number kind.Long
-of_fault TooManyBytes = decision.Limit limit.Bytes
-of_fault TooManyLines = decision.Limit limit.Lines
+-- a line of that kind behind those, and a line past that limit
+abbrev pub bad : List Line → Kind → Refused Kind Limit
+bad before k = refused.Bad (number_after before) (reason.Fault k)
 
-abbrev pub unless_limited : ScriptLine → Option Limit → Judgement
-unless_limited l None = goes_on l
-unless_limited l (Some which) = decides (decision.Limit which)
+abbrev pub past : Limit → Refused Kind Limit
+past which = refused.Limit (bound.Further which)
 
-abbrev pub unless_bad : List ScriptLine → ScriptLine → Option Kind → Judgement
-unless_bad before l None = unless_limited l (limit_of before l)
-unless_bad before l (Some why) = decides (decision.Bad (number_after before) why)
+-- what a line that was read so decides behind those lines, or that it goes on, whatever its bytes
+abbrev pub of_read : List Line → Result Line Kind → Judgement Line Kind Limit
+of_read before r = of_read_by (replay_rules (λ version bytes. r)) before r
 
-abbrev pub of_read : List ScriptLine → Result ScriptLine Kind → Judgement
-of_read before (Ok l) = unless_bad before l (kind_of_fault before l)
-of_read before (Err why) = decides (decision.Bad (number_after before) why)
+-- what the end of the input behind those lines decides, however they are read
+abbrev pub at_end : Reads → List Line → Decision
+at_end reads before = decision_told before (at_end_by (replay_rules reads) before)
 
--- what stands behind those lines decides, or goes on
-abbrev pub judge : Reads → List ScriptLine → Outcome → Judgement
-judge reads before (Stop f) = decides (of_fault f)
-judge reads before (Line bytes) = of_read before (reads (version_after before) bytes)
-
--- what the end of the input behind those lines decides
-abbrev pub at_end : List ScriptLine → Decision
-at_end before =
-    if is_end (last_of before) then decision.Whole (length (calls_of before))
-    else decision.Bad (number_after before) kind.End
-
-abbrev pub then_on : List ScriptLine → Judgement → (List ScriptLine → Verdict) → Verdict
-then_on before (decides d) next = record { before = before; decision = d }
-then_on before (goes_on l) next = next (before ++ l ∷ [])
-
--- the first decision of what stands behind those lines
-abbrev pub verdict_from : Reads → List ScriptLine → List Outcome → Verdict
-verdict_from reads before [] = record { before = before; decision = at_end before }
-verdict_from reads before (o ∷ os) = then_on before (judge reads before o) (λ more. verdict_from reads more os)
-
--- what a replay script comes to, whose lines are read so
+-- What a script that is replayed comes to, whose lines are read so. A whole one has as many entries as events and orders.
 abbrev pub verdict : Reads → List ℕ → Verdict
-verdict reads bytes = verdict_from reads [] (outcomes_of bytes)
+verdict reads bytes = verdict_told (verdict_by (replay_rules reads) bytes)
 
 -- the journal of the calls before the line that decides
 abbrev pub journal_of : Verdict → List Entry

@@ -5,14 +5,7 @@ ghost use Rattle.aim_messages.specs.declared.script.Line.{Line};
 ghost use Rattle.aim_script.specs.Order.{may_follow};
 ghost use Rattle.aim_rules.specs.Legal.{IsLegal};
 ghost use Rattle.aim_script.specs.Said.{last_of, layout_of, vehicles_of};
-ghost use Rattle.aim_io.specs.Lines.{outcomes_of};
 ghost use Rattle.aim_script.specs.Verdicts.{Reads, journal_of, verdict};
-ghost use Rattle.aim_script.specs.First.{IsOfTheFirst};
-
-/// A verdict is of the first line that decides: each line before it goes on behind those before, and that line decides.
-pub fn verdict_is_of_the_first_line_that_decides()
-    ensures { (reads : Reads) (bytes : List ℕ) → IsOfTheFirst reads (outcomes_of bytes) (verdict reads bytes) }
-{}
 
 /// The lines before the one that decides stand in the order of a script.
 pub fn lines_before_a_verdict_stand_in_order()

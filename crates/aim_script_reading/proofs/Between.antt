@@ -8,9 +8,9 @@ use Rattle.aim_io.specs.Causes.{Rose}
 use Rattle.aim_io.specs.declared.lines.LineFault.{LineFault}
 use Rattle.aim_io.specs.declared.lines.LineFault.TheVariants.{Read, Long, Bytes, Lines}
 use Rattle.aim_io.specs.Known.{WhereKnown}
-use Rattle.aim_io.specs.Lines.{InputFault, LongLine, TooManyBytes, TooManyLines, IsOpen, ShowsNothing, fault_of, joined_lines, Outcome, Line, Stop}
-use Rattle.aim_io.specs.Reader.{Reader, fresh, input, coming, taken_by, after_call, Answers, Needed, IsSound, KnowsEnd}
-use Rattle.aim_io.proofs.LoopLemmas.{decides_line, decided_line, decided_end, decided_fault, joined-push}
+use Rattle.aim_io.specs.Lines.{InputFault, LongLine, TooManyBytes, TooManyLines, IsOpen, ShowsNothing, fault_of, joined_lines, whole_lines, Outcome, Line, Stop}
+use Rattle.aim_io.specs.Reader.{Reader, fresh, input, coming, Answers, Faulted, Gave, Needed, IsSound, KnowsEnd}
+use Rattle.aim_io.proofs.LoopLemmas.{decides_line, decided_line, decided_end, decided_fault, joined-push, whole_joined}
 use Rattle.aim_script_reading.specs.declared.decisions.Why.TheVariants as why
 use Rattle.aim_script_reading.specs.declared.decisions.Bound.TheVariants as bound
 use Rattle.aim_script_reading.specs.declared.decisions.Refused.{Refused}
@@ -25,7 +25,7 @@ use Rattle.aim_script_reading.specs.Verdicts.{IsScript, Verdict, at_end, decides
 use Rattle.aim_script_reading.proofs.Behind.{script_push}
 use Rattle.aim_script_reading.proofs.First.{script_goes, script_none}
 use Rattle.aim_script_reading.proofs.Placing.{Placed, held_consumes, placed_more, placed_start}
-use Rattle.aim_script_reading.proofs.Undecided.{undecided_from}
+use Rattle.aim_script_reading.proofs.Undecided.{no_ends, undecided_from}
 
 -- these whole lines are gone, and make this script
 pub record Took {L K M : Type 0} (r : Rules L K M) (start left : Option (List ℕ)) (reader : Reader) (script : List L) : Type 0 where
@@ -87,7 +87,7 @@ fault_refused (Long number) = refused.Bad number why.Long
 fault_refused Bytes = refused.Limit bound.Bytes
 fault_refused Lines = refused.Limit bound.Lines
 
-abbrev decided : {L K M : Type 0} → List L → Option (Refused K M) → Verdict L K M
+abbrev pub decided : {L K M : Type 0} → List L → Option (Refused K M) → Verdict L K M
 decided before came = record { before = before; refused = came }
 
 fault_told : {L K M : Type 0} (r : Rules L K M) (before : List L) (f : InputFault) → verdict_from r before (Stop f ∷ []) ≡ decided before (Some (fault_refused (fault_of f)))
@@ -153,34 +153,46 @@ module _ {T S L K M : Type 0} (r : Rules L K M) (Stands : List L → T → Type 
     | inr going ↦ inr (needed_read after going read)
   ]
 
-  pub between_more : (after : S) (new : Reader) (next : T) (l : L) → judge r b.before (Line new.line) ≡ goes_on l → Stands (b.before ++ l ∷ []) next
-      → new ≡ after_call old new true → old.ended ≡ false → IsOpen new.line → Consumes (input old (left mid)) (input new (left after)) (taken_by new true)
-      → Answers old new (input old (left mid)) (input new (left after)) (Ok true) → IsSound new → KnowsEnd new (left after)
+  pub between_more : (after : S) (new : Reader) (next : T) (l : L) → judge r b.before (Line new.line) ≡ goes_on l → Stands (b.before ++ l ∷ []) next → Gave old new (left mid) (left after) true
       → (after ≡ first) ⊎ LastNeededBy r (left first) (left after) (last after) → faults first ≤ faults after
       → Between r Stands left last faults first after new next (number + 1)
-  between_more after new next l j st is going unended taken answers sound knows needed later = record {
+  between_more after new next l j st gave needed later = record {
     before = b.before ++ l ∷ [];
     stands = st;
     script = script_goes r b.before new.line l b.script j;
-    numbered = ap (λ n. n + 1) b.numbered ∙ sym (ap (λ (x : Reader). x.given) is);
-    count = length-append b.before (l ∷ []) ∙ ap (λ n. n + 1) b.count ∙ sym (ap (λ (x : Reader). x.given) is);
-    no_fault = ap (λ (x : Reader). x.fault) is ∙ b.no_fault;
-    sound = sound;
-    knows = knows;
-    decides = decides_line (verdict_from r b.before) (verdict_from r (b.before ++ l ∷ [])) (verdict r) old new (left first) (input old (left mid)) (input new (left after)) (λ more. rw j refl) b.decides answers;
+    numbered = ap (λ n. n + 1) b.numbered ∙ sym (ap (λ (x : Reader). x.given) gave.after);
+    count = length-append b.before (l ∷ []) ∙ ap (λ n. n + 1) b.count ∙ sym (ap (λ (x : Reader). x.given) gave.after);
+    no_fault = ap (λ (x : Reader). x.fault) gave.after ∙ b.no_fault;
+    sound = gave.sound;
+    knows = gave.knows b.knows;
+    decides = decides_line (verdict_from r b.before) (verdict_from r (b.before ++ l ∷ [])) (verdict r) old new (left first) (input old (left mid)) (input new (left after)) (λ more. rw j refl) b.decides (gave.step b.knows);
     took = λ still.
-        let before = b.took going in record {
+        let before = b.took gave.going in record {
           lines = before.lines ++ new.line ∷ [];
-          taken = subst (Consumes (left first) (input new (left after))) (sym (joined-push before.lines new.line)) (Consumes-trans (left first) (input old (left mid)) (input new (left after)) _ _ before.taken (rw still at taken));
-          each = each_more before.lines new.line before.each unended;
-          count = length-append before.lines (new.line ∷ []) ∙ ap (λ n. n + 1) before.count ∙ sym (ap (λ (x : Reader). x.given) is);
-          place = ap (λ (l : List ℕ). length l) (joined-push before.lines new.line) ∙ length-append (joined_lines before.lines) (new.line ++ 10 ∷ []) ∙ ap (λ n. n + length (new.line ++ 10 ∷ [])) before.place ∙ sym (ap (λ (x : Reader). x.place) is ∙ rw still refl);
+          taken = subst (Consumes (left first) (input new (left after))) (sym (joined-push before.lines new.line)) (Consumes-trans (left first) (input old (left mid)) (input new (left after)) _ _ before.taken (rw still at gave.taken));
+          each = each_more before.lines new.line before.each gave.is_open;
+          count = length-append before.lines (new.line ∷ []) ∙ ap (λ n. n + 1) before.count ∙ sym (ap (λ (x : Reader). x.given) gave.after);
+          place = ap (λ (l : List ℕ). length l) (joined-push before.lines new.line) ∙ length-append (joined_lines before.lines) (new.line ++ 10 ∷ []) ∙ ap (λ n. n + length (new.line ++ 10 ∷ [])) before.place ∙ sym (ap (λ (x : Reader). x.place) gave.after ∙ rw still refl);
           is = script_push r before.lines new.line b.before l before.is j;
         };
-    placed = placed_more _ _ _ old new true b.placed taken is;
+    placed = placed_more _ _ _ old new true b.placed gave.taken gave.after;
     needed = needed;
     later = later;
   }
+
+  -- what the bytes come to where a line decides, where the input ends, and where it has a fault that isn't of its source
+  pub line_verdict : (after : S) (new : Reader) (d : Refused K M) → judge r b.before (Line new.line) ≡ decides d → Answers old new (input old (left mid)) (input new (left after)) (Ok true)
+      → IfSome (left first) (λ bs. verdict r bs ≡ decided b.before (Some d))
+  line_verdict after new d j answers = flip (verdict r) (decided b.before (Some d)) (left first)
+      (decided_line (verdict_from r b.before) (verdict r) (decided b.before (Some d)) old new (left first) (input old (left mid)) (input new (left after)) (λ more. rw j refl) b.decides answers)
+
+  pub end_verdict : (after : S) (new : Reader) → Answers old new (input old (left mid)) (input new (left after)) (Ok false) → IfSome (left first) (λ bs. verdict r bs ≡ decided b.before (at_end r b.before))
+  end_verdict after new answers = flip (verdict r) (decided b.before (at_end r b.before)) (left first) (decided_end (verdict_from r b.before) (verdict r) old new (left first) (input old (left mid)) (input new (left after)) b.decides answers)
+
+  pub fault_verdict : (after : S) (new : Reader) (fault : LineFault) → (fault ≡ Read → ⊥) → Answers old new (input old (left mid)) (input new (left after)) (Err fault)
+      → IfSome (left first) (λ bs. verdict r bs ≡ decided b.before (Some (fault_refused fault)))
+  fault_verdict after new fault other answers = flip (verdict r) (decided b.before (Some (fault_refused fault))) (left first)
+      (decided_fault (verdict_from r b.before) (verdict r) (λ f. decided b.before (Some (fault_refused f))) old new (left first) (input old (left mid)) (input new (left after)) fault other (fault_told r b.before) b.decides answers)
 
   -- a line that decides
   line_decides : (Rests : List L → T → Type 0) (after : S) (new : Reader) (next : T) (d : Refused K M) → judge r b.before (Line new.line) ≡ decides d → Rests b.before next → Answers old new (input old (left mid)) (input new (left after)) (Ok true)
@@ -189,8 +201,7 @@ module _ {T S L K M : Type 0} (r : Rules L K M) (Stands : List L → T → Type 
     before = b.before;
     few = omega (arith, b.count, b.sound.few);
     script = b.script;
-    verdict = flip (verdict r) (decided b.before (Some d)) (left first)
-        (decided_line (verdict_from r b.before) (verdict r) (decided b.before (Some d)) old new (left first) (input old (left mid)) (input new (left after)) (λ more. rw j refl) b.decides answers);
+    verdict = line_verdict after new d j answers;
     rests = rests;
     stands = λ e. absurd cc;
     whole = λ e. absurd cc;
@@ -203,7 +214,7 @@ module _ {T S L K M : Type 0} (r : Rules L K M) (Stands : List L → T → Type 
     before = b.before;
     few = omega (arith, b.count, b.sound.few);
     script = b.script;
-    verdict = flip (verdict r) (decided b.before (at_end r b.before)) (left first) (decided_end (verdict_from r b.before) (verdict r) old new (left first) (input old (left mid)) (input new (left after)) b.decides answers);
+    verdict = end_verdict after new answers;
     rests = law b.before taker b.stands;
     stands = λ e. b.stands;
     whole = λ e. whole_none r b.before e;
@@ -216,8 +227,7 @@ module _ {T S L K M : Type 0} (r : Rules L K M) (Stands : List L → T → Type 
     before = b.before;
     few = omega (arith, b.count, b.sound.few);
     script = b.script;
-    verdict = flip (verdict r) (decided b.before (Some (fault_refused fault))) (left first)
-        (decided_fault (verdict_from r b.before) (verdict r) (λ f. decided b.before (Some (fault_refused f))) old new (left first) (input old (left mid)) (input new (left after)) fault other (fault_told r b.before) b.decides answers);
+    verdict = fault_verdict after new fault other answers;
     rests = law b.before taker b.stands;
     stands = λ e. absurd cc;
     whole = λ e. absurd cc;
@@ -268,14 +278,15 @@ module _ {T S L K M : Type 0} (r : Rules L K M) (Stands : List L → T → Type 
   fault_reads Rests Halts law after new Bytes answers short rose later needed few = decision_reads Rests Halts after taker _ (fault_decides Rests law after new Bytes (λ e. cc) answers) (λ e. absurd cc) later needed few
   fault_reads Rests Halts law after new Lines answers short rose later needed few = decision_reads Rests Halts after taker _ (fault_decides Rests law after new Lines (λ e. cc) answers) (λ e. absurd cc) later needed few
 
-  -- what was read decides nothing where the source fails
-  pub stops_short : (after : S) (new : Reader) (f : LineFault) → new ≡ record old { held = new.held; line = []; fault = Some f } → new.ended ≡ false → Keeps (input old (left mid)) (input new (left after)) → ShowsNothing new.given new.place new.held → StopsShort r (left first) (left after)
-  stops_short after new f is still keeps shows =
-      let going : old.ended ≡ false = sym (ap (λ (x : Reader). x.ended) is) ∙ still in
-      let given : new.given ≡ old.given = ap (λ (x : Reader). x.given) is in
-      let place : new.place ≡ old.place = ap (λ (x : Reader). x.place) is in
-      let took = b.took going in record {
-        bytes = joined_lines took.lines ++ new.held;
-        taken = gone took.lines new.held after took.taken keeps;
-        undecided = undecided_from r _ (quiet going new.held (subst (λ n. ShowsNothing n old.place new.held) given (subst (λ n. ShowsNothing new.given n new.held) place shows)));
-      }
+  -- what was read decides nothing where the source fails, and its whole lines are those that were taken
+  pub stops_behind : (after : S) (new : Reader) → Faulted old new (left mid) (left after) Read → (x : StopsShort r (left first) (left after)) × (script_after r [] (whole_lines x.bytes) ≡ Some b.before)
+  stops_behind after new f =
+      let shown = f.read refl in
+      let going : old.ended ≡ false = sym (ap (λ (x : Reader). x.ended) f.after) ∙ shown.1 in
+      let given : new.given ≡ old.given = ap (λ (x : Reader). x.given) f.after in
+      let place : new.place ≡ old.place = ap (λ (x : Reader). x.place) f.after in
+      let took = b.took going in
+      let none = quiet going new.held (subst (λ n. ShowsNothing n old.place new.held) given (subst (λ n. ShowsNothing new.given n new.held) place shown.0)) in (
+        record { bytes = joined_lines took.lines ++ new.held; taken = gone took.lines new.held after took.taken f.keeps; undecided = undecided_from r _ none },
+        ap (script_after r []) (whole_joined took.lines new.held (no_ends took.lines took.each) shown.0.is_open.no_end) ∙ took.is,
+      )

@@ -1,12 +1,11 @@
 -- What a command promises, by how it ended: a text was put, the source failed, or memory ran out.
-use Rattle.std.proofs.Common.{◌≡◌, ◌∙◌, ◌⊎◌, inl, inr, ℕ, ◌≤◌, refl, sym, ap, subst, List, [], Option, None, Some, IfSome, arith}
+use Rattle.std.proofs.Common.{◌≡◌, ◌∙◌, ◌⊎◌, inl, inr, ℕ, ◌≤◌, refl, sym, subst, List, [], Option, None, Some, IfSome, arith}
 use Rattle.std.proofs.KnownBytes.{Appends-nil}
 use Rattle.std.specs.Io.KnownBytes.{Appends, IsAtEnd}
 use Rattle.aim_io.specs.Causes.{Rose}
-use Rattle.aim_io.specs.Known.{AppendsFront}
 use Rattle.aim_script_reading.specs.Rules.{Rules}
 use Rattle.aim_script_reading.specs.Short.{LastNeededBy, StopsShort, TakesAtMost}
-use Rattle.aim_script_reading.specs.Commands.{Completes, Ends, IsOfScript, Puts, PutsOne, Reports, Shows, ShowsFront, Streams}
+use Rattle.aim_script_reading.specs.Commands.{IsOfScript, Puts, PutsOne, Reports, Streams}
 
 if_some : {A : Type 0} {P Q : A → Type 0} (o : Option A) → ((x : A) → P x → Q x) → IfSome o P → IfSome o Q
 if_some None f p = tt

@@ -114,7 +114,7 @@ goes_none {L = L} {K = K} {M = M} r before bytes l j = read (r.reads before byte
     same : (m l : L) → ◌≡◌ {A = Judgement L K M} (goes_on m) (goes_on l) → m ≡ l
     same m l e = cc e
 
-    limit : (m : L) (k : Option K) (o : Option M) → r.kind_of_fault before m ≡ None → r.limit_of before m ≡ o → unless_bad r before m None ≡ goes_on l → (r.kind_of_fault before l ≡ None) × (r.limit_of before l ≡ None)
+    limit : (m : L) (k : Option K) (o : Option M) → r.kind_of_fault before m ≡ None → r.limit_of before m ≡ o → unless_bad {K = K} before m (r.limit_of before m) None ≡ goes_on l → (r.kind_of_fault before l ≡ None) × (r.limit_of before l ≡ None)
     limit m k None kn ln e = (let is = same m l (rw ln at e) in (subst (λ x. r.kind_of_fault before x ≡ None) is kn, subst (λ x. r.limit_of before x ≡ None) is ln))
     limit m k (Some which) kn ln e = absurd (cc (rw ln at e))
 

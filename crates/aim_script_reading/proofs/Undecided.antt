@@ -125,7 +125,7 @@ line_is_none {L = L} {K = K} {M = M} r before bytes d f j is = read (r.reads bef
     bad : (k : K) → ◌≡◌ {A = Judgement L K M} (decides (refused.Bad (number_after before) (why.Fault k))) (decides d) → ⊥
     bad k e = bad_is_none (number_after before) (why.Fault k) f (λ x. cc x) (decided_as _ _ e ∙ is)
 
-    limit : (l : L) (o : Option M) → r.kind_of_fault before l ≡ None → r.limit_of before l ≡ o → unless_bad r before l None ≡ decides d → ⊥
+    limit : (l : L) (o : Option M) → r.kind_of_fault before l ≡ None → r.limit_of before l ≡ o → unless_bad before l (r.limit_of before l) None ≡ decides d → ⊥
     limit l None kn ln e = cc (rw ln at e)
     limit l (Some which) kn ln e = limit_is_none which f (decided_as {L = L} _ _ (rw ln at e) ∙ is)
 
@@ -210,7 +210,7 @@ no_decision_from r bytes u = elim (decided_or_quiet r bytes) [
   | inr h ↦ h
 ]
 
-no_ends : (lines : List (List ℕ)) → AllByRecursion IsOpen lines → AllByRecursion HasNoEnd lines
+pub no_ends : (lines : List (List ℕ)) → AllByRecursion IsOpen lines → AllByRecursion HasNoEnd lines
 no_ends [] each = tt
 no_ends (line ∷ lines) each = (each.0.no_end, no_ends lines each.1)
 

@@ -31,12 +31,12 @@ abbrev pub unless_limited : {L K M : Type 0} → L → Option M → Judgement L 
 unless_limited l None = goes_on l
 unless_limited l (Some which) = decides (refused.Limit (bound.Further which))
 
-abbrev pub unless_bad : {L K M : Type 0} → Rules L K M → List L → L → Option K → Judgement L K M
-unless_bad r before l None = unless_limited l (r.limit_of before l)
-unless_bad r before l (Some k) = decides (refused.Bad (number_after before) (why.Fault k))
+abbrev pub unless_bad : {L K M : Type 0} → List L → L → Option M → Option K → Judgement L K M
+unless_bad before l limit None = unless_limited l limit
+unless_bad before l limit (Some k) = decides (refused.Bad (number_after before) (why.Fault k))
 
 abbrev pub of_read : {L K M : Type 0} → Rules L K M → List L → Result L K → Judgement L K M
-of_read r before (Ok l) = unless_bad r before l (r.kind_of_fault before l)
+of_read r before (Ok l) = unless_bad before l (r.limit_of before l) (r.kind_of_fault before l)
 of_read r before (Err k) = decides (refused.Bad (number_after before) (why.Fault k))
 
 -- what stands behind those lines decides, or goes on

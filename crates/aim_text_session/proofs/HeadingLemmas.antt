@@ -6,7 +6,7 @@ use Rattle.std.proofs.Math.Seq.{take-append_seam}
 use Rattle.aim_messages.specs.declared.script.Line.{Line}
 use Rattle.aim_messages.specs.declared.script.Line.TheVariants as line
 use Rattle.aim_layout.proofs.Elements.{append_cases}
-use Rattle.aim_script.specs.declared.decisions.Decision.TheVariants as decision
+use Rattle.aim_script_reading.specs.Verdicts.{decides, goes_on, unless_bad, unless_limited}
 use Rattle.aim_script.specs.declared.decisions.Kind.{Kind}
 use Rattle.aim_script.specs.declared.decisions.Kind.TheVariants as why
 use Rattle.aim_script.specs.declared.decisions.Limit.{Limit}
@@ -20,7 +20,7 @@ use Rattle.aim_script.specs.Kinds.{kind_of_fault, limit_of, vehicles_limit}
 use Rattle.aim_script.specs.Order.{belongs, part_after, to_begin}
 use Rattle.aim_script.specs.Said.{last_of, vehicles_in, version_after}
 use Rattle.aim_script.specs.Versions.{version_number}
-use Rattle.aim_script.specs.Verdicts.{decides, goes_on, number_after, of_read, unless_bad, unless_limited}
+use Rattle.aim_script.specs.Verdicts.{bad, of_read, past}
 use Rattle.aim_script.proofs.AppendLemmas.{last_of_more, version_same}
 use Rattle.aim_script.proofs.KindLemmas.{out_of_order}
 use Rattle.aim_line_session.specs.declared.progress.Progress.{Progress}
@@ -62,11 +62,11 @@ header_next lines k l h at st = rw (take_more lines k l (slice_get_within lines 
 pub goes_on_good : (before : List Line) (l m : Line) → of_read before (Ok l) ≡ goes_on m → (kind_of_fault before l ≡ None) × (limit_of before l ≡ None)
 goes_on_good before l m is = go (kind_of_fault before l) is
   where
-    there : (x : Option Limit) → unless_limited l x ≡ goes_on m → x ≡ None
+    there : (x : Option Limit) → unless_limited {K = Kind} l x ≡ goes_on m → x ≡ None
     there None e = refl
     there (Some which) e = absurd (cc)
 
-    go : (k : Option Kind) → unless_bad before l k ≡ goes_on m → (k ≡ None) × (limit_of before l ≡ None)
+    go : (k : Option Kind) → unless_bad before l (limit_of before l) k ≡ goes_on m → (k ≡ None) × (limit_of before l ≡ None)
     go None e = (refl, there (limit_of before l) e)
     go (Some kind) e = absurd (cc)
 
@@ -113,11 +113,11 @@ vehicles_counted lines l bytes old s n all is st (kind, counted, set) spans with
 
 -- the line of too many
 pub vehicles_past : (lines : List Line) (l : Line) (bytes : List ℕ) (s : Setting) (n : ℕ) (which : Limit) → judged lines bytes ≡ of_read lines (Ok l) → Heeds lines l (Ok (headed.Whole s))
-    → n ≡ s.layout.grid.spans → Some which ≡ vehicles_limit n s.vehicles → judged lines bytes ≡ decides (decision.Limit which)
+    → n ≡ s.layout.grid.spans → Some which ≡ vehicles_limit n s.vehicles → judged lines bytes ≡ decides (past which)
 vehicles_past lines l bytes s n which is (kind, counted, set) spans past = is ∙ passes lines l which kind (limit_is lines l s counted set ∙ rw (← spans) (sym past))
 
 -- a line at fault
-pub header_falls : (lines : List Line) (l : Line) (bytes : List ℕ) (kind : Kind) → judged lines bytes ≡ of_read lines (Ok l) → kind_of_fault lines l ≡ Some kind → judged lines bytes ≡ decides (decision.Bad (number_after lines) kind)
+pub header_falls : (lines : List Line) (l : Line) (bytes : List ℕ) (kind : Kind) → judged lines bytes ≡ of_read lines (Ok l) → kind_of_fault lines l ≡ Some kind → judged lines bytes ≡ decides (bad lines kind)
 header_falls lines l bytes kind is fault = is ∙ falls lines l kind fault
 
 -- the setting of the lines and of the vehicles that were counted
@@ -160,7 +160,7 @@ begin_taken lines n bytes p is b = record { line = line.Begin; goes = is ∙ b.g
 
 -- another line there
 pub behind_vehicles : (lines : List Line) (n : ℕ) (l : Line) (bytes : List ℕ) → belongs to_begin l ≡ false → judged (lines ++ line.Vehicles n ∷ []) bytes ≡ of_read (lines ++ line.Vehicles n ∷ []) (Ok l)
-    → judged (lines ++ line.Vehicles n ∷ []) bytes ≡ decides (decision.Bad (number_after (lines ++ line.Vehicles n ∷ [])) why.Order)
+    → judged (lines ++ line.Vehicles n ∷ []) bytes ≡ decides (bad (lines ++ line.Vehicles n ∷ []) why.Order)
 behind_vehicles lines n l bytes other is =
     let all = lines ++ line.Vehicles n ∷ [] in
     let part : part_after (last_of all) ≡ to_begin = rw (last_of_more lines (line.Vehicles n)) refl in

@@ -9,7 +9,8 @@ use Rattle.aim_script.specs.Headers.{HasName, IsSet, Stands as StandsAsHeader}
 use Rattle.aim_script.specs.Kinds.{kind_of_fault, vehicles_limit}
 use Rattle.aim_script.specs.Order.{is_end}
 use Rattle.aim_script.specs.Said.{last_of, vehicles_in}
-use Rattle.aim_script.specs.Verdicts.{of_read, goes_on}
+use Rattle.aim_script.specs.Verdicts.{of_read}
+use Rattle.aim_script_reading.specs.Verdicts.{goes_on}
 use Rattle.aim_line_session.specs.declared.progress.Progress.{Progress}
 use Rattle.aim_line_session.specs.Sessions.{Stands as StandsAsSession, journal_so_far}
 use Rattle.aim_text_session.specs.declared.headings.Reached.{Reached}

@@ -1,12 +1,14 @@
 -- What is known of the lines that a session of texts has taken, and what a further one comes to.
 use Rattle.std.specs.Prelude.{◌≡◌, ◌==◌, ℕ, List, [], ◌∷◌, ◌++◌, length, nat_lt, true, MatchBool, Option, Some, None, Result, Ok, Err, if◌then◌else◌}
 use Rattle.aim_messages.specs.declared.script.Line.{Line}
-use Rattle.aim_script.specs.declared.decisions.Decision.TheVariants as decision
+use Rattle.aim_script_reading.specs.Verdicts.{Judgement, decides, goes_on}
+use Rattle.aim_script.specs.declared.decisions.Kind.{Kind}
 use Rattle.aim_script.specs.declared.decisions.Kind.TheVariants as kind
+use Rattle.aim_script.specs.declared.decisions.Limit.{Limit}
 use Rattle.aim_script.specs.Order.{is_end}
 use Rattle.aim_script.specs.Said.{version_after, last_of}
 use Rattle.aim_script.specs.Spellings.{reads_words}
-use Rattle.aim_script.specs.Verdicts.{Judgement, Reads, of_read, goes_on, decides, number_after}
+use Rattle.aim_script.specs.Verdicts.{Reads, bad, of_read, past}
 use Rattle.aim_line_session.specs.declared.progress.Answered.{Answered}
 use Rattle.aim_line_session.specs.declared.progress.Progress.{Progress}
 use Rattle.aim_line_session.specs.declared.progress.Untaken.{Untaken}
@@ -32,7 +34,7 @@ abbrev pub reads_text : Reads
 reads_text version bytes = if nat_lt 400 (length bytes) then Err kind.Long else reads_words version bytes
 
 -- what these bytes come to behind the lines of a script
-abbrev pub judged : List Line → List ℕ → Judgement
+abbrev pub judged : List Line → List ℕ → Judgement Line Kind Limit
 judged before bytes = of_read before (reads_text (version_after before) bytes)
 
 -- the line goes on behind these lines, and the session stands for it, too; the journal of its lines gets the entry that is given, or stays
@@ -52,8 +54,8 @@ HasNoRoom l (InBody p) = IsFull l p.server
 abbrev pub Comes : List Line → List ℕ → Standing → Standing → LineOutcome → Type 0
 Comes before bytes old new outcome.Taken = IsTaken before bytes new None
 Comes before bytes old new (outcome.Made a) = IsTaken before bytes new (Some a)
-Comes before bytes old new (outcome.Bad why) = (judged before bytes ≡ decides (decision.Bad (number_after before) why)) × (new ≡ old)
-Comes before bytes old new (outcome.Limit which) = (judged before bytes ≡ decides (decision.Limit which)) × (new ≡ old)
+Comes before bytes old new (outcome.Bad why) = (judged before bytes ≡ decides (bad before why)) × (new ≡ old)
+Comes before bytes old new (outcome.Limit which) = (judged before bytes ≡ decides (past which)) × (new ≡ old)
 Comes before bytes old new outcome.Full = (l : Line) × (judged before bytes ≡ goes_on l) × HasNoRoom l old × (new ≡ old)
 Comes before bytes old new outcome.NoMemory = (journal_so_far before ≡ []) × (new ≡ old)
 Comes before bytes old new outcome.Ended = (is_end (last_of before) ≡ true) × (new ≡ old)
