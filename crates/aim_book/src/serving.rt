@@ -20,7 +20,7 @@ ghost use Rattle.aim_sessions.specs.Kept.{no_session};
 ghost use Rattle.aim_sessions.specs.Looks.{is_fresh_look, look_of};
 ghost use Rattle.aim_book.specs.Costs.{asked_spans, starts_tried};
 ghost use Rattle.aim_reservations.specs.Keeping.{row_count};
-ghost use Rattle.aim_book.specs.Managed.{IsManaged};
+ghost use Rattle.aim_book.specs.Managed.{Enters, IsManaged};
 ghost use Rattle.aim_reservations.specs.Rows.{row_of};
 ghost use Rattle.aim_book.specs.Reserved.{rows_exchanged};
 
@@ -144,10 +144,7 @@ impl<L: Ledger> Desk<L> {
         requires prepared { IsPreparedFor layout.now prepared }
         requires count { back.old.count ≤ 1000000 }
         requires room { back.old.room ≡ layout.now.grid.spans }
-        ensures reply { (h : List Entry) → IsManaged layout.now (length self.old.sessions) h (now_of h 0) self.old → place ≡ length h → result ≡ answer layout.now h vehicle moment (Act.Message prepared.message) }
-        ensures managed { (h : List Entry) → IsManaged layout.now (length self.old.sessions) h (now_of h 0) self.old → place ≡ length h →
-            IsManaged layout.now (length self.old.sessions) (h ++ (record { caller = vehicle; moment = moment; act = Act.Message prepared.message; reply = result }) ∷ [])
-            (now_of (h ++ (record { caller = vehicle; moment = moment; act = Act.Message prepared.message; reply = result }) ∷ []) 0) self.new }
+        ensures entry { Enters layout.now (length self.old.sessions) place (record { caller = vehicle; moment = moment; act = Act.Message prepared.message; reply = result }) self.old self.new }
         ensures timeline { self.new.timeline ≡ self.old.timeline }
         ensures sheets { back.new.count + row_count (row_of self.new.reservations.rows.items vehicle) ≡ back.old.count + row_count (row_of self.old.reservations.rows.items vehicle) + 2 }
         ensures pool { back.new.room ≡ back.old.room }
@@ -224,10 +221,7 @@ impl<L: Ledger> Desk<L> {
         requires two { 2 ≤ pool.old.count }
         requires count { pool.old.count ≤ 1000000 }
         requires room { pool.old.room ≡ layout.now.grid.spans }
-        ensures reply { (h : List Entry) → IsManaged layout.now (length self.old.sessions) h (now_of h 0) self.old → place ≡ length h → result ≡ answer layout.now h vehicle moment (Act.Message message.now) }
-        ensures managed { (h : List Entry) → IsManaged layout.now (length self.old.sessions) h (now_of h 0) self.old → place ≡ length h →
-            IsManaged layout.now (length self.old.sessions) (h ++ (record { caller = vehicle; moment = moment; act = Act.Message message.now; reply = result }) ∷ [])
-            (now_of (h ++ (record { caller = vehicle; moment = moment; act = Act.Message message.now; reply = result }) ∷ []) 0) self.new }
+        ensures entry { Enters layout.now (length self.old.sessions) place (record { caller = vehicle; moment = moment; act = Act.Message message.now; reply = result }) self.old self.new }
         ensures known { ArePreparedFor layout.now shapes.new }
         ensures timeline { self.new.timeline ≡ self.old.timeline }
         ensures sheets { pool.new.count + row_count (row_of self.new.reservations.rows.items vehicle) ≡ pool.old.count + row_count (row_of self.old.reservations.rows.items vehicle) }

@@ -7,7 +7,7 @@ ghost use Rattle.aim_tiles.specs.Cells.{has_cell};
 ghost use Rattle.aim_tiles.specs.Sheets.{AreAhead, AreTiles};
 ghost use Rattle.aim_rules.specs.History.{given_up as given_up_of, is_confirm};
 ghost use Rattle.aim_rules.specs.Holds.{is_fast};
-ghost use Rattle.aim_reservations.specs.Keeping.{granted_sheet, is_changed, is_named, is_taken_then, row_count, row_next, spans_moved};
+ghost use Rattle.aim_reservations.specs.Keeping.{AreKept, granted_sheet, is_changed, is_named, is_taken_then, row_count, row_next, spans_moved};
 ghost use Rattle.aim_reservations.specs.Rows.{HasRoom, row_of, sheet_count, spans_in};
 
 use crate::reservations::{Reservation, Reservations};
@@ -143,10 +143,7 @@ impl<L: Ledger> Reservations<L> {
         requires first { prepared.first.room ≡ back.old.room }
         requires second { prepared.second.room ≡ back.old.room }
         requires room { HasRoom back.old.room (option_map (λ r. r.sheet) (row_of self.old.rows.items vehicle)) }
-        ensures rows { self.new.rows.items ≡ slice_set self.old.rows.items vehicle (row_next (row_of self.old.rows.items vehicle) place prepared reply.now) }
-        ensures table { self.new.table ≡ record self.old.table { cells = self.new.table.cells } }
-        ensures cells { (c : Cell) → has_cell self.new.table c
-            ≡ is_taken_then self.old.table (row_of self.old.rows.items vehicle) (row_next (row_of self.old.rows.items vehicle) place prepared reply.now) (is_changed (row_of self.old.rows.items vehicle) prepared reply.now) c }
+        ensures kept { AreKept vehicle (row_next (row_of self.old.rows.items vehicle) place prepared reply.now) (is_changed (row_of self.old.rows.items vehicle) prepared reply.now) self.old self.new }
         ensures pool { back.new.room ≡ back.old.room }
         ensures sheets { back.new.count + row_count (row_next (row_of self.old.rows.items vehicle) place prepared reply.now) ≡ back.old.count + row_count (row_of self.old.rows.items vehicle) + 2 }
         ensures cost { steps.new ≤ steps.old + spans_moved (row_of self.old.rows.items vehicle) (row_next (row_of self.old.rows.items vehicle) place prepared reply.now) (is_changed (row_of self.old.rows.items vehicle) prepared reply.now) }

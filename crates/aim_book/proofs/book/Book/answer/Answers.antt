@@ -23,7 +23,7 @@ invariant_of-self g c =
     let managed = c.self.invariant.managed in
     let m : IsManaged b.layout (length b.desk.sessions) h (now_of h 0) b.desk = subst (λ k. IsManaged b.layout k h (now_of h 0) b.desk) (sym managed.desk.callers) managed in
     let e : Entry = record { caller = c.args.vehicle; moment = c.args.moment; act = act.Message c.args.prepared.message; reply = c.serve-reply.result } in
-    let next = c.serve-reply.ensures.managed h m (let q : c.len-place.result ≡ length h = omega (arith, c.len-place.ensures) in q) in
+    let next = (c.serve-reply.ensures.entry h m (let q : c.len-place.result ≡ length h = omega (arith, c.len-place.ensures) in q)).managed in
     let items : c.enter.new.journal.items ≡ h ++ e ∷ [] = c.enter.ensures.items ∙ ap (λ x. h ++ x ∷ []) (c.enter.ensures.entry ∙ entry_answered c.args.vehicle c.args.moment _ _ _ _ (ap (λ m. act.Message m) c.message-message.ensures.message) refl) in
     record {
       managed = subst (λ js. IsManaged b.layout b.vehicles js (now_of js 0) c.serve-reply.new.self) (sym items) (subst (λ k. IsManaged b.layout k (h ++ e ∷ []) (now_of (h ++ e ∷ []) 0) c.serve-reply.new.self) managed.desk.callers next);
@@ -39,7 +39,7 @@ returns-clause-entry g c =
     let h = b.journal.items in
     let managed = c.self.invariant.managed in
     let m : IsManaged b.layout (length b.desk.sessions) h (now_of h 0) b.desk = subst (λ k. IsManaged b.layout k h (now_of h 0) b.desk) (sym managed.desk.callers) managed in
-    let said = c.serve-reply.ensures.reply h m (let q : c.len-place.result ≡ length h = omega (arith, c.len-place.ensures) in q) in
+    let said = (c.serve-reply.ensures.entry h m (let q : c.len-place.result ≡ length h = omega (arith, c.len-place.ensures) in q)).reply in
     let same : c.serve-reply.result ≡ answer c.args.self.now.layout c.args.self.now.journal c.args.vehicle c.args.moment (act.Message c.args.prepared.message) = subst (λ v. c.serve-reply.result ≡ answer v.layout v.journal c.args.vehicle c.args.moment (act.Message c.args.prepared.message)) c.self.view_is said in
     c.enter.ensures.entry ∙ entry_answered c.args.vehicle c.args.moment _ _ _ _ (ap (λ m. act.Message m) c.message-message.ensures.message) same
 
@@ -58,7 +58,7 @@ returns-clause-sheets g c =
     let l : v < n = rw managed.desk.callers (rw (← c.self.view_is) at c.requires.vehicle) in
     let before : row_count (row_of b.desk.reservations.rows.items v) ≡ sheets_kept v b.journal.items = count_is b.layout n b.journal.items v (row_of b.desk.reservations.rows.items v) m.legal (m.desk.reserved.rows v l) in
     let e : Entry = record { caller = v; moment = c.args.moment; act = act.Message c.args.prepared.message; reply = c.serve-reply.result } in
-    let next = c.serve-reply.ensures.managed b.journal.items m (let q : c.len-place.result ≡ length b.journal.items = omega (arith, c.len-place.ensures) in q) in
+    let next = (c.serve-reply.ensures.entry b.journal.items m (let q : c.len-place.result ≡ length b.journal.items = omega (arith, c.len-place.ensures) in q)).managed in
     let after : row_count (row_of c.serve-reply.new.self.reservations.rows.items v) ≡ sheets_kept v (b.journal.items ++ e ∷ []) = count_is b.layout n (b.journal.items ++ e ∷ []) v (row_of c.serve-reply.new.self.reservations.rows.items v) next.legal (next.desk.reserved.rows v l) in
     let items : sheets_kept v c.enter.new.journal.items ≡ sheets_kept v (b.journal.items ++ e ∷ []) = ap (sheets_kept v) (c.enter.ensures.items ∙ ap (λ x. b.journal.items ++ x ∷ []) (c.enter.ensures.entry ∙ entry_answered c.args.vehicle c.args.moment _ _ _ _ (ap (λ m. act.Message m) c.message-message.ensures.message) refl)) in
     let journal : sheets_kept v b.journal.items ≡ sheets_kept v c.args.self.now.journal = (λ j. sheets_kept v (c.self.view_is j).journal) in
@@ -74,7 +74,7 @@ returns-clause-cost g c =
     let m : IsManaged b.layout n h (now_of h 0) b.desk = subst (λ k. IsManaged b.layout k h (now_of h 0) b.desk) (sym managed.desk.callers) managed in
     let l : v < n = rw managed.desk.callers (rw (← c.self.view_is) at c.requires.vehicle) in
     let e : Entry = record { caller = v; moment = c.args.moment; act = act.Message c.args.prepared.message; reply = c.serve-reply.result } in
-    let next = c.serve-reply.ensures.managed h m (let q : c.len-place.result ≡ length h = omega (arith, c.len-place.ensures) in q) in
+    let next = (c.serve-reply.ensures.entry h m (let q : c.len-place.result ≡ length h = omega (arith, c.len-place.ensures) in q)).managed in
     let rows : rows_exchanged (row_of b.desk.reservations.rows.items v) (row_of c.serve-reply.new.self.reservations.rows.items v) ≡ spans_exchanged b.layout v h (h ++ e ∷ [])
     = exchanged_is b.layout (kept (fresh h) v) (kept (fresh (h ++ e ∷ [])) v) (row_of b.desk.reservations.rows.items v) (row_of c.serve-reply.new.self.reservations.rows.items v) (m.desk.reserved.rows v l) (next.desk.reserved.rows v l) in
     let items : c.enter.new.journal.items ≡ h ++ e ∷ [] = c.enter.ensures.items ∙ ap (λ x. h ++ x ∷ []) (c.enter.ensures.entry ∙ entry_answered c.args.vehicle c.args.moment _ _ _ _ (ap (λ m. act.Message m) c.message-message.ensures.message) refl) in
@@ -114,5 +114,5 @@ returns-clause-legal g c =
     let managed = c.self.invariant.managed in
     let m : IsManaged b.layout (length b.desk.sessions) h (now_of h 0) b.desk = subst (λ k. IsManaged b.layout k h (now_of h 0) b.desk) (sym managed.desk.callers) managed in
     let e : Entry = record { caller = c.args.vehicle; moment = c.args.moment; act = act.Message c.args.prepared.message; reply = c.serve-reply.result } in
-    let next = c.serve-reply.ensures.managed h m (let q : c.len-place.result ≡ length h = omega (arith, c.len-place.ensures) in q) in
+    let next = (c.serve-reply.ensures.entry h m (let q : c.len-place.result ≡ length h = omega (arith, c.len-place.ensures) in q)).managed in
     rw (c.enter.ensures.items, c.enter.ensures.entry, c.message-message.ensures.message) (subst (λ k. IsLegal b.layout k (h ++ e ∷ [])) managed.desk.callers next.legal)

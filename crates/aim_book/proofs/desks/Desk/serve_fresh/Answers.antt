@@ -112,9 +112,9 @@ returns-clause-managed g c = λ h moment m place late.
     (λ j. (c.keep_distance.ensures.rest j).timeline)
     (λ j. (c.keep_distance.ensures.rest j).has_lights)
     (λ j. (c.keep_distance.ensures.rest j).stopped)
-    (rw c.keep_distance.ensures.rest at c.keep-2.ensures.rows)
-    (rw c.keep_distance.ensures.rest at c.keep-2.ensures.table)
-    (rw c.keep_distance.ensures.rest at c.keep-2.ensures.cells)
+    (rw c.keep_distance.ensures.rest at c.keep-2.ensures.kept.rows)
+    (rw c.keep_distance.ensures.rest at c.keep-2.ensures.kept.table)
+    (rw c.keep_distance.ensures.rest at c.keep-2.ensures.kept.cells)
 
 pub returns-clause-cost : goal.returns-clause-cost
 returns-clause-cost g c =
@@ -124,7 +124,7 @@ returns-clause-cost g c =
     let next = row_next (row_of rows v) c.args.place c.answer_fresh-reply.new.prepared c.answer_fresh-reply.result in
     let moved : spans_moved (row_of rows v) next (is_changed (row_of rows v) c.answer_fresh-reply.new.prepared c.answer_fresh-reply.result) ≤ rows_exchanged (row_of rows v) next
     = moved_fits c.args.layout.now managed.0 v c.args.place (row_of rows v) c.answer_fresh-reply.new.prepared c.answer_fresh-reply.result (managed.2.desk.reserved.rows v c.requires.vehicle) managed.3 in
-    let rows_are : c.keep-2.new.self.rows.items ≡ slice_set rows v next = rw c.keep_distance.ensures.rest at c.keep-2.ensures.rows in
+    let rows_are : c.keep-2.new.self.rows.items ≡ slice_set rows v next = rw c.keep_distance.ensures.rest at c.keep-2.ensures.kept.rows in
     let there : v < length rows = rw managed.2.desk.reserved.many c.requires.vehicle in
     let row_is : row_of c.keep-2.new.self.rows.items v ≡ next = ap (λ ss. row_of ss v) rows_are ∙ get_or-set_same rows v next None there in
     let kept : c.keep-2.new.steps ≤ c.answer_fresh-reply.new.steps + spans_moved (row_of rows v) next (is_changed (row_of rows v) c.answer_fresh-reply.new.prepared c.answer_fresh-reply.result) = rw c.keep_distance.ensures.rest at c.keep-2.ensures.cost in
@@ -189,4 +189,4 @@ returns-clause-sheets g c =
     let rows = c.keep_distance.new.self.reservations.rows.items in
     let v = c.args.vehicle in
     kept_sheets rows c.args.self.now.reservations.rows.items c.keep-2.new.self.rows.items v c.keep-2.new.back.count c.args.back.now.count (row_next (row_of rows v) c.args.place c.answer_fresh-reply.new.prepared c.answer_fresh-reply.result)
-    (rw c.requires.managed.2.desk.reserved.many c.requires.vehicle) (λ j. (c.keep_distance.ensures.rest j).reservations.rows.items) c.keep-2.ensures.rows c.keep-2.ensures.sheets
+    (rw c.requires.managed.2.desk.reserved.many c.requires.vehicle) (λ j. (c.keep_distance.ensures.rest j).reservations.rows.items) c.keep-2.ensures.kept.rows c.keep-2.ensures.sheets

@@ -23,9 +23,9 @@ pub serve_message-reply-requires-clause-room : goal.serve_message-reply-requires
 serve_message-reply-requires-clause-room g c = c.requires.serves.1.spans
 
 pub returns-clause-entry : goal.returns-clause-entry
-returns-clause-entry g c = λ h w. ap (λ (r : Reply). record { caller = c.args.vehicle; moment = c.args.moment; act = act.Message c.args.message.now; reply = r }) (c.serve_message-reply.ensures.reply h (as_many h c.args.self.now w) w.place)
+returns-clause-entry g c = λ h w. ap (λ (r : Reply). record { caller = c.args.vehicle; moment = c.args.moment; act = act.Message c.args.message.now; reply = r }) (c.serve_message-reply.ensures.entry h (as_many h c.args.self.now w) w.place).reply
 
 pub returns-clause-serves : goal.returns-clause-serves
 returns-clause-serves g c = λ h w.
     let told = c.serve_message-reply.ensures in
-    served_message h _ c.args.self.now _ w c.requires.vehicle refl (told.managed h (as_many h c.args.self.now w) w.place) told.timeline told.known told.pool told.sheets
+    served_message h _ c.args.self.now _ w c.requires.vehicle refl (told.entry h (as_many h c.args.self.now w) w.place).managed told.timeline told.known told.pool told.sheets
