@@ -1,5 +1,5 @@
 -- What a session writes: an answer to each of its lines.
-use Rattle.std.specs.Prelude.{◌≡◌, ◌⊎◌, ◌≤◌, ◌+◌, ℕ, true, false, List, [], ◌∷◌, ◌++◌, length, nat_lt, Option, Some, None, Err, if◌then◌else◌}
+use Rattle.std.specs.Prelude.{◌≡◌, ◌⊎◌, ◌≤◌, ◌+◌, ℕ, true, false, List, [], ◌∷◌, ◌++◌, length, Option, Some, None}
 use Rattle.aim_io.specs.Lines.{HasNoEnd, lines_of}
 use Rattle.aim_messages.specs.declared.script.Line.{Line}
 use Rattle.aim_messages.specs.declared.script.Line.TheVariants as line
@@ -11,13 +11,10 @@ use Rattle.aim_script.specs.Decided.{printed}
 use Rattle.aim_script.specs.Order.{is_end}
 use Rattle.aim_script.specs.Said.{last_of, version_after}
 use Rattle.aim_script.specs.Spellings.{Spelled}
-use Rattle.aim_script.specs.Verdicts.{Judgement, Reads, decides, goes_on, of_read}
+use Rattle.aim_script.specs.Verdicts.{Judgement, decides, goes_on, of_read}
+use Rattle.aim_text_session.specs.Sessions.{reads_short}
 use Rattle.aim_line_session.specs.declared.progress.Answered.{Answered}
 use Rattle.aim_line_session.specs.Sessions.{Makes, journal_so_far, orders_in}
-
--- lines of at most 400 bytes are read so
-abbrev pub reads_short : Reads → Reads
-reads_short reads version bytes = if nat_lt 400 (length bytes) then Err kind.Long else reads version bytes
 
 -- what these bytes come to behind the lines that were taken
 abbrev pub judged_by : Spelled → List Line → List ℕ → Judgement

@@ -27,9 +27,13 @@ abbrev pub Stands : List Line → Standing → Type 0
 Stands before (InHeader lines) = before ≡ lines
 Stands before (InBody p) = StandsAsSession before p
 
--- lines of at most 400 bytes are read as words
+-- lines of at most 400 bytes are read so
+abbrev pub reads_short : Reads → Reads
+reads_short reads version bytes = if nat_lt 400 (length bytes) then Err kind.Long else reads version bytes
+
+-- and as words
 abbrev pub reads_text : Reads
-reads_text version bytes = if nat_lt 400 (length bytes) then Err kind.Long else reads_words version bytes
+reads_text = reads_short reads_words
 
 -- what these bytes come to behind the lines of a script
 abbrev pub judged : List Line → List ℕ → Judgement
