@@ -22,8 +22,8 @@ SCRIPTS = {
     "mail": (["mail", "1"], (CASES / "mail-two-clients/input").read_bytes()),
     "shards": (["shards", "1"], CLAIMS),
 }
-# These, and the one that goes on behind a line at fault.
-WITH_SESSION = {**SCRIPTS, "session": (["session"], SCRIPTS["replay"][1])}
+# These, and those that go on behind a line at fault.
+WITH_SESSION = {**SCRIPTS, "session": (["session"], SCRIPTS["replay"][1]), "session-json": (["session-json"], JSON)}
 END = b"\x04"
 
 

@@ -206,7 +206,7 @@ def test_byte_by_byte(program, whole):
 
 # ---- Inputs and outputs that fail.
 
-@pytest.mark.parametrize("words", (["replay"], ["session"], DRIVE.words, MAIL.words), ids=lambda words: words[0])
+@pytest.mark.parametrize("words", (["replay"], ["session"], ["session-json"], DRIVE.words, MAIL.words), ids=lambda words: words[0])
 def test_folder_as_input(program, words):
     folder = os.open(TOP, os.O_RDONLY)
     ran = program.run(*words, stdin=folder)
@@ -214,7 +214,7 @@ def test_folder_as_input(program, words):
     assert ran == (4, b"")
 
 
-@pytest.mark.parametrize("words, script", [(["replay"], SCRIPT), (["session"], SCRIPT), (DRIVE.words, DRIVE.script), (MAIL.words, MAIL.script)])
+@pytest.mark.parametrize("words, script", [(["replay"], SCRIPT), (["session"], SCRIPT), (["session-json"], SCRIPT), (DRIVE.words, DRIVE.script), (MAIL.words, MAIL.script)])
 def test_full_output(program, words, script):
     with open("/dev/full", "wb") as full:
         assert program.run(*words, script=script, stdout=full).status == 5

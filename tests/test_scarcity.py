@@ -1,5 +1,5 @@
 """Where memory is short, and where no second process or thread can be had. Whatever is missing, each run ends: with the whole
-text, or with status 7 and nothing written."""
+text, or with status 7 and nothing written, or of JSON lines a front."""
 import os
 import re
 import resource
@@ -11,6 +11,7 @@ import pytest
 
 from conftest import TOP
 from program import Program
+from test_json import as_json
 
 PAGES = 16 * resource.getpagesize()
 NOBODY = 65534
@@ -34,18 +35,21 @@ class Command:
         return Command([self.words[0], str(count)], self.script, self.text)
 
     def fault(self, got):
-        """What is wrong with a status and a text, or None: the whole text, or status 7 and nothing. With several workers
-        calls may come in another order: then the last line is one that ends a text. Other tests judge such texts."""
+        """What is wrong with a status and a text, or None: the whole text, or status 7 and nothing; of JSON lines a front.
+        With several workers calls may come in another order: then the last line is one that ends a text. Other tests judge
+        such texts."""
         status, text = got
         if status == 7:
-            return f"status 7, and {text[:100]!r}" if text else None
-        alone = self.words[-1] in ("1", "replay", "session")
+            front = self.text.startswith(text) if self.words[0].endswith("-json") else not text
+            return None if front else f"status 7, and {text[:100]!r}"
+        alone = self.words[-1] in ("1", "replay", "replay-json", "session", "session-json")
         whole = text == self.text if alone else re.fullmatch(rb"(.+\n)*end \d+\n", text)
         return None if status == 0 and whole else f"status {status}, {text[:100]!r}"
 
 
 REPLAY = Command.of_case(["replay"], "a-first-confirm")
 SESSION = Command.of_case(["session"], "a-first-confirm")
+OF_JSON = [Command([word], as_json(REPLAY.script), as_json(REPLAY.text)) for word in ("replay-json", "session-json")]
 WITH_WORKERS = [
     Command.of_case(["drive", "1"], "drive-lost-late-and-repeated-letters"),
     Command.of_case(["mail", "1"], "mail-two-clients"),
@@ -81,7 +85,7 @@ def least(program):
     return next(k for k in range(1, 4000) if within(program, nothing, k * PAGES) == (2, b"usage\n"))
 
 
-@pytest.mark.parametrize("command", [REPLAY, SESSION, *WITH_WORKERS], ids=name_of)
+@pytest.mark.parametrize("command", [REPLAY, SESSION, *OF_JSON, *WITH_WORKERS], ids=name_of)
 def test_ever_more_memory(program, checks, least, command):
     """First memory is wanting, at last the whole text comes."""
     refused, whole, limit = 0, 0, least

@@ -9,7 +9,7 @@ use Rattle.aim_script_reading.specs.Rules.{Rules}
 use Rattle.aim_script.specs.Spellings.{Spelled}
 use Rattle.aim_session_command.specs.Commands.{HoldsSession}
 use Rattle.aim.specs.declared.words.Command.{Command}
-use Rattle.aim.specs.declared.words.Command.TheVariants.{Replay, Chart, ReplayJson, Session, Drive, Grid, Generate, Traffic, Shards, Mail, Help, Version}
+use Rattle.aim.specs.declared.words.Command.TheVariants.{Replay, Chart, ReplayJson, Session, SessionJson, Drive, Grid, Generate, Traffic, Shards, Mail, Help, Version}
 use Rattle.aim.specs.Runs.{Answers, Does, Ends, IsStatus, IsWhole, Prints, Replays, Settles}
 
 if_some : {X : Type 0} {P Q : X → Type 0} (it : Option X) → ((x : X) → P x → Q x) → IfSome it P → IfSome it Q
@@ -111,7 +111,7 @@ module _ (old new : Streams) (held : Option (List ℕ)) (faults status : ℕ) (k
     };
     waited = λ h. stays h (r.waited h);
     front = λ h. if_some old.left (λ bytes x. record { text = x.text; is = x.is; written = front x.written }) (r.front h);
-    memory = λ h. if_some old.left (λ bytes x. record { lines = x.lines; more = x.more; taken = x.taken; text = x.text; begun = x.begun; none = x.none; written = added x.text x.written }) (r.memory h);
+    memory = λ never h. if_some old.left (λ bytes x. record { lines = x.lines; more = x.more; taken = x.taken; text = x.text; begun = x.begun; none = x.none; written = added x.text x.written }) (r.memory never h);
     needed = r.needed;
     ends = ends_same r.ends;
   }
@@ -133,6 +133,7 @@ module _ (old new : Streams) (held : Option (List ℕ)) (faults status : ℕ) (k
   does_same unread settled settled' last stays (Chart step) d = replays_same stays d
   does_same unread settled settled' last stays ReplayJson d = replays_same stays d
   does_same unread settled settled' last stays Session d = holds_same stays d
+  does_same unread settled settled' last stays SessionJson d = holds_same stays d
   does_same unread settled settled' last stays (Drive workers) d = reports_same d
   does_same unread settled settled' last stays (Grid workers) d = reports_same d
   does_same unread settled settled' last stays (Mail workers) d = reports_same d
@@ -192,7 +193,7 @@ module _ (old new : Streams) (held : Option (List ℕ)) (faults status : ℕ) (k
       short = λ h. absurd (omega (arith, h));
       waited = λ h. absurd (omega (arith, h));
       front = λ _. if_some old.left (λ bytes x. record { text = x.text; is = inl (x.decision, x.is); written = front_of (added x.text x.written) }) (r.whole (of_script status whole r.ends.statuses));
-      memory = λ h. absurd (omega (arith, h));
+      memory = λ never h. absurd (omega (arith, h));
       needed = r.needed;
       ends = ends_failed r.ends;
     }
@@ -214,6 +215,7 @@ module _ (old new : Streams) (held : Option (List ℕ)) (faults status : ℕ) (k
     does_failed unread settled settled' last whole (Chart step) d = replays_failed whole d
     does_failed unread settled settled' last whole ReplayJson d = replays_failed whole d
     does_failed unread settled settled' last whole Session d = holds_failed whole d
+    does_failed unread settled settled' last whole SessionJson d = holds_failed whole d
     does_failed unread settled settled' last whole (Drive workers) d = reports_failed whole d
     does_failed unread settled settled' last whole (Grid workers) d = reports_failed whole d
     does_failed unread settled settled' last whole (Mail workers) d = reports_failed whole d

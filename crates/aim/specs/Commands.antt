@@ -3,7 +3,7 @@ use Rattle.std.specs.Prelude.{ℕ, ◌<◌, ◌≤◌, Bool, true, false, ◌&&�
 use Rattle.aim_messages.specs.declared.entries.TheConstants.{LATEST_MOMENT}
 use Rattle.aim_text_words.specs.Faults.{is_number, value_of}
 use Rattle.aim.specs.declared.words.Command.{Command}
-use Rattle.aim.specs.declared.words.Command.TheVariants.{Replay, Chart, ReplayJson, Session, Drive, Grid, Generate, Traffic, Shards, Mail, Help, Version}
+use Rattle.aim.specs.declared.words.Command.TheVariants.{Replay, Chart, ReplayJson, Session, SessionJson, Drive, Grid, Generate, Traffic, Shards, Mail, Help, Version}
 use Rattle.aim.specs.declared.help.Topic.{Topic}
 use Rattle.aim.specs.declared.help.Topic.TheVariants as topic
 
@@ -22,6 +22,7 @@ topic_of word =
     if bytes_eq word (codes "replay") then Some topic.Replay
     else if bytes_eq word (codes "replay-json") then Some topic.ReplayJson
     else if bytes_eq word (codes "session") then Some topic.Session
+    else if bytes_eq word (codes "session-json") then Some topic.SessionJson
     else if bytes_eq word (codes "chart") then Some topic.Chart
     else if bytes_eq word (codes "drive") then Some topic.Drive
     else if bytes_eq word (codes "grid") then Some topic.Grid
@@ -56,6 +57,7 @@ command_alone word =
     else if bytes_eq word (codes "replay") then Some Replay
     else if bytes_eq word (codes "replay-json") then Some ReplayJson
     else if bytes_eq word (codes "session") then Some Session
+    else if bytes_eq word (codes "session-json") then Some SessionJson
     else if bytes_eq word (codes "version") then Some Version
     else if bytes_eq word (codes "--version") then Some Version
     else None
@@ -94,6 +96,7 @@ IsWithin Replay = Unit {0}
 IsWithin (Chart step) = Unit {0}
 IsWithin ReplayJson = Unit {0}
 IsWithin Session = Unit {0}
+IsWithin SessionJson = Unit {0}
 IsWithin (Drive workers) = (0 < workers) × (workers ≤ 64)
 IsWithin (Grid workers) = (0 < workers) × (workers ≤ 64)
 IsWithin (Generate number count) = (0 < count) × (count ≤ 256)

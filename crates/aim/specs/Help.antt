@@ -10,6 +10,7 @@ text_of topic.Words = told.WORDS.now
 text_of topic.Replay = told.REPLAY.now
 text_of topic.ReplayJson = told.REPLAY_JSON.now
 text_of topic.Session = told.SESSION.now
+text_of topic.SessionJson = told.SESSION_JSON.now
 text_of topic.Chart = told.CHART.now
 text_of topic.Drive = told.DRIVE.now
 text_of topic.Grid = told.GRID.now

@@ -14,6 +14,8 @@ pub enum Topic {
     ReplayJson,
     /// `session`.
     Session,
+    /// `session-json`.
+    SessionJson,
     /// `chart`.
     Chart,
     /// `drive`.
@@ -38,6 +40,7 @@ pub const WORDS: &[u8] = b"aim: an intersection manager. Vehicles ask to cross, 
   aim replay                         answer the events of a script
   aim replay-json                    the same, with a JSON object a line
   aim session                        the same, and go on behind a bad line
+  aim session-json                   as session, with a JSON object a line
   aim chart STEP                     replay, and draw the tiles held in a step
   aim drive WORKERS                  run a script's drivers against the manager
   aim grid WORKERS                   run vehicles over several crossings
@@ -86,6 +89,15 @@ KIND` or `limit WHICH`. Each line is answered before the next one is read, and
 up to 4294967294 are. `end` ends it.
 
   aim session < examples/first.aim
+";
+
+/// `session-json`.
+pub const SESSION_JSON: &[u8] = b"aim session-json
+
+Does as `aim session` does with lines of which each is a JSON object, and prints a
+JSON object a line: `{\"bad\":NUMBER,\"kind\":KIND}` for a line that is not taken.
+
+  python3 examples/json_lines.py < examples/first.aim | aim session-json
 ";
 
 /// `chart`.
@@ -180,6 +192,7 @@ impl Topic {
             Topic::Replay => REPLAY,
             Topic::ReplayJson => REPLAY_JSON,
             Topic::Session => SESSION,
+            Topic::SessionJson => SESSION_JSON,
             Topic::Chart => CHART,
             Topic::Drive => DRIVE,
             Topic::Grid => GRID,

@@ -19,6 +19,8 @@ pub enum Command {
     ReplayJson,
     /// `session`: answer the lines of the input, and go on behind one that isn't taken.
     Session,
+    /// `session-json`: the same, with lines that are JSON text.
+    SessionJson,
     /// `drive WORKERS`: run the drive script of the input with so many workers, 1 to 64.
     Drive(u32),
     /// `grid WORKERS`: run the routes of the input over several crossings with so many workers, 1 to 64.
@@ -43,23 +45,26 @@ enum Alone {
     Replay,
     ReplayJson,
     Session,
+    SessionJson,
     Version,
 }
 
 // Their words.
-const ALONE: [(&[u8], Alone); 5] = [
+const ALONE: [(&[u8], Alone); 6] = [
     (b"replay", Alone::Replay),
     (b"replay-json", Alone::ReplayJson),
     (b"session", Alone::Session),
+    (b"session-json", Alone::SessionJson),
     (b"version", Alone::Version),
     (b"--version", Alone::Version),
 ];
 
 // The words of which the help tells.
-const TOPICS: [(&[u8], Topic); 11] = [
+const TOPICS: [(&[u8], Topic); 12] = [
     (b"replay", Topic::Replay),
     (b"replay-json", Topic::ReplayJson),
     (b"session", Topic::Session),
+    (b"session-json", Topic::SessionJson),
     (b"chart", Topic::Chart),
     (b"drive", Topic::Drive),
     (b"grid", Topic::Grid),
@@ -126,6 +131,7 @@ fn command_alone(word: &[u8]) -> Option<Command>
         Alone::Replay => Some(Command::Replay),
         Alone::ReplayJson => Some(Command::ReplayJson),
         Alone::Session => Some(Command::Session),
+        Alone::SessionJson => Some(Command::SessionJson),
         Alone::Version => Some(Command::Version),
     }
 }

@@ -1,5 +1,5 @@
 -- What a session came to, and the status.
-use Rattle.std.proofs.Common.{◌≡◌, ◌⊎◌, inl, inr, ℕ, ◌≤◌, List, ◌++◌, Option, Some, None, IfSome, Ok, Err, refl, sym, ap, ◌∙◌, subst, arith, append_assoc}
+use Rattle.std.proofs.Common.{◌≡◌, ◌⊎◌, inl, inr, ℕ, ◌≤◌, true, true≢false, List, ◌++◌, Option, Some, None, IfSome, Ok, Err, refl, sym, ap, ◌∙◌, subst, arith, append_assoc}
 use Rattle.std.proofs.KnownBytes.{Appends-trans}
 use Rattle.std.specs.Io.KnownBytes.{Appends}
 use Rattle.aim_io.specs.Causes.{Rose}
@@ -55,13 +55,13 @@ module _ {w : Spelled} {old new : Streams} (unread settled : Type 0) (last : Opt
     short = λ four. absurd (omega (arith, four));
     waited = λ four. absurd (omega (arith, four));
     front = λ _. front;
-    memory = λ seven. absurd (omega (arith, seven));
+    memory = λ never seven. absurd (omega (arith, seven));
     needed = needed;
     ends = record { read = λ four. absurd (omega (arith, four)); write = λ _. rose; source = source; sink = up; statuses = inr (inr (inr (inl refl))) };
   }
 
   pub holds_cut : Runs w (Err stop.Write) old.left new.left old.held new.held old.source_faults new.source_faults old.sink_faults new.sink_faults → HoldsSession w unread settled last old new 5
-  holds_cut r = holds_front (r.front refl) (r.write refl) r.source r.sink
+  holds_cut r = holds_front (r.front (inl refl)) (r.write refl) r.source r.sink
 
   -- memory has run out
   pub holds_out : Runs w (Err stop.NoMemory) old.left new.left old.held new.held old.source_faults new.source_faults old.sink_faults new.sink_faults → HoldsSession w unread settled last old new 7
@@ -69,8 +69,8 @@ module _ {w : Spelled} {old new : Streams} (unread settled : Type 0) (last : Opt
     whole = λ other. absurd (omega (arith, other));
     short = λ four. absurd (omega (arith, four));
     waited = λ four. absurd (omega (arith, four));
-    front = λ five. absurd (omega (arith, five));
-    memory = λ _. r.memory refl;
+    front = λ _. r.front (inr refl);
+    memory = λ never _. r.memory never refl;
     needed = needed;
     ends = record { read = λ four. absurd (omega (arith, four)); write = λ five. absurd (omega (arith, five)); source = r.source; sink = r.sink; statuses = inr (inr (inr (inr (inr refl)))) };
   }
@@ -82,7 +82,7 @@ module _ {w : Spelled} {old new : Streams} (unread settled : Type 0) (last : Opt
     short = λ _. r.short refl;
     waited = λ _. handed;
     front = λ five. absurd (omega (arith, five));
-    memory = λ seven. absurd (omega (arith, seven));
+    memory = λ never seven. absurd (omega (arith, seven));
     needed = needed;
     ends = record { read = λ _. r.read refl; write = λ five. absurd (omega (arith, five)); source = r.source; sink = r.sink; statuses = inr (inr (inl refl)) };
   }
@@ -92,6 +92,19 @@ module _ {w : Spelled} {old new : Streams} (unread settled : Type 0) (last : Opt
       → HoldsSession w unread settled last old new 5
   holds_cut_last {mid = mid} {sink = sink} d r part rose up =
       holds_front (front_last w old.left old.held mid new.held d r.whole part) (rose_behind old.sink_faults sink new.sink_faults r.sink rose) r.source (omega (arith, r.sink, up))
+
+  -- for want of memory
+  pub holds_lacking : {mid : Option (List ℕ)} {sink : ℕ} (d : Decision) → Runs w (Ok d) old.left new.left old.held mid old.source_faults new.source_faults old.sink_faults sink → AppendsFront mid new.held (printed (w.last_text d)) → w.takes_memory ≡ true → sink ≤ new.sink_faults
+      → HoldsSession w unread settled last old new 7
+  holds_lacking {mid = mid} d r part takes up = record {
+    whole = λ other. absurd (omega (arith, other));
+    short = λ four. absurd (omega (arith, four));
+    waited = λ four. absurd (omega (arith, four));
+    front = λ _. front_last w old.left old.held mid new.held d r.whole part;
+    memory = λ never _. absurd (true≢false (sym takes ∙ never));
+    needed = needed;
+    ends = record { read = λ four. absurd (omega (arith, four)); write = λ five. absurd (omega (arith, five)); source = r.source; sink = omega (arith, r.sink, up); statuses = inr (inr (inr (inr (inr refl)))) };
+  }
 
   -- which was written
   holds_whole : {mid : Option (List ℕ)} {sink : ℕ} (d : Decision) → Runs w (Ok d) old.left new.left old.held mid old.source_faults new.source_faults old.sink_faults sink → Appends mid new.held (printed (w.last_text d)) → sink ≤ new.sink_faults
@@ -108,7 +121,7 @@ module _ {w : Spelled} {old new : Streams} (unread settled : Type 0) (last : Opt
         short = λ four. absurd (omega (arith, four, s));
         waited = λ four. absurd (omega (arith, four, s));
         front = λ five. absurd (omega (arith, five, s));
-        memory = λ seven. absurd (omega (arith, seven, s));
+        memory = λ never seven. absurd (omega (arith, seven, s));
         needed = needed;
         ends = record {
           read = λ four. absurd (omega (arith, four, s));

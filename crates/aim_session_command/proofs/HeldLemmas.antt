@@ -1,5 +1,5 @@
 -- How a session goes on with one more line, and how it ends.
-use Rattle.std.proofs.Common.{◌≡◌, ◌⊎◌, inl, inr, ℕ, ◌+◌, ◌<◌, ◌≤◌, Bool, true, false, true≢false, nat_lt, List, [], ◌∷◌, ◌++◌, length, take, Option, Some, None, IfSome, Ok, Err, refl, sym, ap, ◌∙◌, subst, arith, append_assoc, append-nil}
+use Rattle.std.proofs.Common.{◌≡◌, ◌⊎◌, inl, inr, ℕ, ◌+◌, ◌<◌, ◌≤◌, Bool, true, false, true≢false, nat_lt, List, [], ◌∷◌, ◌++◌, length, take, Option, Some, None, IfSome, Result, Ok, Err, refl, sym, ap, ◌∙◌, subst, arith, append_assoc, append-nil}
 use Rattle.std.proofs.KnownBytes.{Appends-kept, Appends-nil, Appends-trans, Consumes-trans, prepend_known-nil}
 use Rattle.std.proofs.lemmas.Bool.{cases_Bool, ltb-true, ltb-false, lt-ltb, ne_eqb}
 use Rattle.std.proofs.lemmas.List.{length-append, length-take, take_all}
@@ -13,23 +13,26 @@ use Rattle.aim_messages.specs.declared.script.Line.{Line}
 use Rattle.aim_messages.specs.declared.script.Line.TheVariants as line
 use Rattle.aim_script.specs.declared.decisions.Decision.{Decision}
 use Rattle.aim_script.specs.declared.decisions.Decision.TheVariants as decision
+use Rattle.aim_script.specs.declared.decisions.Kind.{Kind}
 use Rattle.aim_script.specs.declared.decisions.Kind.TheVariants as kind
+use Rattle.aim_script.specs.declared.decisions.Limit.{Limit}
 use Rattle.aim_script.specs.declared.decisions.Limit.TheVariants as limit
 use Rattle.aim_script.specs.Order.{is_end}
 use Rattle.aim_script.specs.Said.{last_of, version_after}
 use Rattle.aim_script.specs.Decided.{printed}
-use Rattle.aim_script.specs.Spellings.{Spelled, by_words}
-use Rattle.aim_script.specs.Verdicts.{Judgement, Reads, of_read}
+use Rattle.aim_script.specs.Spellings.{Spelled}
+use Rattle.aim_script_reading.specs.Verdicts.{Judgement}
+use Rattle.aim_script.specs.Verdicts.{Reads, of_read}
 use Rattle.aim_text_session.specs.declared.outcomes.LineOutcome.{LineOutcome}
 use Rattle.aim_text_session.specs.declared.outcomes.LineOutcome.TheVariants as outcome
-use Rattle.aim_text_session.specs.Sessions.{Comes, HasNoRoom, InBody, InHeader, Standing, Stands}
+use Rattle.aim_text_session.specs.Sessions.{ComesBy, HasNoRoom, InBody, InHeader, Standing, Stands, reads_short}
 use Rattle.aim_line_session.specs.Sessions.{journal_so_far, orders_in}
 use Rattle.aim_session_command.proofs.LineLemmas.{rose_behind}
 use Rattle.aim_session_command.specs.declared.sessions.Stop.{Stop}
 use Rattle.aim_session_command.specs.declared.sessions.Stop.TheVariants as stop
-use Rattle.aim_session_command.specs.Answered.{AreAnswered, IsAnswer, MayLackRoom, judged_by, reads_short}
+use Rattle.aim_session_command.specs.Answered.{AreAnswered, IsAnswer, MayLackRoom, judged_by}
 use Rattle.aim_session_command.specs.Commands.{LastNeeded, RunsOut, StopsBehind, WritesFront}
-use Rattle.aim_session_command.specs.Held.{Ended, Responded, Responds, Runs, outcome_text}
+use Rattle.aim_session_command.specs.Held.{ComesIn, Ended, Responded, Responds, Runs, outcome_text}
 use Rattle.aim_session_command.specs.Reading.{NeedsRead, TakesLine, TakesPart}
 
 -- ---- lines
@@ -95,12 +98,12 @@ same_whole before after kept bytes same t = subst (λ (k : List ℕ). (x : Takes
 -- ---- what a line comes to
 
 -- nothing is taken
-refused : (number : ℕ) (taken : List Line) (bytes : List ℕ) (old new : Standing) (j : Judgement) (d : Decision) → judged_by by_words taken bytes ≡ j → new ≡ old → Stands taken old
-    → IsAnswer by_words number taken j taken (printed (by_words.last_text d)) → Responded by_words number taken bytes new
-refused number taken bytes old new j d is same st answer = record {
+refused : (w : Spelled) (number : ℕ) (taken : List Line) (bytes : List ℕ) (old new : Standing) (j : Judgement Line Kind Limit) (d : Decision) → judged_by w taken bytes ≡ j → new ≡ old → Stands taken old → IsAnswer w number taken j taken (printed (w.last_text d))
+    → Responded w number taken bytes new
+refused w number taken bytes old new j d is same st answer = record {
   after = taken;
-  text = printed (by_words.last_text d);
-  answer = subst (λ (x : Judgement). IsAnswer by_words number taken x taken (printed (by_words.last_text d))) (sym is) answer;
+  text = printed (w.last_text d);
+  answer = subst (λ (x : Judgement Line Kind Limit). IsAnswer w number taken x taken (printed (w.last_text d))) (sym is) answer;
   stands = subst (λ (s : Standing). Stands taken s) (sym same) st;
   few = omega arith;
 }
@@ -116,52 +119,75 @@ lacks number taken (line.StopAt at) (InBody p) fits few st (inr most) = let all 
 lacks number taken l (InBody p) fits few st none = absurd none
 
 -- a line is answered by what it came to, unless memory ran out
-pub responded : (number : ℕ) (taken : List Line) (bytes : List ℕ) (old new : Standing) (o : LineOutcome) → number ≤ 4294967295 → length taken < number → Stands taken old → is_end (last_of taken) ≡ false
-    → (o ≡ outcome.NoMemory → ⊥) → Comes taken bytes old new o → (r : Responded by_words number taken bytes new) × (r.text ≡ outcome_text by_words number o)
+responded_by : (w : Spelled) (number : ℕ) (taken : List Line) (bytes : List ℕ) (old new : Standing) (o : LineOutcome) → number ≤ 4294967295 → length taken < number → Stands taken old → is_end (last_of taken) ≡ false
+    → (o ≡ outcome.NoMemory → ⊥) → ComesBy taken (judged_by w taken bytes) old new o → (r : Responded w number taken bytes new) × (r.text ≡ outcome_text w number o)
 unfolding refused
-responded number taken bytes old new outcome.Taken fits few st going some c = (
+responded_by w number taken bytes old new outcome.Taken fits few st going some c = (
   record {
     after = taken ++ c.line ∷ [];
     text = [];
-    answer = subst (λ (x : Judgement). IsAnswer by_words number taken x (taken ++ c.line ∷ []) []) (sym c.goes) (inl (record { taken = refl; made = None; makes = c.makes; said = refl }));
+    answer = subst (λ (x : Judgement Line Kind Limit). IsAnswer w number taken x (taken ++ c.line ∷ []) []) (sym c.goes) (inl (record { taken = refl; made = None; makes = c.makes; said = refl }));
     stands = c.stands;
     few = omega (arith, length-append taken (c.line ∷ []));
   },
   refl,
 )
-responded number taken bytes old new (outcome.Made a) fits few st going some c =
-    let text = printed (by_words.entry_text a.position a.entry) in (
+responded_by w number taken bytes old new (outcome.Made a) fits few st going some c =
+    let text = printed (w.entry_text a.position a.entry) in (
       record {
         after = taken ++ c.line ∷ [];
         text = text;
-        answer = subst (λ (x : Judgement). IsAnswer by_words number taken x (taken ++ c.line ∷ []) text) (sym c.goes) (inl (record { taken = refl; made = Some a; makes = c.makes; said = refl }));
+        answer = subst (λ (x : Judgement Line Kind Limit). IsAnswer w number taken x (taken ++ c.line ∷ []) text) (sym c.goes) (inl (record { taken = refl; made = Some a; makes = c.makes; said = refl }));
         stands = c.stands;
         few = omega (arith, length-append taken (c.line ∷ []));
       },
       refl,
     )
-responded number taken bytes old new (outcome.Bad why) fits few st going some (is, same) =
-    (refused number taken bytes old new _ (decision.Bad number why) is same st (record { same = refl; said = refl }), refl)
-responded number taken bytes old new (outcome.Limit which) fits few st going some (is, same) =
-    (refused number taken bytes old new _ (decision.Limit which) is same st (record { same = refl; said = refl }), refl)
-responded number taken bytes old new outcome.Full fits few st going some (l, is, none, same) =
-    (refused number taken bytes old new _ (decision.Limit limit.Orders) is same st (inr (lacks number taken l old fits few st none, record { same = refl; said = refl })), refl)
-responded number taken bytes old new outcome.NoMemory fits few st going some c = absurd (some refl)
-responded number taken bytes old new outcome.Ended fits few st going some (over, same) = absurd (true≢false (sym over ∙ going))
+responded_by w number taken bytes old new (outcome.Bad why) fits few st going some (is, same) =
+    (refused w number taken bytes old new _ (decision.Bad number why) is same st (record { same = refl; said = refl }), refl)
+responded_by w number taken bytes old new (outcome.Limit which) fits few st going some (is, same) =
+    (refused w number taken bytes old new _ (decision.Limit which) is same st (record { same = refl; said = refl }), refl)
+responded_by w number taken bytes old new outcome.Full fits few st going some (l, is, none, same) =
+    (refused w number taken bytes old new _ (decision.Limit limit.Orders) is same st (inr (lacks number taken l old fits few st none, record { same = refl; said = refl })), refl)
+responded_by w number taken bytes old new outcome.NoMemory fits few st going some c = absurd (some refl)
+responded_by w number taken bytes old new outcome.Ended fits few st going some (over, same) = absurd (true≢false (sym over ∙ going))
+
+pub responded : (w : Spelled) (number : ℕ) (taken : List Line) (bytes : List ℕ) (old new : Standing) (o : LineOutcome) → number ≤ 4294967295 → length taken < number → Stands taken old → is_end (last_of taken) ≡ false
+    → (o ≡ outcome.NoMemory → ⊥) → ComesIn w taken bytes old new o → (r : Responded w number taken bytes new) × (r.text ≡ outcome_text w number o)
+responded w number taken bytes old new o fits few st going some (inl comes) = responded_by w number taken bytes old new o fits few st going some comes
+responded w number taken bytes old new o fits few st going some (inr (none, takes, same)) = absurd (some none)
 
 -- its answer was written, and the session says whether it has ended
-pub responds_ok : (number : ℕ) (taken : List Line) (bytes : List ℕ) (old new after : Standing) (o : LineOutcome) (last : Bool) (held now : Option (List ℕ)) → number ≤ 4294967295 → length taken < number → Stands taken old → is_end (last_of taken) ≡ false
-    → (o ≡ outcome.NoMemory → ⊥) → Comes taken bytes old new o → after ≡ new → ((before : List Line) → Stands before new → last ≡ is_end (last_of before)) → Appends held now (outcome_text by_words number o) → Responds by_words number taken bytes held now after (Ok last)
-responds_ok number taken bytes old new after o last held now fits few st going some comes same stage more =
-    let r = responded number taken bytes old new o fits few st going some comes in
-    subst (λ (x : Standing). Responds by_words number taken bytes held now x (Ok last)) (sym same) (r.0, subst (λ (t : List ℕ). Appends held now t) (sym r.1) more, stage r.0.after r.0.stands)
+pub responds_ok : (w : Spelled) (number : ℕ) (taken : List Line) (bytes : List ℕ) (old new after : Standing) (o : LineOutcome) (last : Bool) (held now : Option (List ℕ)) → number ≤ 4294967295 → length taken < number → Stands taken old → is_end (last_of taken) ≡ false
+    → (o ≡ outcome.NoMemory → ⊥) → ComesIn w taken bytes old new o → after ≡ new → ((before : List Line) → Stands before new → last ≡ is_end (last_of before)) → Appends held now (outcome_text w number o) → Responds w number taken bytes held now after (Ok last)
+responds_ok w number taken bytes old new after o last held now fits few st going some comes same stage more =
+    let r = responded w number taken bytes old new o fits few st going some comes in
+    subst (λ (x : Standing). Responds w number taken bytes held now x (Ok last)) (sym same) (r.0, subst (λ (t : List ℕ). Appends held now t) (sym r.1) more, stage r.0.after r.0.stands)
 
 -- a front of it was written
-pub responds_cut : (number : ℕ) (taken : List Line) (bytes : List ℕ) (old new : Standing) (o : LineOutcome) (held now : Option (List ℕ)) → number ≤ 4294967295 → length taken < number → Stands taken old → is_end (last_of taken) ≡ false
-    → (o ≡ outcome.NoMemory → ⊥) → Comes taken bytes old new o → AppendsFront held now (outcome_text by_words number o) → Responds by_words number taken bytes held now new (Err stop.Write)
-responds_cut number taken bytes old new o held now fits few st going some comes more =
-    let r = responded number taken bytes old new o fits few st going some comes in
+pub responds_cut : (w : Spelled) (number : ℕ) (taken : List Line) (bytes : List ℕ) (old new : Standing) (o : LineOutcome) (held now : Option (List ℕ)) → number ≤ 4294967295 → length taken < number → Stands taken old → is_end (last_of taken) ≡ false
+    → (o ≡ outcome.NoMemory → ⊥) → ComesIn w taken bytes old new o → AppendsFront held now (outcome_text w number o) → Responds w number taken bytes held now new (Err stop.Write)
+responds_cut w number taken bytes old new o held now fits few st going some comes more =
+    let r = responded w number taken bytes old new o fits few st going some comes in
     (r.0, subst (λ (t : List ℕ). AppendsFront held now t) (sym r.1) more)
+
+-- or it wasn't for want of memory
+pub responds_lacking : (w : Spelled) (number : ℕ) (taken : List Line) (bytes : List ℕ) (old new : Standing) (o : LineOutcome) (held now : Option (List ℕ)) → number ≤ 4294967295 → length taken < number → Stands taken old → is_end (last_of taken) ≡ false
+    → (o ≡ outcome.NoMemory → ⊥) → ComesIn w taken bytes old new o → AppendsFront held now (outcome_text w number o) → w.takes_memory ≡ true → Responds w number taken bytes held now new (Err stop.NoMemory)
+responds_lacking w number taken bytes old new o held now fits few st going some comes more takes =
+    let r = responded w number taken bytes old new o fits few st going some comes in
+    record { part = inr (r.0, subst (λ (t : List ℕ). AppendsFront held now t) (sym r.1) more); nothing = λ none. absurd (true≢false (sym takes ∙ none)) }
+
+-- no memory was there to take a line
+pub responds_out : (w : Spelled) (number : ℕ) (taken : List Line) (bytes : List ℕ) (old new : Standing) (held : Option (List ℕ)) → ComesIn w taken bytes old new outcome.NoMemory → Responds w number taken bytes held held new (Err stop.NoMemory)
+responds_out w number taken bytes old new held (inl comes) = record { part = inl (Appends-nil held); nothing = λ none. (comes.0, Appends-nil held) }
+responds_out w number taken bytes old new held (inr (none, takes, same)) = record { part = inl (Appends-nil held); nothing = λ never. absurd (true≢false (sym takes ∙ never)) }
+
+-- what was read of the bytes was taken, or what was wrong with them
+pub comes_read : (w : Spelled) (taken : List Line) (bytes : List ℕ) (version : ℕ) (read : Result Line Kind) (old new : Standing) (o : LineOutcome) → version_after taken ≡ version → reads_short w.reads version bytes ≡ read → ComesBy taken (of_read taken read) old new o
+    → ComesIn w taken bytes old new o
+comes_read w taken bytes version read old new o is same comes =
+    inl (subst (λ (j : Judgement Line Kind Limit). ComesBy taken j old new o) (sym (ap (λ (n : ℕ). of_read taken (reads_short w.reads n bytes)) is ∙ ap (of_read taken) same)) comes)
 
 -- ---- between two lines
 
@@ -248,7 +274,7 @@ module _ {w : Spelled} {start now held mid : Option (List ℕ)} {s : Standing} {
   answered_then =
       let same : judged_by w b.taken kept ≡ judged_by w b.taken t.line = ap (λ (l : List ℕ). judged_by w b.taken l) t.is ∙ ap (of_read b.taken) (short_kept w.reads (version_after b.taken) t.line) in
       let here : IsAnswer w (1 + length b.lines) b.taken (judged_by w b.taken t.line) r.after r.text =
-      subst (λ (k : ℕ). IsAnswer w k b.taken (judged_by w b.taken t.line) r.after r.text) (omega (arith, b.count)) (subst (λ (j : Judgement). IsAnswer w number b.taken j r.after r.text) same r.answer) in
+      subst (λ (k : ℕ). IsAnswer w k b.taken (judged_by w b.taken t.line) r.after r.text) (omega (arith, b.count)) (subst (λ (j : Judgement Line Kind Limit). IsAnswer w number b.taken j r.after r.text) same r.answer) in
       answered_more w 1 [] b.taken r.after b.lines t.line b.text r.text b.answered b.going here
 
   cut_then : WhereKnown start after (λ bytes rest. lines_of bytes ≡ lines_then ++ lines_of rest)
@@ -435,8 +461,11 @@ module _ {w : Spelled} {start now held mid : Option (List ℕ)} {s : Standing} {
   runs_end d left s2 up whole = record {
     whole = whole;
     short = λ is. absurd (cc);
-    front = λ is. absurd (cc);
-    memory = λ is. absurd (cc);
+    front = λ is. absurd (elim is [
+      | inl e ↦ cc
+      | inr e ↦ cc
+    ]);
+    memory = λ none is. absurd (cc);
     read = λ is. absurd (cc);
     write = λ is. absurd (cc);
     source = omega (arith, b.source, up);
@@ -447,8 +476,11 @@ module _ {w : Spelled} {start now held mid : Option (List ℕ)} {s : Standing} {
   runs_short ahead left part s2 none t rose up = record {
     whole = tt;
     short = λ is. stops_behind ahead left part none t;
-    front = λ is. absurd (cc);
-    memory = λ is. absurd (cc);
+    front = λ is. absurd (elim is [
+      | inl e ↦ cc
+      | inr e ↦ cc
+    ]);
+    memory = λ none is. absurd (cc);
     read = λ is. rose_behind so s1 s2 b.source rose;
     write = λ is. absurd (cc);
     source = omega (arith, b.source, up);
@@ -461,7 +493,7 @@ module _ {w : Spelled} {start now held mid : Option (List ℕ)} {s : Standing} {
     whole = tt;
     short = λ is. absurd (cc);
     front = λ is. front;
-    memory = λ is. absurd (cc);
+    memory = λ none is. absurd (cc);
     read = λ is. absurd (cc);
     write = λ is. rose_behind ko k1 k2 b.sink rose;
     source = omega (arith, b.source, source);
@@ -472,12 +504,13 @@ module _ {w : Spelled} {start now held mid : Option (List ℕ)} {s : Standing} {
   runs_unsettled left later k2 kept rose up =
       runs_cut left later s1 k2 (front_none later (record { front = []; rest = []; whole = refl; added = Appends-kept mid mid later [] (Appends-nil mid) kept })) rose (omega arith) up
 
-  pub runs_out : (left written : Option (List ℕ)) (s2 k2 : ℕ) → journal_so_far b.taken ≡ [] → Appends mid written [] → s1 ≤ s2 → k1 ≤ k2 → Runs w (Err stop.NoMemory) start left held written so s2 ko k2
-  runs_out left written s2 k2 none same source sink = record {
+  pub runs_out : (left written : Option (List ℕ)) (s2 k2 : ℕ) → IfSome start (λ bytes. WritesFront w bytes held written) → (w.takes_memory ≡ false → (journal_so_far b.taken ≡ []) × Appends mid written []) → s1 ≤ s2 → k1 ≤ k2
+      → Runs w (Err stop.NoMemory) start left held written so s2 ko k2
+  runs_out left written s2 k2 front none source sink = record {
     whole = tt;
     short = λ is. absurd (cc);
-    front = λ is. absurd (cc);
-    memory = λ is. out_of_memory written none same;
+    front = λ is. front;
+    memory = λ never is. let n = none never in out_of_memory written n.0 n.1;
     read = λ is. absurd (cc);
     write = λ is. absurd (cc);
     source = omega (arith, b.source, source);
@@ -488,7 +521,11 @@ module _ {w : Spelled} {start now held mid : Option (List ℕ)} {s : Standing} {
   pub runs_stop : (left after written : Option (List ℕ)) (kept : List ℕ) (new : Standing) (s2 k2 : ℕ) (e : Stop) → TakesLine now after kept → Responds w number b.taken kept mid written new (Err e) → (e ≡ stop.Write → Rose k1 k2) → s1 ≤ s2 → k1 ≤ k2 → Runs w (Err e) start left held written so s2 ko k2
   runs_stop left after written kept new s2 k2 stop.Read t r rose up more = absurd r
   runs_stop left after written kept new s2 k2 stop.Write t r rose up more = runs_cut left written s2 k2 (front_answer b after kept t new r.0 written r.1) (rose refl) up more
-  runs_stop left after written kept new s2 k2 stop.NoMemory t r rose up more = runs_out left written s2 k2 r.0 r.1 up more
+  runs_stop left after written kept new s2 k2 stop.NoMemory t r rose up more = runs_out left written s2 k2 (front_of r.part) r.nothing up more
+    where
+      front_of : Appends mid written [] ⊎ ((x : Responded w number b.taken kept new) × AppendsFront mid written x.text) → IfSome start (λ bytes. WritesFront w bytes held written)
+      front_of (inl none) = front_none written (record { front = []; rest = []; whole = refl; added = none })
+      front_of (inr (x, part)) = front_answer b after kept t new x written part
 
   -- it was `end`
   pub runs_whole : (left after written : Option (List ℕ)) (kept : List ℕ) (new : Standing) (s2 k2 count : ℕ) (last : Bool) → last ≡ true → TakesLine now after kept → Responds w number b.taken kept mid written new (Ok last) → ((before : List Line) → Stands before new → count ≡ length (journal_so_far before)) → s1 ≤ s2 → k1 ≤ k2
@@ -496,8 +533,11 @@ module _ {w : Spelled} {start now held mid : Option (List ℕ)} {s : Standing} {
   runs_whole left after written kept new s2 k2 count last is t r made up more = record {
     whole = ended_whole b after kept t new r.0 written count r.1 (sym is ∙ r.2) (made r.0.after r.0.stands);
     short = λ other. absurd (cc);
-    front = λ other. absurd (cc);
-    memory = λ other. absurd (cc);
+    front = λ other. absurd (elim other [
+      | inl e ↦ cc
+      | inr e ↦ cc
+    ]);
+    memory = λ never other. absurd (cc);
     read = λ other. absurd (cc);
     write = λ other. absurd (cc);
     source = omega (arith, b.source, up);
@@ -510,8 +550,11 @@ module _ {w : Spelled} {start now held mid : Option (List ℕ)} {s : Standing} {
   runs_input left after written kept new s2 k2 last is t end r up more = record {
     whole = ended_last b after kept t new r.0 written r.1 (sym is ∙ r.2) end;
     short = λ other. absurd (cc);
-    front = λ other. absurd (cc);
-    memory = λ other. absurd (cc);
+    front = λ other. absurd (elim other [
+      | inl e ↦ cc
+      | inr e ↦ cc
+    ]);
+    memory = λ never other. absurd (cc);
     read = λ other. absurd (cc);
     write = λ other. absurd (cc);
     source = omega (arith, b.source, up);

@@ -46,7 +46,7 @@ pub record StopsBehind (w : Spelled) (left_old left_new held_old held_new : Opti
   pub going : is_end (last_of taken) ≡ false
   pub written : Appends held_old held_new text
 
--- Memory has run out before the first entry: the first of the lines are answered, and nothing else was written.
+-- Memory has run out before the first entry, in a spelling that takes none: the first of the lines are answered, and nothing else was written.
 pub record RunsOut (w : Spelled) (bytes : List ℕ) (old new : Option (List ℕ)) : Type 0 where
   pub lines : List (List ℕ)
   pub more : List (List ℕ)
@@ -71,14 +71,15 @@ pub record LastNeeded (w : Spelled) (left_old left_new : Option (List ℕ)) (las
   pub going : is_end (last_of taken) ≡ false
   pub told : IfSome last (λ n. n ≡ length piece)
 
--- With status 0, 3 or 6 the whole text of a session of the source's bytes is written, and the status is its; with 5 a front of it. With status 4 each whole line
--- that was read is answered, and what is written is handed on: `settled` says that the sink keeps nothing back. With status 7 no line has made an entry. Whatever
--- the status, nothing is read behind the line that ends the session: `unread` says that nothing was read, and `last` is what the last read gave.
+-- With status 0, 3 or 6 the whole text of a session of the source's bytes is written, and the status is its; with 5 and 7 a front of it. With status 4 each whole
+-- line that was read is answered, and what is written is handed on: `settled` says that the sink keeps nothing back. With status 7 no line has made an entry, but
+-- where the spelling takes memory. Whatever the status, nothing is read behind the line that ends the session: `unread` says that nothing was read, and `last` is
+-- what the last read gave.
 pub record HoldsSession (w : Spelled) (unread settled : Type 0) (last : Option ℕ) (old new : Streams) (result : ℕ) : Type 0 where
   pub whole : IsOfScript result → IfSome old.left (λ bytes. Writes w bytes old.held new.held result)
   pub short : result ≡ 4 → StopsBehind w old.left new.left old.held new.held
   pub waited : result ≡ 4 → settled
-  pub front : result ≡ 5 → IfSome old.left (λ bytes. WritesFront w bytes old.held new.held)
-  pub memory : result ≡ 7 → IfSome old.left (λ bytes. RunsOut w bytes old.held new.held)
+  pub front : (result ≡ 5) ⊎ (result ≡ 7) → IfSome old.left (λ bytes. WritesFront w bytes old.held new.held)
+  pub memory : w.takes_memory ≡ false → result ≡ 7 → IfSome old.left (λ bytes. RunsOut w bytes old.held new.held)
   pub needed : unread ⊎ LastNeeded w old.left new.left last
   pub ends : Ends old new result

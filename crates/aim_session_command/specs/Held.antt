@@ -1,6 +1,6 @@
 -- What is known between two lines of a session.
 -- No public clause cites it: only contracts of private functions.
-use Rattle.std.specs.Prelude.{◌≡◌, ◌≤◌, ◌+◌, ℕ, Bool, List, [], length, Option, IfSome, Result, Ok, Err, IfOk}
+use Rattle.std.specs.Prelude.{◌≡◌, ◌⊎◌, ◌≤◌, ◌+◌, ℕ, Bool, true, false, List, [], length, Option, IfSome, Result, Ok, Err, IfOk}
 use Rattle.std.specs.Io.KnownBytes.{Appends}
 use Rattle.aim_io.specs.Causes.{Rose}
 use Rattle.aim_io.specs.Known.{AppendsFront}
@@ -14,7 +14,7 @@ use Rattle.aim_script.specs.Said.{last_of}
 use Rattle.aim_script.specs.Spellings.{Spelled}
 use Rattle.aim_text_session.specs.declared.outcomes.LineOutcome.{LineOutcome}
 use Rattle.aim_text_session.specs.declared.outcomes.LineOutcome.TheVariants as outcome
-use Rattle.aim_text_session.specs.Sessions.{Standing, Stands}
+use Rattle.aim_text_session.specs.Sessions.{ComesBy, Standing, Stands}
 use Rattle.aim_session_command.specs.declared.sessions.Stop.{Stop}
 use Rattle.aim_session_command.specs.declared.sessions.Stop.TheVariants as stop
 use Rattle.aim_session_command.specs.Answered.{IsAnswer, IsBegun, IsLast, judged_by}
@@ -39,12 +39,21 @@ pub record Responded (w : Spelled) (number : ℕ) (taken : List Line) (bytes : L
   pub stands : Stands after new
   pub few : length after ≤ length taken + 1
 
+-- what the bytes come to behind the lines that were taken; where reading takes memory, that may run out
+abbrev pub ComesIn : Spelled → List Line → List ℕ → Standing → Standing → LineOutcome → Type 0
+ComesIn w taken bytes old new o = ComesBy taken (judged_by w taken bytes) old new o ⊎ ((o ≡ outcome.NoMemory) × (w.takes_memory ≡ true) × (new ≡ old))
+
+-- no memory is there: the answer is written to a front, or nothing is, and no entry was made where the spelling takes none
+pub record Lacks (w : Spelled) (number : ℕ) (taken : List Line) (bytes : List ℕ) (old now : Option (List ℕ)) (new : Standing) : Type 0 where
+  pub part : Appends old now [] ⊎ ((r : Responded w number taken bytes new) × AppendsFront old now r.text)
+  pub nothing : w.takes_memory ≡ false → (journal_so_far taken ≡ []) × Appends old now []
+
 -- what taking a line and answering it comes to, where the session is that then
 abbrev pub Responds : Spelled → ℕ → List Line → List ℕ → Option (List ℕ) → Option (List ℕ) → Standing → Result Bool Stop → Type 0
 Responds w number taken bytes old now new (Ok last) = (r : Responded w number taken bytes new) × Appends old now r.text × (last ≡ is_end (last_of r.after))
 Responds w number taken bytes old now new (Err stop.Read) = ⊥
 Responds w number taken bytes old now new (Err stop.Write) = (r : Responded w number taken bytes new) × AppendsFront old now r.text
-Responds w number taken bytes old now new (Err stop.NoMemory) = (journal_so_far taken ≡ []) × Appends old now []
+Responds w number taken bytes old now new (Err stop.NoMemory) = Lacks w number taken bytes old now new
 
 -- the lines of these bytes were answered, up to what ended the session
 pub record Ended (w : Spelled) (bytes : List ℕ) (old now : Option (List ℕ)) (d : Decision) : Type 0 where
@@ -60,8 +69,8 @@ pub record Ended (w : Spelled) (bytes : List ℕ) (old now : Option (List ℕ)) 
 pub record Runs (w : Spelled) (result : Result Decision Stop) (left_old left_new held_old held_new : Option (List ℕ)) (source_old source_new sink_old sink_new : ℕ) : Type 0 where
   pub whole : IfOk result (λ d. IfSome left_old (λ bytes. Ended w bytes held_old held_new d))
   pub short : result ≡ Err stop.Read → StopsBehind w left_old left_new held_old held_new
-  pub front : result ≡ Err stop.Write → IfSome left_old (λ bytes. WritesFront w bytes held_old held_new)
-  pub memory : result ≡ Err stop.NoMemory → IfSome left_old (λ bytes. RunsOut w bytes held_old held_new)
+  pub front : (result ≡ Err stop.Write) ⊎ (result ≡ Err stop.NoMemory) → IfSome left_old (λ bytes. WritesFront w bytes held_old held_new)
+  pub memory : w.takes_memory ≡ false → result ≡ Err stop.NoMemory → IfSome left_old (λ bytes. RunsOut w bytes held_old held_new)
   pub read : result ≡ Err stop.Read → Rose source_old source_new
   pub write : result ≡ Err stop.Write → Rose sink_old sink_new
   pub source : source_old ≤ source_new

@@ -1,8 +1,9 @@
 -- The lines of a session before `begin`.
 -- No public clause cites it: only contracts of private functions, and the invariant of a session.
-use Rattle.std.specs.Prelude.{◌≡◌, ℕ, false, List, [], ◌∷◌, ◌++◌, take, slice_get, Option, Some, None, IfSome, Ok}
+use Rattle.std.specs.Prelude.{◌≡◌, ℕ, false, List, [], ◌∷◌, ◌++◌, take, slice_get, Option, Some, None, IfSome, Result, Ok}
 use Rattle.aim_messages.specs.declared.script.Line.{Line}
 use Rattle.aim_messages.specs.declared.script.Line.TheVariants as line
+use Rattle.aim_script.specs.declared.decisions.Kind.{Kind}
 use Rattle.aim_script.specs.declared.headers.Header.{Header}
 use Rattle.aim_script.specs.declared.settings.Setting.{Setting}
 use Rattle.aim_script.specs.Headers.{HasName, IsSet, Stands as StandsAsHeader}
@@ -16,7 +17,7 @@ use Rattle.aim_line_session.specs.Sessions.{Stands as StandsAsSession, journal_s
 use Rattle.aim_text_session.specs.declared.headings.Reached.{Reached}
 use Rattle.aim_text_session.specs.declared.headings.Reached.TheVariants as reached
 use Rattle.aim_text_session.specs.declared.headings.Advance.{Advance}
-use Rattle.aim_text_session.specs.Sessions.{Comes, InBody, InHeader, Standing}
+use Rattle.aim_text_session.specs.Sessions.{ComesBy, InBody, InHeader, Standing}
 
 -- a header takes the line behind those
 pub record IsHeard (before : List Line) (l : Line) : Type 0 where
@@ -54,9 +55,9 @@ abbrev pub IsReached : Reached → Type 0
 IsReached (reached.Heading h) = IsHeading h.lines.items h.vehicles h.header
 IsReached (reached.Body p) = Unit {0}
 
--- what a line comes to, and what is kept then is in order
-pub record Leads (before : List Line) (bytes : List ℕ) (old : Standing) (s : Advance) : Type 0 where
-  pub comes : Comes before bytes old (standing_of s.reached) s.outcome
+-- what a line that was read so comes to, and what is kept then is in order
+pub record Leads (before : List Line) (read : Result Line Kind) (old : Standing) (s : Advance) : Type 0 where
+  pub comes : ComesBy before (of_read before read) old (standing_of s.reached) s.outcome
   pub kept : IsReached s.reached
 
 -- the setting is what the lines say, and so many vehicles, which are not too many

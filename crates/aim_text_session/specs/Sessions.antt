@@ -29,18 +29,22 @@ abbrev pub Stands : List Line → Standing → Type 0
 Stands before (InHeader lines) = before ≡ lines
 Stands before (InBody p) = StandsAsSession before p
 
--- lines of at most 400 bytes are read as words
+-- lines of at most 400 bytes are read so
+abbrev pub reads_short : Reads → Reads
+reads_short reads version bytes = if nat_lt 400 (length bytes) then Err kind.Long else reads version bytes
+
+-- and as words
 abbrev pub reads_text : Reads
-reads_text version bytes = if nat_lt 400 (length bytes) then Err kind.Long else reads_words version bytes
+reads_text = reads_short reads_words
 
 -- what these bytes come to behind the lines of a script
 abbrev pub judged : List Line → List ℕ → Judgement Line Kind Limit
 judged before bytes = of_read before (reads_text (version_after before) bytes)
 
--- the line goes on behind these lines, and the session stands for it, too; the journal of its lines gets the entry that is given, or stays
-pub record IsTaken (before : List Line) (bytes : List ℕ) (new : Standing) (made : Option Answered) : Type 0 where
+-- the line that was judged so goes on behind these lines, and the session stands for it, too; the journal of its lines gets the entry that is given, or stays
+pub record IsTaken (before : List Line) (j : Judgement Line Kind Limit) (new : Standing) (made : Option Answered) : Type 0 where
   pub line : Line
-  pub goes : judged before bytes ≡ goes_on line
+  pub goes : j ≡ goes_on line
   pub stands : Stands (before ++ line ∷ []) new
   pub makes : Makes (journal_so_far before) (journal_so_far (before ++ line ∷ [])) made
 
@@ -49,16 +53,20 @@ abbrev pub HasNoRoom : Line → Standing → Type 0
 HasNoRoom l (InHeader lines) = ⊥
 HasNoRoom l (InBody p) = IsFull l p.server
 
--- What further bytes come to: a line that is taken, by what a script decides of it behind the lines so far; or one that is not, and
--- the session is as it was. Memory runs out before the first entry alone.
+-- What a further line comes to, of which a script decides that behind the lines so far: it is taken; or it is not, and the session
+-- is as it was. Memory runs out before the first entry alone.
+abbrev pub ComesBy : List Line → Judgement Line Kind Limit → Standing → Standing → LineOutcome → Type 0
+ComesBy before j old new outcome.Taken = IsTaken before j new None
+ComesBy before j old new (outcome.Made a) = IsTaken before j new (Some a)
+ComesBy before j old new (outcome.Bad why) = (j ≡ decides (bad before why)) × (new ≡ old)
+ComesBy before j old new (outcome.Limit which) = (j ≡ decides (past which)) × (new ≡ old)
+ComesBy before j old new outcome.Full = (l : Line) × (j ≡ goes_on l) × HasNoRoom l old × (new ≡ old)
+ComesBy before j old new outcome.NoMemory = (journal_so_far before ≡ []) × (new ≡ old)
+ComesBy before j old new outcome.Ended = (is_end (last_of before) ≡ true) × (new ≡ old)
+
+-- what further bytes come to that are words
 abbrev pub Comes : List Line → List ℕ → Standing → Standing → LineOutcome → Type 0
-Comes before bytes old new outcome.Taken = IsTaken before bytes new None
-Comes before bytes old new (outcome.Made a) = IsTaken before bytes new (Some a)
-Comes before bytes old new (outcome.Bad why) = (judged before bytes ≡ decides (bad before why)) × (new ≡ old)
-Comes before bytes old new (outcome.Limit which) = (judged before bytes ≡ decides (past which)) × (new ≡ old)
-Comes before bytes old new outcome.Full = (l : Line) × (judged before bytes ≡ goes_on l) × HasNoRoom l old × (new ≡ old)
-Comes before bytes old new outcome.NoMemory = (journal_so_far before ≡ []) × (new ≡ old)
-Comes before bytes old new outcome.Ended = (is_end (last_of before) ≡ true) × (new ≡ old)
+Comes before bytes = ComesBy before (judged before bytes)
 
 -- what a session that has begun says of a line
 abbrev pub outcome_of : Result (Option Answered) Untaken → LineOutcome

@@ -1,19 +1,19 @@
 //! The lines of a session before `begin`.
 
-ghost use Rattle.std.specs.Prelude.{◌≡◌, ℕ, List, ◌∷◌, ◌++◌, [], IfOk, IfSome, Ok, Some};
+ghost use Rattle.std.specs.Prelude.{◌≡◌, List, ◌∷◌, ◌++◌, [], IfOk, IfSome, Ok, Some};
 ghost use Rattle.aim_messages.specs.declared.script.Line.{Line};
 ghost use Rattle.aim_script.specs.Headers.{HasName, Heeds, Stands as StandsAsHeader};
-ghost use Rattle.aim_script.specs.Verdicts.{of_read};
+ghost use Rattle.aim_script.specs.Said.{version_after};
+ghost use Rattle.aim_script.specs.Versions.{version_number};
 ghost use Rattle.aim_line_session.specs.Sessions.{Stands as StandsAsSession};
 ghost use Rattle.aim_text_session.specs.Headings.{AreCounted, AreHeard, Begins, IsHeading, IsHeard, IsReached, IsSettled, Leads, said, standing_of};
-ghost use Rattle.aim_text_session.specs.Sessions.{InBody, InHeader, Stands, TellsRow, judged};
+ghost use Rattle.aim_text_session.specs.Sessions.{InBody, InHeader, Stands, TellsRow};
 
 use crate::outcomes::{LineOutcome, outcome_of};
-use crate::reading::read_text;
 use crate::sessions::RowMasks;
 use aim_line_session::{IdleSession, Unopened, vehicles_limit};
 use aim_messages::Line;
-use aim_script::{Headed, Header, HeaderRefusal, Kind, Setting};
+use aim_script::{Headed, Header, HeaderRefusal, Kind, ScriptVersion, Setting};
 use std::alloc::{AllocError as NoMemory, Global};
 
 /// The lines of a session that has not begun, none of which is at fault behind those before it; of the line of the vehicles
@@ -107,7 +107,7 @@ fn header_again(kept: Option<Header>, alloc: Global, lines: &[Line]) -> Result<H
 // Counts the vehicles of a setting, unless they go past a limit.
 fn counted(lines: Vec<Line>, setting: Setting) -> Advance
     requires { AreHeard lines.items }
-    ensures { (l : Line) (bytes : List ℕ) (old : Header) → judged lines.items bytes ≡ of_read lines.items (Ok l) → StandsAsHeader lines.items old → Heeds lines.items l (Ok (Headed.Whole setting)) → Leads lines.items bytes (InHeader lines.items) result }
+    ensures { (l : Line) (old : Header) → StandsAsHeader lines.items old → Heeds lines.items l (Ok (Headed.Whole setting)) → Leads lines.items (Ok l) (InHeader lines.items) result }
 {
     let spans = setting.layout.ground().grid().spans;
     let vehicles = setting.vehicles;
@@ -122,7 +122,7 @@ fn counted(lines: Vec<Line>, setting: Setting) -> Advance
 fn added(mut lines: Vec<Line>, header: Header, line: &Line) -> Advance
     requires heard { AreHeard lines.items }
     requires name { HasName line.now }
-    ensures { (bytes : List ℕ) (old : Header) → judged lines.items bytes ≡ of_read lines.items (Ok line.now) → StandsAsHeader lines.items old → Heeds lines.items line.now (Ok (Headed.More header)) → Leads lines.items bytes (InHeader lines.items) result }
+    ensures { (old : Header) → StandsAsHeader lines.items old → Heeds lines.items line.now (Ok (Headed.More header)) → Leads lines.items (Ok line.now) (InHeader lines.items) result }
 {
     match lines.push(*line) {
         Ok(()) => in_header(lines, None, Some(header), LineOutcome::Taken),
@@ -138,7 +138,7 @@ fn headed(lines: Vec<Line>, header: Header, alloc: Global, line: &Line) -> Advan
     requires heard { AreHeard lines.items }
     requires stands { StandsAsHeader lines.items header }
     requires name { HasName line.now }
-    ensures { (bytes : List ℕ) → judged lines.items bytes ≡ of_read lines.items (Ok line.now) → Leads lines.items bytes (InHeader lines.items) result }
+    ensures { Leads lines.items (Ok line.now) (InHeader lines.items) result }
 {
     match header.take(alloc, line) {
         Ok(Headed::More(header)) => added(lines, header, line),
@@ -176,7 +176,7 @@ fn opened(header: Header, alloc: Global, vehicles: u32) -> Result<IdleSession, N
 // Takes the line behind that of the vehicles.
 fn begun(lines: Vec<Line>, vehicles: u32, header: Header, alloc: Global, line: &Line) -> Advance
     requires { IsHeading lines.items (Some vehicles) (Some header) }
-    ensures { (bytes : List ℕ) → let all = said lines.items (Some vehicles) in judged all bytes ≡ of_read all (Ok line.now) → Leads all bytes (InHeader all) result }
+    ensures { let all = said lines.items (Some vehicles) in Leads all (Ok line.now) (InHeader all) result }
 {
     match line {
         Line::Begin => match opened(header, alloc, vehicles) {
@@ -208,7 +208,7 @@ fn header_after(
 ) -> Advance
     requires heading { IsHeading lines.items vehicles (Some header) }
     requires name { HasName line.now }
-    ensures { (bytes : List ℕ) → let all = said lines.items vehicles in judged all bytes ≡ of_read all (Ok line.now) → Leads all bytes (InHeader all) result }
+    ensures { let all = said lines.items vehicles in Leads all (Ok line.now) (InHeader all) result }
 {
     match vehicles {
         None => headed(lines, header, alloc, line),
@@ -216,29 +216,31 @@ fn header_after(
     }
 }
 
-// Reads and takes a line before `begin`, or `begin`.
-fn heading_after(heading: Heading, alloc: Global, words: &[u8]) -> Advance
-    requires { IsHeading heading.lines.items heading.vehicles heading.header }
-    ensures { let all = said heading.lines.items heading.vehicles in Leads all words.now (InHeader all) result }
+// Takes what was read before `begin`, or `begin`.
+fn heading_after(heading: Heading, alloc: Global, read: Result<Line, Kind>) -> Advance
+    requires heading { IsHeading heading.lines.items heading.vehicles heading.header }
+    requires name { IfOk read HasName }
+    ensures { let all = said heading.lines.items heading.vehicles in Leads all read (InHeader all) result }
 {
     let Heading {
         lines,
         vehicles,
         header,
     } = heading;
-    match header_again(header, alloc, &lines) {
-        Err(_) => in_header(lines, vehicles, None, LineOutcome::NoMemory),
-        Ok(header) => match read_text(words, header.version()) {
-            Err(kind) => in_header(lines, vehicles, Some(header), LineOutcome::Bad(kind)),
-            Ok(line) => header_after(lines, vehicles, header, alloc, &line),
+    match read {
+        Err(kind) => in_header(lines, vehicles, header, LineOutcome::Bad(kind)),
+        Ok(line) => match header_again(header, alloc, &lines) {
+            Err(_) => in_header(lines, vehicles, None, LineOutcome::NoMemory),
+            Ok(header) => header_after(lines, vehicles, header, alloc, &line),
         },
     }
 }
 
-// Reads and takes a line behind `begin`.
-fn body_after(session: IdleSession, words: &[u8]) -> Advance
+// Takes what was read behind `begin`.
+fn body_after(session: IdleSession, read: Result<Line, Kind>) -> Advance
+    requires { IfOk read HasName }
     ensures kept { IsReached result.reached }
-    ensures leads { (before : List Line) → StandsAsSession before session → Leads before words.now (InBody session) result }
+    ensures leads { (before : List Line) → StandsAsSession before session → Leads before read (InBody session) result }
 {
     if session.is_ended() {
         return Advance {
@@ -246,7 +248,7 @@ fn body_after(session: IdleSession, words: &[u8]) -> Advance
             outcome: LineOutcome::Ended,
         };
     }
-    match read_text(words, session.version()) {
+    match read {
         Err(kind) => Advance {
             reached: Reached::Body(session),
             outcome: LineOutcome::Bad(kind),
@@ -258,6 +260,23 @@ fn body_after(session: IdleSession, words: &[u8]) -> Advance
                 outcome: outcome_of(taken),
             }
         }
+    }
+}
+
+// The version in which the line behind these is read.
+fn version_of(lines: &[Line]) -> ScriptVersion
+    requires { AreHeard lines.now }
+    ensures { version_after lines.now ≡ version_number result }
+{
+    let Some(line) = lines.first() else {
+        return ScriptVersion::One;
+    };
+    match line {
+        Line::Version(number) => match ScriptVersion::of(*number) {
+            Some(version) => version,
+            None => unreachable!(),
+        },
+        _ => unreachable!(),
     }
 }
 
@@ -274,17 +293,30 @@ impl Reached {
         })
     }
 
-    /// How far the session comes by a line, without its byte 10.
-    pub(crate) fn after(self, alloc: Global, words: &[u8]) -> Advance
-        requires { IsReached self }
-        ensures kept { IsReached result.reached }
-        ensures leads { (before : List Line) → Stands before (standing_of self) → Leads before words.now (standing_of self) result }
+    /// The version in which the next line is read.
+    pub(crate) fn version(&self) -> ScriptVersion
+        requires { IsReached self.now }
+        ensures { (before : List Line) → Stands before (standing_of self.now) → version_after before ≡ version_number result }
     {
         match self {
-            Reached::Heading(heading) => heading_after(heading, alloc, words),
-            Reached::Body(session) => body_after(session, words),
+            Reached::Heading(heading) => version_of(&heading.lines),
+            Reached::Body(session) => session.version(),
         }
     }
+
+    /// How far the session comes by a line that was read so.
+    pub(crate) fn after(self, alloc: Global, read: Result<Line, Kind>) -> Advance
+        requires reached { IsReached self }
+        requires name { IfOk read HasName }
+        ensures kept { IsReached result.reached }
+        ensures leads { (before : List Line) → Stands before (standing_of self) → Leads before read (standing_of self) result }
+    {
+        match self {
+            Reached::Heading(heading) => heading_after(heading, alloc, read),
+            Reached::Body(session) => body_after(session, read),
+        }
+    }
+
     /// The masks of a row at a step, and the session as it was.
     pub(crate) fn masks(self, row: u32, step: u32) -> (Reached, RowMasks)
         ensures same { result.0 ≡ self }

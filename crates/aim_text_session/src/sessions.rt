@@ -3,6 +3,9 @@
 use crate::answers::{Answer, answer_of};
 use crate::headings::{Advance, Heading, Reached};
 use crate::outcomes::LineOutcome;
+use crate::reading::read_text;
+use aim_messages::Line;
+use aim_script::{Kind, ScriptVersion};
 use std::alloc::Global;
 use std::marker::Model;
 use std::mem;
@@ -44,10 +47,14 @@ impl Model for TextSession {
 }
 
 impl TextSession {
-    ghost use Rattle.std.specs.Prelude.{◌≡◌, List, []};
+    ghost use Rattle.std.specs.Prelude.{◌≡◌, List, [], IfOk};
     ghost use Rattle.aim_messages.specs.declared.script.Line.{Line};
+    ghost use Rattle.aim_script.specs.Headers.{HasName};
+    ghost use Rattle.aim_script.specs.Said.{version_after};
+    ghost use Rattle.aim_script.specs.Verdicts.{of_read};
+    ghost use Rattle.aim_script.specs.Versions.{version_number};
     ghost use Rattle.aim_text_session.specs.Numbers.{After};
-    ghost use Rattle.aim_text_session.specs.Sessions.{Comes, HasMade, InHeader, IsAt, Shows, Stands};
+    ghost use Rattle.aim_text_session.specs.Sessions.{Comes, ComesBy, HasMade, InHeader, IsAt, Shows, Stands};
 
     /// A session that has taken no line.
     pub fn new(alloc: Global) -> TextSession
@@ -59,14 +66,30 @@ impl TextSession {
         }
     }
 
-    /// Takes a line, without its byte 10. From `begin` on no memory is taken.
+    /// The version in which the next line is read.
+    pub fn version(&self) -> ScriptVersion
+        ensures { (before : List Line) → Stands before self.now → version_after before ≡ version_number result }
+    {
+        self.reached.version()
+    }
+
+    /// Takes a line that was read in that version, or what was wrong with it. From `begin` on no memory is taken.
+    pub fn take_read(&mut self, read: Result<Line, Kind>) -> LineOutcome
+        requires { IfOk read HasName }
+        ensures { (before : List Line) → Stands before self.old → ComesBy before (of_read before read) self.old self.new result }
+    {
+        let reached = mem::replace(&mut self.reached, Reached::new(self.alloc));
+        let Advance { reached, outcome } = reached.after(self.alloc, read);
+        self.reached = reached;
+        outcome
+    }
+
+    /// Takes a line of words, without its byte 10. From `begin` on no memory is taken.
     pub fn take(&mut self, words: &[u8]) -> LineOutcome
         ensures { (before : List Line) → Stands before self.old → Comes before words.now self.old self.new result }
     {
-        let reached = mem::replace(&mut self.reached, Reached::new(self.alloc));
-        let Advance { reached, outcome } = reached.after(self.alloc, words);
-        self.reached = reached;
-        outcome
+        let read = read_text(words, self.version());
+        self.take_read(read)
     }
 
     /// Takes a line, as `take` does, and says in numbers what it came to.

@@ -1,5 +1,5 @@
 use Rattle.std.proofs.Common.{Err, ap}
-use Rattle.aim_session_command.proofs.EndLemmas.{holds_cut_last, holds_ended}
+use Rattle.aim_session_command.proofs.EndLemmas.{holds_cut_last, holds_ended, holds_lacking}
 use Rattle.aim_session_command.proofs.sessions.session.Goals as goal
 
 pub returns-in-Ok-put_last : goal.returns-in-Ok-put_last
@@ -8,3 +8,7 @@ returns-in-Ok-put_last g c = holds_ended _ _ _ c.in-Ok.ensures.needed _ _ c.stat
 pub returns-in-Err-Write-put_last : goal.returns-in-Err-Write-put_last
 returns-in-Err-Write-put_last g c =
     holds_cut_last _ _ _ c.in-Ok.ensures.needed _ c.in-Ok.ensures.runs c.in-Err-Write-put_last.ensures.err (c.in-Err-Write-put_last.ensures.write (ap Err c.in-Err-Write-put_last.field-0-is)) c.in-Err-Write-put_last.ensures.later
+
+pub returns-in-Err-NoMemory-put_last : goal.returns-in-Err-NoMemory-put_last
+returns-in-Err-NoMemory-put_last g c =
+    holds_lacking _ _ _ c.in-Ok.ensures.needed _ c.in-Ok.ensures.runs c.in-Err-NoMemory-put_last.ensures.err (c.in-Err-NoMemory-put_last.ensures.memory (ap Err c.in-Err-NoMemory-put_last.field-0-is)) c.in-Err-NoMemory-put_last.ensures.later

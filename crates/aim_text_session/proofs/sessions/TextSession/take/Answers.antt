@@ -1,13 +1,10 @@
-use Rattle.std.proofs.Common.{sym, ap, ◌∙◌, subst}
-use Rattle.aim_text_session.specs.Headings.{standing_of}
-use Rattle.aim_text_session.specs.Sessions.{Comes, Standing, Stands}
+use Rattle.std.proofs.Common.{sym, subst}
+use Rattle.aim_script.specs.Verdicts.{Judgement}
+use Rattle.aim_text_session.specs.Sessions.{ComesBy}
+use Rattle.aim_text_session.proofs.HeadingLemmas.{judged_read}
 use Rattle.aim_text_session.proofs.sessions.TextSession.take.Goals as goal
-
-pub invariant_of-self : goal.invariant_of-self
-invariant_of-self c = c.after-reached.ensures.kept
 
 pub returns : goal.returns
 returns c before st =
-    let words = c.args.words.now in let after = c.after-reached in
-    let same = ap standing_of c.replace-reached.ensures.value ∙ c.self.view_is in
-    subst (λ (n : Standing). Comes before words n (standing_of after.result.reached) after.result.outcome) same (after.ensures.leads before (subst (λ (n : Standing). Stands before n) (sym same) st)).comes
+    let read = judged_read before c.args.words.now c.version.result c.read_text-read.result (c.version.ensures before st) c.read_text-read.ensures.line in
+    subst (λ (j : Judgement). ComesBy before j c.args.self.now c.take_read.new.self c.take_read.result) (sym read) (c.take_read.ensures before st)
