@@ -18,7 +18,7 @@ use Rattle.aim_layout.specs.Policies.{has_lane}
 use Rattle.aim_layout.specs.LaneTiles.{in_lane_tiles}
 use Rattle.aim_layout.specs.Valid.{IsValid}
 use Rattle.aim_geometry.specs.Cells.{Cell}
-use Rattle.aim_rules.specs.Quiets.{Quiet, is_quiet_in, quiet_with, quiets}
+use Rattle.aim_rules.specs.Quiets.{Quiet, is_quiet, is_quiet_in, quiet_with, quiets}
 use Rattle.aim_rules.specs.Claims.{green, is_claimed, is_claimed_by}
 use Rattle.aim_rules.specs.History.{now_of}
 use Rattle.aim_rules.specs.Kept.{changes, policy_in}
@@ -36,8 +36,12 @@ use Rattle.aim_policies.proofs.Greens.{green_clear, green_one, green_apart}
 use Rattle.aim_policies.specs.Changes.{counts_in, green_in, is_claimed_for, latest, latest_quiet, loud, start}
 use Rattle.aim_policies.proofs.Instants.{policy_in-same, policy_in-since}
 
-pub claimed_by : (i : Intersection) (h : List Entry) (lane : ℕ) (c : Cell) → is_claimed_by i (policy_in (changes h)) (is_quiet_in (quiets h)) lane c ≡ is_claimed i h lane c
-claimed_by i h lane c = claimed_by-same i (policy_in (changes h)) (policy_at h) (is_quiet_in (quiets h)) (is_quiet_in (quiets h)) lane c (λ s a b. sym (policy_at-changes h s)) (λ s a b. refl)
+-- lists of quiets that have the same steps quiet as the history
+abbrev pub AreQuiets : List Entry → List Quiet → Type 0
+AreQuiets h qs = (lane s : ℕ) → is_quiet_in qs lane s ≡ is_quiet h lane s
+
+pub claimed_by : (i : Intersection) (h : List Entry) (qs : List Quiet) (lane : ℕ) (c : Cell) → AreQuiets h qs → is_claimed_by i (policy_in (changes h)) (is_quiet_in qs) lane c ≡ is_claimed i h lane c
+claimed_by i h qs lane c are = claimed_by-same i (policy_in (changes h)) (policy_at h) (is_quiet_in qs) (is_quiet h) lane c (λ s a b. sym (policy_at-changes h s)) (λ s a b. are lane s)
 
 pub some_least : (n : ℕ) (test : ℕ → Bool) → is_some (least_below n test) ≡ some_below n test
 some_least zero test = refl
@@ -48,13 +52,13 @@ some_least (suc n) test = go (least_below n test) (test n) ∙ ap (λ b. b || te
     go None true = refl
     go None false = refl
 
-pub claimed_for_others : (i : Intersection) (h : List Entry) (except : ℕ) (c : Cell) → is_claimed_for i (policy_in (changes h)) (is_quiet_in (quiets h)) (Some except) c ≡ is_some (green i h c except)
-claimed_for_others i h except c =
-    some_below-same (length i.lanes) (λ lane. not (lane == except) && is_claimed_by i (policy_in (changes h)) (is_quiet_in (quiets h)) lane c) (λ lane. not (lane == except) && is_claimed i h lane c) (λ lane l. ap (λ b. not (lane == except) && b) (claimed_by i h lane c))
+pub claimed_for_others : (i : Intersection) (h : List Entry) (qs : List Quiet) (except : ℕ) (c : Cell) → AreQuiets h qs → is_claimed_for i (policy_in (changes h)) (is_quiet_in qs) (Some except) c ≡ is_some (green i h c except)
+claimed_for_others i h qs except c are =
+    some_below-same (length i.lanes) (λ lane. not (lane == except) && is_claimed_by i (policy_in (changes h)) (is_quiet_in qs) lane c) (λ lane. not (lane == except) && is_claimed i h lane c) (λ lane l. ap (λ b. not (lane == except) && b) (claimed_by i h qs lane c are))
     ∙ sym (some_least (length i.lanes) (λ lane. not (lane == except) && is_claimed i h lane c))
 
-pub claimed_for_all : (i : Intersection) (h : List Entry) (c : Cell) → is_claimed_for i (policy_in (changes h)) (is_quiet_in (quiets h)) None c ≡ some_below (length i.lanes) (λ lane. is_claimed i h lane c)
-claimed_for_all i h c = some_below-same (length i.lanes) (λ lane. is_claimed_by i (policy_in (changes h)) (is_quiet_in (quiets h)) lane c) (λ lane. is_claimed i h lane c) (λ lane l. claimed_by i h lane c)
+pub claimed_for_all : (i : Intersection) (h : List Entry) (qs : List Quiet) (c : Cell) → AreQuiets h qs → is_claimed_for i (policy_in (changes h)) (is_quiet_in qs) None c ≡ some_below (length i.lanes) (λ lane. is_claimed i h lane c)
+claimed_for_all i h qs c are = some_below-same (length i.lanes) (λ lane. is_claimed_by i (policy_in (changes h)) (is_quiet_in qs) lane c) (λ lane. is_claimed i h lane c) (λ lane l. claimed_by i h qs lane c are)
 
 -- greens within the clearance of each other, whatever policies are in force
 one_earlier : (i : Intersection) (fs : List InForce) (a b s t row col : ℕ) → IsValid i → s ≤ t → t ≤ s + i.times.clearance → has_lane (green_in i fs s) a ≡ true → has_lane (green_in i fs t) b ≡ true →
@@ -85,7 +89,7 @@ one_claimant i fs qs a b c valid h k =
     ]
 
 pub one_claims : (i : Intersection) (h : List Entry) (a b : ℕ) (c : Cell) → IsValid i → is_claimed i h a c ≡ true → is_claimed i h b c ≡ true → a ≡ b
-one_claims i h a b c valid x y = one_claimant i (changes h) (quiets h) a b c valid (claimed_by i h a c ∙ x) (claimed_by i h b c ∙ y)
+one_claims i h a b c valid x y = one_claimant i (changes h) (quiets h) a b c valid (claimed_by i h (quiets h) a c (λ lane s. refl) ∙ x) (claimed_by i h (quiets h) b c (λ lane s. refl) ∙ y)
 
 -- the step from which a switch is in force
 pub change_from : (i : Intersection) (h : List Entry) (e : Entry) (f : InForce) → IsAnswered i h e → change_with e.act e.reply ≡ Some f → f.from ≡ now_of h e.moment + i.times.horizon

@@ -1,14 +1,10 @@
 -- Changes and quiets as a timeline stores them. No public clause cites this.
-use Rattle.std.specs.Prelude.{◌≡◌, ℕ, ◌-◌, Bool, true, false, ◌&&◌, ◌==◌, List, nat_le, min, max, if◌then◌else◌}
-use Rattle.std.specs.List.{list_any, range_with_len}
-use Rattle.std.specs.List.Sorted.{IsPartitionPoint}
+use Rattle.std.specs.Prelude.{◌≡◌, ℕ, zero, suc, ◌-◌, ◌<◌, Bool, true, false, ◌&&◌, ◌==◌, List, length, nat_le, nat_lt, max, slice_index_or, slice_set, if◌then◌else◌}
+use Rattle.std.specs.List.Sorted.{IsNonDecreasingBy, IsPartitionPoint}
 use Rattle.aim_rules.specs.Timeline.{InForce}
-use Rattle.aim_layout.specs.Intersection.{Intersection}
-use Rattle.aim_layout.specs.Policies.{has_lane}
 use Rattle.aim_rules.specs.Quiets.{Quiet}
 use Rattle.aim_policies.specs.declared.timelines.Change.{Change}
-use Rattle.aim_policies.specs.declared.timelines.Lull.{Lull}
-use Rattle.aim_policies.specs.Changes.{green_in}
+use Rattle.aim_policies.specs.declared.lulls.Lull.{Lull}
 
 abbrev pub change_of : Change → InForce
 change_of c = record { policy = c.policy; from = c.from }
@@ -20,11 +16,30 @@ quiet_of l = record { lane = l.lane; from = l.from; until = l.until }
 abbrev pub IsPoint : List Change → ℕ → ℕ → Type 0
 IsPoint changes step count = IsPartitionPoint (λ c. nat_le c.from step ≡ true) (λ c. nat_le c.from step ≡ false) changes count
 
--- whether the lull is the lane's, and the lane is green in some step from one on, before an end and before the lull
-abbrev pub is_gap_green : Intersection → List InForce → ℕ → ℕ → ℕ → Lull → Bool
-is_gap_green i fs lane from end l =
-    l.lane == lane && list_any (λ s. has_lane (green_in i fs s) lane) (range_with_len from (min end l.from - from))
+-- no lull
+abbrev pub no_lull : Lull
+no_lull = record { lane = 0; from = 0; until = 0; before = 0 }
 
--- from when on the next gap begins, once the lull was met
-abbrev pub gap_from : ℕ → ℕ → Lull → ℕ
-gap_from lane from l = if l.lane == lane then max from l.until else from
+-- the number, counted from 1, of the lane's last lull among the first so many, or 0
+abbrev pub place_below : List Lull → ℕ → ℕ → ℕ
+place_below ls lane zero = 0
+place_below ls lane (suc k) = if (slice_index_or ls k no_lull).lane == lane then suc k else place_below ls lane k
+
+-- The lulls stand in the order of their first steps. Each knows the one of its lane before it, and the tips those that are
+-- the last. The lulls of a lane lie apart.
+pub record AreLulls (ls : List Lull) (tips : List ℕ) : Type 0 where
+  pub order : IsNonDecreasingBy (λ l. l.from) ls
+  pub sixteen : length tips ≡ 16
+  pub last : (lane : ℕ) → lane < 16 → slice_index_or tips lane 0 ≡ place_below ls lane (length ls)
+  pub linked : (k : ℕ) → k < length ls → (slice_index_or ls k no_lull).before ≡ place_below ls (slice_index_or ls k no_lull).lane k
+  pub forward : (k : ℕ) → k < length ls → (slice_index_or ls k no_lull).from < (slice_index_or ls k no_lull).until
+  pub apart : (j k : ℕ) → j < k → k < length ls → (slice_index_or ls j no_lull).lane ≡ (slice_index_or ls k no_lull).lane → (slice_index_or ls j no_lull).until < (slice_index_or ls k no_lull).from
+
+-- whether there is a lull of that number, and it lasts until the step or longer
+abbrev pub lasts_until : List Lull → ℕ → ℕ → Bool
+lasts_until ls number step = nat_lt 0 number && nat_le step (slice_index_or ls (number - 1) no_lull).until
+
+-- the lulls where the one of that number lasts until before the step, or longer
+abbrev pub lengthened : List Lull → ℕ → ℕ → List Lull
+lengthened ls number until =
+    slice_set ls (number - 1) (record (slice_index_or ls (number - 1) no_lull) { until = max (slice_index_or ls (number - 1) no_lull).until until })

@@ -1,16 +1,17 @@
 //! Timelines of policies and of quiet lanes.
 
-ghost use Rattle.std.specs.Prelude.{◌≡◌, ℕ, ◌+◌, ◌-◌, ◌<◌, ◌≤◌, [], ◌∷◌, ◌++◌, ◌==◌, ◌&&◌, ◌^◌, true, length, slice_get, IfOk};
+ghost use Rattle.std.specs.Prelude.{◌≡◌, ℕ, ◌+◌, ◌-◌, ◌<◌, ◌≤◌, [], ◌∷◌, ◌++◌, ◌==◌, ◌&&◌, ◌||◌, ◌^◌, true, List, length, map, slice_get, IfOk};
 ghost use Rattle.std.specs.List.{list_any, range_with_len};
 ghost use Rattle.std.specs.List.Sorted.{IsNonDecreasingBy};
 ghost use Rattle.aim_geometry.specs.Rects.{tile_at};
 ghost use Rattle.aim_layout.specs.Policies.{has_lane as has_lane_of};
 ghost use Rattle.aim_rules.specs.Kept.{policy_in};
-ghost use Rattle.aim_rules.specs.Quiets.{is_quiet_in};
+ghost use Rattle.aim_rules.specs.Quiets.{covers, is_quiet_in};
 ghost use Rattle.aim_rules.specs.Lights.{green_lanes};
 ghost use Rattle.aim_policies.specs.Changes.{at_some, counts_in, green_in, is_claimed_for, latest, latest_quiet};
-ghost use Rattle.aim_policies.specs.Stored.{IsPoint, gap_from as gap_from_of, is_gap_green as is_gap_green_of};
+ghost use Rattle.aim_policies.specs.Stored.{AreLulls, IsPoint, place_below, quiet_of};
 
+use crate::lulls::{Lull, Lulls};
 use crate::{NoMemory, Plan, claimed_rows, green_within, has_lane};
 use aim_layout::Layout;
 use std::alloc::Global;
@@ -23,20 +24,12 @@ struct Change {
     from: u32,
 }
 
-/// A lane that is quiet from a step on, until before another.
-#[derive(Clone, Copy)]
-struct Lull {
-    lane: u8,
-    from: u32,
-    until: u32,
-}
-
 /// Policies in the course of time, and the steps in which lanes are quiet. Policy 0 is in force from step 0 until the
 /// first change.
 #[derive(Drop)]
 pub struct Timeline {
     changes: Vec<Change>,
-    lulls: Vec<Lull>,
+    lulls: Lulls,
     room: u32,
 }
 
@@ -47,13 +40,13 @@ impl Model for Timeline {
 
     ghost use Rattle.std.specs.Prelude.{◌≤◌, map, vec_capacity};
     ghost use Rattle.std.specs.List.Sorted.{IsNonDecreasingBy};
-    ghost use Rattle.aim_policies.specs.Stored.{change_of, quiet_of};
+    ghost use Rattle.aim_policies.specs.Stored.{AreLulls, change_of, quiet_of};
 
-    ghost view = { λ t. record { pushed = map change_of t.changes.items; quiets = map quiet_of t.lulls.items; room = t.room } };
+    ghost view = { λ t. record { pushed = map change_of t.changes.items; quiets = map quiet_of t.lulls.items.items; room = t.room } };
 
     ghost invariant = { λ t.
         (t.room ≤ vec_capacity t.changes) × (IsNonDecreasingBy (λ c. c.from) t.changes.items)
-        × (t.room ≤ vec_capacity t.lulls) × (IsNonDecreasingBy (λ l. l.from) t.lulls.items) };
+        × (t.room ≤ vec_capacity t.lulls.items) × (AreLulls t.lulls.items.items t.lulls.tips) };
 }
 
 // How many of the changes are in force at the step or were so before.
@@ -72,7 +65,7 @@ impl Timeline {
     {
         Ok(Timeline {
             changes: Vec::with_capacity(alloc, room as usize)?,
-            lulls: Vec::with_capacity(alloc, room as usize)?,
+            lulls: Lulls::new(alloc, room)?,
             room,
         })
     }
@@ -87,18 +80,17 @@ impl Timeline {
     }
 
     /// Tells that the lane is quiet from the step `now` on until before `until`. Quiets are told in the order of `now`, and
-    /// add up.
+    /// add up: what is one stretch of steps is stored as one.
     pub fn quiet(&mut self, lane: u8, now: u32, until: u32)
         requires lane { lane < 16 }
         requires room { length self.old.quiets < self.old.room }
         requires order { latest_quiet self.old.quiets ≤ now }
-        ensures { self.new ≡ record self.old { quiets = self.old.quiets ++ record { lane = lane; from = now; until = until } ∷ [] } }
+        ensures quiet { (l s : ℕ) → is_quiet_in self.new.quiets l s ≡ (is_quiet_in self.old.quiets l s || covers l s (record { lane = lane; from = now; until = until })) }
+        ensures few { length self.new.quiets ≤ length self.old.quiets + 1 }
+        ensures order { latest_quiet self.new.quiets ≤ now }
+        ensures rest { self.new ≡ record self.old { quiets = self.new.quiets } }
     {
-        self.lulls.push_reserved(Lull {
-            lane,
-            from: now,
-            until,
-        });
+        self.lulls.tell(lane, now, until);
     }
 
     /// The policy that is in force at the step, and since which step.
@@ -170,31 +162,50 @@ impl Timeline {
         lane_if(lane, self.counts(layout, lane, first, last))
     }
 
-    // Whether the lane's green counts in some step from the first to the last, in one of which it is green.
+    // Whether the lane's green counts in some step from the first to the last, in one of which it is green: in a gap between
+    // its lulls, looked for from the last one on.
     fn counts(&self, layout: &Layout, lane: u8, first: u32, last: u32) -> bool
         requires few { lane < 16 }
         requires window { first ≤ last }
         requires green { at_some (λ s. has_lane_of (green_in layout.now self.now.pushed s) lane) first last ≡ true }
         ensures { result ≡ at_some (counts_in layout.now self.now.pushed self.now.quiets lane) first last }
     {
-        let end = last as u64 + 1;
-        let mut from = first;
-        for lull in &self.lulls {
-            if self.is_gap_green(layout, lane, from, end, *lull) {
-                return true;
-            }
-            from = gap_from(lane, from, *lull);
-        }
-        from == first || self.is_green(layout, lane, from, end)
+        let tip = self.lulls.tip(lane);
+        tip == 0 || self.counts_between(layout, self.lulls.stored(), tip, lane, first, last)
     }
 
-    // Whether the lull is the lane's, and the lane is green in some step of the gap before it.
-    fn is_gap_green(&self, layout: &Layout, lane: u8, from: u32, end: u64, lull: Lull) -> bool
+    // The same, by the stored lulls and the number of the lane's last.
+    fn counts_between(
+        &self,
+        layout: &Layout,
+        lulls: &[Lull],
+        tip: u32,
+        lane: u8,
+        first: u32,
+        last: u32,
+    ) -> bool
         requires few { lane < 16 }
-        requires end { end ≤ 2 ^ 32 }
-        ensures { result ≡ is_gap_green_of layout.now self.now.pushed lane from end lull }
+        requires window { first ≤ last }
+        requires lulls { (tips : List ℕ) × AreLulls lulls.now tips }
+        requires tip { tip ≡ place_below lulls.now lane (length lulls.now) }
+        ensures { result ≡ at_some (counts_in layout.now self.now.pushed (map quiet_of lulls.now) lane) first last }
     {
-        lull.lane == lane && self.is_green(layout, lane, from, end.min(lull.from as u64))
+        let mut end = last as u64 + 1;
+        let mut at = tip;
+        'gaps: loop {
+            if at == 0 {
+                return self.is_green(layout, lane, first, end);
+            }
+            let lull = lulls[at as usize - 1];
+            if self.is_green(layout, lane, first.max(lull.until), end) {
+                return true;
+            }
+            end = end.min(lull.from as u64);
+            if end <= first as u64 {
+                return false;
+            }
+            at = lull.before;
+        }
     }
 
     // Whether the lane is green in some step from the first on, before the end.
@@ -204,17 +215,6 @@ impl Timeline {
         ensures { result ≡ list_any (λ s. has_lane_of (green_in layout.now self.now.pushed s) lane) (range_with_len first (end - first)) }
     {
         (first as u64) < end && has_lane(self.greens(layout, first, (end - 1) as u32), lane)
-    }
-}
-
-// From when on the next gap begins, once a lull was met.
-fn gap_from(lane: u8, from: u32, lull: Lull) -> u32
-    ensures { result ≡ gap_from_of lane from lull }
-{
-    if lull.lane == lane {
-        from.max(lull.until)
-    } else {
-        from
     }
 }
 

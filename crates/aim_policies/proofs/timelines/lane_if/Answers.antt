@@ -1,7 +1,7 @@
-use Rattle.std.proofs.Common.{◌∙◌, sym, false}
+use Rattle.std.proofs.Common.{◌∙◌, sym}
 use Rattle.std.specs.Prelude.{◌==◌}
 use Rattle.std.proofs.Math.Bool.{and-true}
-use Rattle.aim_policies.proofs.Lulls.{lane_silent, one_lane}
+use Rattle.aim_policies.proofs.GapLemmas.{lane_silent, one_lane}
 use Rattle.aim_policies.proofs.timelines.lane_if.Goals as goal
 
 pub returns-then-is_so : goal.returns-then-is_so

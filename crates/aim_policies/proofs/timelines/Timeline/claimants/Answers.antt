@@ -1,7 +1,7 @@
 use Rattle.std.proofs.Common.{◌≡◌, ◌-◌, sym, ◌∙◌, ap, arith}
 use Rattle.aim_geometry.proofs.Bits.{has_bit_or}
 use Rattle.aim_policies.specs.Changes.{at_some, counts_in}
-use Rattle.aim_policies.proofs.Lulls.{counts_lit, lane_more, lanes_all, lanes_none}
+use Rattle.aim_policies.proofs.GapLemmas.{counts_lit, lane_more, lanes_all, lanes_none}
 use Rattle.aim_policies.proofs.Windows.{lane_there}
 use Rattle.aim_policies.proofs.timelines.Timeline.claimants.Goals as goal
 

@@ -1,6 +1,6 @@
 use Rattle.std.proofs.Common.{◌&&◌, sym, ◌∙◌, ap}
 use Rattle.std.specs.Prelude.{◌==◌}
-use Rattle.aim_policies.proofs.Lulls.{counts_dark, lane_silent}
+use Rattle.aim_policies.proofs.GapLemmas.{counts_dark, lane_silent}
 use Rattle.aim_policies.proofs.timelines.Timeline.heard.Goals as goal
 
 pub returns-then-not-has_lane : goal.returns-then-not-has_lane
