@@ -22,6 +22,8 @@ SCRIPTS = {
     "mail": (["mail", "1"], (CASES / "mail-two-clients/input").read_bytes()),
     "shards": (["shards", "1"], CLAIMS),
 }
+# These, and the one that goes on behind a line at fault.
+WITH_SESSION = {**SCRIPTS, "session": (["session"], SCRIPTS["replay"][1])}
 END = b"\x04"
 
 
@@ -62,7 +64,7 @@ def at_terminal(program, words, typed):
         terminal.close()
 
 
-@pytest.mark.parametrize("words, script", SCRIPTS.values(), ids=SCRIPTS)
+@pytest.mark.parametrize("words, script", WITH_SESSION.values(), ids=WITH_SESSION)
 def test_nothing_is_read_behind_the_end(program, checks, words, script):
     """The end comes behind each line, and within it: there the first sign only ends what was typed of the line."""
     starts = [0] + [place + 1 for place, byte in enumerate(script) if byte == 10]
@@ -73,6 +75,13 @@ def test_nothing_is_read_behind_the_end(program, checks, words, script):
             ran, left = at_terminal(program, words, script[:place] + signs + rest)
             checks.same(f"cut behind byte {place}", wanted, ran)
             checks.same(f"cut behind byte {place}: what is left", rest, left)
+
+
+def test_nothing_is_read_behind_the_line_that_ends_a_session(program):
+    """The line `end`, and no line at fault."""
+    script = SCRIPTS["replay"][1]
+    ran, left = at_terminal(program, ["session"], b"nothing\n" + script + script)
+    assert (ran.status, ran.output, left) == (0, b"bad line 1 unknown\n" + program.run("replay", script=script).output, script)
 
 
 def test_a_read_behind_the_end_is_seen(program):

@@ -206,7 +206,7 @@ def test_byte_by_byte(program, whole):
 
 # ---- Inputs and outputs that fail.
 
-@pytest.mark.parametrize("words", (["replay"], DRIVE.words, MAIL.words), ids=lambda words: words[0])
+@pytest.mark.parametrize("words", (["replay"], ["session"], DRIVE.words, MAIL.words), ids=lambda words: words[0])
 def test_folder_as_input(program, words):
     folder = os.open(TOP, os.O_RDONLY)
     ran = program.run(*words, stdin=folder)
@@ -214,7 +214,7 @@ def test_folder_as_input(program, words):
     assert ran == (4, b"")
 
 
-@pytest.mark.parametrize("words, script", [(["replay"], SCRIPT), (DRIVE.words, DRIVE.script), (MAIL.words, MAIL.script)])
+@pytest.mark.parametrize("words, script", [(["replay"], SCRIPT), (["session"], SCRIPT), (DRIVE.words, DRIVE.script), (MAIL.words, MAIL.script)])
 def test_full_output(program, words, script):
     with open("/dev/full", "wb") as full:
         assert program.run(*words, script=script, stdout=full).status == 5
@@ -225,9 +225,10 @@ def is_ended(status):
     return status == 5 or status < 0
 
 
-def test_reader_of_a_replay_goes_away(program):
+@pytest.mark.parametrize("word", ("replay", "session"))
+def test_reader_of_a_replay_goes_away(program, word):
     read, write = os.pipe()
-    run = program.start("replay", stdout=write)
+    run = program.start(word, stdout=write)
     os.close(write)
     run.stdin.write(HEADER + b"1 0 cancel 1 0\n")
     os.read(read, 10)

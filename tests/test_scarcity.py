@@ -39,12 +39,13 @@ class Command:
         status, text = got
         if status == 7:
             return f"status 7, and {text[:100]!r}" if text else None
-        alone = self.words[-1] in ("1", "replay")
+        alone = self.words[-1] in ("1", "replay", "session")
         whole = text == self.text if alone else re.fullmatch(rb"(.+\n)*end \d+\n", text)
         return None if status == 0 and whole else f"status {status}, {text[:100]!r}"
 
 
 REPLAY = Command.of_case(["replay"], "a-first-confirm")
+SESSION = Command.of_case(["session"], "a-first-confirm")
 WITH_WORKERS = [
     Command.of_case(["drive", "1"], "drive-lost-late-and-repeated-letters"),
     Command.of_case(["mail", "1"], "mail-two-clients"),
@@ -80,7 +81,7 @@ def least(program):
     return next(k for k in range(1, 4000) if within(program, nothing, k * PAGES) == (2, b"usage\n"))
 
 
-@pytest.mark.parametrize("command", [REPLAY, *WITH_WORKERS], ids=name_of)
+@pytest.mark.parametrize("command", [REPLAY, SESSION, *WITH_WORKERS], ids=name_of)
 def test_ever_more_memory(program, checks, least, command):
     """First memory is wanting, at last the whole text comes."""
     refused, whole, limit = 0, 0, least

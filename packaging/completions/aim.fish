@@ -2,6 +2,7 @@
 complete -c aim -f
 complete -c aim -n __fish_use_subcommand -a replay -d 'answer the events of a script'
 complete -c aim -n __fish_use_subcommand -a replay-json -d 'answer the events of a script of JSON lines'
+complete -c aim -n __fish_use_subcommand -a session -d 'answer lines, and go on behind a bad one'
 complete -c aim -n __fish_use_subcommand -a chart -d 'replay, and draw the tiles held in a step'
 complete -c aim -n __fish_use_subcommand -a drive -d 'run the drivers of a script against the manager'
 complete -c aim -n __fish_use_subcommand -a grid -d 'run vehicles over several crossings'
@@ -10,5 +11,5 @@ complete -c aim -n __fish_use_subcommand -a shards -d 'run claims of tiles, with
 complete -c aim -n __fish_use_subcommand -a generate -d 'run made traffic, and count'
 complete -c aim -n __fish_use_subcommand -a help -d 'what the words are, or what a word does'
 complete -c aim -n __fish_use_subcommand -a version -d 'the versions of the program and of scripts'
-complete -c aim -n '__fish_seen_subcommand_from help' -a 'replay replay-json chart drive grid mail shards generate help version'
+complete -c aim -n '__fish_seen_subcommand_from help' -a 'replay replay-json session chart drive grid mail shards generate help version'
 complete -c aim -n '__fish_seen_subcommand_from drive grid mail shards' -a '1 2 4 8 16 32 64'

@@ -7,8 +7,9 @@ use Rattle.aim_io.specs.Known.{AppendsFront}
 use Rattle.aim_script_reading.specs.Commands.{Completes, Ends as EndsCommand, IsOfScript, Puts, Reports, Streams}
 use Rattle.aim_script_reading.specs.Rules.{Rules}
 use Rattle.aim_script.specs.Spellings.{Spelled}
+use Rattle.aim_session_command.specs.Commands.{HoldsSession}
 use Rattle.aim.specs.declared.words.Command.{Command}
-use Rattle.aim.specs.declared.words.Command.TheVariants.{Replay, Chart, ReplayJson, Drive, Grid, Generate, Traffic, Shards, Mail, Help, Version}
+use Rattle.aim.specs.declared.words.Command.TheVariants.{Replay, Chart, ReplayJson, Session, Drive, Grid, Generate, Traffic, Shards, Mail, Help, Version}
 use Rattle.aim.specs.Runs.{Answers, Does, Ends, IsStatus, IsWhole, Prints, Replays, Settles}
 
 if_some : {X : Type 0} {P Q : X → Type 0} (it : Option X) → ((x : X) → P x → Q x) → IfSome it P → IfSome it Q
@@ -27,6 +28,12 @@ front_of {t = t} added = record { front = t; rest = []; whole = sym (append-nil 
 
 front_kept : {a b c : Option (List ℕ)} {t : List ℕ} → Keeps b c → AppendsFront a b t → AppendsFront a c t
 front_kept {a = a} {b = b} {c = c} kept f = record { front = f.front; rest = f.rest; whole = f.whole; added = Appends-kept a b c f.front f.added kept }
+
+-- a status with which what is written is whole, of a command that reads a script
+of_script : (status : ℕ) → IsWhole status → (status ≡ 0) ⊎ ((status ≡ 3) ⊎ ((status ≡ 4) ⊎ ((status ≡ 5) ⊎ ((status ≡ 6) ⊎ (status ≡ 7))))) → IsOfScript status
+of_script status (inl zero) s = inl zero
+of_script status (inr (inl two)) s = absurd (omega (arith, two, s))
+of_script status (inr (inr other)) s = inr other
 
 -- What was before and behind a command, and what the sink holds when it has settled, and its faults.
 module _ (old new : Streams) (held : Option (List ℕ)) (faults status : ℕ) (kept : Keeps new.held held) (up : new.sink_faults ≤ faults) where
@@ -87,6 +94,28 @@ module _ (old new : Streams) (held : Option (List ℕ)) (faults status : ℕ) (k
     ends = ends_same r.ends;
   }
 
+  holds_same : {w : Spelled} {unread settled settled' : Type 0} {last : Option ℕ} → (status ≡ 4 → settled → settled') → HoldsSession w unread settled last old new status → HoldsSession w unread settled' last old after status
+  holds_same stays r = record {
+    whole = λ h. if_some old.left (λ bytes x. record { text = x.text; decision = x.decision; is = x.is; written = added x.text x.written; status = x.status }) (r.whole h);
+    short = λ h. let x = r.short h in record {
+      lines = x.lines;
+      part = x.part;
+      taken = x.taken;
+      text = x.text;
+      gone = x.gone;
+      each = x.each;
+      no_end = x.no_end;
+      answered = x.answered;
+      going = x.going;
+      written = added x.text x.written;
+    };
+    waited = λ h. stays h (r.waited h);
+    front = λ h. if_some old.left (λ bytes x. record { text = x.text; is = x.is; written = front x.written }) (r.front h);
+    memory = λ h. if_some old.left (λ bytes x. record { lines = x.lines; more = x.more; taken = x.taken; text = x.text; begun = x.begun; none = x.none; written = added x.text x.written }) (r.memory h);
+    needed = r.needed;
+    ends = ends_same r.ends;
+  }
+
   prints_same : {IsText : List ℕ → Type 0} → Prints IsText old new status → Prints IsText old after status
   prints_same r = record {
     whole = λ h. let x = r.whole h in (x.0, x.1, added x.0 x.2);
@@ -103,6 +132,7 @@ module _ (old new : Streams) (held : Option (List ℕ)) (faults status : ℕ) (k
   does_same unread settled settled' last stays Replay d = replays_same stays d
   does_same unread settled settled' last stays (Chart step) d = replays_same stays d
   does_same unread settled settled' last stays ReplayJson d = replays_same stays d
+  does_same unread settled settled' last stays Session d = holds_same stays d
   does_same unread settled settled' last stays (Drive workers) d = reports_same d
   does_same unread settled settled' last stays (Grid workers) d = reports_same d
   does_same unread settled settled' last stays (Mail workers) d = reports_same d
@@ -133,7 +163,7 @@ module _ (old new : Streams) (held : Option (List ℕ)) (faults status : ℕ) (k
     reports_failed {status_of = status_of} whole r = record {
       whole = λ h. absurd (omega (arith, h));
       ended = λ h. absurd (omega (arith, h));
-      front = λ _. if_some old.left (λ bytes x. record { text = x.text; is = x.is; written = front_of (added x.text x.written) }) (r.whole (of_script whole r.ends.statuses));
+      front = λ _. if_some old.left (λ bytes x. record { text = x.text; is = x.is; written = front_of (added x.text x.written) }) (r.whole (of_script status whole r.ends.statuses));
       nothing = λ h. absurd (omega (arith, h));
       short = λ h. absurd (omega (arith, h));
       most = r.most;
@@ -141,17 +171,12 @@ module _ (old new : Streams) (held : Option (List ℕ)) (faults status : ℕ) (k
       complete = completes_failed status_of r.complete;
       ends = ends_failed r.ends;
     }
-      where
-        of_script : IsWhole status → (status ≡ 0) ⊎ ((status ≡ 3) ⊎ ((status ≡ 4) ⊎ ((status ≡ 5) ⊎ ((status ≡ 6) ⊎ (status ≡ 7))))) → IsOfScript status
-        of_script (inl zero) s = inl zero
-        of_script (inr (inl two)) s = absurd (omega (arith, two, s))
-        of_script (inr (inr other)) s = inr other
 
     replays_failed : {w : Spelled} {asked : Option ℕ} {unread settled settled' : Type 0} {last : Option ℕ} → IsWhole status → Replays w asked unread settled last old new status → Replays w asked unread settled' last old after 5
     replays_failed whole r = record {
       whole = λ h. absurd (omega (arith, h));
       ended = λ h. absurd (omega (arith, h));
-      front = λ _. if_some old.left (λ bytes x. front_of (added _ x.text)) (r.whole (of_script whole r.ends.statuses));
+      front = λ _. if_some old.left (λ bytes x. front_of (added _ x.text)) (r.whole (of_script status whole r.ends.statuses));
       nothing = λ takes h. absurd (omega (arith, h));
       short = λ h. absurd (omega (arith, h));
       waited = λ h. absurd (omega (arith, h));
@@ -160,11 +185,17 @@ module _ (old new : Streams) (held : Option (List ℕ)) (faults status : ℕ) (k
       complete = completes_failed _ r.complete;
       ends = ends_failed r.ends;
     }
-      where
-        of_script : IsWhole status → (status ≡ 0) ⊎ ((status ≡ 3) ⊎ ((status ≡ 4) ⊎ ((status ≡ 5) ⊎ ((status ≡ 6) ⊎ (status ≡ 7))))) → IsOfScript status
-        of_script (inl zero) s = inl zero
-        of_script (inr (inl two)) s = absurd (omega (arith, two, s))
-        of_script (inr (inr other)) s = inr other
+
+    holds_failed : {w : Spelled} {unread settled settled' : Type 0} {last : Option ℕ} → IsWhole status → HoldsSession w unread settled last old new status → HoldsSession w unread settled' last old after 5
+    holds_failed whole r = record {
+      whole = λ h. absurd (omega (arith, h));
+      short = λ h. absurd (omega (arith, h));
+      waited = λ h. absurd (omega (arith, h));
+      front = λ _. if_some old.left (λ bytes x. record { text = x.text; is = inl (x.decision, x.is); written = front_of (added x.text x.written) }) (r.whole (of_script status whole r.ends.statuses));
+      memory = λ h. absurd (omega (arith, h));
+      needed = r.needed;
+      ends = ends_failed r.ends;
+    }
 
     prints_failed : {IsText : List ℕ → Type 0} → IsWhole status → Prints IsText old new status → Prints IsText old after 5
     prints_failed whole r = record {
@@ -182,6 +213,7 @@ module _ (old new : Streams) (held : Option (List ℕ)) (faults status : ℕ) (k
     does_failed unread settled settled' last whole Replay d = replays_failed whole d
     does_failed unread settled settled' last whole (Chart step) d = replays_failed whole d
     does_failed unread settled settled' last whole ReplayJson d = replays_failed whole d
+    does_failed unread settled settled' last whole Session d = holds_failed whole d
     does_failed unread settled settled' last whole (Drive workers) d = reports_failed whole d
     does_failed unread settled settled' last whole (Grid workers) d = reports_failed whole d
     does_failed unread settled settled' last whole (Mail workers) d = reports_failed whole d

@@ -3,7 +3,7 @@ use Rattle.std.specs.Prelude.{ℕ, ◌<◌, ◌≤◌, Bool, true, false, ◌&&�
 use Rattle.aim_messages.specs.declared.entries.TheConstants.{LATEST_MOMENT}
 use Rattle.aim_text_words.specs.Faults.{is_number, value_of}
 use Rattle.aim.specs.declared.words.Command.{Command}
-use Rattle.aim.specs.declared.words.Command.TheVariants.{Replay, Chart, ReplayJson, Drive, Grid, Generate, Traffic, Shards, Mail, Help, Version}
+use Rattle.aim.specs.declared.words.Command.TheVariants.{Replay, Chart, ReplayJson, Session, Drive, Grid, Generate, Traffic, Shards, Mail, Help, Version}
 use Rattle.aim.specs.declared.help.Topic.{Topic}
 use Rattle.aim.specs.declared.help.Topic.TheVariants as topic
 
@@ -21,6 +21,7 @@ abbrev pub topic_of : List ℕ → Option Topic
 topic_of word =
     if bytes_eq word (codes "replay") then Some topic.Replay
     else if bytes_eq word (codes "replay-json") then Some topic.ReplayJson
+    else if bytes_eq word (codes "session") then Some topic.Session
     else if bytes_eq word (codes "chart") then Some topic.Chart
     else if bytes_eq word (codes "drive") then Some topic.Drive
     else if bytes_eq word (codes "grid") then Some topic.Grid
@@ -54,6 +55,7 @@ command_alone word =
     if asks_help word then Some (Help topic.Words)
     else if bytes_eq word (codes "replay") then Some Replay
     else if bytes_eq word (codes "replay-json") then Some ReplayJson
+    else if bytes_eq word (codes "session") then Some Session
     else if bytes_eq word (codes "version") then Some Version
     else if bytes_eq word (codes "--version") then Some Version
     else None
@@ -91,6 +93,7 @@ abbrev pub IsWithin : Command → Type 0
 IsWithin Replay = Unit {0}
 IsWithin (Chart step) = Unit {0}
 IsWithin ReplayJson = Unit {0}
+IsWithin Session = Unit {0}
 IsWithin (Drive workers) = (0 < workers) × (workers ≤ 64)
 IsWithin (Grid workers) = (0 < workers) × (workers ≤ 64)
 IsWithin (Generate number count) = (0 < count) × (count ≤ 256)

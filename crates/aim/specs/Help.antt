@@ -9,6 +9,7 @@ abbrev pub text_of : Topic → List ℕ
 text_of topic.Words = told.WORDS.now
 text_of topic.Replay = told.REPLAY.now
 text_of topic.ReplayJson = told.REPLAY_JSON.now
+text_of topic.Session = told.SESSION.now
 text_of topic.Chart = told.CHART.now
 text_of topic.Drive = told.DRIVE.now
 text_of topic.Grid = told.GRID.now

@@ -8,6 +8,7 @@ use Rattle.aim_script.specs.Spellings.{Spelled, by_words}
 use Rattle.aim_replay_command.specs.Replays.{LastNeededBy, ReplaysBy, StopsShortBy, TakesAtMost, WritesFront}
 use Rattle.aim_replay_command.specs.Spelling.{by_json}
 use Rattle.aim_replay_command.specs.Texts.{status_by, text_by}
+use Rattle.aim_session_command.specs.Commands.{HoldsSession}
 use Rattle.aim_drive_script.specs.Verdicts.{drive_rules}
 use Rattle.aim_drive_command.specs.Commands.{IsText as IsTextOfDrive, status_for as status_of_drive}
 use Rattle.aim_drive_command.specs.Generated.{IsSummary}
@@ -19,7 +20,7 @@ use Rattle.aim_shards_command.specs.Commands.{IsText as IsTextOfClaims, status_f
 use Rattle.aim_mail_script.specs.Verdicts.{event_rules}
 use Rattle.aim_mail_command.specs.Commands.{IsText as IsTextOfMail, status_for as status_of_mail}
 use Rattle.aim.specs.declared.words.Command.{Command}
-use Rattle.aim.specs.declared.words.Command.TheVariants.{Replay, Chart, ReplayJson, Drive, Grid, Generate, Traffic, Shards, Mail, Help, Version}
+use Rattle.aim.specs.declared.words.Command.TheVariants.{Replay, Chart, ReplayJson, Session, Drive, Grid, Generate, Traffic, Shards, Mail, Help, Version}
 use Rattle.aim.specs.Help.{text_of, versions}
 
 -- a status with which what is written is whole
@@ -58,6 +59,9 @@ abbrev pub Does : Command → Type 0 → Type 0 → Option ℕ → Streams → S
 Does Replay unread settled last old new result = Replays by_words None unread settled last old new result
 Does (Chart step) unread settled last old new result = Replays by_words (Some step) unread settled last old new result
 Does ReplayJson unread settled last old new result = Replays by_json None unread settled last old new result
+-- A session. What is written are the answers to the lines, one by one: the entry that a line makes behind those that were taken, or why it isn't taken; and last
+-- what ended it, behind which nothing is read. So the entries that are printed are the journal of the lines that were taken, whatever stood between them.
+Does Session unread settled last old new result = HoldsSession by_words unread settled last old new result
 -- A drive, in so many runs side by side: THE HEADLINE. The text of a whole script is the report of a journal and logs of which the headline holds, by the
 -- script's lines.
 Does (Drive workers) unread settled last old new result = Reports drive_rules (IsTextOfDrive workers) status_of_drive unread last old new result

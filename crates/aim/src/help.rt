@@ -12,6 +12,8 @@ pub enum Topic {
     Replay,
     /// `replay-json`.
     ReplayJson,
+    /// `session`.
+    Session,
     /// `chart`.
     Chart,
     /// `drive`.
@@ -35,6 +37,7 @@ pub const WORDS: &[u8] = b"aim: an intersection manager. Vehicles ask to cross, 
 
   aim replay                         answer the events of a script
   aim replay-json                    the same, with a JSON object a line
+  aim session                        the same, and go on behind a bad line
   aim chart STEP                     replay, and draw the tiles held in a step
   aim drive WORKERS                  run a script's drivers against the manager
   aim grid WORKERS                   run vehicles over several crossings
@@ -72,6 +75,17 @@ Does as `aim replay` does with a script of which each line is a JSON object, and
 prints a JSON object a line. Each event is answered before the next line is read.
 
   python3 examples/json_lines.py < examples/first.aim | aim replay-json
+";
+
+/// `session`.
+pub const SESSION: &[u8] = b"aim session
+
+Answers the lines at standard input as `aim replay` does, and goes on behind one
+that is not taken: that changes nothing, and is answered with `bad line NUMBER
+KIND` or `limit WHICH`. Each line is answered before the next one is read, and
+up to 4294967294 are. `end` ends it.
+
+  aim session < examples/first.aim
 ";
 
 /// `chart`.
@@ -165,6 +179,7 @@ impl Topic {
             Topic::Words => WORDS,
             Topic::Replay => REPLAY,
             Topic::ReplayJson => REPLAY_JSON,
+            Topic::Session => SESSION,
             Topic::Chart => CHART,
             Topic::Drive => DRIVE,
             Topic::Grid => GRID,

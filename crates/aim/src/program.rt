@@ -15,6 +15,7 @@ use aim_io::{Sink, Source};
 use aim_mail_command::mail;
 use aim_replay_command::{JsonLines, WordLines, replay};
 use aim_script_reading::put_text;
+use aim_session_command::session;
 use aim_shards::Hold;
 use aim_shards_command::shards;
 use std::alloc::Global;
@@ -49,6 +50,7 @@ fn obey<R: Threads + Wait + Sync, S: Source, K: Sink, G: Gate>(
         Command::Replay => replay::<WordLines, S, K>(alloc, source, sink, None),
         Command::Chart(step) => replay::<WordLines, S, K>(alloc, source, sink, Some(step)),
         Command::ReplayJson => replay::<JsonLines, S, K>(alloc, source, sink, None),
+        Command::Session => session(alloc, source, sink),
         Command::Drive(workers) => drive(rt, alloc, workers, source, sink, gate),
         Command::Grid(workers) => grid(rt, alloc, workers, source, sink, gate),
         Command::Generate(number, count) => generate(rt, alloc, number, count, sink),

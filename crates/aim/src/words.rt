@@ -17,6 +17,8 @@ pub enum Command {
     Chart(u32),
     /// `replay-json`: replay the script of the input, whose lines are JSON text, and print JSON lines.
     ReplayJson,
+    /// `session`: answer the lines of the input, and go on behind one that isn't taken.
+    Session,
     /// `drive WORKERS`: run the drive script of the input with so many workers, 1 to 64.
     Drive(u32),
     /// `grid WORKERS`: run the routes of the input over several crossings with so many workers, 1 to 64.
@@ -40,21 +42,24 @@ pub enum Command {
 enum Alone {
     Replay,
     ReplayJson,
+    Session,
     Version,
 }
 
 // Their words.
-const ALONE: [(&[u8], Alone); 4] = [
+const ALONE: [(&[u8], Alone); 5] = [
     (b"replay", Alone::Replay),
     (b"replay-json", Alone::ReplayJson),
+    (b"session", Alone::Session),
     (b"version", Alone::Version),
     (b"--version", Alone::Version),
 ];
 
 // The words of which the help tells.
-const TOPICS: [(&[u8], Topic); 10] = [
+const TOPICS: [(&[u8], Topic); 11] = [
     (b"replay", Topic::Replay),
     (b"replay-json", Topic::ReplayJson),
+    (b"session", Topic::Session),
     (b"chart", Topic::Chart),
     (b"drive", Topic::Drive),
     (b"grid", Topic::Grid),
@@ -120,6 +125,7 @@ fn command_alone(word: &[u8]) -> Option<Command>
     match look_up(&ALONE, LineKind::Unknown, word).ok()? {
         Alone::Replay => Some(Command::Replay),
         Alone::ReplayJson => Some(Command::ReplayJson),
+        Alone::Session => Some(Command::Session),
         Alone::Version => Some(Command::Version),
     }
 }

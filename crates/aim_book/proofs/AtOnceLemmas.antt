@@ -1,5 +1,5 @@
 -- What is known of a message before the cells of its crossing are.
-use Rattle.std.proofs.Common.{◌≡◌, ℕ, zero, suc, ◌+◌, ◌≤◌, Bool, true, false, List, [], ◌∷◌, take, length, Option, Some, None, Result, Ok, Err, refl, sym, ◌∙◌, ap, arith, subst}
+use Rattle.std.proofs.Common.{◌≡◌, ℕ, zero, suc, ◌+◌, ◌*◌, ◌≤◌, Bool, true, false, List, [], ◌∷◌, take, length, Option, Some, None, Result, Ok, Err, refl, sym, ◌∙◌, ap, arith, subst}
 use Rattle.std.specs.Prelude.{is_none, option_and_then, if◌then◌else◌, IfOk}
 use Rattle.std.specs.Option.{option_or}
 use Rattle.aim_messages.specs.declared.messages.Body.{Body}
@@ -16,7 +16,7 @@ use Rattle.aim_rules.specs.Trials.{is_fast_made, judged}
 use Rattle.aim_rules.specs.History.{params_of}
 use Rattle.aim_rules.specs.Known.{Known}
 use Rattle.aim_rules.specs.Answer.{answer_asking, answer_free, answer_fresh, first_reason, own_refusal, refusal, refused_or}
-use Rattle.aim_book.specs.Costs.{asked_spans}
+use Rattle.aim_book.specs.Costs.{asked_spans, starts_tried}
 use Rattle.aim_reservations.specs.Keeping.{is_named, row_count}
 use Rattle.aim_reservations.specs.Rows.{spans_in}
 use Rattle.aim_book.specs.Reserved.{rows_exchanged}
@@ -68,9 +68,13 @@ given_fits id (Some r) = go (is_named id (Some r))
     go true = omega arith
     go false = omega arith
 
--- the spans of what was prepared
-pub asked_is : (i : Intersection) (r : Request) → IsPreparedFor i r → length r.first.spans + length r.second.spans ≡ asked_spans i (params_of r.message.body)
-asked_is i r prepared = go (params_of r.message.body) refl
+-- those of one start
+abbrev at_start : Intersection → Option Params → ℕ
+at_start i None = 0
+at_start i (Some p) = if is_none (bad i p) then (if (judged i p).fast then 0 else span_count i p false) + (if is_fast_made p then span_count i p true else 0) else 0
+
+start_is : (i : Intersection) (r : Request) → IsPreparedFor i r → length r.first.spans + length r.second.spans ≡ at_start i (params_of r.message.body)
+start_is i r prepared = go (params_of r.message.body) refl
   where
     none : r.first.spans ≡ [] → r.second.spans ≡ [] → length r.first.spans + length r.second.spans ≡ 0
     none a b = rw (a, b) refl
@@ -91,10 +95,25 @@ asked_is i r prepared = go (params_of r.message.body) refl
         let b = steady p (judged i p).fast refl is in
         omega arith
 
-    go : (o : Option Params) → params_of r.message.body ≡ o → length r.first.spans + length r.second.spans ≡ asked_spans i o
+    go : (o : Option Params) → params_of r.message.body ≡ o → length r.first.spans + length r.second.spans ≡ at_start i o
     go None e = let q = prepared.empty (nothing (is_none r.bad) e) in none q.0 q.1
       where
         nothing : (b : Bool) → params_of r.message.body ≡ None → (if b then params_of r.message.body else None) ≡ None
         nothing true e = e
         nothing false e = refl
     go (Some p) e = with_bad p (bad i p) (prepared.field ∙ ap (λ o. option_and_then (bad i) o) e) refl e
+
+-- the spans of what was prepared, at each start that may be tried
+pub asked_is : (i : Intersection) (r : Request) → IsPreparedFor i r → starts_tried i (params_of r.message.body) * (length r.first.spans + length r.second.spans) ≡ asked_spans i (params_of r.message.body)
+asked_is i r prepared = ap (λ n. starts_tried i (params_of r.message.body) * n) (start_is i r prepared) ∙ each (params_of r.message.body)
+  where
+    none_of : (n : ℕ) → n * 0 ≡ 0
+    none_of n = omega arith
+
+    made : (n m : ℕ) (b : Bool) → n * (if b then m else 0) ≡ (if b then n * m else 0)
+    made n m true = refl
+    made n m false = none_of n
+
+    each : (o : Option Params) → starts_tried i o * at_start i o ≡ asked_spans i o
+    each None = refl
+    each (Some p) = made (starts_tried i (Some p)) ((if (judged i p).fast then 0 else span_count i p false) + (if is_fast_made p then span_count i p true else 0)) (is_none (bad i p))

@@ -1,5 +1,5 @@
 -- The tests that come before the cells of a crossing.
-use Rattle.std.proofs.Common.{◌≡◌, ℕ, ◌+◌, ◌<◌, ◌≤◌, Bool, true, false, ◌&&◌, not, nat_le, nat_lt, List, length, Option, Some, None, refl, sym, ◌∙◌, ap, slice_get, slice_index_or, unwrap_or, le-leb}
+use Rattle.std.proofs.Common.{◌≡◌, ℕ, ◌+◌, ◌≤◌, Bool, true, false, ◌&&◌, not, nat_le, nat_lt, List, length, Option, Some, None, refl, sym, ◌∙◌, ap, slice_get, slice_index_or, le-leb}
 use Rattle.std.specs.Prelude.{option_map, option_and_then, IsTrue, ◌↔◌, if◌then◌else◌}
 use Rattle.std.specs.List.{list_any}
 use Rattle.std.specs.Option.{option_or}
@@ -13,12 +13,10 @@ use Rattle.aim_layout.specs.Intersection.{Intersection}
 use Rattle.aim_layout.specs.Policies.{has_lane}
 use Rattle.aim_layout.specs.declared.policies.PolicyKind.{PolicyKind}
 use Rattle.aim_requests.specs.Cells.{HaveCells}
-use Rattle.aim_sessions.specs.Distances.{exceeded}
 use Rattle.aim_sheets.specs.declared.spans.Span.{Span}
 use Rattle.aim_rules.specs.Trials.{has_windows, is_fast_made, judged}
-use Rattle.aim_rules.specs.Answer.{ends_beyond, exceeds, gives_way, where_so, comes, in_the_way, bad_field, too_distant, too_far, too_late, too_soon}
+use Rattle.aim_rules.specs.Answer.{gives_way, where_so, comes, in_the_way, bad_field, too_far, too_late, too_soon}
 use Rattle.aim_rules.specs.Cells.{cells}
-use Rattle.aim_rules.specs.Distance.{asked_from}
 use Rattle.aim_rules.specs.Known.{Known}
 use Rattle.aim_rules.proofs.CellLemmas.{cells_has, cells_needed}
 use Rattle.aim_rules.proofs.Lists.{IsIn-test, some_passes}

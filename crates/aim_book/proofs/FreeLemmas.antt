@@ -1,7 +1,8 @@
 -- The answer to a request that only the cells of its crossing can refuse.
-use Rattle.std.proofs.Common.{◌≡◌, ℕ, ◌+◌, ◌<◌, Bool, true, false, ◌&&◌, nat_le, List, Option, Some, None, refl, sym, ◌∙◌, ap, arith}
-use Rattle.std.specs.Prelude.{is_none, option_and_then, option_map, if◌then◌else◌}
+use Rattle.std.proofs.Common.{◌≡◌, ℕ, ◌+◌, ◌-◌, ◌*◌, ◌<◌, ◌≤◌, subst, Bool, true, false, ◌&&◌, nat_le, List, Option, Some, None, refl, sym, ◌∙◌, ap, arith}
+use Rattle.std.specs.Prelude.{is_none, min, option_and_then, option_map, if◌then◌else◌}
 use Rattle.std.specs.Option.{option_or}
+use Rattle.std.proofs.Math.Nat.{min-eq_left}
 use Rattle.aim_messages.specs.declared.messages.Body.{Body}
 use Rattle.aim_messages.specs.declared.messages.Params.{Params}
 use Rattle.aim_messages.specs.declared.replies.Field.{Field}
@@ -13,23 +14,24 @@ use Rattle.aim_layout.specs.Valid.{IsValid}
 use Rattle.aim_sheets.specs.declared.spans.Span.{Span}
 use Rattle.aim_sheets.specs.Sheets.{Spans}
 use Rattle.aim_tiles.specs.Sheets.{AreTiles}
-use Rattle.aim_requests.specs.Fields.{bad_crossing}
+use Rattle.aim_requests.specs.Fields.{IsTried, bad_crossing}
 use Rattle.aim_requests.proofs.FieldLemmas.{fields}
-use Rattle.aim_requests.proofs.GoodLemmas.{good_crossing, tried_both, windowless}
+use Rattle.aim_requests.proofs.GoodLemmas.{good_crossing}
 use Rattle.aim_requests.specs.Cells.{HaveCells}
 use Rattle.aim_requests.specs.Requests.{Request, fast_sheet, steady_sheet}
 use Rattle.aim_requests.specs.declared.requests.TrialSteps.{TrialSteps}
 use Rattle.aim_requests.proofs.SpanLemmas.{some_steps}
 use Rattle.aim_rules.specs.Bad.{bad, needs_too_many_spans}
-use Rattle.aim_rules.specs.Trials.{has_windows, is_fast_made}
+use Rattle.aim_rules.specs.Trials.{Trial, granted_trial, has_windows, is_fast_made}
 use Rattle.aim_rules.specs.Footprint.{crossing_steps}
 use Rattle.aim_rules.specs.Known.{Known}
 use Rattle.aim_rules.specs.Windows.{two_trials}
-use Rattle.aim_rules.specs.Answer.{answer_asking, confirmation, first_blocked, first_reason, own_refusal, refusal, refused_or}
+use Rattle.aim_rules.specs.Answer.{answer_asking, answer_free, confirmation, first_blocked, first_reason, own_refusal, refusal, refused_or}
 use Rattle.aim_rules.proofs.CellLemmas.{cells_inside}
-use Rattle.aim_rules.proofs.OneArrival.{two_trials-answer}
+use Rattle.aim_rules.proofs.OneArrival.{free_two}
 use Rattle.aim_rules.proofs.GoodLemmas.{good_params as good_bounds}
-use Rattle.aim_book.specs.Asking.{IsAsking}
+use Rattle.aim_book.specs.Asking.{HasGoneTo, IsAsking}
+use Rattle.aim_book.specs.Costs.{starts_tried}
 use Rattle.aim_reservations.specs.Blocking.{AreAsked}
 use Rattle.aim_book.specs.Desk.{Tells}
 use Rattle.aim_book.specs.declared.desks.Desk.{Desk}
@@ -85,11 +87,18 @@ good_alone i p good = go (bad_crossing i p) (sym (fields i p) ∙ good)
     go None e = refl
     go (Some f) e = absurd (cc)
 
+-- where requests have one arrival each trial is tried, where they have windows the one that is made
+pub tried_two : (i : Intersection) (p : Params) (fast : Bool) → has_windows i ≡ false → IsTried i p fast
+tried_two i p fast one = λ windows. absurd (cc)
+
+pub tried_alone : (i : Intersection) (p : Params) (fast : Bool) → is_fast_made p ≡ fast → IsTried i p fast
+tried_alone i p fast made = λ windows. sym made
+
 -- the step at which a crossing ends fits
-pub ends_within : (i : Intersection) (p : Params) (fast : Bool) → IsValid i → bad i p ≡ None → (0 < crossing_steps i p fast) × (p.arrive + crossing_steps i p fast < 4294967296)
-ends_within i p fast valid good =
+pub ends_within : (i : Intersection) (p : Params) (fast : Bool) → IsTried i p fast → bad i p ≡ None → (0 < crossing_steps i p fast) × (p.arrive + crossing_steps i p fast < 4294967296)
+ends_within i p fast tried good =
     let bounds = good_bounds i p good in
-    let few = (good_crossing i p (good_alone i p good)).steps fast (tried_both i p fast valid) in
+    let few = (good_crossing i p (good_alone i p good)).steps fast tried in
     let arrive = bounds.arrive in
     (some_steps i p fast (let s = bounds.speed.0 in omega arith) bounds.speed.1, omega arith)
 
@@ -111,7 +120,47 @@ asked_own i k b p o why r own some is = rw (← own, some) is
 pub asked_early : (i : Intersection) (k : Known) (b : Body) (p : Params) (o e : Option Reason) (why : Reason) (r : Reply) → o ≡ own_refusal i k b → o ≡ None → e ≡ first_reason i k p → e ≡ Some why → r ≡ refusal i k p.arrive why → r ≡ answer_asking i k b p
 asked_early i k b p o e why r own none early some is = rw (← own, none, ← early, some) is
 
-pub asked_free : (i : Intersection) (k : Known) (b : Body) (p : Params) (o e : Option Reason) (r : Reply) → IsValid i → o ≡ own_refusal i k b → o ≡ None → e ≡ first_reason i k p → e ≡ None → r ≡ two_trials i k p → r ≡ answer_asking i k b p
-asked_free i k b p o e r valid own none early free is =
-    let x : r ≡ refused_or i k p (option_or (own_refusal i k b) (first_reason i k p)) (two_trials i k p) = rw (← own, none, ← early, free) is in
-    x ∙ sym (two_trials-answer i k b p valid.sound.grid.some_spacing valid.sound.times.early valid.sound.times.late (windowless i valid))
+pub asked_free : (i : Intersection) (k : Known) (b : Body) (p : Params) (o e : Option Reason) (r : Reply) → o ≡ own_refusal i k b → o ≡ None → e ≡ first_reason i k p → e ≡ None → r ≡ answer_free i k p → r ≡ answer_asking i k b p
+asked_free i k b p o e r own none early free is = is ∙ sym (λ j. refused_or i k p (option_or ((sym own ∙ none) j) ((sym early ∙ free) j)) (answer_free i k p))
+
+-- a refusal grants no trial
+pub refused_grants : (i : Intersection) (k : Known) (arrive : ℕ) (why : Reason) (r : Reply) (t : Trial) → r ≡ refusal i k arrive why → granted_trial r ≡ Some t → ⊥
+refused_grants i k arrive why r t is named = absurd (let e : None ≡ Some t = sym (ap granted_trial is) ∙ named in cc)
+
+same_start : (a b : Trial) → Some a ≡ Some b → b.start ≡ a.start
+same_start a b e = (let q : a ≡ b = cc in sym (ap (λ (t : Trial). t.start) q))
+
+-- the trial that is granted of two starts at the arrival
+pub two_start : (i : Intersection) (k : Known) (p : Params) (t : Trial) → granted_trial (two_trials i k p) ≡ Some t → t.start ≡ p.arrive
+two_start i k p t named = go (is_fast_made p && is_none (first_blocked i k p (record { start = p.arrive; fast = true }))) (first_blocked i k p (record { start = p.arrive; fast = false })) named
+  where
+    go : (b : Bool) (o : Option Reason) → granted_trial (if b then confirmation i k p (record { start = p.arrive; fast = true }) else refused_or i k p o (confirmation i k p (record { start = p.arrive; fast = false }))) ≡ Some t → t.start ≡ p.arrive
+    go true o e = same_start (record { start = p.arrive; fast = true }) t e
+    go false None e = same_start (record { start = p.arrive; fast = false }) t e
+    go false (Some why) e = absurd (let f : None ≡ Some t = e in cc)
+
+-- so the request has gone on to it
+pub two_gone : (i : Intersection) (k : Known) (p : Params) (r : Reply) (t : Trial) (g : Request) → r ≡ two_trials i k p → granted_trial r ≡ Some t → IsAsking i p g → bad i p ≡ None → HasGoneTo i p t.start g
+two_gone i k p r t g is named asking good =
+    subst (λ s. HasGoneTo i p s g) (sym (two_start i k p t (sym (ap granted_trial is) ∙ named))) (record { latest = p.latest; asking = asking; good = good })
+
+-- the answer by two trials
+pub two_answer : (i : Intersection) (k : Known) (p : Params) (r : Reply) → IsValid i → has_windows i ≡ false → r ≡ two_trials i k p → first_reason i k p ≡ None → r ≡ answer_free i k p
+two_answer i k p r valid one is passed = is ∙ sym (free_two i k p valid.sound.grid.some_spacing valid.sound.times.early valid.sound.times.late one passed)
+
+pub one_tried : (i : Intersection) (p : Params) (after before a b : ℕ) → has_windows i ≡ false → after ≤ before + a + b → after ≤ before + starts_tried i (Some p) * (a + b)
+one_tried i p after before a b one l =
+    let e : starts_tried i (Some p) ≡ 1 = (λ j. if one j then min (p.latest - p.arrive) i.times.horizon + 1 else 1) in
+    subst (λ n. after ≤ before + n * (a + b)) (sym e) (omega arith)
+
+-- no window is longer than the horizon
+pub window_tried : (i : Intersection) (p : Params) (after before a : ℕ) → IsValid i → bad i p ≡ None → has_windows i ≡ true → after ≤ before + (p.latest + 1 - p.arrive) * a → after ≤ before + starts_tried i (Some p) * a
+window_tried i p after before a valid good many l =
+    let window = (good_bounds i p good).window many in
+    let low = window.0 in
+    let high = window.2 in
+    let longest = valid.sound.times.window in
+    let all : min (p.latest - p.arrive) i.times.horizon ≡ p.latest - p.arrive = min-eq_left (omega arith) in
+    let one : p.latest - p.arrive + 1 ≡ p.latest + 1 - p.arrive = omega arith in
+    let e : starts_tried i (Some p) ≡ p.latest + 1 - p.arrive = (λ j. if many j then min (p.latest - p.arrive) i.times.horizon + 1 else 1) ∙ ap (λ n. n + 1) all ∙ one in
+    subst (λ n. after ≤ before + n * a) (sym e) l

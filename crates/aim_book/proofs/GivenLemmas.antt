@@ -46,9 +46,6 @@ cost_less n m a b l = omega arith
 pub cost_time : (n m a b t : ℕ) → n ≡ m + t → n ≤ m + a + b + t
 cost_time n m a b t e = omega arith
 
-pub cost_time_of_two : (n m a b c t : ℕ) → n ≡ m + t → n ≤ m + a + b + c + t
-cost_time_of_two n m a b c t e = omega arith
-
 -- the vehicle's row is what comes next
 pub kept_sheets : (rows old new : List (Option Reservation)) (v now before : ℕ) (next : Option Reservation) → v < length old → rows ≡ old → new ≡ slice_set rows v next →
     now + row_count next ≡ before + row_count (row_of rows v) + 2 → now + row_count (row_of new v) ≡ before + row_count (row_of old v) + 2
@@ -57,5 +54,5 @@ kept_sheets rows old new v now before next there same set told =
     rw (is, ← same) told
 
 -- what is looked at, and what is moved
-pub moved_cost : (now looked start a b moved most : ℕ) → now ≤ looked + moved → moved ≤ most → looked ≤ start + a + b → now ≤ start + a + b + most
-moved_cost now looked start a b moved most p q r = omega arith
+pub moved_cost : (now looked start a moved most : ℕ) → now ≤ looked + moved → moved ≤ most → looked ≤ start + a → now ≤ start + a + most
+moved_cost now looked start a moved most p q r = omega arith

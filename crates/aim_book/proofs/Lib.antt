@@ -23,3 +23,4 @@ mod ChartLemmas
 mod OwnLemmas
 mod CostLemmas
 mod OpenLemmas
+mod StartLemmas

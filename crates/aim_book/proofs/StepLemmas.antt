@@ -20,7 +20,7 @@ use Rattle.aim_rules.specs.Bad.{bad}
 use Rattle.aim_rules.specs.Known.{Known}
 use Rattle.aim_rules.proofs.GoodLemmas.{good_params as good_bounds}
 use Rattle.aim_reservations.specs.Blocking.{IsLeastCell}
-use Rattle.aim_book.specs.Asking.{IsAsking}
+use Rattle.aim_book.specs.Asking.{HasGoneTo, IsAsking}
 use Rattle.aim_book.specs.Desk.{Tells}
 use Rattle.aim_book.specs.declared.desks.Desk.{Desk}
 use Rattle.aim_book.proofs.EarlyLemmas.{good_params, late_is, field_is}
@@ -97,6 +97,13 @@ fresh_asked i k (body.Request q) p r going asks is =
 fresh_asked i k (body.Change id q) p r going asks is =
     let s : q ≡ p = cc in
     rw going (subst (λ u. r ≡ answer_asking i k (body.Change id q) u) (sym s) is)
+
+-- the request has gone on, whatever its params are called
+pub fresh_gone : (i : Intersection) (b : Body) (p q : Params) (start : ℕ) (g : Request) → params_of b ≡ Some q → params_of b ≡ Some p → HasGoneTo i q start g → HasGoneTo i p start g
+fresh_gone i b p q start g here asks gone =
+    let e : Some q ≡ Some p = sym here ∙ asks in
+    let s : q ≡ p = cc in
+    subst (λ x. HasGoneTo i x start g) s gone
 
 none_is : {X : Type 0} (o : Option X) → is_some o ≡ false → o ≡ None
 none_is None is = refl

@@ -60,7 +60,7 @@ impl<L: Ledger> Book<L> {
     ghost use Rattle.aim_rules.specs.Journals.{entry_of};
     ghost use Rattle.aim_rules.specs.Legal.{IsLegal, IsOfLayout};
     ghost use Rattle.aim_book.specs.Charted.{is_claimed_by_some, is_held};
-    ghost use Rattle.aim_book.specs.Costs.{asked_spans, spans_exchanged};
+    ghost use Rattle.aim_book.specs.Costs.{asked_spans, spans_exchanged, starts_tried};
     ghost use Rattle.aim_book.specs.Sheets.{sheets_kept};
 
     /// A book with an empty journal, for that many vehicles and that many entries. It takes all its memory here.
@@ -110,7 +110,7 @@ impl<L: Ledger> Book<L> {
         ensures legal { IsLegal self.new.layout self.new.vehicles self.new.journal }
         ensures sheets { back.new.count + sheets_kept vehicle self.new.journal ≡ back.old.count + sheets_kept vehicle self.old.journal + 2 }
         ensures pool { back.new.room ≡ back.old.room }
-        ensures cost { steps.new ≤ steps.old + length prepared.first.spans + length prepared.second.spans
+        ensures cost { steps.new ≤ steps.old + starts_tried self.old.layout (params_of prepared.message.body) * (length prepared.first.spans + length prepared.second.spans)
             + spans_exchanged self.old.layout vehicle self.old.journal self.new.journal
             + self.old.layout.grid.n * min (now_of self.new.journal 0 - now_of self.old.journal 0) self.old.layout.times.horizon }
     {
@@ -141,7 +141,7 @@ impl<L: Ledger> Book<L> {
         ensures legal { IsLegal self.new.layout self.new.vehicles self.new.journal }
         ensures sheets { back.new.count + sheets_kept vehicle self.new.journal ≡ back.old.count + sheets_kept vehicle self.old.journal + 2 }
         ensures pool { back.new.room ≡ back.old.room }
-        ensures cost { steps.new ≤ steps.old + length prepared.first.spans + length prepared.second.spans
+        ensures cost { steps.new ≤ steps.old + starts_tried self.old.layout (params_of prepared.message.body) * (length prepared.first.spans + length prepared.second.spans)
             + spans_exchanged self.old.layout vehicle self.old.journal self.new.journal
             + self.old.layout.grid.n * min (now_of self.new.journal 0 - now_of self.old.journal 0) self.old.layout.times.horizon }
     {

@@ -14,6 +14,7 @@ mod keeping;
 pub mod laws;
 mod refusals;
 mod serving;
+mod starts;
 mod windows;
 
 pub use aim_requests::{Prepared, Shapes};

@@ -184,8 +184,8 @@ fn gives_way(kind: PolicyKind) -> bool
     matches!(kind, PolicyKind::Emerg | PolicyKind::LightEmerg)
 }
 
-// Whether the trial by which the request is judged has a cell at the step or at a later one.
-fn is_far(layout: &Layout, prepared: &Prepared, reach: u32) -> bool
+/// Whether the trial by which the request is judged has a cell at the step or at a later one.
+pub(crate) fn is_far(layout: &Layout, prepared: &Prepared, reach: u32) -> bool
     ensures { (p : Params) → layout.now.times.early ≤ layout.now.times.edge → layout.now.times.late ≤ layout.now.times.edge → IsAsking layout.now p prepared.now → bad layout.now p ≡ None →
         result ≡ list_any (λ c. nat_le reach c.step) (cells layout.now p (judged layout.now p).fast) }
 {

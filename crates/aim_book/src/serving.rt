@@ -18,7 +18,7 @@ ghost use Rattle.aim_rules.specs.Legal.{IsOfLayout};
 ghost use Rattle.aim_sessions.specs.declared.sessions.Look.{Look};
 ghost use Rattle.aim_sessions.specs.Kept.{no_session};
 ghost use Rattle.aim_sessions.specs.Looks.{is_fresh_look, look_of};
-ghost use Rattle.aim_book.specs.Costs.{asked_spans};
+ghost use Rattle.aim_book.specs.Costs.{asked_spans, starts_tried};
 ghost use Rattle.aim_reservations.specs.Keeping.{row_count};
 ghost use Rattle.aim_book.specs.Managed.{IsManaged};
 ghost use Rattle.aim_reservations.specs.Rows.{row_of};
@@ -84,7 +84,7 @@ impl<L: Ledger> Desk<L> {
         layout: &Layout,
         vehicle: u32,
         place: u32,
-        prepared: Prepared,
+        mut prepared: Prepared,
         back: &mut Pool,
         steps: &mut Steps<L>,
     ) -> Reply
@@ -100,12 +100,12 @@ impl<L: Ledger> Desk<L> {
         ensures sheets { back.new.count + row_count (row_of self.new.reservations.rows.items vehicle) ≡ back.old.count + row_count (row_of self.old.reservations.rows.items vehicle) + 2 }
         ensures timeline { self.new.timeline ≡ self.old.timeline }
         ensures pool { back.new.room ≡ back.old.room }
-        ensures cost { steps.new ≤ steps.old + length prepared.first.spans + length prepared.second.spans
+        ensures cost { steps.new ≤ steps.old + starts_tried layout.now (params_of prepared.message.body) * (length prepared.first.spans + length prepared.second.spans)
             + rows_exchanged (row_of self.old.reservations.rows.items vehicle) (row_of self.new.reservations.rows.items vehicle) }
     {
         let message = *prepared.message();
         self.approaches.note(vehicle, call_in(layout, &prepared));
-        let reply = self.answer_fresh(layout, vehicle, place, &prepared, steps);
+        let reply = self.answer_fresh(layout, vehicle, place, &mut prepared, steps);
         end_call(&mut self.approaches, layout, vehicle, &reply);
         self.sessions.keep(vehicle, message, reply);
         self.keep_distance(&message.body, &reply);
@@ -151,7 +151,7 @@ impl<L: Ledger> Desk<L> {
         ensures timeline { self.new.timeline ≡ self.old.timeline }
         ensures sheets { back.new.count + row_count (row_of self.new.reservations.rows.items vehicle) ≡ back.old.count + row_count (row_of self.old.reservations.rows.items vehicle) + 2 }
         ensures pool { back.new.room ≡ back.old.room }
-        ensures cost { steps.new ≤ steps.old + length prepared.first.spans + length prepared.second.spans
+        ensures cost { steps.new ≤ steps.old + starts_tried layout.now (params_of prepared.message.body) * (length prepared.first.spans + length prepared.second.spans)
             + rows_exchanged (row_of self.old.reservations.rows.items vehicle) (row_of self.new.reservations.rows.items vehicle)
             + self.old.reservations.table.size * min (max self.old.reservations.table.current moment - self.old.reservations.table.current) self.old.reservations.table.horizon }
     {

@@ -2,6 +2,7 @@
 
 ghost use Rattle.std.specs.Prelude.{◌≡◌, IfNone, IfSome, None};
 ghost use Rattle.aim_messages.specs.declared.messages.Params.{Params};
+ghost use Rattle.aim_layout.specs.Valid.{IsValid};
 ghost use Rattle.aim_requests.specs.Requests.{IsTrialOf};
 ghost use Rattle.aim_rules.specs.Bad.{bad};
 ghost use Rattle.aim_rules.specs.Trials.{has_windows as has_windows_of, judged};
@@ -11,9 +12,10 @@ use aim_layout::Layout;
 use aim_requests::Prepared;
 use aim_sheets::Sheet;
 
-/// Whether requests of the layout have windows of arrivals.
+/// Whether requests of the layout have windows of arrivals. The call also tells that the layout is valid.
 pub(crate) fn has_windows(layout: &Layout) -> bool
-    ensures { result ≡ has_windows_of layout.now }
+    ensures windows { result ≡ has_windows_of layout.now }
+    ensures valid { IsValid layout.now }
 {
     layout.version() >= 4
 }

@@ -95,6 +95,7 @@ fn put_run<R: Threads + Wait + Sync, K: Sink, G: Gate>(
 /// at fault, 4 where the source fails, 5 where the sink fails, 6 for a limit, and 7 where memory runs out.
 ///
 /// It waits for turns at the manager, and returns where these come.
+#[inline(never)]
 pub fn drive<R: Threads + Wait + Sync, S: Source, K: Sink, G: Gate>(
     rt: &R,
     alloc: Global,

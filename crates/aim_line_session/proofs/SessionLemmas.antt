@@ -1,8 +1,10 @@
 -- What a line comes to in a session.
-use Rattle.std.proofs.Common.{◌≡◌, ℕ, ◌+◌, ◌<◌, ◌≤◌, Bool, true, false, not, nat_lt, List, [], ◌∷◌, ◌++◌, length, Some, None, Ok, Err, refl, sym, ap, ◌∙◌, arith, length-append, suc, cond, ◌||◌}
+use Rattle.std.proofs.Common.{◌≡◌, ℕ, ◌+◌, ◌<◌, ◌≤◌, Bool, true, false, not, nat_lt, List, [], ◌∷◌, ◌++◌, length, filter, Some, None, Ok, Err, refl, sym, ap, ◌∙◌, subst, arith, length-append, suc, cond, ◌||◌}
 use Rattle.std.specs.Prelude.{bytes_eq, position, Option, Result}
 use Rattle.std.specs.List.{list_any, position_or_len}
 use Rattle.std.proofs.lemmas.Bool.Decides.{nat_tests}
+use Rattle.std.proofs.lemmas.List.Elements.{filter-append}
+use Rattle.std.proofs.lemmas.List.Sums.{count_by-le-length, length-filter}
 use Rattle.aim_messages.specs.Lines.{name_word}
 use Rattle.aim_messages.specs.declared.messages.Message.{Message}
 use Rattle.aim_messages.specs.declared.script.Name.{Name}
@@ -31,7 +33,7 @@ use Rattle.aim_line_session.specs.declared.progress.Progress.{Progress}
 use Rattle.aim_line_session.specs.declared.progress.Untaken.{Untaken}
 use Rattle.aim_line_session.specs.declared.progress.Untaken.TheVariants as untaken
 use Rattle.aim_line_session.specs.Servers.{IsNext, Serves}
-use Rattle.aim_line_session.specs.Sessions.{Comes, IsOrdered, IsPlayed, LeadTo, Makes, Opens, Stands, event_kind, journal_so_far, order_call}
+use Rattle.aim_line_session.specs.Sessions.{Comes, IsOrdered, IsPlayed, LeadTo, Makes, Opens, Stands, event_kind, is_order, journal_so_far, order_call, orders_in}
 
 -- a line without a kind and a limit goes on
 pub goes : (before : List Line) (l : Line) → kind_of_fault before l ≡ None → limit_of before l ≡ None → of_read before (Ok l) ≡ goes_on l
@@ -63,9 +65,17 @@ more_journal before s l c e played quiet call is =
     ∙ journal_more (layout_of before) (calls_of before) c
     ∙ ap (λ (x : Entry). journal_so_far before ++ x ∷ []) entry
 
+-- the orders of the lines, and of one more
+orders_more : (before : List Line) (l : Line) → orders_in (before ++ l ∷ []) ≡ orders_in before + orders_in (l ∷ [])
+orders_more before l = ap (λ (ls : List Line). length ls) (filter-append is_order before (l ∷ [])) ∙ length-append (filter is_order before) (filter is_order (l ∷ []))
+
+-- no more of them than there are lines
+pub orders_within : (lines : List Line) → orders_in lines ≤ length lines
+orders_within lines = subst (λ (n : ℕ). n ≤ length lines) (sym (length-filter is_order lines)) (count_by-le-length is_order lines)
+
 -- the session behind a line whose entry was answered
 played_more : {L : Type 0} (before : List Line) (s : Progress L) (l : Line) (e : Entry) (n : ℕ) (server : DeskServer L) → IsPlayed before s → IsQuiet l → journal_so_far (before ++ l ∷ []) ≡ journal_so_far before ++ e ∷ []
-    → Serves (journal_so_far before ++ e ∷ []) server → IsNext n s.server server → n ≤ 1 → IsPlayed (before ++ l ∷ []) (record s { server = server })
+    → Serves (journal_so_far before ++ e ∷ []) server → IsNext n s.server server → n ≤ orders_in (l ∷ []) → IsPlayed (before ++ l ∷ []) (record s { server = server })
 played_more before s l e n server played quiet grown serves next one = record {
   version = version_same before l quiet.version ∙ played.version;
   layout = layout_same before l quiet.silent ∙ played.layout ∙ sym next.layout;
@@ -74,7 +84,7 @@ played_more before s l e n server played quiet grown serves next one = record {
   declared = vehicles_same before l quiet.vehicles ∙ played.declared ∙ sym next.vehicles;
   serves = rw grown serves;
   few = omega (arith, length-append before (l ∷ []), played.few, next.entries);
-  few_orders = omega (arith, length-append before (l ∷ []), played.few_orders, next.ordered, one);
+  few_orders = omega (arith, orders_more before l, played.few_orders, next.ordered, one);
 }
 
 -- the last line leads on in the body
@@ -129,10 +139,10 @@ quiet_stop at = record { version = refl; vehicles = refl; name = refl; silent = 
 
 -- an order was answered
 ordered : {L : Type 0} (before : List Line) (s new : Progress L) (l : Line) (at : ℕ) (o : Order) (a : Answered) → s.ended ≡ false → Stands before s → IsQuiet l → call_in (names_of before) l ≡ Some (order_call at o)
-    → part_after (Some l) ≡ in_body → is_end (Some l) ≡ false → IsOrdered before at o s new (Ok (Some a)) → Stands (before ++ l ∷ []) new × Makes (journal_so_far before) (journal_so_far (before ++ l ∷ [])) (Some a)
-ordered before s new l at o a going st quiet call part over (place, is, serves, next, same) =
+    → part_after (Some l) ≡ in_body → is_end (Some l) ≡ false → orders_in (l ∷ []) ≡ 1 → IsOrdered before at o s new (Ok (Some a)) → Stands (before ++ l ∷ []) new × Makes (journal_so_far before) (journal_so_far (before ++ l ∷ [])) (Some a)
+ordered before s new l at o a going st quiet call part over one (place, is, serves, next, same) =
     let grown = more_journal before s l (order_call at o) a.entry st.played quiet call is in (
-      rw same (record { lead = in_body_on before l s.ended going part over; played = played_more before s l a.entry 1 new.server st.played quiet grown serves next (omega arith) }),
+      rw same (record { lead = in_body_on before l s.ended going part over; played = played_more before s l a.entry 1 new.server st.played quiet grown serves next (omega (arith, one)) }),
       (place, grown),
     )
 
@@ -140,7 +150,7 @@ pub stop_came : {L : Type 0} (before : List Line) (s new : Progress L) (at : ℕ
     → Comes before (Ok (line.StopAt at)) s new r
 stop_came before s new at (Ok (Some a)) going early st done =
     let good = goes before (line.StopAt at) (stop_kind before at (body_of before s st going) ∙ rw (in_time at early) refl) refl in
-    let all = ordered before s new (line.StopAt at) at order.Stop a going st (quiet_stop at) refl refl refl done in
+    let all = ordered before s new (line.StopAt at) at order.Stop a going st (quiet_stop at) refl refl refl refl done in
     (line.StopAt at, good, all.0, all.1)
 stop_came before s new at (Ok None) going early st done = absurd done
 stop_came before s new at (Err (untaken.Bad k)) going early st done = absurd done
@@ -191,7 +201,7 @@ pub switch_came : {L : Type 0} (before : List Line) (s new : Progress L) (at pol
     → IsOrdered before at (order.Switch policy) s new r → Comes before (Ok (line.SwitchTo at name)) s new r
 switch_came before s new at policy name (Ok (Some a)) going early is st done =
     let f = found (name_word name) s.names policy is in
-    let all = ordered before s new (line.SwitchTo at name) at (order.Switch policy) a going st (quiet_switch at name) (rw (st.played.named, f.1) refl) refl refl done in
+    let all = ordered before s new (line.SwitchTo at name) at (order.Switch policy) a going st (quiet_switch at name) (rw (st.played.named, f.1) refl) refl refl refl done in
     (line.SwitchTo at name, switch_good before s at policy name going early is st, all.0, all.1)
 switch_came before s new at policy name (Ok None) going early is st done = absurd done
 switch_came before s new at policy name (Err (untaken.Bad k)) going early is st done = absurd done
@@ -228,7 +238,7 @@ end_came before s going st =
           declared = vehicles_same before l refl ∙ p.declared;
           serves = rw same p.serves;
           few = omega (arith, length-append before (l ∷ []), p.few);
-          few_orders = omega (arith, length-append before (l ∷ []), p.few_orders);
+          few_orders = omega (arith, orders_more before l, p.few_orders);
         };
       },
       same,

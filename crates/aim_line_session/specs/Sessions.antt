@@ -1,5 +1,5 @@
 -- What is known of the lines that a session has taken, and what a further one comes to.
-use Rattle.std.specs.Prelude.{◌≡◌, ◌⊎◌, ◌≤◌, ℕ, Bool, true, false, List, [], ◌∷◌, ◌++◌, length, Option, Some, None, Result, Ok, Err, nat_le, nat_lt, if◌then◌else◌}
+use Rattle.std.specs.Prelude.{◌≡◌, ◌⊎◌, ◌≤◌, ℕ, Bool, true, false, List, [], ◌∷◌, ◌++◌, length, filter, Option, Some, None, Result, Ok, Err, nat_le, nat_lt, if◌then◌else◌}
 use Rattle.aim_messages.specs.declared.entries.Entry.{Entry}
 use Rattle.aim_messages.specs.declared.entries.TheConstants.{LATEST_MOMENT, MOST_ENTRIES, OPERATOR}
 use Rattle.aim_messages.specs.declared.entries.Act.TheVariants as act
@@ -29,6 +29,16 @@ use Rattle.aim_line_session.specs.Servers.{IsNext, Serves}
 abbrev pub journal_so_far : List Line → List Entry
 journal_so_far before = journal (layout_of before) (calls_of before)
 
+-- an order of the operator
+abbrev pub is_order : Line → Bool
+is_order (line.SwitchTo moment name) = true
+is_order (line.StopAt moment) = true
+is_order _ = false
+
+-- how many orders the lines have
+abbrev pub orders_in : List Line → ℕ
+orders_in lines = length (filter is_order lines)
+
 -- version, layout, names and vehicles are what the lines say, and the manager serves their journal
 pub record IsPlayed {L : Type 0} (before : List Line) (s : Progress L) : Type 0 where
   pub version : version_after before ≡ version_number s.version
@@ -38,7 +48,7 @@ pub record IsPlayed {L : Type 0} (before : List Line) (s : Progress L) : Type 0 
   pub declared : vehicles_of before ≡ s.server.vehicles
   pub serves : Serves (journal_so_far before) s.server
   pub few : s.server.entries ≤ length before
-  pub few_orders : s.server.orders ≤ length before
+  pub few_orders : s.server.orders ≤ orders_in before
 
 -- the lines lead into the body, or are a whole script
 abbrev pub LeadTo : List Line → Bool → Type 0

@@ -93,6 +93,7 @@ fn put_run<R: Threads + Wait + Sync, K: Sink>(
 /// where the source fails, 5 where the sink fails, 6 for a limit, and 7 where memory runs out.
 ///
 /// It waits for messages between the clients and the server, and returns where these come.
+#[inline(never)]
 pub fn mail<R: Threads + Wait + Sync, S: Source, K: Sink>(
     rt: &R,
     alloc: Global,

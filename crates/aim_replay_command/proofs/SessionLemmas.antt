@@ -36,6 +36,7 @@ use Rattle.aim_replay.specs.declared.stages.Finish.{Finish}
 use Rattle.aim_replay.specs.declared.stages.Finish.TheVariants as finish
 use Rattle.aim_replay.specs.Stages.{Stands, IsOfLines, MayTake, decision_of}
 use Rattle.aim_line_session.proofs.QuietLemmas.{quiet_header, quiet_set}
+use Rattle.aim_line_session.proofs.SessionLemmas.{orders_within}
 use Rattle.aim_replay_command.specs.Replays.{LastNeededBy, StopsShortBy, TakesAtMost, Writes, WritesFront, script_after, unless_decided, entries_text}
 use Rattle.aim_replay_command.specs.Sessions.{Decides, Placed, Took, Reached, Judged, Responds, Comes, chart_text, ending_text, made_line}
 use Rattle.aim_replay_command.proofs.TextLemmas.{entry_lines-append, Begins, is_past, journal_of_begins, nothing_begins}
@@ -322,7 +323,11 @@ stops_short w bytes rest left start now old new s r going given place shows kept
 may_take : {L : Type 0} (before : List Line) (s : Stage L) → Stands before s → length before < 262144 → MayTake s
 may_take before (stage.Header h) st few = tt
 may_take before (stage.Begin x) st few = (st.1, (before, st.0))
-may_take before (stage.Body p) st few = let entries = st.played.few in let orders = st.played.few_orders in (omega arith, omega arith)
+may_take before (stage.Body p) st few =
+    let entries = st.played.few in
+    let orders = st.played.few_orders in
+    let all = orders_within before in
+    (omega arith, omega arith)
 
 pub may_reached : {L : Type 0} (w : Spelled) (bytes rest start now : Option (List ℕ)) (reader : Reader) (s : Stage L) → Reached w bytes rest start now reader s → reader.given < 262144 → MayTake s
 may_reached w bytes rest start now reader s r few = may_take r.before s r.stands (omega (arith, r.count))

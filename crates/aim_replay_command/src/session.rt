@@ -221,6 +221,7 @@ fn status(came: Result<Decision, Stop>) -> u8
 /// the next line, and has the sink hand it on before it waits for one; then the chart of a step, if one is asked for and the
 /// script is whole, and last what the script comes to. The status is 0 for a whole script, 3 for a line at fault, 4 where
 /// the source fails, 5 where the sink fails, 6 for a limit, and 7 where memory runs out. Always returns.
+#[inline(never)]
 pub fn replay<P: Spelling, S: Source, K: Sink>(
     alloc: Global,
     source: &mut S,

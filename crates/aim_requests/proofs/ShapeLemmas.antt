@@ -6,6 +6,7 @@ use Rattle.aim_messages.specs.declared.messages.Message.{Message}
 use Rattle.aim_messages.specs.declared.messages.Params.{Params}
 use Rattle.aim_messages.specs.declared.replies.Field.{Field}
 use Rattle.aim_messages.specs.declared.entries.TheConstants.{LATEST_MOMENT}
+use Rattle.aim_geometry.specs.declared.ground.Times.{Times}
 use Rattle.aim_geometry.specs.Sites.{IsTimes}
 use Rattle.aim_layout.specs.Intersection.{Intersection}
 use Rattle.aim_sheets.specs.declared.spans.Span.{Span}
@@ -33,6 +34,19 @@ pub record IsMove (i : Intersection) (r : Request) (from to edge : ℕ) (o : Opt
   pub from_edge : i.times.edge ≤ from
   pub to_edge : i.times.edge ≤ to
   pub last : to ≤ LATEST_MOMENT
+
+-- what a move is called with, and the times of its layout
+pub is_move : (i : Intersection) (r : Request) (from to : ℕ) (times : Times) (o : Option Params) → times ≡ i.times → IsTimes times → IsPreparedFor i r → AsksAnew i r from to o →
+    i.times.edge ≤ from → i.times.edge ≤ to → to ≤ LATEST_MOMENT → IsMove i r from to times.edge o
+is_move i r from to times o same valid prepared asks a b last = record {
+  times = rw same at valid;
+  edge_is = ap (λ (t : Times). t.edge) same;
+  prepared = prepared;
+  asks = asks;
+  from_edge = a;
+  to_edge = b;
+  last = last;
+}
 
 -- a request that has params of a crossing is one of which no field is wrong
 pub whole_asked : (i : Intersection) (r : Request) (p : Params) → IsPreparedFor i r → prepared_params r ≡ Some p → (r.bad ≡ None) × (params_of r.message.body ≡ Some p)

@@ -5,9 +5,9 @@ ghost use Rattle.std.specs.Result.{result_err};
 ghost use Rattle.aim_geometry.specs.Bounded.{ceil_div};
 ghost use Rattle.aim_layout.specs.Intersection.{Intersection, path as path_of, stations};
 ghost use Rattle.aim_layout.specs.Valid.{IsValid};
-ghost use Rattle.aim_rules.specs.History.{params_of};
+ghost use Rattle.aim_rules.specs.History.{given_up, params_of};
 ghost use Rattle.aim_rules.specs.Bad.{bad as bad_of, needs_too_many_spans, span_count};
-ghost use Rattle.aim_rules.specs.Trials.{is_fast_made as is_fast_made_of, judged};
+ghost use Rattle.aim_rules.specs.Trials.{arriving_at, is_fast_made as is_fast_made_of, judged};
 ghost use Rattle.aim_rules.specs.Footprint.{crossing_steps};
 ghost use Rattle.aim_footprint.specs.Fields.{bad_crossing as bad_crossing_of};
 ghost use Rattle.aim_footprint.specs.Fills.{AreRectsOf};
@@ -305,6 +305,30 @@ fn prepare_request(
     }
 }
 
+// The body of a message with another arrival, and no later one.
+fn arriving(body: &Body, at: u32) -> Body
+    ensures params { params_of result ≡ option_map (λ p. arriving_at p at) (params_of body.now) }
+    ensures given { given_up result ≡ given_up body.now }
+{
+    match body {
+        Body::Request(params) => Body::Request(Params {
+            arrive: at,
+            latest: at,
+            ..*params
+        }),
+        Body::Change(id, params) => Body::Change(
+            *id,
+            Params {
+                arrive: at,
+                latest: at,
+                ..*params
+            },
+        ),
+        Body::Cancel(id) => Body::Cancel(*id),
+        Body::Done(id) => Body::Done(*id),
+    }
+}
+
 impl Prepared {
     // The params of the crossing whose cells are here, if there are any.
     pub(crate) fn asked(&self) -> Option<Params>
@@ -377,6 +401,27 @@ impl Prepared {
             unreachable!()
         };
         self.moved(layout, message, from, to, first, second)
+    }
+
+    /// Moves the crossing on: it is to arrive at another step, and no later.
+    pub fn move_to(&mut self, layout: &Layout, from: u32, to: u32)
+        requires prepared { IsPreparedFor layout.now self.old }
+        requires asks { AsksAnew layout.now self.old from to (option_map (λ p. arriving_at p to) (params_of self.old.message.body)) }
+        requires from { layout.now.times.edge ≤ from }
+        requires to { layout.now.times.edge ≤ to }
+        requires last { to ≤ LATEST_MOMENT }
+        ensures prepared { IsPreparedFor layout.now self.new }
+        ensures params { params_of self.new.message.body ≡ option_map (λ p. arriving_at p to) (params_of self.old.message.body) }
+        ensures given { given_up self.new.message.body ≡ given_up self.old.message.body }
+        ensures first { length self.new.first.spans ≡ length self.old.first.spans }
+        ensures second { length self.new.second.spans ≡ length self.old.second.spans }
+    {
+        let edge = layout.ground().times().edge;
+        // The calls tell that no span is empty.
+        let (_, _) = (self.first.spans(), self.second.spans());
+        self.first.move_to(from - edge, to - edge);
+        self.second.move_to(from - edge, to - edge);
+        self.message.body = arriving(&self.message.body, to);
     }
 
     // Becomes another request, in its own sheets.

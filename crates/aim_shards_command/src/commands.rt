@@ -67,6 +67,7 @@ fn put_run<R: Threads + Wait + Sync, K: Sink, H: Hold>(
 /// fails, 6 for a limit, and 7 where memory runs out.
 ///
 /// It waits for the turns of the quadrants, and returns where these come.
+#[inline(never)]
 pub fn shards<R: Threads + Wait + Sync, S: Source, K: Sink, H: Hold>(
     rt: &R,
     alloc: Global,

@@ -1,11 +1,10 @@
 -- Spans that come later, or earlier, are in order as they were.
-use Rattle.std.proofs.Common.{◌≡◌, ◌≢◌, ℕ, ◌+◌, ◌-◌, ◌<◌, ◌≤◌, true, List, length, map, get_or, arith}
+use Rattle.std.proofs.Common.{◌≡◌, ℕ, ◌<◌, ◌≤◌, List, length, map, get_or, arith}
 use Rattle.std.proofs.lemmas.List.{get_or-map, length-map}
-use Rattle.std.specs.Prelude.{All}
 use Rattle.aim_sheets.specs.declared.spans.Span.{Span}
 use Rattle.aim_sheets.specs.Moves.{MayMove, moved}
-use Rattle.aim_sheets.specs.Sheets.{IsInOrder, Spans}
-use Rattle.aim_sheets.specs.Spans.{AreRising, AreMarked, precedes}
+use Rattle.aim_sheets.specs.Sheets.{IsInOrder}
+use Rattle.aim_sheets.specs.Spans.{AreRising, AreMarked}
 use Rattle.aim_sheets.proofs.Order.{Precedes, precedes_parts, precedes_from}
 
 pub moved_rising : (from to : ℕ) (xs : List Span) → MayMove from to xs → AreRising xs → AreRising (map (moved from to) xs)

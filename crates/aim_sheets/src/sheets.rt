@@ -92,6 +92,15 @@ fn move_spans(spans: &mut [Span], from: u32, to: u32)
     }
 }
 
+// Moves the spans that are held, and keeps their room.
+fn move_held(held: &mut Vec<Span>, from: u32, to: u32)
+    requires { MayMove from to held.old.items }
+    ensures items { held.new.items ≡ map (moved from to) held.old.items }
+    ensures capacity { vec_capacity held.old ≤ vec_capacity held.new }
+{
+    move_spans(held, from, to);
+}
+
 // Puts these spans in place of those that are held, in room that is there.
 fn replace(held: &mut Vec<Span>, others: &[Span])
     requires { length others.now ≤ vec_capacity held.old }
@@ -113,7 +122,7 @@ fn replace_moved(held: &mut Vec<Span>, others: &[Span], from: u32, to: u32)
     ensures capacity { vec_capacity held.old ≤ vec_capacity held.new }
 {
     replace(held, others);
-    move_spans(held, from, to);
+    move_held(held, from, to);
 }
 
 impl Slots {
@@ -166,6 +175,14 @@ impl Slots {
         ensures { self.new ≡ record self.old { spans = map (moved from to) others.now } }
     {
         replace_moved(&mut self.held, others, from, to);
+    }
+
+    // Moves each span by as much as the second step is later than the first.
+    pub(crate) fn move_to(&mut self, from: u32, to: u32)
+        requires { MayMove from to self.old.spans }
+        ensures { self.new ≡ record self.old { spans = map (moved from to) self.old.spans } }
+    {
+        move_held(&mut self.held, from, to);
     }
 
     pub(crate) fn push(&mut self, span: Span) -> Result<(), SheetFull>
@@ -326,6 +343,14 @@ impl Sheet {
         ensures { self.new ≡ record self.old { spans = map (moved from to) others.now } }
     {
         self.node.slots.copy_moved(others, from, to);
+    }
+
+    /// Moves each span by as much as the second step is later than the first.
+    pub fn move_to(&mut self, from: u32, to: u32)
+        requires { MayMove from to self.old.spans }
+        ensures { self.new ≡ record self.old { spans = map (moved from to) self.old.spans } }
+    {
+        self.node.slots.move_to(from, to);
     }
 
     /// Adds the span's cells: to the mask of the span of that step and row, or else as a span of its

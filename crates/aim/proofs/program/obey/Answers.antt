@@ -64,6 +64,9 @@ returns-in-ReplayJson g c =
     })
     ends
 
+pub returns-in-Session : goal.returns-in-Session
+returns-in-Session g c = reads c.args.told c.in-Some.command command.Session c.in-Some.is c.in-Session.is c.session.ensures c.session.ensures.ends
+
 pub returns-in-Drive : goal.returns-in-Drive
 returns-in-Drive g c = reads c.args.told c.in-Some.command (command.Drive c.in-Drive.workers) c.in-Some.is c.in-Drive.is c.drive.ensures c.drive.ensures.ends
 

@@ -1,14 +1,14 @@
-use Rattle.std.proofs.Common.{◌≡◌, refl, ◌<◌, ◌+◌, [], ◌∷◌, ◌++◌, length, sym, ◌∙◌, ap, arith, subst}
+use Rattle.std.proofs.Common.{◌≡◌, refl, ◌<◌, ◌+◌, ◌*◌, [], ◌∷◌, ◌++◌, length, sym, ◌∙◌, ap, arith, subst}
 use Rattle.aim_messages.specs.declared.entries.Act.TheVariants as act
 use Rattle.aim_messages.specs.declared.entries.Entry.{Entry}
 use Rattle.aim_rules.specs.Answer.{answer}
-use Rattle.aim_rules.specs.History.{fresh, now_of}
+use Rattle.aim_rules.specs.History.{fresh, now_of, params_of}
 use Rattle.aim_rules.specs.Kept.{kept}
 use Rattle.aim_book.specs.Keeping.{row_count}
 use Rattle.aim_book.specs.Managed.{IsManaged}
 use Rattle.aim_book.specs.Rows.{row_of}
 use Rattle.aim_book.specs.Reserved.{rows_exchanged}
-use Rattle.aim_book.specs.Costs.{spans_exchanged}
+use Rattle.aim_book.specs.Costs.{spans_exchanged, starts_tried}
 use Rattle.aim_book.specs.Sheets.{sheets_kept}
 use Rattle.aim_book.proofs.CostLemmas.{cost_served, exchanged_is}
 use Rattle.aim_book.proofs.SheetLemmas.{count_is}
@@ -78,7 +78,7 @@ returns-clause-cost g c =
     let rows : rows_exchanged (row_of b.desk.reservations.rows.items v) (row_of c.serve-reply.new.self.reservations.rows.items v) ≡ spans_exchanged b.layout v h (h ++ e ∷ [])
     = exchanged_is b.layout (kept (fresh h) v) (kept (fresh (h ++ e ∷ [])) v) (row_of b.desk.reservations.rows.items v) (row_of c.serve-reply.new.self.reservations.rows.items v) (m.desk.reserved.rows v l) (next.desk.reserved.rows v l) in
     let items : c.enter.new.journal.items ≡ h ++ e ∷ [] = c.enter.ensures.items ∙ ap (λ x. h ++ x ∷ []) (c.enter.ensures.entry ∙ entry_answered c.args.vehicle c.args.moment _ _ _ _ (ap (λ m. act.Message m) c.message-message.ensures.message) refl) in
-    cost_served (record { layout = b.layout; vehicles = b.vehicles; room = b.room; journal = h }) c.args.self.now v c.enter.new.journal.items e (λ i. c.args.steps.now + length c.args.prepared.first.spans + length c.args.prepared.second.spans) c.serve-reply.new.steps _ _ _ _ c.self.view_is items rows
+    cost_served (record { layout = b.layout; vehicles = b.vehicles; room = b.room; journal = h }) c.args.self.now v c.enter.new.journal.items e (λ i. c.args.steps.now + starts_tried i (params_of c.args.prepared.message.body) * (length c.args.prepared.first.spans + length c.args.prepared.second.spans)) c.serve-reply.new.steps _ _ _ _ c.self.view_is items rows
     managed.desk.reserved.size managed.desk.reserved.current managed.desk.reserved.horizon c.serve-reply.ensures.cost
 
 pub serve-reply-requires-clause-managed : goal.serve-reply-requires-clause-managed

@@ -1,56 +1,24 @@
-use Rattle.std.proofs.Common.{refl, false}
-use Rattle.aim_requests.proofs.GoodLemmas.{windowless}
-use Rattle.aim_book.proofs.EarlyLemmas.{steady_is}
-use Rattle.aim_book.proofs.FreeLemmas.{asked_of, fast_steps, free_fast, free_refused, free_steady, never_none, steady_steps, tiles_of}
-use Rattle.aim_book.proofs.StepLemmas.{both_cost, steady_second}
+use Rattle.std.proofs.Common.{sym, ◌∙◌}
+use Rattle.aim_book.proofs.FreeLemmas.{one_tried, two_answer, two_gone, window_tried}
 use Rattle.aim_book.proofs.desks.Desk.answer_free.Goals as goal
 
-pub returns-then-is_fast_free-clause-reply : goal.returns-then-is_fast_free-clause-reply
-returns-then-is_fast_free-clause-reply g c = λ k tells.
-    free_fast c.args.layout.now k c.args.params.now c.is_fast_free.result c.confirm.result (c.is_fast_free.ensures.free k c.args.place tells) c.if-is_fast_free.true (c.confirm.ensures k tells.place_is)
+pub answer_window-requires-clause-windows : goal.answer_window-requires-clause-windows
+answer_window-requires-clause-windows g c = sym c.has_windows.ensures.windows ∙ c.if-has_windows.true
 
-pub conflict-requires-clause-tiles : goal.conflict-requires-clause-tiles
-conflict-requires-clause-tiles g c =
-    tiles_of c.args.layout.now c.args.params.now false c.in-Some.sheet.now.spans (steady_is c.args.layout.now c.args.params.now c.args.prepared.now c.in-Some.sheet.now (windowless c.args.layout.now c.version.ensures.valid) c.requires.asking c.requires.good c.in-Some.ensures)
+pub answer_two-requires-clause-one : goal.answer_two-requires-clause-one
+answer_two-requires-clause-one g c = sym c.has_windows.ensures.windows ∙ c.if-has_windows.false
 
-pub returns-in-Some-conflict-clause-reply : goal.returns-in-Some-conflict-clause-reply
-returns-in-Some-conflict-clause-reply g c = λ k tells.
-    let have = steady_is c.args.layout.now c.args.params.now c.args.prepared.now c.in-Some.sheet.now (windowless c.args.layout.now c.version.ensures.valid) c.requires.asking c.requires.good c.in-Some.ensures in
-    let asked = asked_of c.args.layout.now c.args.vehicle c.args.place k c.args.params.now false c.in-Some.sheet.now.spans c.args.self.now tells have c.requires.ahead in
-    free_refused c.args.layout.now k c.args.params.now c.is_fast_free.result c.refuse.result c.in-Some-conflict.reason c.conflict.result (c.is_fast_free.ensures.free k c.args.place tells) c.if-is_fast_free.false
-    (c.conflict.ensures.reason k c.args.params.now false c.args.place tells asked refl) c.in-Some-conflict.is (c.refuse.ensures k c.args.place tells)
+pub returns-then-has_windows-clause-cost : goal.returns-then-has_windows-clause-cost
+returns-then-has_windows-clause-cost g c = window_tried c.args.layout.now c.args.params.now _ _ _ c.has_windows.ensures.valid c.requires.good (sym c.has_windows.ensures.windows ∙ c.if-has_windows.true) c.answer_window.ensures.cost
 
-pub returns-in-None-clause-reply : goal.returns-in-None-clause-reply
-returns-in-None-clause-reply g c = λ k tells.
-    let have = steady_is c.args.layout.now c.args.params.now c.args.prepared.now c.in-Some.sheet.now (windowless c.args.layout.now c.version.ensures.valid) c.requires.asking c.requires.good c.in-Some.ensures in
-    let asked = asked_of c.args.layout.now c.args.vehicle c.args.place k c.args.params.now false c.in-Some.sheet.now.spans c.args.self.now tells have c.requires.ahead in
-    free_steady c.args.layout.now k c.args.params.now c.is_fast_free.result c.confirm-in-None.result c.conflict.result (c.is_fast_free.ensures.free k c.args.place tells) c.if-is_fast_free.false
-    (c.conflict.ensures.reason k c.args.params.now false c.args.place tells asked refl) c.in-None.is (c.confirm-in-None.ensures k tells.place_is)
+pub returns-else-has_windows-clause-reply : goal.returns-else-has_windows-clause-reply
+returns-else-has_windows-clause-reply g c = λ k tells passed. two_answer c.args.layout.now k c.args.params.now c.answer_two.result tells.valid (sym c.has_windows.ensures.windows ∙ c.if-has_windows.false) (c.answer_two.ensures.reply k tells) passed
 
-pub confirm-requires-clause-steps : goal.confirm-requires-clause-steps
-confirm-requires-clause-steps g c =
-    fast_steps c.args.layout.now c.args.params.now c.args.prepared.now c.steps.result c.requires.asking c.requires.good (c.is_fast_free.ensures.made c.if-is_fast_free.true) c.steps.ensures
+pub returns-else-has_windows-clause-prepared : goal.returns-else-has_windows-clause-prepared
+returns-else-has_windows-clause-prepared g c = c.requires.asking.prepared
 
-pub confirm-requires-in-None-clause-steps : goal.confirm-requires-in-None-clause-steps
-confirm-requires-in-None-clause-steps g c =
-    steady_steps c.args.layout.now c.args.params.now c.args.prepared.now c.steps-in-None.result (windowless c.args.layout.now c.version.ensures.valid) c.requires.asking c.requires.good c.steps-in-None.ensures
+pub returns-else-has_windows-clause-gone : goal.returns-else-has_windows-clause-gone
+returns-else-has_windows-clause-gone g c = λ k tells t named. two_gone c.args.layout.now k c.args.params.now c.answer_two.result t c.args.prepared.now (c.answer_two.ensures.reply k tells) named c.requires.asking c.requires.good
 
-pub unreachable-requires : goal.unreachable-requires
-unreachable-requires g c =
-    never_none c.args.layout.now c.args.params.now c.args.prepared.now (λ sheet. sheet.now) c.cells_b.result c.requires.asking c.requires.good c.cells_b.ensures c.in_default.is
-
-pub returns-in-Some-conflict-clause-cost : goal.returns-in-Some-conflict-clause-cost
-returns-in-Some-conflict-clause-cost g c =
-    both_cost c.conflict.new.steps c.is_fast_free.new.steps c.args.steps.now _ c.in-Some.sheet.now c.args.prepared.now.second
-    (steady_second c.args.layout.now c.args.params.now c.args.prepared.now c.in-Some.sheet.now c.requires.asking c.requires.good c.in-Some.ensures) c.is_fast_free.ensures.cost c.conflict.ensures.cost
-
-pub returns-in-None-clause-cost : goal.returns-in-None-clause-cost
-returns-in-None-clause-cost g c =
-    both_cost c.conflict.new.steps c.is_fast_free.new.steps c.args.steps.now _ c.in-Some.sheet.now c.args.prepared.now.second
-    (steady_second c.args.layout.now c.args.params.now c.args.prepared.now c.in-Some.sheet.now c.requires.asking c.requires.good c.in-Some.ensures) c.is_fast_free.ensures.cost c.conflict.ensures.cost
-
-pub refuse-requires-clause-row : goal.refuse-requires-clause-row
-refuse-requires-clause-row g c = c.requires.row
-
-pub refuse-requires-clause-there : goal.refuse-requires-clause-there
-refuse-requires-clause-there g c = c.requires.caller
+pub returns-else-has_windows-clause-cost : goal.returns-else-has_windows-clause-cost
+returns-else-has_windows-clause-cost g c = one_tried c.args.layout.now c.args.params.now _ _ _ _ (sym c.has_windows.ensures.windows ∙ c.if-has_windows.false) c.answer_two.ensures.cost

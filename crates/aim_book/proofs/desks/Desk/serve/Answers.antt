@@ -13,7 +13,7 @@ use Rattle.aim_reservations.specs.Rows.{row_of}
 use Rattle.aim_book.specs.Managed.{IsManaged}
 use Rattle.aim_book.specs.Reserved.{rows_exchanged}
 use Rattle.aim_book.proofs.SameLemmas.{managed_same, not_fresh, now_next}
-use Rattle.aim_book.proofs.GivenLemmas.{cost_time_of_two, sheets_back}
+use Rattle.aim_book.proofs.GivenLemmas.{cost_time, sheets_back}
 use Rattle.aim_book.proofs.desks.Desk.serve.Goals as goal
 
 pub returns-in-Fresh-clause-managed : goal.returns-in-Fresh-clause-managed
@@ -84,7 +84,7 @@ pub returns-in_default-clause-timeline : goal.returns-in_default-clause-timeline
 returns-in_default-clause-timeline g c = λ j. (c.go_on.ensures.rest j).timeline
 
 pub returns-in_default-clause-cost : goal.returns-in_default-clause-cost
-returns-in_default-clause-cost g c = cost_time_of_two _ _ _ _ _ _ c.go_on.ensures.cost
+returns-in_default-clause-cost g c = cost_time _ _ _ _ _ c.go_on.ensures.cost
 
 pub look-requires : goal.look-requires
 look-requires g c =

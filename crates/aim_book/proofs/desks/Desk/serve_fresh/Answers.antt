@@ -1,13 +1,16 @@
-use Rattle.std.proofs.Common.{◌≡◌, ◌<◌, ◌≤◌, ◌+◌, length, sym, ◌∙◌, ap, subst, true, None}
+use Rattle.std.proofs.Common.{◌≡◌, ◌<◌, ◌≤◌, ◌+◌, length, sym, ◌∙◌, ap, subst, true, None, Some}
 use Rattle.std.proofs.lemmas.List.{get_or-set_same}
 use Rattle.std.specs.Prelude.{slice_set, slice_index_or}
 use Rattle.aim_messages.specs.declared.messages.Message.{Message}
+use Rattle.aim_messages.specs.declared.messages.Params.{Params}
 use Rattle.aim_sessions.specs.Distances.{distances_with}
 use Rattle.aim_sessions.specs.Kept.{no_session, session_after}
 use Rattle.aim_sessions.specs.Calls.{call_of}
 use Rattle.aim_rules.specs.History.{fresh, is_confirm, now_of, params_of}
 use Rattle.aim_rules.specs.Answer.{answer_fresh}
+use Rattle.aim_rules.specs.Trials.{Trial, granted_trial}
 use Rattle.aim_rules.specs.Known.{known_after}
+use Rattle.aim_book.specs.Asking.{HasGoneTo}
 use Rattle.aim_book.specs.Desk.{Tells}
 use Rattle.aim_reservations.specs.Keeping.{is_changed, row_next, spans_moved}
 use Rattle.aim_reservations.specs.Rows.{row_of}
@@ -32,7 +35,7 @@ returns-clause-reply g c = λ h moment m place.
     let noted : c.note.new.self ≡ slice_set c.args.self.now.approaches c.args.vehicle (call_of i (params_of r.message.body)) = c.note.ensures ∙ ap (λ o. slice_set c.args.self.now.approaches c.args.vehicle o) c.call_in.ensures.call in
     let told : Tells i c.args.vehicle c.args.place k c.args.self.now = subst (λ p. Tells i c.args.vehicle p k c.args.self.now) (sym place) (tells i n h c.args.vehicle moment c.args.self.now m c.requires.vehicle) in
     let said : c.answer_fresh-reply.result ≡ answer_fresh i k r.message.body
-    = c.answer_fresh-reply.ensures.reply k (tells_noted _ _ _ _ _ _ told) (calling_noted i n h c.args.vehicle moment c.args.place c.args.self.now r m c.requires.vehicle c.requires.fresh c.requires.prepared c.note.new.self noted) in
+    = c.answer_fresh-reply.ensures.reply k (tells_noted _ _ _ _ _ _ told) (calling_noted i n h c.args.vehicle moment c.args.self.now r.message m c.requires.vehicle c.note.new.self noted) in
     said ∙ sym (answer_new i n h c.args.vehicle moment c.args.self.now m c.requires.vehicle r.message c.requires.fresh)
 
 pub keep-requires-2-clause-own : goal.keep-requires-2-clause-own
@@ -50,6 +53,7 @@ keep-requires-2-clause-tiles g c = λ confirmed.
     let i = c.args.layout.now in
     let n = length c.args.self.now.sessions in
     let r = c.args.prepared in
+    let q = c.answer_fresh-reply.new.prepared in
     let managed = c.requires.managed in
     let h = managed.0 in
     let moment = managed.1 in
@@ -58,16 +62,19 @@ keep-requires-2-clause-tiles g c = λ confirmed.
     let noted : c.note.new.self ≡ slice_set c.args.self.now.approaches c.args.vehicle (call_of i (params_of r.message.body)) = c.note.ensures ∙ ap (λ o. slice_set c.args.self.now.approaches c.args.vehicle o) c.call_in.ensures.call in
     let told : Tells i c.args.vehicle c.args.place k c.args.self.now = subst (λ p. Tells i c.args.vehicle p k c.args.self.now) (sym managed.3) (tells i n h c.args.vehicle moment c.args.self.now m c.requires.vehicle) in
     let said : c.answer_fresh-reply.result ≡ answer_fresh i k r.message.body
-    = c.answer_fresh-reply.ensures.reply k (tells_noted _ _ _ _ _ _ told) (calling_noted i n h c.args.vehicle moment c.args.place c.args.self.now r m c.requires.vehicle c.requires.fresh c.requires.prepared c.note.new.self noted) in
+    = c.answer_fresh-reply.ensures.reply k (tells_noted _ _ _ _ _ _ told) (calling_noted i n h c.args.vehicle moment c.args.self.now r.message m c.requires.vehicle c.note.new.self noted) in
     let size : c.args.self.now.reservations.table.size ≡ i.grid.n = m.desk.reserved.size in
+    let gone : (p : Params) → params_of r.message.body ≡ Some p → (t : Trial) → granted_trial (answer_fresh i k r.message.body) ≡ Some t → HasGoneTo i p t.start q
+    = λ p asks t named. c.answer_fresh-reply.ensures.gone k p (tells_noted _ _ _ _ _ _ told) asks t (ap granted_trial said ∙ named) in
     let confirmed_so : is_confirm (answer_fresh i k r.message.body) ≡ true = sym (ap is_confirm said) ∙ confirmed in
-    rw (c.keep_distance.ensures.rest, size, said) (tiles_granted i n h c.args.vehicle moment c.args.place c.args.self.now r m c.requires.vehicle c.requires.fresh c.requires.prepared confirmed_so)
+    rw (c.keep_distance.ensures.rest, size, said) (tiles_granted i n h c.args.vehicle moment c.args.place c.args.self.now r.message q c.answer_fresh-reply.ensures.given m c.requires.vehicle c.requires.fresh c.answer_fresh-reply.ensures.prepared gone confirmed_so)
 
 pub keep-requires-2-clause-ahead : goal.keep-requires-2-clause-ahead
 keep-requires-2-clause-ahead g c = λ confirmed.
     let i = c.args.layout.now in
     let n = length c.args.self.now.sessions in
     let r = c.args.prepared in
+    let q = c.answer_fresh-reply.new.prepared in
     let managed = c.requires.managed in
     let h = managed.0 in
     let moment = managed.1 in
@@ -76,23 +83,28 @@ keep-requires-2-clause-ahead g c = λ confirmed.
     let noted : c.note.new.self ≡ slice_set c.args.self.now.approaches c.args.vehicle (call_of i (params_of r.message.body)) = c.note.ensures ∙ ap (λ o. slice_set c.args.self.now.approaches c.args.vehicle o) c.call_in.ensures.call in
     let told : Tells i c.args.vehicle c.args.place k c.args.self.now = subst (λ p. Tells i c.args.vehicle p k c.args.self.now) (sym managed.3) (tells i n h c.args.vehicle moment c.args.self.now m c.requires.vehicle) in
     let said : c.answer_fresh-reply.result ≡ answer_fresh i k r.message.body
-    = c.answer_fresh-reply.ensures.reply k (tells_noted _ _ _ _ _ _ told) (calling_noted i n h c.args.vehicle moment c.args.place c.args.self.now r m c.requires.vehicle c.requires.fresh c.requires.prepared c.note.new.self noted) in
+    = c.answer_fresh-reply.ensures.reply k (tells_noted _ _ _ _ _ _ told) (calling_noted i n h c.args.vehicle moment c.args.self.now r.message m c.requires.vehicle c.note.new.self noted) in
+    let gone : (p : Params) → params_of r.message.body ≡ Some p → (t : Trial) → granted_trial (answer_fresh i k r.message.body) ≡ Some t → HasGoneTo i p t.start q
+    = λ p asks t named. c.answer_fresh-reply.ensures.gone k p (tells_noted _ _ _ _ _ _ told) asks t (ap granted_trial said ∙ named) in
     let confirmed_so : is_confirm (answer_fresh i k r.message.body) ≡ true = sym (ap is_confirm said) ∙ confirmed in
     let current : c.args.self.now.reservations.table.current ≡ now_of h moment = m.desk.reserved.current in
     let horizon : c.args.self.now.reservations.table.horizon ≡ i.times.horizon = m.desk.reserved.horizon in
-    rw (c.keep_distance.ensures.rest, current, horizon, said) (later_granted i n h c.args.vehicle moment c.args.place c.args.self.now r m c.requires.vehicle c.requires.fresh c.requires.prepared confirmed_so)
+    rw (c.keep_distance.ensures.rest, current, horizon, said) (later_granted i n h c.args.vehicle moment c.args.place c.args.self.now r.message q c.answer_fresh-reply.ensures.given m c.requires.vehicle c.requires.fresh c.answer_fresh-reply.ensures.prepared gone confirmed_so)
 
 pub returns-clause-managed : goal.returns-clause-managed
 returns-clause-managed g c = λ h moment m place late.
     let i = c.args.layout.now in
     let n = length c.args.self.now.sessions in
     let r = c.args.prepared in
+    let q = c.answer_fresh-reply.new.prepared in
     let k = known_after i h c.args.vehicle moment in
     let noted : c.note.new.self ≡ slice_set c.args.self.now.approaches c.args.vehicle (call_of i (params_of r.message.body)) = c.note.ensures ∙ ap (λ o. slice_set c.args.self.now.approaches c.args.vehicle o) c.call_in.ensures.call in
     let told : Tells i c.args.vehicle c.args.place k c.args.self.now = subst (λ p. Tells i c.args.vehicle p k c.args.self.now) (sym place) (tells i n h c.args.vehicle moment c.args.self.now m c.requires.vehicle) in
     let said : c.answer_fresh-reply.result ≡ answer_fresh i k r.message.body
-    = c.answer_fresh-reply.ensures.reply k (tells_noted _ _ _ _ _ _ told) (calling_noted i n h c.args.vehicle moment c.args.place c.args.self.now r m c.requires.vehicle c.requires.fresh c.requires.prepared c.note.new.self noted) in
-    managed_next i n h c.args.vehicle moment c.args.place c.args.self.now r m c.requires.vehicle c.requires.fresh c.requires.prepared
+    = c.answer_fresh-reply.ensures.reply k (tells_noted _ _ _ _ _ _ told) (calling_noted i n h c.args.vehicle moment c.args.self.now r.message m c.requires.vehicle c.note.new.self noted) in
+    let gone : (p : Params) → params_of r.message.body ≡ Some p → (t : Trial) → granted_trial (answer_fresh i k r.message.body) ≡ Some t → HasGoneTo i p t.start q
+    = λ p asks t named. c.answer_fresh-reply.ensures.gone k p (tells_noted _ _ _ _ _ _ told) asks t (ap granted_trial said ∙ named) in
+    managed_next i n h c.args.vehicle moment c.args.place c.args.self.now r.message q c.answer_fresh-reply.ensures.given m c.requires.vehicle c.requires.fresh c.answer_fresh-reply.ensures.prepared gone
     c.answer_fresh-reply.result said place late _
     ((λ j. (c.keep_distance.ensures.rest j).approaches) ∙ c.end_call.ensures c.args.self.now.approaches (params_of r.message.body) noted)
     ((λ j. (c.keep_distance.ensures.rest j).sessions) ∙ c.keep.ensures ∙ ap (λ e. slice_set c.args.self.now.sessions c.args.vehicle (session_after e c.answer_fresh-reply.result (slice_index_or c.args.self.now.sessions c.args.vehicle no_session).next)) c.message.ensures.message)
@@ -109,14 +121,14 @@ returns-clause-cost g c =
     let managed = c.requires.managed in
     let rows = c.args.self.now.reservations.rows.items in
     let v = c.args.vehicle in
-    let next = row_next (row_of rows v) c.args.place c.args.prepared c.answer_fresh-reply.result in
-    let moved : spans_moved (row_of rows v) next (is_changed (row_of rows v) c.args.prepared c.answer_fresh-reply.result) ≤ rows_exchanged (row_of rows v) next
-    = moved_fits c.args.layout.now managed.0 v c.args.place (row_of rows v) c.args.prepared c.answer_fresh-reply.result (managed.2.desk.reserved.rows v c.requires.vehicle) managed.3 in
+    let next = row_next (row_of rows v) c.args.place c.answer_fresh-reply.new.prepared c.answer_fresh-reply.result in
+    let moved : spans_moved (row_of rows v) next (is_changed (row_of rows v) c.answer_fresh-reply.new.prepared c.answer_fresh-reply.result) ≤ rows_exchanged (row_of rows v) next
+    = moved_fits c.args.layout.now managed.0 v c.args.place (row_of rows v) c.answer_fresh-reply.new.prepared c.answer_fresh-reply.result (managed.2.desk.reserved.rows v c.requires.vehicle) managed.3 in
     let rows_are : c.keep-2.new.self.rows.items ≡ slice_set rows v next = rw c.keep_distance.ensures.rest at c.keep-2.ensures.rows in
     let there : v < length rows = rw managed.2.desk.reserved.many c.requires.vehicle in
     let row_is : row_of c.keep-2.new.self.rows.items v ≡ next = ap (λ ss. row_of ss v) rows_are ∙ get_or-set_same rows v next None there in
-    let kept : c.keep-2.new.steps ≤ c.answer_fresh-reply.new.steps + spans_moved (row_of rows v) next (is_changed (row_of rows v) c.args.prepared c.answer_fresh-reply.result) = rw c.keep_distance.ensures.rest at c.keep-2.ensures.cost in
-    rw row_is (moved_cost _ _ _ _ _ _ _ kept moved c.answer_fresh-reply.ensures.cost)
+    let kept : c.keep-2.new.steps ≤ c.answer_fresh-reply.new.steps + spans_moved (row_of rows v) next (is_changed (row_of rows v) c.answer_fresh-reply.new.prepared c.answer_fresh-reply.result) = rw c.keep_distance.ensures.rest at c.keep-2.ensures.cost in
+    rw row_is (moved_cost _ _ _ _ _ _ kept moved c.answer_fresh-reply.ensures.cost)
 
 pub keep-requires-2-clause-there : goal.keep-requires-2-clause-there
 keep-requires-2-clause-there g c = rw (c.keep_distance.ensures.rest, c.requires.managed.2.desk.reserved.many) c.requires.vehicle
@@ -167,14 +179,14 @@ pub answer_fresh-reply-requires-clause-prepared : goal.answer_fresh-reply-requir
 answer_fresh-reply-requires-clause-prepared g c = c.requires.prepared
 
 pub keep-requires-2-clause-first : goal.keep-requires-2-clause-first
-keep-requires-2-clause-first g c = c.requires.prepared.first_room ∙ sym c.requires.room
+keep-requires-2-clause-first g c = c.answer_fresh-reply.ensures.prepared.first_room ∙ sym c.requires.room
 
 pub keep-requires-2-clause-second : goal.keep-requires-2-clause-second
-keep-requires-2-clause-second g c = c.requires.prepared.second_room ∙ sym c.requires.room
+keep-requires-2-clause-second g c = c.answer_fresh-reply.ensures.prepared.second_room ∙ sym c.requires.room
 
 pub returns-clause-sheets : goal.returns-clause-sheets
 returns-clause-sheets g c =
     let rows = c.keep_distance.new.self.reservations.rows.items in
     let v = c.args.vehicle in
-    kept_sheets rows c.args.self.now.reservations.rows.items c.keep-2.new.self.rows.items v c.keep-2.new.back.count c.args.back.now.count (row_next (row_of rows v) c.args.place c.args.prepared c.answer_fresh-reply.result)
+    kept_sheets rows c.args.self.now.reservations.rows.items c.keep-2.new.self.rows.items v c.keep-2.new.back.count c.args.back.now.count (row_next (row_of rows v) c.args.place c.answer_fresh-reply.new.prepared c.answer_fresh-reply.result)
     (rw c.requires.managed.2.desk.reserved.many c.requires.vehicle) (λ j. (c.keep_distance.ensures.rest j).reservations.rows.items) c.keep-2.ensures.rows c.keep-2.ensures.sheets

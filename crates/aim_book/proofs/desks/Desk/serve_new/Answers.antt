@@ -1,10 +1,10 @@
-use Rattle.std.proofs.Common.{◌≡◌, ◌+◌, [], ◌∷◌, ◌++◌, length, ◌∙◌, ap, arith, subst}
+use Rattle.std.proofs.Common.{◌≡◌, ◌+◌, ◌*◌, [], ◌∷◌, ◌++◌, length, ◌∙◌, ap, arith, subst}
 use Rattle.aim_messages.specs.declared.entries.Act.TheVariants as act
 use Rattle.aim_messages.specs.declared.messages.Message.{Message}
 use Rattle.aim_rules.specs.Answer.{answer}
 use Rattle.aim_rules.specs.History.{now_of, params_of}
 use Rattle.aim_reservations.specs.Rows.{row_of}
-use Rattle.aim_book.specs.Costs.{asked_spans}
+use Rattle.aim_book.specs.Costs.{asked_spans, starts_tried}
 use Rattle.aim_book.specs.Managed.{IsManaged}
 use Rattle.aim_book.specs.Reserved.{rows_exchanged}
 use Rattle.aim_book.proofs.AtOnceLemmas.{asked_is}
@@ -43,7 +43,7 @@ returns-in-Err-clause-cost g c =
     let v = c.args.vehicle in
     let rows : rows_exchanged (row_of c.serve_at_once.new.self.reservations.rows.items v) (row_of c.serve_fresh.new.self.reservations.rows.items v) ≡ rows_exchanged (row_of c.args.self.now.reservations.rows.items v) (row_of c.serve_fresh.new.self.reservations.rows.items v)
     = (λ j. rows_exchanged (row_of (c.in-Err.ensures.err j).reservations.rows.items v) (row_of c.serve_fresh.new.self.reservations.rows.items v)) in
-    let asked : length c.prepare_from-prepared.result.first.spans + length c.prepare_from-prepared.result.second.spans ≡ asked_spans c.args.layout.now (params_of c.args.message.now.body)
+    let asked : starts_tried c.args.layout.now (params_of c.prepare_from-prepared.result.message.body) * (length c.prepare_from-prepared.result.first.spans + length c.prepare_from-prepared.result.second.spans) ≡ asked_spans c.args.layout.now (params_of c.args.message.now.body)
     = asked_is c.args.layout.now c.prepare_from-prepared.result c.prepare_from-prepared.ensures.prepared ∙ ap (λ (e : Message). asked_spans c.args.layout.now (params_of e.body)) c.prepare_from-prepared.ensures.message in
     omega (arith, c.serve_fresh.ensures.cost, c.in-Err.ensures.err_steps, rows, asked)
 

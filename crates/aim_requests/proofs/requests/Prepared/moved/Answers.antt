@@ -1,28 +1,9 @@
-use Rattle.std.proofs.Common.{◌≡◌, ℕ, ◌≤◌, Option, List, [], ap, ◌∙◌, refl, map}
-use Rattle.aim_messages.specs.declared.messages.Params.{Params}
-use Rattle.aim_messages.specs.declared.entries.TheConstants.{LATEST_MOMENT}
-use Rattle.aim_geometry.specs.declared.ground.Times.{Times}
-use Rattle.aim_geometry.specs.Sites.{IsTimes}
-use Rattle.aim_layout.specs.Intersection.{Intersection}
+use Rattle.std.proofs.Common.{◌≡◌, ℕ, List, [], ap, ◌∙◌, refl, map}
 use Rattle.aim_sheets.specs.Sheets.{Spans}
 use Rattle.aim_sheets.specs.Moves.{moved}
-use Rattle.aim_requests.specs.Requests.{IsPreparedFor, Request}
-use Rattle.aim_requests.specs.Shapes.{AsksAnew}
-use Rattle.aim_requests.proofs.ShapeLemmas.{IsMove, first_may, second_may, moved_request}
+use Rattle.aim_requests.specs.Requests.{Request}
+use Rattle.aim_requests.proofs.ShapeLemmas.{is_move, first_may, second_may, moved_request}
 use Rattle.aim_requests.proofs.requests.Prepared.moved.Goals as goal
-
--- what the function is called with, and the times of its layout
-is_move : (i : Intersection) (r : Request) (from to : ℕ) (times : Times) (o : Option Params) → times ≡ i.times → IsTimes times → IsPreparedFor i r → AsksAnew i r from to o →
-    i.times.edge ≤ from → i.times.edge ≤ to → to ≤ LATEST_MOMENT → IsMove i r from to times.edge o
-is_move i r from to times o same valid prepared asks a b last = record {
-  times = rw same at valid;
-  edge_is = ap (λ (t : Times). t.edge) same;
-  prepared = prepared;
-  asks = asks;
-  from_edge = a;
-  to_edge = b;
-  last = last;
-}
 
 -- a sheet that was empty, with the spans that have moved
 filled : (xs : List _) (from to room : ℕ) (was is : Spans) → was ≡ record { spans = []; room = room } → is ≡ record was { spans = map (moved from to) xs } →

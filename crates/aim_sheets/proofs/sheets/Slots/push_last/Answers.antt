@@ -1,7 +1,6 @@
-use Rattle.std.proofs.Common.{◌≡◌, ◌≢◌, ◌≤◌, ◌<◌, ℕ, false, true, length, sym, ap, ◌∙◌, arith}
+use Rattle.std.proofs.Common.{◌≡◌, ◌≢◌, false, length, sym, ap, ◌∙◌, arith}
 use Rattle.std.specs.Prelude.{insert}
 use Rattle.std.proofs.lemmas.List.Edits.{insert_end}
-use Rattle.aim_sheets.specs.declared.spans.Span.{Span}
 use Rattle.aim_sheets.specs.Sheets.{Spans}
 use Rattle.aim_sheets.specs.Spans.{has_place, AreRising}
 use Rattle.aim_sheets.proofs.Edits.{inserted}

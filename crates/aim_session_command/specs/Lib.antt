@@ -1,0 +1,4 @@
+pub mod Reading
+pub mod Answered
+pub mod Held
+pub mod Commands
