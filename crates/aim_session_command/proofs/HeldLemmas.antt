@@ -13,13 +13,16 @@ use Rattle.aim_messages.specs.declared.script.Line.{Line}
 use Rattle.aim_messages.specs.declared.script.Line.TheVariants as line
 use Rattle.aim_script.specs.declared.decisions.Decision.{Decision}
 use Rattle.aim_script.specs.declared.decisions.Decision.TheVariants as decision
+use Rattle.aim_script.specs.declared.decisions.Kind.{Kind}
 use Rattle.aim_script.specs.declared.decisions.Kind.TheVariants as kind
+use Rattle.aim_script.specs.declared.decisions.Limit.{Limit}
 use Rattle.aim_script.specs.declared.decisions.Limit.TheVariants as limit
 use Rattle.aim_script.specs.Order.{is_end}
 use Rattle.aim_script.specs.Said.{last_of, version_after}
 use Rattle.aim_script.specs.Decided.{printed}
 use Rattle.aim_script.specs.Spellings.{Spelled, by_words}
-use Rattle.aim_script.specs.Verdicts.{Judgement, Reads, of_read}
+use Rattle.aim_script_reading.specs.Verdicts.{Judgement}
+use Rattle.aim_script.specs.Verdicts.{Reads, of_read}
 use Rattle.aim_text_session.specs.declared.outcomes.LineOutcome.{LineOutcome}
 use Rattle.aim_text_session.specs.declared.outcomes.LineOutcome.TheVariants as outcome
 use Rattle.aim_text_session.specs.Sessions.{Comes, HasNoRoom, InBody, InHeader, Standing, Stands}
@@ -95,12 +98,12 @@ same_whole before after kept bytes same t = subst (λ (k : List ℕ). (x : Takes
 -- ---- what a line comes to
 
 -- nothing is taken
-refused : (number : ℕ) (taken : List Line) (bytes : List ℕ) (old new : Standing) (j : Judgement) (d : Decision) → judged_by by_words taken bytes ≡ j → new ≡ old → Stands taken old
+refused : (number : ℕ) (taken : List Line) (bytes : List ℕ) (old new : Standing) (j : Judgement Line Kind Limit) (d : Decision) → judged_by by_words taken bytes ≡ j → new ≡ old → Stands taken old
     → IsAnswer by_words number taken j taken (printed (by_words.last_text d)) → Responded by_words number taken bytes new
 refused number taken bytes old new j d is same st answer = record {
   after = taken;
   text = printed (by_words.last_text d);
-  answer = subst (λ (x : Judgement). IsAnswer by_words number taken x taken (printed (by_words.last_text d))) (sym is) answer;
+  answer = subst (λ (x : Judgement Line Kind Limit). IsAnswer by_words number taken x taken (printed (by_words.last_text d))) (sym is) answer;
   stands = subst (λ (s : Standing). Stands taken s) (sym same) st;
   few = omega arith;
 }
@@ -123,7 +126,7 @@ responded number taken bytes old new outcome.Taken fits few st going some c = (
   record {
     after = taken ++ c.line ∷ [];
     text = [];
-    answer = subst (λ (x : Judgement). IsAnswer by_words number taken x (taken ++ c.line ∷ []) []) (sym c.goes) (inl (record { taken = refl; made = None; makes = c.makes; said = refl }));
+    answer = subst (λ (x : Judgement Line Kind Limit). IsAnswer by_words number taken x (taken ++ c.line ∷ []) []) (sym c.goes) (inl (record { taken = refl; made = None; makes = c.makes; said = refl }));
     stands = c.stands;
     few = omega (arith, length-append taken (c.line ∷ []));
   },
@@ -134,7 +137,7 @@ responded number taken bytes old new (outcome.Made a) fits few st going some c =
       record {
         after = taken ++ c.line ∷ [];
         text = text;
-        answer = subst (λ (x : Judgement). IsAnswer by_words number taken x (taken ++ c.line ∷ []) text) (sym c.goes) (inl (record { taken = refl; made = Some a; makes = c.makes; said = refl }));
+        answer = subst (λ (x : Judgement Line Kind Limit). IsAnswer by_words number taken x (taken ++ c.line ∷ []) text) (sym c.goes) (inl (record { taken = refl; made = Some a; makes = c.makes; said = refl }));
         stands = c.stands;
         few = omega (arith, length-append taken (c.line ∷ []));
       },
@@ -248,7 +251,7 @@ module _ {w : Spelled} {start now held mid : Option (List ℕ)} {s : Standing} {
   answered_then =
       let same : judged_by w b.taken kept ≡ judged_by w b.taken t.line = ap (λ (l : List ℕ). judged_by w b.taken l) t.is ∙ ap (of_read b.taken) (short_kept w.reads (version_after b.taken) t.line) in
       let here : IsAnswer w (1 + length b.lines) b.taken (judged_by w b.taken t.line) r.after r.text =
-      subst (λ (k : ℕ). IsAnswer w k b.taken (judged_by w b.taken t.line) r.after r.text) (omega (arith, b.count)) (subst (λ (j : Judgement). IsAnswer w number b.taken j r.after r.text) same r.answer) in
+      subst (λ (k : ℕ). IsAnswer w k b.taken (judged_by w b.taken t.line) r.after r.text) (omega (arith, b.count)) (subst (λ (j : Judgement Line Kind Limit). IsAnswer w number b.taken j r.after r.text) same r.answer) in
       answered_more w 1 [] b.taken r.after b.lines t.line b.text r.text b.answered b.going here
 
   cut_then : WhereKnown start after (λ bytes rest. lines_of bytes ≡ lines_then ++ lines_of rest)

@@ -3,15 +3,21 @@ use Rattle.std.specs.Prelude.{◌≡◌, ◌⊎◌, ◌≤◌, ◌+◌, ℕ, tru
 use Rattle.aim_io.specs.Lines.{HasNoEnd, lines_of}
 use Rattle.aim_messages.specs.declared.script.Line.{Line}
 use Rattle.aim_messages.specs.declared.script.Line.TheVariants as line
+use Rattle.aim_script_reading.specs.declared.decisions.Bound.TheVariants as bound
+use Rattle.aim_script_reading.specs.declared.decisions.Refused.TheVariants as refused
+use Rattle.aim_script_reading.specs.declared.decisions.Why.TheVariants as reason
+use Rattle.aim_script_reading.specs.Verdicts.{Judgement, decides, goes_on}
 use Rattle.aim_script.specs.declared.decisions.Decision.{Decision}
 use Rattle.aim_script.specs.declared.decisions.Decision.TheVariants as decision
+use Rattle.aim_script.specs.declared.decisions.Kind.{Kind}
 use Rattle.aim_script.specs.declared.decisions.Kind.TheVariants as kind
+use Rattle.aim_script.specs.declared.decisions.Limit.{Limit}
 use Rattle.aim_script.specs.declared.decisions.Limit.TheVariants as limit
 use Rattle.aim_script.specs.Decided.{printed}
 use Rattle.aim_script.specs.Order.{is_end}
 use Rattle.aim_script.specs.Said.{last_of, version_after}
 use Rattle.aim_script.specs.Spellings.{Spelled}
-use Rattle.aim_script.specs.Verdicts.{Judgement, Reads, decides, goes_on, of_read}
+use Rattle.aim_script.specs.Verdicts.{Reads, of_read}
 use Rattle.aim_line_session.specs.declared.progress.Answered.{Answered}
 use Rattle.aim_line_session.specs.Sessions.{Makes, journal_so_far, orders_in}
 
@@ -20,7 +26,7 @@ abbrev pub reads_short : Reads → Reads
 reads_short reads version bytes = if nat_lt 400 (length bytes) then Err kind.Long else reads version bytes
 
 -- what these bytes come to behind the lines that were taken
-abbrev pub judged_by : Spelled → List Line → List ℕ → Judgement
+abbrev pub judged_by : Spelled → List Line → List ℕ → Judgement Line Kind Limit
 judged_by w taken bytes = of_read taken (reads_short w.reads (version_after taken) bytes)
 
 -- the line of an entry that was made, if one was
@@ -47,11 +53,11 @@ MayLackRoom before (line.StopAt moment) = 262144 ≤ orders_in before
 MayLackRoom before _ = ⊥
 
 -- What a line is answered, the one of that number in the input, behind the lines that were taken: which lines are taken then, and what is written.
-abbrev pub IsAnswer : Spelled → ℕ → List Line → Judgement → List Line → List ℕ → Type 0
+abbrev pub IsAnswer : Spelled → ℕ → List Line → Judgement Line Kind Limit → List Line → List ℕ → Type 0
 IsAnswer w number before (goes_on l) after text = IsTaken w before l after text ⊎ (MayLackRoom before l × IsRefused w (decision.Limit limit.Orders) before after text)
-IsAnswer w number before (decides (decision.Bad n why)) after text = IsRefused w (decision.Bad number why) before after text
-IsAnswer w number before (decides (decision.Limit which)) after text = IsRefused w (decision.Limit which) before after text
-IsAnswer w number before (decides (decision.Whole n)) after text = ⊥
+IsAnswer w number before (decides (refused.Bad n (reason.Fault why))) after text = IsRefused w (decision.Bad number why) before after text
+IsAnswer w number before (decides (refused.Limit (bound.Further which))) after text = IsRefused w (decision.Limit which) before after text
+IsAnswer w number before (decides other) after text = ⊥
 
 -- The lines from that number on are answered, none of them behind `end`: which lines are taken then, and what is written.
 abbrev pub AreAnswered : Spelled → ℕ → List Line → List (List ℕ) → List Line → List ℕ → Type 0
