@@ -1,5 +1,5 @@
 -- What is kept of quiet lanes, after one more entry and as time goes on.
-use Rattle.std.proofs.Common.{◌≡◌, ℕ, ◌+◌, ◌≤◌, ◌||◌, List, [], ◌∷◌, ◌++◌, length, Some, None, refl, sym, ◌∙◌, ap, arith, length-append}
+use Rattle.std.proofs.Common.{◌≡◌, ℕ, ◌+◌, ◌≤◌, ◌||◌, List, [], ◌∷◌, ◌++◌, length, Some, None, sym, ◌∙◌, ap, arith, length-append}
 use Rattle.aim_messages.specs.declared.entries.Entry.{Entry}
 use Rattle.aim_rules.specs.History.{now_of}
 use Rattle.aim_rules.specs.Quiets.{Quiet, covers, is_covered, is_quiet, is_quiet_in, quiet_with}

@@ -18,9 +18,10 @@ operate-reply-requires-clause-room g c =
     let b = c.self.inside in
     let same : length b.desk.timeline.pushed ≡ length (changes b.journal.items) = ap length c.self.invariant.managed.desk.changes in
     let few = changes_fit b.journal.items in
-    let quiet = c.self.invariant.managed.desk.quiets.few in
-    (omega (arith, same, few, c.self.invariant.timeline, c.self.invariant.fits, c.len.ensures, c.if-len-self.false),
-    omega (arith, quiet, c.self.invariant.timeline, c.self.invariant.fits, c.len.ensures, c.if-len-self.false))
+    let quiet = c.self.invariant.managed.desk.quiets.few in (
+      omega (arith, same, few, c.self.invariant.timeline, c.self.invariant.fits, c.len.ensures, c.if-len-self.false),
+      omega (arith, quiet, c.self.invariant.timeline, c.self.invariant.fits, c.len.ensures, c.if-len-self.false),
+    )
 
 pub operate-reply-requires-clause-managed : goal.operate-reply-requires-clause-managed
 operate-reply-requires-clause-managed g c =
