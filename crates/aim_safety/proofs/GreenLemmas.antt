@@ -1,5 +1,5 @@
 -- No granted cell becomes another lane's green.
-use Rattle.std.proofs.Common.{◌≡◌, ℕ, zero, suc, ◌+◌, ◌-◌, ◌<◌, ◌≤◌, Bool, List, length, take, Some, None, arith, sym, ap, ◌∙◌, slice_get, take_all}
+use Rattle.std.proofs.Common.{◌≡◌, ℕ, zero, suc, ◌+◌, ◌-◌, ◌<◌, ◌≤◌, List, length, take, Some, None, arith, sym, ap, ◌∙◌, slice_get, take_all}
 use Rattle.std.specs.Prelude.{option_map}
 use Rattle.std.proofs.lemmas.Option.{slice_get_within}
 use Rattle.aim_messages.specs.declared.messages.Params.{Params}
