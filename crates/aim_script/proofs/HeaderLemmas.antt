@@ -181,7 +181,7 @@ move_falls before p b lane turn shape f at fault st =
 
     refused : (b : Bool) (o : Option ℕ) (off : Bool)
         → Some f ≡ (if b then Some (layout_fault.Move lane turn)
-              else option_or (option_map (λ k. layout_fault.Spacing lane turn k) o) (if off then Some (layout_fault.Border lane turn) else None))
+        else option_or (option_map (λ k. layout_fault.Spacing lane turn k) o) (if off then Some (layout_fault.Border lane turn) else None))
         → (if b then Some why.Move else if is_some o then Some why.Spacing else if off then Some why.Border else None) ≡ Some (move_kind_of f)
     refused true o off is = same f (layout_fault.Move lane turn) is
     refused false (Some k) off is = same f (layout_fault.Spacing lane turn k) is

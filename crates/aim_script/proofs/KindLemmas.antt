@@ -1,5 +1,5 @@
 -- The kinds that each form of line can have.
-use Rattle.std.proofs.Common.{◌≡◌, ◌⊎◌, inl, inr, ℕ, ◌==◌, false, not, nat_lt, nat_le, is_some, List, [], ◌∷◌, find, Option, Some, None, option_map, refl, ◌∙◌, if◌then◌else◌}
+use Rattle.std.proofs.Common.{◌≡◌, ◌⊎◌, inl, inr, ℕ, ◌==◌, false, not, nat_lt, nat_le, is_some, List, [], ◌∷◌, length, find, Option, Some, None, option_map, refl, ◌∙◌, if◌then◌else◌}
 use Rattle.std.proofs.lemmas.Bool.{cases_Bool}
 use Rattle.aim_messages.specs.Lines.{name_word}
 use Rattle.aim_messages.specs.declared.messages.Message.{Message}
@@ -19,7 +19,7 @@ use Rattle.aim_layout.specs.Building.{policy_fault, phase_fault, finish_fault}
 use Rattle.aim_script.specs.declared.decisions.Kind.{Kind}
 use Rattle.aim_script.specs.declared.decisions.Kind.TheVariants as why
 use Rattle.aim_script.specs.Order.{Part, part_after, belongs, to_version, to_ground, to_times, to_lanes, in_moves, in_policies, to_begin, in_body}
-use Rattle.aim_script.specs.Said.{last_of, layout_of, grid_of, times_of, times6_of, times7_of, is_named, vehicles_of}
+use Rattle.aim_script.specs.Said.{version_after, last_of, layout_of, grid_of, times_of, times6_of, times7_of, is_named, vehicles_of}
 use Rattle.aim_script.specs.Kinds.{Test, kinds, kind_of_fault, is_off_border, is_wide, is_no_move}
 
 -- the kind of the first row whose test holds
@@ -67,7 +67,7 @@ lanes_kind before n part = kind_is before (line.Lanes n) ∙ rw part refl
 
 pub move_kind : (before : List Line) (lane : ℕ) (turn : Turn) (s : MoveShape) → part_after (last_of before) ≡ in_moves
     → kind_of_fault before (line.Move lane turn s) ≡ (if is_no_move before (line.Move lane turn s) then Some why.Move else if is_wide before (line.Move lane turn s) then Some why.Spacing
-        else if is_off_border before (line.Move lane turn s) then Some why.Border else None)
+    else if is_off_border before (line.Move lane turn s) then Some why.Border else None)
 move_kind before lane turn s part = kind_is before (line.Move lane turn s) ∙ rw part refl
 
 pub policy_kind : (before : List Line) (name : Name) (k : ℕ) → (part_after (last_of before) ≡ in_moves) ⊎ (part_after (last_of before) ≡ in_policies)
@@ -104,5 +104,5 @@ stop_kind before at part = kind_is before (line.StopAt at) ∙ rw part refl
 
 pub quiet_kind : (before : List Line) (at lane until : ℕ) → part_after (last_of before) ≡ in_body
     → kind_of_fault before (line.QuietAt at lane until) ≡ (if nat_lt (version_after before) 4 then Some why.Order
-        else if nat_le (length (layout_of before).lanes) lane then Some why.Lane else if nat_lt LATEST_MOMENT at then Some why.Moment else None)
+    else if nat_le (length (layout_of before).lanes) lane then Some why.Lane else if nat_lt LATEST_MOMENT at then Some why.Moment else None)
 quiet_kind before at lane until part = kind_is before (line.QuietAt at lane until) ∙ rw part refl

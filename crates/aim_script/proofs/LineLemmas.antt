@@ -1,5 +1,5 @@
 -- What a line that goes on says of the lines before it.
-use Rattle.std.proofs.Common.{◌≡◌, ℕ, zero, suc, Bool, true, false, cond, not, List, [], ◌∷◌, Option, Some, None, Result, Ok, Err, refl, take, slice_get}
+use Rattle.std.proofs.Common.{◌≡◌, ℕ, zero, suc, Bool, true, false, cond, not, ◌||◌, List, [], ◌∷◌, Option, Some, None, Result, Ok, Err, refl, take, slice_get}
 use Rattle.std.specs.Prelude.{find, option_map}
 use Rattle.aim_io.specs.Lines.{Outcome, Line, Stop}
 use Rattle.aim_messages.specs.declared.script.Line.{Line as ScriptLine}
@@ -7,7 +7,7 @@ use Rattle.aim_script.specs.declared.decisions.Kind.{Kind}
 use Rattle.aim_script.specs.declared.decisions.Limit.{Limit}
 use Rattle.aim_script.specs.Order.{may_follow}
 use Rattle.aim_script.specs.Said.{version_after, last_of}
-use Rattle.aim_script.specs.Kinds.{Test, kinds, kind_of_fault, limit_of}
+use Rattle.aim_script.specs.Kinds.{Test, kinds, kind_of_fault, limit_of, is_of_later}
 use Rattle.aim_script.specs.Verdicts.{Reads, Verdict, judge, goes_on, of_read, unless_bad, unless_limited}
 use Rattle.aim_script.specs.First.{IsOfTheFirst}
 
@@ -74,7 +74,11 @@ pub passes : (before : List ScriptLine) (l : ScriptLine) (n : ℕ) → GoesOn be
 passes before l n g = row_none before l n kinds (map_none (λ row. row.0) (find (λ row. row.1 before l) kinds) g.no_fault)
 
 pub in_order : (before : List ScriptLine) (l : ScriptLine) → GoesOn before l → may_follow (last_of before) l ≡ true
-in_order before l g = not_false (may_follow (last_of before) l) (passes before l 0 g)
+in_order before l g = not_false (may_follow (last_of before) l) (first (not (may_follow (last_of before) l)) (is_of_later before l) (passes before l 0 g))
+  where
+    first : (a b : Bool) → (a || b) ≡ false → a ≡ false
+    first false b h = refl
+    first true b h = absurd (cc)
 
 pub lines_in_order : (reads : Reads) (input : List Outcome) (v : Verdict) → IsOfTheFirst reads input v → (k : ℕ) (l : ScriptLine) → slice_get v.before k ≡ Some l → may_follow (last_of (take k v.before)) l ≡ true
 lines_in_order reads input v f k l at = let g = f.goes_on_at k l at in in_order (take k v.before) l (goes_on_says reads (take k v.before) g.0 l g.2)

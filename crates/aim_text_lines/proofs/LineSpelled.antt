@@ -18,7 +18,7 @@ use Rattle.aim_text_lines.specs.declared.forms.LineForm.{LineForm}
 use Rattle.aim_text_lines.specs.declared.forms.LineForm.TheVariants as form
 use Rattle.aim_messages.specs.Texts.{Words, spaced}
 use Rattle.aim_messages.specs.Lines.{fate_word, fate_words, leg_words, line_words, line_text, IsFateList, IsLegList, KeepsRanges}
-use Rattle.aim_text_words.specs.Faults.{Place, first, rest, from, word_at, words_of, begins_with_digit, value_of, number8, number_fault, word_fault, fault_at, first_fault}
+use Rattle.aim_text_words.specs.Faults.{Place, first, rest, from, word_at, words_of, begins_with_digit, value_of, number_fault, word_fault, first_fault}
 use Rattle.aim_text_words.specs.Forms.{message_form, order_form}
 use Rattle.aim_text_lines.specs.Forms.{shape_forms, plain_forms, shape_form, plain_form, times_form, plan_form, event_form, line_form, map_ok, fate, fate_places, leg_places, line_places, has_count, has_room}
 use Rattle.aim_text_words.specs.Reading.{unless}
@@ -26,7 +26,7 @@ use Rattle.aim_text_lines.specs.Reading.{kind_of, fate_of, fates_of, legs_at, le
 use Rattle.aim_text_lines.specs.Ranges.{AreLegs, IsLine}
 use Rattle.aim_text_words.proofs.NumberLaws.{IsNumberIn, number_in_from, decimal_value}
 use Rattle.aim_text_words.proofs.NoFaults.{NoFaults, no_faults}
-use Rattle.aim_text_words.proofs.Spelled.{respelled_is, number_at_place, same_word, turn_back, class_back, later_back, in32, in8, d32}
+use Rattle.aim_text_words.proofs.Spelled.{respelled_is, same_word, turn_back, class_back, later_back, in32, in8, d32, d8}
 use Rattle.aim_text_lines.proofs.Spelled.{window_back, kind_back, kind_most, name_is}
 use Rattle.aim_text_lines.proofs.LaneLaws.{lanes_are_spelled}
 use Rattle.aim_text_words.proofs.Chosen.{look_up_has, message_key, message_chosen, IsInOneStep, chosen_in_one_step, order_key, order_chosen}
@@ -365,7 +365,7 @@ legs_are_spelled (suc legs) (a ∷ b ∷ c ∷ ws) count n =
     }
 
 record HasLegs (version legs size bytes : ℕ) : Type 0 where
-  version : 4 ≤ version
+  late : 4 ≤ version
   some : 1 ≤ legs
   most : legs ≤ 32
   count : size ≡ 6 + 3 * legs
@@ -377,7 +377,7 @@ has_legs version legs size bytes h room =
     let new = and_parts (nat_le 4 version) (nat_le 1 legs && nat_le legs 32) path.0 in
     let few = and_parts (nat_le 1 legs) (nat_le legs 32) new.1 in
     record {
-      version = leb-true 4 version new.0;
+      late = leb-true 4 version new.0;
       some = leb-true 1 legs few.0;
       most = leb-true legs 32 few.1;
       count = eqb-true size (6 + 3 * legs) path.1;
@@ -386,7 +386,7 @@ has_legs version legs size bytes h room =
 
 path_spelled : (version legs : ℕ) (ws : Words) → (first ws ≡ codes "move") × (word_at ws 3 ≡ codes "path") → HasLegs version legs (length ws) (length (spaced ws))
     → NoFaults (line_places version (form.Move (way.Path legs)) ws) ws → IsSpelled version (line_of (form.Move (way.Path legs)) ws) ws
-path_spelled version legs ws c has n = record { spelled = spelled; ranges = ranges; keeps = (has.version, is, room) }
+path_spelled version legs ws c has n = record { spelled = spelled; ranges = ranges; keeps = (has.late, is, room) }
   where
     behind_path : length (from 6 ws) ≡ 3 * legs
     behind_path = let count = has.count in omega (arith, from_length 6 ws)
@@ -434,9 +434,6 @@ path_spelled version legs ws c has n = record { spelled = spelled; ranges = rang
 
     ranges : IsLine (line_of (form.Move (way.Path legs)) ws)
     ranges = (in8 (from 1 ws) n.1.0, (in32 (from 4 ws) n.1.1.1.1.0, in32 (from 5 ws) n.1.1.1.1.1.0, rw front all.ranges, size))
-
-    d8 : (ws : Words) → fault_at number8 ws ≡ None → decimal (value_of (first ws)) ≡ first ws
-    d8 ws h = let is = number_at_place 0 255 ws h in let most = is.most in decimal_value (first ws) is.number (omega arith)
 
 same_number : (n : ℕ) → (n == n) ≡ true
 same_number n = eq-eqb n n refl
