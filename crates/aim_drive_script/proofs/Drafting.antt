@@ -18,7 +18,6 @@ use Rattle.aim_io.specs.Lines.{Line as LineOf}
 use Rattle.aim_script.specs.declared.decisions.Decision.TheVariants as decision
 use Rattle.aim_script.specs.declared.decisions.Kind.{Kind}
 use Rattle.aim_script.specs.declared.decisions.Limit.{Limit}
-use Rattle.aim_script.specs.Spellings.{of_words}
 use Rattle.aim_script.specs.declared.headers.Header.{Header}
 use Rattle.aim_script.specs.declared.decisions.Kind.TheVariants as kind_of
 use Rattle.aim_script.specs.declared.settings.Setting.{Setting}

@@ -1,6 +1,6 @@
 -- What holds of the script of lines that make a drive.
-use Rattle.std.proofs.Common.{◌≡◌, ℕ, zero, suc, ◌+◌, ◌*◌, ◌<◌, ◌≤◌, Bool, true, false, ◌==◌, ◌||◌, not, nat_lt, nat_le, List, [], ◌∷◌, ◌++◌, length, filter_map, take, Option, Some, None, option_map, Result, Ok, Err, refl, sym, ap, ◌∙◌, subst, arith, slice_get, append_assoc, append-nil, length-append}
-use Rattle.std.specs.Prelude.{bytes_eq, IfOk}
+use Rattle.std.proofs.Common.{◌≡◌, ℕ, zero, suc, ◌+◌, ◌*◌, ◌<◌, ◌≤◌, Bool, true, false, ◌==◌, ◌||◌, not, nat_lt, nat_le, List, [], ◌∷◌, ◌++◌, length, filter_map, take, Option, Some, None, option_map, refl, sym, ap, ◌∙◌, subst, arith, slice_get, append_assoc, append-nil, length-append}
+use Rattle.std.specs.Prelude.{bytes_eq}
 use Rattle.std.specs.List.{list_any, position_or_len}
 use Rattle.std.specs.Option.{unwrap_or, option_or, option_to_list}
 use Rattle.std.proofs.lemmas.Bool.{or_parts, leb-false, ltb-false, ltb-true, eq-eqb}
@@ -17,7 +17,6 @@ use Rattle.aim_script.specs.Said.{last_of, layout_of, names_of, name_in, number_
 use Rattle.aim_script.proofs.CallLemmas.{lane_below, version_reached}
 use Rattle.aim_script.proofs.AppendLemmas.{filter_map-one, names_are_policies}
 use Rattle.aim_drive_script.specs.declared.scripts.DriveScript.{DriveScript}
-use Rattle.aim_drive_script.specs.declared.scripts.Ending.{Ending}
 use Rattle.aim_driver.specs.declared.orders.Ordered.{Ordered}
 use Rattle.aim_drive_script.specs.declared.scripts.Planned.{Planned}
 use Rattle.aim_drive_script.specs.Said.{Drive, drive_in, drives_of, until_in, until_of, is_plan_for, is_planned, ordered_in, orders_of, moment_in, moments_of, last_number}
@@ -25,7 +24,7 @@ use Rattle.aim_drive_script.specs.Kinds.{kind_of_fault, lacks_plan, limit_of, ve
 use Rattle.aim_drive_script.specs.Order.{may_follow}
 use Rattle.aim_drive_script.specs.Scripts.{IsDrive, IsScriptOf, drive_told}
 use Rattle.aim_drive_script.specs.Fits.{FitsDrive, FitsOrder, IsFit, IsOrderOf}
-use Rattle.aim_drive_script.specs.Drafts.{Ends, IsOpened}
+use Rattle.aim_drive_script.specs.Drafts.{IsOpened}
 use Rattle.aim_drive_script.proofs.Kinding.{passes}
 use Rattle.aim_drive_script.proofs.Naming.{any_is}
 use Rattle.aim_drive_script.proofs.Scanning.{last_number_more}
