@@ -18,17 +18,39 @@ PIECES = 64
 
 
 def shape_of(move):
-    """The places of the move's path in metres: two for a line, PIECES + 1 for a curve."""
+    """The places of the move's path in metres: the ends of a line or of legs, PIECES + 1 for a curve."""
     points = [(x / 1000, y / 1000) for x, y in move.points]
-    if len(points) == 2:
+    if len(points) == 2 or move.legs:
         return points
     return [_bezier(points, piece / PIECES) for piece in range(PIECES + 1)]
 
 
-def _cut(line):
-    """The places of a line of two points, cut into as many pieces as a curve."""
-    (x0, y0), (x1, y1) = line
-    return [(x0 + (x1 - x0) * piece / PIECES, y0 + (y1 - y0) * piece / PIECES) for piece in range(PIECES + 1)]
+def _pieces(move, spacing: int, is_fine: bool) -> tuple[list, list]:
+    """The places of the move's path, and the counted metres up to each; where it is to be fine, of short pieces.
+
+    A curve is fine as it is; a line is cut into as many pieces, and a leg into one a station.
+    """
+    places = shape_of(move)
+    if not move.legs and len(places) > 2:
+        parts = [move.parts / PIECES] * PIECES
+    else:
+        parts = list(move.legs) or [move.parts]
+        if is_fine:
+            cuts = list(move.legs) or [PIECES]
+            ends = list(zip(places, places[1:]))
+            places = [place for (here, there), count in zip(ends, cuts) for place in _cut(here, there, count)[:-1]]
+            places.append(ends[-1][1])
+            parts = [whole / count for whole, count in zip(parts, cuts) for _ in range(count)]
+    marks = [0.0]
+    for part in parts:
+        marks.append(marks[-1] + part * spacing / 1000)
+    return places, marks
+
+
+def _cut(here, there, count: int) -> list:
+    """The places that cut a line into so many pieces, and its ends."""
+    (x0, y0), (x1, y1) = here, there
+    return [(x0 + (x1 - x0) * piece / count, y0 + (y1 - y0) * piece / count) for piece in range(count + 1)]
 
 
 def _bezier(points, share):
@@ -114,10 +136,10 @@ class Way:
 
     def __init__(self, move, spacing, vehicle_length, is_mapped=True, track=None):
         self.counted = move.parts * spacing / 1000
-        shape = shape_of(move)
+        shape, self._marks = _pieces(move, spacing, track is not None)
         self.track = track or track_of(move)
         self.deviation = 0.0
-        self._arcs = _arcs(shape) if track is None else self._along(shape if len(shape) > 2 else _cut(shape))
+        self._arcs = _arcs(shape) if track is None else self._along(shape)
         self.arc = self._arcs[-1]
         self._pieces = len(self._arcs) - 1
         self.is_mapped = is_mapped
@@ -137,7 +159,7 @@ class Way:
 
     def _slope(self, piece):
         """True metres per counted metre in a piece."""
-        return (self._arcs[piece + 1] - self._arcs[piece]) * self._pieces / self.counted
+        return (self._arcs[piece + 1] - self._arcs[piece]) / (self._marks[piece + 1] - self._marks[piece])
 
     def to_arc(self, distance):
         """The arc length at which a front stands that the manager counts at `distance`."""
@@ -145,9 +167,8 @@ class Way:
             return distance
         if distance >= self.counted:
             return self.arc + (distance - self.counted) * self.exit_ratio
-        place = distance / self.counted * self._pieces
-        piece = min(int(place), self._pieces - 1)
-        return self._arcs[piece] + (self._arcs[piece + 1] - self._arcs[piece]) * (place - piece)
+        piece = min(bisect.bisect_right(self._marks, distance), self._pieces) - 1
+        return self._arcs[piece] + (distance - self._marks[piece]) * self._slope(piece)
 
     def to_counted(self, arc):
         """The distance that the manager counts where a front stands at that arc length."""
@@ -156,8 +177,7 @@ class Way:
         if arc >= self.arc:
             return self.counted + (arc - self.arc) / self.exit_ratio
         piece = bisect.bisect_right(self._arcs, arc) - 1
-        share = (arc - self._arcs[piece]) / (self._arcs[piece + 1] - self._arcs[piece])
-        return (piece + share) / self._pieces * self.counted
+        return self._marks[piece] + (arc - self._arcs[piece]) / self._slope(piece)
 
     def _declared(self, vehicle_length):
         """The most counted metres that a vehicle covers anywhere on its way, in whole millimetres."""
