@@ -22,7 +22,7 @@ class Minutes(unittest.TestCase):
         cls._folder = tempfile.TemporaryDirectory()
         cls.addClassCleanup(cls._folder.cleanup)
         cls.folder = pathlib.Path(cls._folder.name)
-        for name in ("twelve-lanes", "four-way", "tee"):
+        for name in ("twelve-lanes", "twelve-paths", "four-way", "tee"):
             cls.command("net", str(EXAMPLES / f"{name}.aim"), str(cls.folder / name))
         few = cls.folder / "few-spans.aim"
         few.write_text(head("twelve-lanes").replace(" 8192", " 4096"), encoding="ascii")
