@@ -65,14 +65,14 @@ pub record Between {S L : Type 0} (w : Spelled) (left : S → Option (List ℕ))
   pub lines : BetweenLines (rules_of w) (IsAt {L = L} w held_old) left last faults first now reader (record { stage = s; held = held }) number
   pub sink : sink_old ≤ sink_new
 
-nothing_said : {L : Type 0} (w : Spelled) (held : Option (List ℕ)) (h : Header) → StandsAsHeader [] h → IsAt {L = L} w held [] (record { stage = stage.Header h; held = held })
-nothing_said w held h st = (st, Appends-nil held)
+nothing_said : (L : Type 0) (w : Spelled) (held : Option (List ℕ)) (h : Header) → StandsAsHeader [] h → IsAt {L = L} w held [] (record { stage = stage.Header h; held = held })
+nothing_said L w held h st = (st, Appends-nil held)
 
 -- no line was read
 pub between_start : {S L : Type 0} (w : Spelled) (left : S → Option (List ℕ)) (last : S → Option ℕ) (faults : S → ℕ) (first : S) (held : Option (List ℕ)) (sink : ℕ) (reader : Reader) (h : Header) → reader ≡ fresh → StandsAsHeader [] h
     → Between {L = L} w left last faults first first held held sink sink reader (stage.Header h) 0
 between_start {L = L} w left last faults first held sink reader h is st = record {
-  lines = lines_start (rules_of w) (IsAt {L = L} w held) left last faults first reader (record { stage = stage.Header h; held = held }) is (nothing_said {L = L} w held h st);
+  lines = lines_start (rules_of w) (IsAt {L = L} w held) left last faults first reader (record { stage = stage.Header h; held = held }) is (nothing_said L w held h st);
   sink = omega arith;
 }
 
