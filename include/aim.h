@@ -154,6 +154,16 @@ typedef struct aim_row {
     uint64_t columns; /* how many there are; 0, and no tile, where there is no such row, or `begin` wasn't taken */
 } aim_row;
 
+/* Who has a tile at a step. */
+typedef struct aim_cell {
+    uint32_t exists;  /* 1 where there is such a tile and `begin` was taken; 0, as all else is, where there isn't */
+    uint32_t held;    /* 1 where a vehicle holds it, else 0 */
+    uint32_t vehicle; /* that vehicle */
+    uint32_t id;      /* its reservation's */
+    uint32_t claimed; /* 1 where a lane claims it by its green, held or not, else 0 */
+    uint32_t lane;    /* that lane */
+} aim_cell;
+
 /* A word, and a byte 0 behind it. */
 typedef struct aim_word {
     uint32_t length;
@@ -183,6 +193,11 @@ uint32_t aim_session_stage(aim_session *session);
 /* Who holds and who claims the tiles of a row, counted from the south, at a step; no tile where the step is below the
    greatest moment so far. */
 aim_row aim_session_chart_row(aim_session *session, uint32_t row, uint32_t step);
+
+/* Who has the tile of a row, counted from the south, and a column, counted from the west, at a step: the vehicle that
+   holds it, with its reservation, and the lane that claims it. Nobody has it where the step is below the greatest moment
+   so far. */
+aim_cell aim_session_cell(aim_session *session, uint32_t row, uint32_t col, uint32_t step);
 
 /* Ends a session, and gives back all that it took. The memory at `session` is the caller's again. */
 void aim_session_end(aim_session *session);

@@ -8,11 +8,11 @@ from .journals import Entry, read_entry, read_journal
 from .layouts import Curve, Layout, Line, Move, Phase, Policy
 from .messages import Cancel, Change, Crossing, Done, Message, Order, Request, Stop, Switch
 from .replies import Ack, Confirm, EmergencyStop, Reject, Reply, Stale, Stopped, Switched
-from .sessions import Chart, Session, Stage
+from .sessions import Cell, Chart, Session, Stage
 
 __all__ = [
-    "Ack", "AimError", "Cancel", "Change", "Chart", "Confirm", "Crossing", "Curve", "Done", "EmergencyStop", "Ended",
-    "Entry", "Fault", "Full", "Layout", "LibraryMissing", "Limit", "Line", "Message", "Move", "NoMemory", "Order",
-    "Phase", "Policy", "Reject", "Reply", "Request", "Session", "Stage", "Stale", "Stop", "Stopped", "Switch",
+    "Ack", "AimError", "Cancel", "Cell", "Change", "Chart", "Confirm", "Crossing", "Curve", "Done", "EmergencyStop",
+    "Ended", "Entry", "Fault", "Full", "Layout", "LibraryMissing", "Limit", "Line", "Message", "Move", "NoMemory",
+    "Order", "Phase", "Policy", "Reject", "Reply", "Request", "Session", "Stage", "Stale", "Stop", "Stopped", "Switch",
     "Switched", "read_entry", "read_journal",
 ]

@@ -39,6 +39,12 @@ class Row(ctypes.Structure):
     _fields_ = [("held", ctypes.c_uint64), ("claimed", ctypes.c_uint64), ("columns", ctypes.c_uint64)]
 
 
+class Cell(ctypes.Structure):
+    """`aim_cell`."""
+
+    _fields_ = [(name, ctypes.c_uint32) for name in ("exists", "held", "vehicle", "id", "claimed", "lane")]
+
+
 class FaultWord(ctypes.Structure):
     """`aim_word`."""
 
@@ -53,6 +59,7 @@ _CALLS = {
     "aim_session_entries": (ctypes.c_uint32, [ctypes.c_void_p]),
     "aim_session_stage": (ctypes.c_uint32, [ctypes.c_void_p]),
     "aim_session_chart_row": (Row, [ctypes.c_void_p, ctypes.c_uint32, ctypes.c_uint32]),
+    "aim_session_cell": (Cell, [ctypes.c_void_p, ctypes.c_uint32, ctypes.c_uint32, ctypes.c_uint32]),
     "aim_session_end": (None, [ctypes.c_void_p]),
     "aim_fault_text": (FaultWord, [ctypes.c_uint32]),
 }

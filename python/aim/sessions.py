@@ -48,6 +48,30 @@ class Chart:
         return "\n".join("".join(mark(row, column) for column in range(self.columns)) for row in rows)
 
 
+@dataclass(frozen=True)
+class Cell:
+    """Who has a tile at a step."""
+
+    row: int
+    """Counted from the south, from 0."""
+    column: int
+    """Counted from the west, from 0."""
+    step: int
+    vehicle: Optional[int]
+    """The number of the vehicle that holds it, or None."""
+    reservation: Optional[int]
+    """The id of that vehicle's reservation, or None."""
+    lane: Optional[int]
+    """The number of the lane that claims it by its green, held or not, or None."""
+
+
+def _number(value: int) -> int:
+    """A number of 32 bits: another one would be cut on its way into the library."""
+    if not 0 <= value < 2**32:
+        raise ValueError(f"{value} isn't a number from 0 to {2**32 - 1}")
+    return value
+
+
 class Session:
     """A session of script lines. What isn't taken raises an error and changes nothing; the next line is taken.
 
@@ -122,10 +146,19 @@ class Session:
     def chart(self, step: int) -> Chart:
         """Who holds and who claims the tiles at a step, which isn't below the greatest moment so far. Before `begin` it has
         no rows."""
-        handle = self._handle()
+        handle, step = self._handle(), _number(step)
         columns = self._c.aim_session_chart_row(handle, 0, step).columns
         rows = [self._c.aim_session_chart_row(handle, row, step) for row in range(columns)]
         return Chart(step, columns, tuple(row.held for row in rows), tuple(row.claimed for row in rows))
+
+    def cell(self, row: int, column: int, step: int) -> Optional[Cell]:
+        """Who has the tile of a row, counted from the south, and a column, counted from the west, at a step; nobody where
+        the step is below the greatest moment so far. None where there is no such tile, or `begin` wasn't taken."""
+        told = self._c.aim_session_cell(self._handle(), _number(row), _number(column), _number(step))
+        if not told.exists:
+            return None
+        vehicle, reservation = (told.vehicle, told.id) if told.held else (None, None)
+        return Cell(row, column, step, vehicle, reservation, told.lane if told.claimed else None)
 
     @property
     def entries(self) -> int:

@@ -84,6 +84,7 @@ class Sessions(unittest.TestCase):
             for line in LAYOUT.lines():
                 self.assertIsNone(session.take(line))
             self.assertEqual(session.chart(0), aim.Chart(0, 0, (), ()))
+            self.assertIsNone(session.cell(0, 0, 0))
 
     def test_nothing_comes_behind_the_end(self):
         with opened() as session:
@@ -97,7 +98,8 @@ class Sessions(unittest.TestCase):
         session = opened()
         session.close()
         session.close()
-        for call in (lambda: session.take("end"), lambda: session.entries, lambda: session.chart(0)):
+        for call in (lambda: session.take("end"), lambda: session.entries, lambda: session.chart(0),
+                     lambda: session.cell(0, 0, 0)):
             with self.assertRaises(aim.Ended):
                 call()
 
@@ -109,6 +111,34 @@ class Sessions(unittest.TestCase):
             self.assertEqual(chart.held, (0, 7, 0, 0))
             session.switch(0, "lights")
             self.assertEqual(session.chart(1530).claimed[1], 15)
+
+    def test_a_cell_tells_who_has_it(self):
+        with opened() as session:
+            session.say(3, 0, aim.Request(1, crossing(1, 30)))
+            session.say(2, 0, aim.Request(1, crossing(0, 10)))
+            session.switch(0, "lights")
+            self.assertEqual(session.cell(1, 2, 14), aim.Cell(1, 2, 14, 2, 1, None))
+            self.assertEqual(session.cell(1, 3, 14), aim.Cell(1, 3, 14, None, None, None))
+            self.assertEqual(session.cell(1, 3, 1530), aim.Cell(1, 3, 1530, None, None, 0))
+            for step in (14, 34, 1530):
+                chart = session.chart(step)
+                for row in range(4):
+                    for column in range(4):
+                        cell = session.cell(row, column, step)
+                        self.assertEqual(cell.vehicle is not None, bool(chart.held[row] >> column & 1))
+                        self.assertEqual(cell.reservation, {None: None, 3: 0, 2: 1}[cell.vehicle])
+                        self.assertEqual(cell.lane is not None, bool(chart.claimed[row] >> column & 1))
+            session.say(1, 15, aim.Done(1, 9))
+            self.assertEqual(session.cell(1, 2, 14), aim.Cell(1, 2, 14, None, None, None))
+            for row, column in ((4, 0), (0, 4), (256, 0), (2**32 - 1, 2**32 - 1)):
+                self.assertIsNone(session.cell(row, column, 20))
+
+    def test_numbers_that_the_library_has_not(self):
+        with opened() as session:
+            for call in (lambda: session.chart(-1), lambda: session.chart(2**32), lambda: session.cell(-1, 0, 0),
+                         lambda: session.cell(0, 2**32, 0), lambda: session.cell(0, 0, -1)):
+                with self.assertRaises(ValueError):
+                    call()
 
     def test_sessions_share_nothing(self):
         texts = [[] for _ in range(4)]

@@ -1,4 +1,4 @@
-/* Tests of the library's calls: the layout of what crosses, outcomes, numbers, rows, and memory that is refused.
+/* Tests of the library's calls: the layout of what crosses, outcomes, numbers, rows, cells, and memory that is refused.
      calls [CALLS [STRIDE]] */
 #include <aim.h>
 #include <stdio.h>
@@ -13,6 +13,9 @@ _Static_assert(sizeof(aim_answer) == 496, "an answer");
 _Static_assert(offsetof(aim_answer, reply) == 24, "its reply");
 _Static_assert(offsetof(aim_answer, text) == 96, "its text");
 _Static_assert(sizeof(aim_row) == 24, "a row");
+_Static_assert(sizeof(aim_cell) == 24, "who has a tile");
+_Static_assert(offsetof(aim_cell, id) == 12, "the reservation");
+_Static_assert(offsetof(aim_cell, lane) == 20, "the lane");
 _Static_assert(sizeof(aim_word) == 16, "a word");
 
 /* Memory is refused from the allocation of this number on, counted from 0; never where it is -1. */
@@ -95,6 +98,54 @@ static void faults_of_a_header(void) {
         CHECK(aim_session_take_text(session, header[i]).outcome == AIM_TAKEN);
     }
     CHECK(aim_session_stage(session) == AIM_IN_BODY);
+    ended(session);
+}
+
+static int is_cell(aim_cell cell, uint32_t exists, uint32_t held, uint32_t vehicle, uint32_t id, uint32_t claimed, uint32_t lane) {
+    return cell.exists == exists && cell.held == held && cell.vehicle == vehicle && cell.id == id && cell.claimed == claimed &&
+           cell.lane == lane;
+}
+
+/* Who has each tile of a row is who the row says that there is. */
+static void cells_of_a_body(void) {
+    aim_session *session = made();
+    CHECK(is_cell(aim_session_cell(session, 0, 0, 0), 0, 0, 0, 0, 0, 0));
+    for (int i = 0; i < LINES; i++) {
+        if (i == 7) {
+            CHECK(aim_session_take_text(session, "policy lights light").outcome == AIM_TAKEN);
+            CHECK(aim_session_take_text(session, "phase 20 80 0").outcome == AIM_TAKEN);
+            CHECK(aim_session_take_text(session, "phase 20 80 1").outcome == AIM_TAKEN);
+        }
+        CHECK(aim_session_take_text(session, header[i]).outcome == AIM_TAKEN);
+    }
+    CHECK(aim_session_take_text(session, "operator 0 switch lights").outcome == AIM_ENTRY);
+    CHECK(aim_session_take_text(session, "3 0 request 1 0 straight 10 500 500 0 1000 700 car").reply.id == 1);
+    CHECK(aim_session_take_text(session, "5 0 request 1 1 straight 25 500 500 0 1000 700 car").reply.id == 2);
+    uint32_t held = 0, claimed = 0;
+    for (uint32_t step = 8; step < 1700; step += step < 50 ? 1 : 50) {
+        for (uint32_t row = 0; row < 4; row++) {
+            aim_row marks = aim_session_chart_row(session, row, step);
+            for (uint32_t col = 0; col < 4; col++) {
+                aim_cell cell = aim_session_cell(session, row, col, step);
+                CHECK(cell.exists == 1 && cell.held == (marks.held >> col & 1) && cell.claimed == (marks.claimed >> col & 1));
+                uint32_t id = cell.vehicle == 3 ? 1 : 2;
+                CHECK(cell.held ? (cell.vehicle == 3 || cell.vehicle == 5) && cell.id == id : cell.vehicle == 0 && cell.id == 0);
+                CHECK(cell.lane <= cell.claimed);
+                held += cell.held;
+                claimed += cell.claimed;
+            }
+        }
+    }
+    CHECK(held > 0 && claimed > 0);
+    CHECK(is_cell(aim_session_cell(session, 1, 1, 15), 1, 1, 3, 1, 0, 0));
+    CHECK(is_cell(aim_session_cell(session, 1, 1, 1530), 1, 0, 0, 0, 1, 0));
+    CHECK(is_cell(aim_session_cell(session, 4, 1, 15), 0, 0, 0, 0, 0, 0));
+    CHECK(is_cell(aim_session_cell(session, 1, 4, 15), 0, 0, 0, 0, 0, 0));
+    CHECK(is_cell(aim_session_cell(session, 257, 1, 15), 0, 0, 0, 0, 0, 0));
+    CHECK(is_cell(aim_session_cell(session, 1, UINT32_MAX, 15), 0, 0, 0, 0, 0, 0));
+    CHECK(aim_session_take_text(session, "6 16 done 1 7").outcome == AIM_ENTRY);
+    CHECK(is_cell(aim_session_cell(session, 1, 1, 15), 1, 0, 0, 0, 0, 0));
+    CHECK(aim_session_cell(session, 1, 1, UINT32_MAX).exists == 1 && aim_session_cell(session, 1, 1, UINT32_MAX).held == 0);
     ended(session);
 }
 
@@ -184,6 +235,7 @@ int main(int count, char **words) {
     CHECK(aim_fault_text(0).length == 0 && aim_fault_text(20).length == 0 && aim_fault_text(UINT32_MAX).text[0] == 0);
     faults_of_a_header();
     answers_of_a_body();
+    cells_of_a_body();
     memory_that_is_refused(count > 2 ? atol(words[2]) : 1);
     many_calls(count > 1 ? atol(words[1]) : 1000000);
     printf("%d checks failed\n", fails);

@@ -1,5 +1,5 @@
 -- What a command did still stands when the sink has handed on what it kept back, and where it failed at that.
-use Rattle.std.proofs.Common.{◌≡◌, ◌∙◌, ◌⊎◌, inl, inr, ℕ, ◌≤◌, List, [], Option, None, Some, IfSome, refl, sym, subst, append-nil, arith}
+use Rattle.std.proofs.Common.{◌≡◌, ◌⊎◌, inl, inr, ℕ, ◌≤◌, List, [], Option, None, Some, IfSome, refl, sym, subst, append-nil, arith}
 use Rattle.std.proofs.KnownBytes.{Appends-kept}
 use Rattle.std.specs.Io.KnownBytes.{Appends, Keeps}
 use Rattle.aim_io.specs.Causes.{Rose}
@@ -10,7 +10,7 @@ use Rattle.aim_script.specs.Spellings.{Spelled}
 use Rattle.aim_session_command.specs.Commands.{HoldsSession}
 use Rattle.aim.specs.declared.words.Command.{Command}
 use Rattle.aim.specs.declared.words.Command.TheVariants.{Replay, Chart, ReplayJson, Session, SessionJson, Drive, Grid, Generate, Traffic, Shards, Mail, Help, Version}
-use Rattle.aim.specs.Runs.{Answers, Does, Ends, IsStatus, IsWhole, Prints, Replays, Settles}
+use Rattle.aim.specs.Runs.{Answers, Does, IsWhole, Prints, Replays, Settles}
 
 if_some : {X : Type 0} {P Q : X → Type 0} (it : Option X) → ((x : X) → P x → Q x) → IfSome it P → IfSome it Q
 if_some None f p = tt

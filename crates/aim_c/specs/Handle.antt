@@ -6,7 +6,8 @@ use denote.RawPtr.{Ptr, lies_at}
 use Rattle.aim_text_session.specs.declared.answers.Answer.{Answer}
 use Rattle.aim_text_session.specs.declared.sessions.RowMasks.{RowMasks}
 use Rattle.aim_text_session.specs.contracts.sessions.TextSession.{the_row}
-use Rattle.aim_text_session.specs.Numbers.{After}
+use Rattle.aim_text_session.specs.declared.cells.CellNumbers.{CellNumbers}
+use Rattle.aim_text_session.specs.Numbers.{After, ShowsTile}
 use Rattle.aim_text_session.specs.Sessions.{HasMade, InHeader, IsAt, Shows, Standing}
 
 -- a session lies at p, of which the fact holds
@@ -31,3 +32,6 @@ staged p m stage = holding p (IsAt m stage)
 
 abbrev pub charted : Ptr → Standing → ℕ → ℕ → RowMasks → Fml
 charted p m row step masks = holding p (Shows m row step masks)
+
+abbrev pub told : Ptr → Standing → ℕ → ℕ → ℕ → CellNumbers → Fml
+told p m row col step numbers = holding p (ShowsTile m row col step numbers)

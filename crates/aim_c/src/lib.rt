@@ -7,9 +7,9 @@ ghost use Rattle.std.specs.Ptr.{lies_at, room_at};
 ghost use Rattle.aim_text_session.specs.Sessions.{Standing};
 ghost use Rattle.aim_text_session.specs.Words.{word_of};
 ghost use Rattle.aim_text_session.specs.contracts.sessions.TextSession.{the_row};
-ghost use Rattle.aim_c.specs.Handle.{answered, charted, counted, fresh, staged};
+ghost use Rattle.aim_c.specs.Handle.{answered, charted, counted, fresh, staged, told};
 
-use aim_text_session::{Answer, FaultWord, RowMasks, TextSession, fault_word};
+use aim_text_session::{Answer, CellNumbers, FaultWord, RowMasks, TextSession, fault_word};
 use std::alloc::Global;
 use std::mem::size_of;
 
@@ -76,6 +76,16 @@ pub unsafe extern "C" fn aim_session_chart_row(at: *mut u8, row: u32, step: u32)
     ensures* { sem 𝓛 (charted at m row step result) }
 {
     TextSession::chart_row(&mut *(at as *mut TextSession), row, step)
+}
+
+/// Who has the tile of a row and a column at a step.
+#[unsafe(no_mangle)]
+pub unsafe extern "C" fn aim_session_cell(at: *mut u8, row: u32, col: u32, step: u32) -> CellNumbers
+    ghost m: { Standing }
+    requires* { sem 𝓛 (lies_at the_row full_share at m) }
+    ensures* { sem 𝓛 (told at m row col step result) }
+{
+    TextSession::cell(&mut *(at as *mut TextSession), row, col, step)
 }
 
 /// Ends the session at `at`, and leaves the room.

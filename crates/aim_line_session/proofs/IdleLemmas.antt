@@ -15,7 +15,9 @@ use Rattle.aim_line_session.specs.declared.progress.Answered.{Answered}
 use Rattle.aim_line_session.specs.declared.progress.Progress.{Progress}
 use Rattle.aim_line_session.specs.declared.progress.Untaken.{Untaken}
 use Rattle.aim_line_session.specs.declared.progress.Untaken.TheVariants as untaken
-use Rattle.aim_line_session.specs.Charted.{Marks}
+use Rattle.aim_geometry.specs.Cells.{Cell}
+use Rattle.aim_line_session.specs.declared.cells.CellUse.{CellUse}
+use Rattle.aim_line_session.specs.Charted.{Marks, TellsCell}
 use Rattle.aim_line_session.specs.Idle.{IdleOpens, joined, server_joined}
 use Rattle.aim_line_session.specs.Servers.{Serves}
 use Rattle.aim_line_session.specs.Sessions.{Comes, IsFull, Opens, Stands, journal_so_far}
@@ -124,3 +126,8 @@ pub charted_in : {L : Type 0} (before : List Line) (p : IdleProgress) (there : P
     → (Stands before there → Marks there.server.layout (journal_so_far before) row step held claimed) → Stands before (joined {L = Unit {0}} p) → Marks p.server.layout (journal_so_far before) row step held claimed
 charted_in {L} before p there row step held claimed is marks st =
     subst (λ (s : Progress L). Marks s.server.layout (journal_so_far before) row step held claimed) is (marks (stands_there before p there is st))
+
+-- who has a cell, as a manager in a ledger tells it
+pub told_in : {L : Type 0} (before : List Line) (p : IdleProgress) (there : Progress L) (c : Cell) (told : CellUse) → there ≡ joined p → (Stands before there → TellsCell there.server.layout (journal_so_far before) c told) → Stands before (joined {L = Unit {0}} p)
+    → TellsCell p.server.layout (journal_so_far before) c told
+told_in {L} before p there c told is tells st = subst (λ (s : Progress L). TellsCell s.server.layout (journal_so_far before) c told) is (tells (stands_there before p there is st))

@@ -4,3 +4,4 @@ pub mod SessionLemmas
 pub mod NameLemmas
 pub mod IdleLemmas
 pub mod QuietLemmas
+mod CellLemmas

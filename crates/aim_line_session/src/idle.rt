@@ -3,10 +3,12 @@
 ghost use Rattle.std.specs.Prelude.{◌≡◌, ◌<◌, ◌≤◌, List, Ok};
 ghost use Rattle.aim_messages.specs.declared.script.Line.{Line};
 ghost use Rattle.aim_script.specs.Headers.{HasName, IsSet};
-ghost use Rattle.aim_line_session.specs.Charted.{Marks};
+ghost use Rattle.aim_geometry.specs.Cells.{cell_at};
+ghost use Rattle.aim_line_session.specs.Charted.{Marks, TellsCell};
 ghost use Rattle.aim_line_session.specs.Idle.{IdleOpens, joined, server_joined};
 ghost use Rattle.aim_line_session.specs.Sessions.{Comes, Opens, Stands, journal_so_far};
 
+use crate::cells::CellUse;
 use crate::progress::{Answered, Progress, Unopened, Untaken};
 use crate::servers::DeskServer;
 use aim_book::{IdleDesk, Shapes};
@@ -190,6 +192,28 @@ fn charted<L: Ledger>(
     (progress.leave(Steps::new(blank)), marks)
 }
 
+// Who has a cell, as a manager in a ledger tells it.
+fn told<L: Ledger>(
+    progress: IdleProgress,
+    row: u8,
+    col: u8,
+    step: u32,
+    blank: Blank,
+) -> (IdleProgress, CellUse)
+    requires name { blank.name ≡ L.name }
+    requires parts { blank.parts ≡ L.parts }
+    requires some { 0 < blank.parts }
+    requires stands { (before : List Line) × Stands {L = Unit {0}} before (joined progress) }
+    requires row { row < progress.server.layout.grid.n }
+    requires col { col < progress.server.layout.grid.n }
+    ensures same { result.0 ≡ progress }
+    ensures told { (before : List Line) → Stands {L = Unit {0}} before (joined progress) → TellsCell progress.server.layout (journal_so_far before) (cell_at step row col) result.1 }
+{
+    let progress = progress.join::<L>();
+    let told = progress.cell(row, col, step);
+    (progress.leave(Steps::new(blank)), told)
+}
+
 /// A session that belongs to no ledger, and joins one of its own for each line: so it can be kept where no type says which
 /// ledger. Contracts see it as a session in a ledger that nothing counts.
 #[derive(Drop)]
@@ -265,6 +289,18 @@ impl IdleSession {
         let IdleSession { progress } = self;
         let (progress, taken) = taken::<Brand>(progress, line, Blank::new(1));
         (IdleSession { progress }, taken)
+    }
+
+    /// Who has the tile of a row and a column at a step; nobody where the step is below the greatest moment.
+    pub fn cell(self, row: u8, col: u8, step: u32) -> (IdleSession, CellUse)
+        requires row { row < self.server.layout.grid.n }
+        requires col { col < self.server.layout.grid.n }
+        ensures same { result.0 ≡ self }
+        ensures told { (before : List Line) → Stands before self → TellsCell self.server.layout (journal_so_far before) (cell_at step row col) result.1 }
+    {
+        let IdleSession { progress } = self;
+        let (progress, told) = told::<Brand>(progress, row, col, step, Blank::new(1));
+        (IdleSession { progress }, told)
     }
 
     /// The columns of a row that vehicles hold at a step, and those that lanes claim by their greens, one bit each; none

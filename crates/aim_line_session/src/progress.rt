@@ -10,9 +10,11 @@ ghost use Rattle.aim_script.specs.Headers.{HasName, IsSet};
 ghost use Rattle.aim_script.specs.Kinds.{vehicles_limit as limit_on};
 ghost use Rattle.aim_script.specs.Said.{version_after};
 ghost use Rattle.aim_script.specs.Spellings.{reads_words};
-ghost use Rattle.aim_line_session.specs.Charted.{Marks};
+ghost use Rattle.aim_geometry.specs.Cells.{cell_at};
+ghost use Rattle.aim_line_session.specs.Charted.{Marks, TellsCell};
 ghost use Rattle.aim_line_session.specs.Sessions.{Comes, IsOrdered, Opens, Stands, event_kind, journal_so_far};
 
+use crate::cells::CellUse;
 use crate::servers::DeskServer;
 use aim_layout::Layout;
 use aim_messages::{Entry, LATEST_MOMENT, Line, MOST_ENTRIES, MOST_VEHICLES, Message, Name, Order};
@@ -135,6 +137,16 @@ impl<L: Ledger> Progress<L> {
         ensures { result.now ≡ self.now.server.layout }
     {
         self.server.layout()
+    }
+
+    /// Who has the tile of a row and a column at a step; nobody where the step is below the greatest moment.
+    pub fn cell(&self, row: u8, col: u8, step: u32) -> CellUse
+        requires stands { (before : List Line) × Stands before self.now }
+        requires row { row < self.now.server.layout.grid.n }
+        requires col { col < self.now.server.layout.grid.n }
+        ensures { (before : List Line) → Stands before self.now → TellsCell self.now.server.layout (journal_so_far before) (cell_at step row col) result }
+    {
+        self.server.cell(row, col, step)
     }
 
     /// The columns of a row that vehicles hold at a step, and those that lanes claim by their greens, one bit each; none

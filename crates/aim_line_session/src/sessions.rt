@@ -1,5 +1,6 @@
 //! Sessions: lines in, outcomes out.
 
+use crate::cells::CellUse;
 use crate::progress::{Answered, Progress, Unopened, Untaken};
 use aim_layout::Layout;
 use aim_messages::Line;
@@ -40,7 +41,8 @@ impl<L: Ledger> LineSession<L> {
     ghost use Rattle.aim_script.specs.Said.{version_after};
     ghost use Rattle.aim_script.specs.Spellings.{reads_words};
     ghost use Rattle.aim_line_session.specs.Sessions.{Comes, Opens, Stands, journal_so_far};
-    ghost use Rattle.aim_line_session.specs.Charted.{Marks};
+    ghost use Rattle.aim_geometry.specs.Cells.{cell_at};
+    ghost use Rattle.aim_line_session.specs.Charted.{Marks, TellsCell};
 
     /// The session of a header. It takes all of its memory here.
     pub fn open(alloc: Global, setting: Setting) -> Result<LineSession<L>, Unopened>
@@ -79,6 +81,15 @@ impl<L: Ledger> LineSession<L> {
         ensures { result.now ≡ self.now.server.layout }
     {
         self.progress.layout()
+    }
+
+    /// Who has the tile of a row and a column at a step; nobody where the step is below the greatest moment.
+    pub fn cell(&self, row: u8, col: u8, step: u32) -> CellUse
+        requires row { row < self.now.server.layout.grid.n }
+        requires col { col < self.now.server.layout.grid.n }
+        ensures { (before : List Line) → Stands before self.now → TellsCell self.now.server.layout (journal_so_far before) (cell_at step row col) result }
+    {
+        self.progress.cell(row, col, step)
     }
 
     /// The columns of a row that vehicles hold at a step, and those that lanes claim by their greens, one bit each; none

@@ -1,5 +1,5 @@
--- Replies, faults, limits and what lines come to, as numbers.
-use Rattle.std.specs.Prelude.{◌≡◌, ℕ, Bool, true, false, List, take, replicate, slice_get, Option, Some, None}
+-- Replies, faults, limits, what lines come to, and who has a cell, as numbers.
+use Rattle.std.specs.Prelude.{◌≡◌, ℕ, Bool, true, false, ◌&&◌, nat_lt, MatchBool, List, take, replicate, slice_get, Option, Some, None}
 use Rattle.aim_messages.specs.declared.replies.Field.{Field}
 use Rattle.aim_messages.specs.declared.replies.Field.TheVariants as field
 use Rattle.aim_messages.specs.declared.replies.Reason.{Reason}
@@ -13,12 +13,18 @@ use Rattle.aim_script.specs.declared.decisions.Kind.{Kind}
 use Rattle.aim_script.specs.declared.decisions.Kind.TheVariants as kind
 use Rattle.aim_script.specs.declared.decisions.Limit.{Limit}
 use Rattle.aim_script.specs.declared.decisions.Limit.TheVariants as limit
+use Rattle.aim_geometry.specs.Cells.{cell_at}
+use Rattle.aim_line_session.specs.declared.cells.CellUse.{CellUse}
+use Rattle.aim_line_session.specs.declared.cells.Holder.{Holder}
 use Rattle.aim_line_session.specs.declared.progress.Answered.{Answered}
+use Rattle.aim_line_session.specs.Charted.{TellsCell}
+use Rattle.aim_line_session.specs.Sessions.{journal_so_far}
 use Rattle.aim_text_session.specs.declared.answers.Answer.{Answer}
 use Rattle.aim_text_session.specs.declared.answers.ReplyNumbers.{ReplyNumbers}
+use Rattle.aim_text_session.specs.declared.cells.CellNumbers.{CellNumbers}
 use Rattle.aim_text_session.specs.declared.outcomes.LineOutcome.{LineOutcome}
 use Rattle.aim_text_session.specs.declared.outcomes.LineOutcome.TheVariants as outcome
-use Rattle.aim_text_session.specs.Sessions.{Comes, Standing, Stands}
+use Rattle.aim_text_session.specs.Sessions.{Comes, InBody, InHeader, Standing, Stands}
 
 -- the number of a fault, from 1 on; those from 20 on are of no line of a session
 abbrev pub fault_number : Kind → ℕ
@@ -127,6 +133,24 @@ reply_numbers (reply.Stale last) = record nothing { kind = 5; seq = last }
 reply_numbers (reply.Switched from) = record nothing { kind = 6; from = from }
 reply_numbers reply.Stopped = record nothing { kind = 7 }
 
+-- nobody has a tile that isn't there
+abbrev pub no_cell : CellNumbers
+no_cell = record { exists = 0; held = 0; vehicle = 0; id = 0; claimed = 0; lane = 0 }
+
+-- a tile of which so much is said, with the vehicle that holds it
+abbrev pub with_holder : Option Holder → CellNumbers → CellNumbers
+with_holder None a = a
+with_holder (Some who) a = record a { held = 1; vehicle = who.vehicle; id = who.id }
+
+-- and with the lane that claims it
+abbrev pub with_lane : Option ℕ → CellNumbers → CellNumbers
+with_lane None a = a
+with_lane (Some lane) a = record a { claimed = 1; lane = lane }
+
+-- the numbers of who has a cell
+abbrev pub cell_numbers : CellUse → CellNumbers
+cell_numbers told = with_lane told.lane (with_holder told.holder (record no_cell { exists = 1 }))
+
 -- the answer of a line that makes no entry
 pub record IsPlain (outcome fault : ℕ) (a : Answer) : Type 0 where
   pub outcome_is : a.outcome ≡ outcome
@@ -164,6 +188,18 @@ pub record Answers (before : List Line) (bytes : List ℕ) (old new : Standing) 
   pub outcome : LineOutcome
   pub comes : Comes before bytes old new outcome
   pub tells : Tells outcome a
+
+-- what is told of a tile at a step is who has it, where the session has begun and there is such a tile
+abbrev pub TellsTile : List Line → Standing → ℕ → ℕ → ℕ → CellNumbers → Type 0
+TellsTile before (InHeader lines) row col step a = a ≡ no_cell
+TellsTile before (InBody p) row col step a =
+    MatchBool (nat_lt row p.server.layout.grid.n && nat_lt col p.server.layout.grid.n)
+    ((told : CellUse) × TellsCell p.server.layout (journal_so_far before) (cell_at step row col) told × (a ≡ cell_numbers told))
+    (a ≡ no_cell)
+
+-- the session is as it was, and the numbers are those of the tile at the step
+abbrev pub ShowsTile : Standing → ℕ → ℕ → ℕ → CellNumbers → Standing → Type 0
+ShowsTile old row col step a new = (new ≡ old) × ((before : List Line) → Stands before old → TellsTile before old row col step a)
 
 -- for all lines for which the session stood, the answer tells what the bytes came to
 abbrev pub After : Standing → List ℕ → Answer → Standing → Type 0

@@ -7,8 +7,10 @@ ghost use Rattle.aim_script.specs.Said.{version_after};
 ghost use Rattle.aim_script.specs.Versions.{version_number};
 ghost use Rattle.aim_line_session.specs.Sessions.{Stands as StandsAsSession};
 ghost use Rattle.aim_text_session.specs.Headings.{AreCounted, AreHeard, Begins, IsHeading, IsHeard, IsReached, IsSettled, Leads, said, standing_of};
+ghost use Rattle.aim_text_session.specs.Numbers.{TellsTile};
 ghost use Rattle.aim_text_session.specs.Sessions.{InBody, InHeader, Stands, TellsRow};
 
+use crate::cells::{CellNumbers, NO_CELL, cell_numbers};
 use crate::outcomes::{LineOutcome, outcome_of};
 use crate::sessions::RowMasks;
 use aim_line_session::{IdleSession, Unopened, vehicles_limit};
@@ -314,6 +316,24 @@ impl Reached {
         match self {
             Reached::Heading(heading) => heading_after(heading, alloc, read),
             Reached::Body(session) => body_after(session, read),
+        }
+    }
+
+    /// Who has a tile at a step, and the session as it was.
+    pub(crate) fn tile(self, row: u32, col: u32, step: u32) -> (Reached, CellNumbers)
+        ensures same { result.0 ≡ self }
+        ensures told { (before : List Line) → Stands before (standing_of self) → TellsTile before (standing_of self) row col step result.1 }
+    {
+        match self {
+            Reached::Heading(heading) => (Reached::Heading(heading), NO_CELL),
+            Reached::Body(session) => {
+                let columns = session.rows();
+                if row >= columns || col >= columns {
+                    return (Reached::Body(session), NO_CELL);
+                }
+                let (session, told) = session.cell(row as u8, col as u8, step);
+                (Reached::Body(session), cell_numbers(told))
+            }
         }
     }
 

@@ -2,6 +2,7 @@
 #![tactic(auto)]
 
 mod answers;
+mod cells;
 mod headings;
 pub mod laws;
 mod numbers;
@@ -11,6 +12,7 @@ mod sessions;
 mod words;
 
 pub use answers::{Answer, ReplyNumbers};
+pub use cells::CellNumbers;
 pub use outcomes::LineOutcome;
 pub use sessions::{RowMasks, TextSession};
 pub use words::{FaultWord, fault_word};

@@ -1,6 +1,7 @@
 //! Sessions of texts: lines in as bytes, from the first of a script on, and answers out.
 
 use crate::answers::{Answer, answer_of};
+use crate::cells::CellNumbers;
 use crate::headings::{Advance, Heading, Reached};
 use crate::outcomes::LineOutcome;
 use crate::reading::read_text;
@@ -53,7 +54,7 @@ impl TextSession {
     ghost use Rattle.aim_script.specs.Said.{version_after};
     ghost use Rattle.aim_script.specs.Verdicts.{of_read};
     ghost use Rattle.aim_script.specs.Versions.{version_number};
-    ghost use Rattle.aim_text_session.specs.Numbers.{After};
+    ghost use Rattle.aim_text_session.specs.Numbers.{After, ShowsTile};
     ghost use Rattle.aim_text_session.specs.Sessions.{Comes, ComesBy, HasMade, InHeader, IsAt, Shows, Stands};
 
     /// A session that has taken no line.
@@ -128,6 +129,17 @@ impl TextSession {
         let (reached, masks) = reached.masks(row, step);
         self.reached = reached;
         masks
+    }
+
+    /// Who has the tile of a row and a column, counted from the south and the west, at a step: the vehicle that holds it, with the
+    /// id of its reservation, and the lane that claims it by its green; nobody where the step is below the greatest moment.
+    pub fn cell(&mut self, row: u32, col: u32, step: u32) -> CellNumbers
+        ensures { ShowsTile self.old row col step result self.new }
+    {
+        let reached = mem::replace(&mut self.reached, Reached::new(self.alloc));
+        let (reached, numbers) = reached.tile(row, col, step);
+        self.reached = reached;
+        numbers
     }
 
     /// Lets the session go.
