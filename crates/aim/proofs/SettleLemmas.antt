@@ -76,17 +76,7 @@ module _ (old new : Streams) (held : Option (List ℕ)) (faults status : ℕ) (k
     ended = r.ended;
     front = λ h. if_some old.left (λ bytes x. front x) (r.front h);
     nothing = λ takes h. added [] (r.nothing takes h);
-    short = λ h. let x = r.short h in record {
-      lines = x.lines;
-      part = x.part;
-      taken = x.taken;
-      within = x.within;
-      is_open = x.is_open;
-      undecided = x.undecided;
-      before = x.before;
-      whole = x.whole;
-      written = added _ x.written;
-    };
+    short = λ h. let x = r.short h in record { read = x.read; before = x.before; lines = x.lines; written = added _ x.written };
     waited = λ h. stays h (r.waited h);
     most = r.most;
     needed = r.needed;

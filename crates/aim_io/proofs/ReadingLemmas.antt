@@ -262,8 +262,7 @@ gives left faults last old now new before after (look.Line len) result none on s
     subst (λ r. Gives old new (left before) (left after) r) (sym answered.0)
     (subst (λ n. Gave old n (left before) (left after) true) (sym answered.1) (gave_line left faults last old now before after len none on sound shows going))
 gives left faults last old now new before after (look.Stop fault) result none on sound shows answered =
-    subst (λ r. Gives old new (left before) (left after) r) (sym answered.0)
-    (
+    subst (λ r. Gives old new (left before) (left after) r) (sym answered.0) (
       λ _. subst (λ n. Faulted old n (left before) (left after) fault) (sym answered.1) (faulted left faults last old now before after fault on sound shows),
       subst (λ first. IfSome first (λ first. (fault ≡ first) × (new ≡ old))) (sym none) tt,
     )

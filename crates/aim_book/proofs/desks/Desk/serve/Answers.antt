@@ -18,38 +18,38 @@ use Rattle.aim_book.proofs.desks.Desk.serve.Goals as goal
 
 pub returns-in-Fresh-clause-entry : goal.returns-in-Fresh-clause-entry
 returns-in-Fresh-clause-entry g c = λ h m place. record {
-      reply =
-        let many : length c.go_on.new.self.sessions ≡ length c.args.self.now.sessions = (λ j. length (c.go_on.ensures.rest j).sessions) in
-        c.serve_fresh.ensures.reply h c.args.moment (subst (λ k. IsManaged c.args.layout.now k h (now_of h c.args.moment) c.go_on.new.self) (sym many) (c.go_on.ensures.managed c.args.layout.now (length c.args.self.now.sessions) h m)) place;
-      managed =
-        let i = c.args.layout.now in
-        let n = length c.args.self.now.sessions in
-        let many : length c.go_on.new.self.sessions ≡ n = (λ j. length (c.go_on.ensures.rest j).sessions) in
-        let e : Entry = record { caller = c.args.vehicle; moment = c.args.moment; act = act.Message c.args.prepared.message; reply = c.serve_fresh.result } in
-        let before : IsManaged i (length c.go_on.new.self.sessions) h (now_of h c.args.moment) c.go_on.new.self = subst (λ k. IsManaged i k h (now_of h c.args.moment) c.go_on.new.self) (sym many) (c.go_on.ensures.managed i n h m) in
-        let after : IsManaged i (length c.go_on.new.self.sessions) (h ++ e ∷ []) (now_of h c.args.moment) c.serve_fresh.new.self = c.serve_fresh.ensures.managed h c.args.moment before place c.requires.moment in
-        subst (λ k. IsManaged i k (h ++ e ∷ []) (now_of (h ++ e ∷ []) 0) c.serve_fresh.new.self) many
-        (subst (λ t. IsManaged i (length c.go_on.new.self.sessions) (h ++ e ∷ []) t c.serve_fresh.new.self) (sym (now_next h e)) after);
-    }
+  reply =
+      let many : length c.go_on.new.self.sessions ≡ length c.args.self.now.sessions = (λ j. length (c.go_on.ensures.rest j).sessions) in
+      c.serve_fresh.ensures.reply h c.args.moment (subst (λ k. IsManaged c.args.layout.now k h (now_of h c.args.moment) c.go_on.new.self) (sym many) (c.go_on.ensures.managed c.args.layout.now (length c.args.self.now.sessions) h m)) place;
+  managed =
+      let i = c.args.layout.now in
+      let n = length c.args.self.now.sessions in
+      let many : length c.go_on.new.self.sessions ≡ n = (λ j. length (c.go_on.ensures.rest j).sessions) in
+      let e : Entry = record { caller = c.args.vehicle; moment = c.args.moment; act = act.Message c.args.prepared.message; reply = c.serve_fresh.result } in
+      let before : IsManaged i (length c.go_on.new.self.sessions) h (now_of h c.args.moment) c.go_on.new.self = subst (λ k. IsManaged i k h (now_of h c.args.moment) c.go_on.new.self) (sym many) (c.go_on.ensures.managed i n h m) in
+      let after : IsManaged i (length c.go_on.new.self.sessions) (h ++ e ∷ []) (now_of h c.args.moment) c.serve_fresh.new.self = c.serve_fresh.ensures.managed h c.args.moment before place c.requires.moment in
+      subst (λ k. IsManaged i k (h ++ e ∷ []) (now_of (h ++ e ∷ []) 0) c.serve_fresh.new.self) many
+      (subst (λ t. IsManaged i (length c.go_on.new.self.sessions) (h ++ e ∷ []) t c.serve_fresh.new.self) (sym (now_next h e)) after);
+}
 
 pub returns-in_default-clause-entry : goal.returns-in_default-clause-entry
 returns-in_default-clause-entry g c = λ h m place. record {
-      reply =
-        let i = c.args.layout.now in
-        let n = length c.args.self.now.sessions in
-        c.answer_known-reply.ensures n c.args.moment h (c.go_on.ensures.managed i n h m) c.requires.vehicle
-        ∙ ap (λ msg. answer i h c.args.vehicle c.args.moment (act.Message msg)) c.message-in_default.ensures.message;
-      managed =
-        let i = c.args.layout.now in
-        let n = length c.args.self.now.sessions in
-        let e : Entry = record { caller = c.args.vehicle; moment = c.args.moment; act = act.Message c.args.prepared.message; reply = c.answer_known-reply.result } in
-        let before = c.go_on.ensures.managed i n h m in
-        let said : c.answer_known-reply.result ≡ answer i h c.args.vehicle c.args.moment (act.Message c.args.prepared.message)
-        = c.answer_known-reply.ensures n c.args.moment h before c.requires.vehicle ∙ ap (λ msg. answer i h c.args.vehicle c.args.moment (act.Message msg)) c.message-in_default.ensures.message in
-        let legal : IsLegal i n (h ++ e ∷ []) = IsLegal-append i n h e m.legal (record { moment = c.requires.moment; caller = ((let f = m.few in let l = c.requires.vehicle in omega arith), c.requires.vehicle) }) said in
-        let old : is_fresh h e ≡ false = session_fresh c.go_on.new.self.sessions h e c.args.prepared.message before.desk.sessions (let q = before.desk.callers in let l = c.requires.vehicle in omega arith) refl ∙ ap is_fresh_look (sym (c.look.ensures ∙ ap (λ msg. look_of (slice_index_or c.go_on.new.self.sessions c.args.vehicle no_session).last msg) c.message.ensures.message)) ∙ not_fresh c.look.result c.in_default.not-Fresh in
-        managed_same i n h e c.go_on.new.self before legal old refl refl;
-    }
+  reply =
+      let i = c.args.layout.now in
+      let n = length c.args.self.now.sessions in
+      c.answer_known-reply.ensures n c.args.moment h (c.go_on.ensures.managed i n h m) c.requires.vehicle
+      ∙ ap (λ msg. answer i h c.args.vehicle c.args.moment (act.Message msg)) c.message-in_default.ensures.message;
+  managed =
+      let i = c.args.layout.now in
+      let n = length c.args.self.now.sessions in
+      let e : Entry = record { caller = c.args.vehicle; moment = c.args.moment; act = act.Message c.args.prepared.message; reply = c.answer_known-reply.result } in
+      let before = c.go_on.ensures.managed i n h m in
+      let said : c.answer_known-reply.result ≡ answer i h c.args.vehicle c.args.moment (act.Message c.args.prepared.message)
+      = c.answer_known-reply.ensures n c.args.moment h before c.requires.vehicle ∙ ap (λ msg. answer i h c.args.vehicle c.args.moment (act.Message msg)) c.message-in_default.ensures.message in
+      let legal : IsLegal i n (h ++ e ∷ []) = IsLegal-append i n h e m.legal (record { moment = c.requires.moment; caller = ((let f = m.few in let l = c.requires.vehicle in omega arith), c.requires.vehicle) }) said in
+      let old : is_fresh h e ≡ false = session_fresh c.go_on.new.self.sessions h e c.args.prepared.message before.desk.sessions (let q = before.desk.callers in let l = c.requires.vehicle in omega arith) refl ∙ ap is_fresh_look (sym (c.look.ensures ∙ ap (λ msg. look_of (slice_index_or c.go_on.new.self.sessions c.args.vehicle no_session).last msg) c.message.ensures.message)) ∙ not_fresh c.look.result c.in_default.not-Fresh in
+      managed_same i n h e c.go_on.new.self before legal old refl refl;
+}
 
 pub serve_fresh-requires-clause-managed : goal.serve_fresh-requires-clause-managed
 serve_fresh-requires-clause-managed g c =

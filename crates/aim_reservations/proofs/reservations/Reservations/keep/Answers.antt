@@ -13,37 +13,37 @@ grant-requires-clause-ahead g c = let s = granted_some c.args.reply.now c.in-Som
 
 pub returns-in-None-clause-kept : goal.returns-in-None-clause-kept
 returns-in-None-clause-kept g c = record {
-      rows =
-        let items = c.args.self.now.rows.items in
-        let row = row_of items c.args.vehicle in
-        let id : c.given_up-id.result ≡ given_up c.args.prepared.message.body = rw (← c.message.ensures.message) c.given_up-id.ensures in
-        c.give_up.ensures.rows
-        ∙ ap (λ o. slice_set items c.args.vehicle (if is_named o row then None else row)) id
-        ∙ ap (λ w. slice_set items c.args.vehicle w) (row_kept row c.args.place c.args.prepared c.args.reply.now (granted_none c.args.reply.now c.in-None.ensures));
-      table = c.give_up.ensures.table;
-      cells =
-        λ cell.
-        let row = row_of c.args.self.now.rows.items c.args.vehicle in
-        let id : c.given_up-id.result ≡ given_up c.args.prepared.message.body = rw (← c.message.ensures.message) c.given_up-id.ensures in
-        c.give_up.ensures.cells cell
-        ∙ ap (λ o. is_taken_then c.args.self.now.table row None (is_named o row) cell) id
-        ∙ cells_kept c.args.self.now.table row c.args.place c.args.prepared c.args.reply.now cell (granted_none c.args.reply.now c.in-None.ensures);
-    }
+  rows =
+      let items = c.args.self.now.rows.items in
+      let row = row_of items c.args.vehicle in
+      let id : c.given_up-id.result ≡ given_up c.args.prepared.message.body = rw (← c.message.ensures.message) c.given_up-id.ensures in
+      c.give_up.ensures.rows
+      ∙ ap (λ o. slice_set items c.args.vehicle (if is_named o row then None else row)) id
+      ∙ ap (λ w. slice_set items c.args.vehicle w) (row_kept row c.args.place c.args.prepared c.args.reply.now (granted_none c.args.reply.now c.in-None.ensures));
+  table = c.give_up.ensures.table;
+  cells =
+      λ cell.
+      let row = row_of c.args.self.now.rows.items c.args.vehicle in
+      let id : c.given_up-id.result ≡ given_up c.args.prepared.message.body = rw (← c.message.ensures.message) c.given_up-id.ensures in
+      c.give_up.ensures.cells cell
+      ∙ ap (λ o. is_taken_then c.args.self.now.table row None (is_named o row) cell) id
+      ∙ cells_kept c.args.self.now.table row c.args.place c.args.prepared c.args.reply.now cell (granted_none c.args.reply.now c.in-None.ensures);
+}
 
 pub returns-in-Some-clause-kept : goal.returns-in-Some-clause-kept
 returns-in-Some-clause-kept g c = record {
-      rows =
-        let items = c.args.self.now.rows.items in
-        c.grant.ensures.rows
-        ∙ ap (λ row. slice_set items c.args.vehicle row)
-        (row_granted (row_of items c.args.vehicle) c.args.place c.args.prepared c.args.reply.now c.in-Some.accelerate c.in-Some.ensures);
-      table = c.grant.ensures.table;
-      cells =
-        λ cell.
-        let row = row_of c.args.self.now.rows.items c.args.vehicle in
-        c.grant.ensures.cells cell
-        ∙ cells_granted c.args.self.now.table row c.args.place c.args.prepared c.args.reply.now c.in-Some.accelerate cell c.in-Some.ensures;
-    }
+  rows =
+      let items = c.args.self.now.rows.items in
+      c.grant.ensures.rows
+      ∙ ap (λ row. slice_set items c.args.vehicle row)
+      (row_granted (row_of items c.args.vehicle) c.args.place c.args.prepared c.args.reply.now c.in-Some.accelerate c.in-Some.ensures);
+  table = c.grant.ensures.table;
+  cells =
+      λ cell.
+      let row = row_of c.args.self.now.rows.items c.args.vehicle in
+      c.grant.ensures.cells cell
+      ∙ cells_granted c.args.self.now.table row c.args.place c.args.prepared c.args.reply.now c.in-Some.accelerate cell c.in-Some.ensures;
+}
 
 pub returns-in-Some-clause-sheets : goal.returns-in-Some-clause-sheets
 returns-in-Some-clause-sheets g c =
