@@ -1,5 +1,5 @@
 -- What a script that fits gives to the makers of agents and to the drive.
-use Rattle.std.proofs.Common.{◌≡◌, ℕ, ◌≤◌, length, get_or, arith}
+use Rattle.std.proofs.Common.{◌≡◌, ℕ, ◌≤◌, get_or, arith}
 use Rattle.aim_messages.specs.declared.entries.Act.TheVariants as act
 use Rattle.aim_messages.specs.declared.entries.Order.{Order}
 use Rattle.aim_messages.specs.declared.entries.Order.TheVariants as order
