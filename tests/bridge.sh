@@ -1,7 +1,7 @@
 #!/usr/bin/env bash
 # Tests the bridge to SUMO: its parts, then a minute of SUMO's traffic under each policy, on nets of one's own, as
-# experiments, and by the rules of version 4 with the plain manager of tests/plain. Installs what it needs from Debian's packages where that isn't there and is allowed; says what wasn't
-# tested where it can't be had.
+# experiments, and by the rules of version 4 with the plain manager of tests/plain. Installs what it needs from Debian's
+# packages where that isn't there and is allowed; says what wasn't tested where it can't be had.
 set -uo pipefail
 cd "$(dirname "${BASH_SOURCE[0]}")/.." || exit 1
 source tests/installing.sh

@@ -81,6 +81,7 @@ def _add_net(parser):
     add("--routes", type=lambda text: text.split(","), default=[], help="of a SUMO net: its files of routes")
     add("--additional", type=lambda text: text.split(","), default=[], help="of a SUMO net: more files, say of types")
     add("--sumo", type=words.options, default="", help="of a SUMO net: further options for SUMO, in one word")
+    _add_version(add, "of a SUMO net: the rules of its layouts")
     parser.set_defaults(command=_net)
 
 

@@ -66,14 +66,17 @@ def _bezier(points, share):
 class Track:
     """The lane on which a vehicle goes before the box, in it and behind it: a chain of places, 0 at the line.
 
-    `length` is how long the simulator says that the part in the box is; its shape is scaled to that.
+    `length` is how long the simulator says that the part in the box is; its shape is scaled to that. The first `lead`
+    metres of it and the last `tail` ones are of the lanes in and out, and are as long as their shapes are.
     """
 
-    def __init__(self, before, inside, after, length=None):
-        self.inside = _arcs(inside)
-        self.arc = length or self.inside[-1]
-        scale = self.arc / self.inside[-1]
-        self.inside = [arc * scale for arc in self.inside]
+    def __init__(self, before, inside, after, length=None, lead=0.0, tail=0.0):
+        arcs = _arcs(inside)
+        self.arc = length or arcs[-1]
+        scale = (self.arc - lead - tail) / (arcs[-1] - lead - tail)
+        last = arcs[-1] - tail
+        self.inside = [arc if arc <= lead else lead + (min(arc, last) - lead) * scale + max(0.0, arc - last)
+                       for arc in arcs]
         self.shape = list(inside)
         back = [-arc for arc in _arcs(before[::-1])][:0:-1]
         self._places = [*back, *self.inside, *(self.arc + arc for arc in _arcs(after)[1:])]

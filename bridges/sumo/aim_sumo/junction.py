@@ -217,7 +217,7 @@ class JunctionRun:
         if lane in link.via:
             car.place = link.via[lane] + place
         elif lane.startswith(link.exit + "_"):
-            car.place = place + car.way.arc
+            car.place = place + car.way.arc - link.tail
         elif lane.startswith(link.entry + "_"):
             car.place = place - link.entry_length
         elif car.state is State.OUT or car.place > car.way.arc:

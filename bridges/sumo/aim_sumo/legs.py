@@ -1,4 +1,4 @@
-"""Paths of straight legs along a chain of places, and the part of a lane that lies on the ground.
+"""Paths of straight legs along a chain of places, and the parts of lanes that lie on the ground.
 
 Places are metres; a path's points are whole millimetres, and its parts are those of the manager's line `move`.
 """
@@ -12,6 +12,8 @@ LONGEST_LINE = 400
 """Bytes that a line of a script has at most."""
 NEAREST = 0.005
 """Metres up to which legs are from the places where there is room for so many legs; twice that, and so on, where not."""
+FLAT = 0.4
+"""The least sine of the angle at which a lane may leave the ground."""
 
 Place = tuple[float, float]
 
@@ -39,7 +41,7 @@ def along(lane: int, turn: str, places: list[Place], spacing: int) -> Legs:
 
 def _fine(places: list[Place], spacing: int) -> list[Place]:
     """Places along the chain that are a little less than a spacing apart."""
-    way = sum(math.dist(here, there) for here, there in zip(places, places[1:]))
+    way = _way(places)
     count = max(1, math.ceil(way * 1000 / (spacing - 1)))
     found, piece, begun = [places[0]], 0, 0.0
     for number in range(1, count):
@@ -84,16 +86,50 @@ def _move(lane: int, turn: str, fine: list[Place], ends: list[int], spacing: int
     return Move(lane, turn, points, sum(parts), tuple(parts) if len(parts) > 1 else ())
 
 
-def on_ground(places: list[Place], side: float) -> tuple[list[Place], list[Place]] | None:
-    """A chain that leads out of the square ground, cut where it leaves it: the part up to there, and the one from there.
+@dataclass(frozen=True)
+class Laid:
+    """A connection's lanes seen from the ground: the path from border to border, and the lanes before it and behind it.
 
-    None where it doesn't leave the ground. `side` is the ground's, whose corner is the origin.
+    `lead` and `tail` are the metres of the lanes in and out that belong to the path. `is_flat` says that a lane doesn't
+    leave the ground, or so flatly that bodies on it would be on the ground outside the path.
+    """
+
+    before: list[Place]
+    inside: list[Place]
+    after: list[Place]
+    lead: float
+    tail: float
+    is_flat: bool
+
+
+def laid(before: list[Place], inside: list[Place], after: list[Place], side: float) -> Laid:
+    """The lanes as they are laid on a square ground; `side` is the ground's, whose corner is the origin."""
+    back = _on_ground(before[::-1], side)
+    ahead = _on_ground(after, side)
+    if back is None or ahead is None:
+        return Laid(before, inside, after, 0.0, 0.0, True)
+    (lead, out, one), (tail, on, other) = back, ahead
+    whole = _without_repeats([*lead[::-1], *inside, *tail])
+    return Laid(out[::-1], whole, on, _way(lead), _way(tail), min(one, other) < FLAT)
+
+
+def _way(places: list[Place]) -> float:
+    """The metres along a chain."""
+    return sum(math.dist(here, there) for here, there in zip(places, places[1:]))
+
+
+def _on_ground(places: list[Place], side: float) -> tuple[list[Place], list[Place], float] | None:
+    """A chain that leads out of the ground, cut where it leaves it: the part up to there, the one from there.
+
+    And how steeply it does, as the sine of the angle to the border. None where it doesn't leave the ground.
     """
     for place, (here, there) in enumerate(zip(places, places[1:])):
-        share = min((_leaves(a, b, side) for a, b in zip(here, there)), default=math.inf)
+        share, axis = min((_leaves(here[axis], there[axis], side), axis) for axis in (0, 1))
         if share <= 1:
-            cut = tuple(min(side, max(0.0, value)) for value in _between(here, there, max(0.0, share)))
-            return _without_repeats([*places[:place + 1], cut]), _without_repeats([cut, *places[place + 1:]])
+            x, y = (min(side, max(0.0, value)) for value in _between(here, there, max(0.0, share)))
+            steep = abs(there[axis] - here[axis]) / math.dist(here, there)
+            return (_without_repeats([*places[:place + 1], (x, y)]),
+                    _without_repeats([(x, y), *places[place + 1:]]), steep)
     return None
 
 

@@ -22,7 +22,11 @@ OWN_CONTROLS = ("aim", "own")
 
 @dataclass(frozen=True)
 class Link:
-    """A move in the net: its lanes in and out, the lanes by which it leads through the box, and its light."""
+    """A move in the net: its lanes in and out, the lanes by which it leads through the box, and its light.
+
+    `entry_length` is the place of its line on the lane in. `lead` and `tail` are how many metres of the lanes in and out
+    belong to its path: the line is so far before the net's own, and so much of the lane out is on the ground.
+    """
 
     move: str
     entry: str
@@ -40,10 +44,12 @@ class Link:
     inside: list
     after: list
     deviation: float = 0.0
+    lead: float = 0.0
+    tail: float = 0.0
 
     @property
     def track(self):
-        return Track(self.before, self.inside, self.after, self.length)
+        return Track(self.before, self.inside, self.after, self.length, self.lead, self.tail)
 
     @property
     def entry_name(self):

@@ -5,8 +5,10 @@
 
 import unittest
 
+from aim_sumo.site import open_site
+
 from . import outside
-from .minutes import Minutes
+from .minutes import OWN_NETS, Minutes
 from .places import PLAIN
 
 
@@ -37,6 +39,21 @@ class Windows(Minutes):
 
     def test_paths_of_legs(self):
         self.assertLess(self.by_windows("twelve-paths", flow=3600)["delay"], 5)
+
+    def test_nets_of_one_s_own_with_paths_from_border_to_border(self):
+        for name, words, junctions in OWN_NETS:
+            folder = self.own_net(words, junctions, "--version", "4")
+            trajectories = self.folder / "trajectories.xml"
+            result = self.by_windows(folder.name, "--swing", "--sumo", f"--fcd-output {trajectories}", "--end", "600")
+            with self.subTest(name):
+                self.assertEqual(result["demand"], 40)
+                links = [link for each in open_site(folder).junctions for link in each.links.values()]
+                self.assertEqual(any(link.lead > 1 for link in links), "odd angles" in name)
+                verdict = outside.judge(
+                    folder / "runs" / result["folder"], trajectories, [folder / "demand.rou.xml"],
+                    inside=tuple(f":{junction}_" for junction in junctions),
+                    lines={link.entry_name: link.entry_length for link in links})
+                self.assertEqual((verdict.vehicles, verdict.missed, verdict.overlaps), (40, [], set()))
 
     def test_lanes_on_which_nobody_comes_are_quiet(self):
         options = ("--policy", "lights", "--human", "0.1")
