@@ -9,6 +9,7 @@ use Rattle.aim_layout.specs.Intersection.{Intersection}
 use Rattle.aim_rules.specs.History.{Fresh, fresh, now_of}
 use Rattle.aim_rules.specs.Holds.{is_granted, reservations}
 use Rattle.aim_rules.specs.Kept.{has_cell, is_owned, kept, owns, policy_in}
+use Rattle.aim_rules.specs.Quiets.{is_quiet_in}
 use Rattle.aim_rules.specs.Legal.{IsLegal}
 use Rattle.aim_rules.proofs.Lists.{IsIn-test, some_passes, some_below-same}
 use Rattle.aim_rules.proofs.TakenLaws.{are_below-legal, granted-lasts, kept-is, below-in, reservations-have, reservations-kept}
@@ -46,8 +47,8 @@ module _ {L : Type 0} (i : Intersection) (n : ℕ) (h : List Entry) (d : Desk L)
       ∙ sym (held_is i n h c m.valid.sound.times.early m.valid.sound.times.late m.legal l)
       ∙ sym (rw (le-ltb c.step (now_of h 0) l) refl)
 
-  pub charted_claimed : is_claimed_for i (policy_in d.timeline.pushed) None c ≡ (not (nat_lt c.step (now_of h 0)) && is_claimed_by_some i h c)
+  pub charted_claimed : is_claimed_for i (policy_in d.timeline.pushed) (is_quiet_in d.timeline.quiets) None c ≡ (not (nat_lt c.step (now_of h 0)) && is_claimed_by_some i h c)
   charted_claimed =
-      ap (λ fs. is_claimed_for i (policy_in fs) None c) m.desk.changes
-      ∙ claimed_for_all i h c
+      ap (λ fs. is_claimed_for i (policy_in fs) (is_quiet_in d.timeline.quiets) None c) m.desk.changes
+      ∙ claimed_for_all i h d.timeline.quiets c m.desk.quiets.same
       ∙ sym (rw (le-ltb c.step (now_of h 0) l) refl)

@@ -14,6 +14,7 @@ use Rattle.aim_sheets.specs.Spans.{in_spans}
 use Rattle.aim_rules.specs.Cells.{cells, in_cells}
 use Rattle.aim_rules.specs.Kept.{policy_in}
 use Rattle.aim_rules.specs.Known.{Known}
+use Rattle.aim_rules.specs.Quiets.{is_quiet_in}
 use Rattle.aim_rules.specs.Answer.{blocked_by, first_blocked}
 use Rattle.aim_rules.specs.Claims.{green_by, is_claimed_by}
 use Rattle.aim_rules.proofs.AheadLemmas.{needed_after}
@@ -25,12 +26,12 @@ use Rattle.aim_reservations.specs.Rows.{is_reserved, row_of, spans_in}
 use Rattle.aim_book.specs.declared.desks.Desk.{Desk}
 
 module _ {L : Type 0} (i : Intersection) (v place lane : ℕ) (k : Known) (p : Params) (d : Desk L) (tells : Tells i v place k d) (own_lane : p.lane ≡ lane) where
-  green_same : (c : Cell) → green_by i k.policy c p.lane ≡ green_by i (policy_in d.timeline.pushed) c lane
-  green_same c = (λ j. green_by i (λ s. tells.policy s j) c (own_lane j))
+  green_same : (c : Cell) → green_by i k.policy k.quiet c p.lane ≡ green_by i (policy_in d.timeline.pushed) (is_quiet_in d.timeline.quiets) c lane
+  green_same c = (λ j. green_by i (λ s. tells.policy s j) (λ l s. tells.quiet l s j) c (own_lane j))
 
   -- why a cell can't be had
   pub blocked_is : (c : Cell) → c.row < i.grid.n → c.col < i.grid.n → k.now ≤ c.step → blocked_by i k p c
-      ≡ option_or (option_map (λ l. reason.Green c.row c.col c.step l) (green_by i (policy_in d.timeline.pushed) c lane))
+      ≡ option_or (option_map (λ l. reason.Green c.row c.col c.step l) (green_by i (policy_in d.timeline.pushed) (is_quiet_in d.timeline.quiets) c lane))
       (option_map (λ by. reason.Taken c.row c.col c.step by) (least_below (length d.reservations.rows.items) (λ w. not (w == v) && is_reserved d.reservations.rows.items w c)))
   blocked_is c r l n = (λ j. option_or (option_map (λ l. reason.Green c.row c.col c.step l) (green_same c j)) (option_map (λ by. reason.Taken c.row c.col c.step by) (tells.by c r l n j)))
 
@@ -41,15 +42,15 @@ module _ {L : Type 0} (i : Intersection) (v place lane : ℕ) (k : Known) (p : P
 
   -- whether it can't
   pub is_blocked : (c : Cell) → c.row < i.grid.n → c.col < i.grid.n → k.now ≤ c.step →
-      is_some (blocked_by i k p c) ≡ (is_green i d.timeline.pushed lane c || is_held d.reservations.table (spans_in (row_of d.reservations.rows.items v)) c)
+      is_some (blocked_by i k p c) ≡ (is_green i d.timeline.pushed d.timeline.quiets lane c || is_held d.reservations.table (spans_in (row_of d.reservations.rows.items v)) c)
   is_blocked c r l n =
-      some_either (λ l. reason.Green c.row c.col c.step l) (λ by. reason.Taken c.row c.col c.step by) (green_by i k.policy c p.lane) (k.taken c)
+      some_either (λ l. reason.Green c.row c.col c.step l) (λ by. reason.Taken c.row c.col c.step by) (green_by i k.policy k.quiet c p.lane) (k.taken c)
       ∙ (λ j. is_some (green_same c j) || tells.taken c r l n j)
-      ∙ ap (λ b. b || is_held d.reservations.table (spans_in (row_of d.reservations.rows.items v)) c) (some_least (length i.lanes) (λ l. not (l == lane) && is_claimed_by i (policy_in d.timeline.pushed) l c))
+      ∙ ap (λ b. b || is_held d.reservations.table (spans_in (row_of d.reservations.rows.items v)) c) (some_least (length i.lanes) (λ l. not (l == lane) && is_claimed_by i (policy_in d.timeline.pushed) (is_quiet_in d.timeline.quiets) l c))
 
   module _ (fast : Bool) (spans : List Span) (before : i.times.early ≤ i.times.edge) (after : i.times.late ≤ i.times.edge) (asked : AreAsked i k p fast spans) where
     abbrev is_met : Cell → Bool
-    is_met c = in_spans spans c && (is_green i d.timeline.pushed lane c || is_held d.reservations.table (spans_in (row_of d.reservations.rows.items v)) c)
+    is_met c = in_spans spans c && (is_green i d.timeline.pushed d.timeline.quiets lane c || is_held d.reservations.table (spans_in (row_of d.reservations.rows.items v)) c)
 
     is_not : (o : Option Reason) → is_some o ≡ false → o ≡ None
     is_not None e = refl
@@ -80,14 +81,14 @@ module _ {L : Type 0} (i : Intersection) (v place lane : ℕ) (k : Known) (p : P
 
     pub some_blocked : (c : Cell) → IsLeastCell is_met c → first_blocked i k p (record { start = p.arrive; fast = fast }) ≡ blocked_by i k p c
     some_blocked c least =
-        let parts = and_parts (in_spans spans c) (is_green i d.timeline.pushed lane c || is_held d.reservations.table (spans_in (row_of d.reservations.rows.items v)) c) least.passes in
+        let parts = and_parts (in_spans spans c) (is_green i d.timeline.pushed d.timeline.quiets lane c || is_held d.reservations.table (spans_in (row_of d.reservations.rows.items v)) c) least.passes in
         let n = some_inside c least in
         let r = found (blocked_by i k p c) (is_blocked c n.0 n.1 n.2 ∙ parts.1) in
         find_map-cells i p fast (blocked_by i k p) c r.0 before after (sym (asked.cells c) ∙ parts.0) r.1 (λ e m b. unmet e m (least.none_before e b)) ∙ sym r.1
 
     pub is_blocked_some : (c : Cell) → IsLeastCell is_met c → is_none (first_blocked i k p (record { start = p.arrive; fast = fast })) ≡ false
     is_blocked_some c least =
-        let parts = and_parts (in_spans spans c) (is_green i d.timeline.pushed lane c || is_held d.reservations.table (spans_in (row_of d.reservations.rows.items v)) c) least.passes in
+        let parts = and_parts (in_spans spans c) (is_green i d.timeline.pushed d.timeline.quiets lane c || is_held d.reservations.table (spans_in (row_of d.reservations.rows.items v)) c) least.passes in
         let n = some_inside c least in
         let r = found (blocked_by i k p c) (is_blocked c n.0 n.1 n.2 ∙ parts.1) in
         rw (some_blocked c least, r.1) refl

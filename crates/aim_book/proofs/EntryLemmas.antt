@@ -52,6 +52,7 @@ in_any i n room h capacity d b = let m = b.managed in let r = m.desk.reserved in
       callers = m.desk.callers;
       reserved = record { many = r.many; rows = r.rows; size = r.size; horizon = r.horizon; current = r.current; cells = r.cells };
       changes = m.desk.changes;
+      quiets = m.desk.quiets;
       distances = m.desk.distances;
       sixteen = m.desk.sixteen;
       calls = m.desk.calls;

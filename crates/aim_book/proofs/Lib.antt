@@ -1,5 +1,6 @@
 pub use Rattle.aim_policies.proofs.Histories
 pub mod DeskCrosses
+mod QuietLemmas
 mod ConflictLemmas
 mod HeldLemmas
 mod EarlyLemmas

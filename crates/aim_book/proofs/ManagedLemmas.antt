@@ -75,6 +75,7 @@ tells_noted i v place k d calls t = record {
   next = t.next;
   holds = t.holds;
   policy = t.policy;
+  quiet = t.quiet;
   there = t.there;
   distance = t.distance;
   lights = t.lights;
@@ -105,6 +106,7 @@ policies_there i n h s valid = from_front (λ h. IsLegal i n h → (policy_at h 
         go : (a : Act) (r : Reply) → IsOfLayout i n e.caller a → (unwrap_or (in_force (change_with a r) s) (policy_at h s)).policy < length i.policies
         go (act.Message m) r of = before
         go (act.Order order.Stop) r of = before
+        go (act.Order (order.Quiet lane until)) r of = before
         go (act.Order (order.Switch p)) (reply.Switched from) of = switched (nat_le from s) p from of
         go (act.Order (order.Switch p)) (reply.Confirm id start b a fast last) of = before
         go (act.Order (order.Switch p)) (reply.Reject why next held) of = before
@@ -112,6 +114,7 @@ policies_there i n h s valid = from_front (λ h. IsLegal i n h → (policy_at h 
         go (act.Order (order.Switch p)) reply.EmergencyStop of = before
         go (act.Order (order.Switch p)) (reply.Stale last) of = before
         go (act.Order (order.Switch p)) reply.Stopped of = before
+        go (act.Order (order.Switch p)) reply.Quieted of = before
 
 module _ {L : Type 0} (i : Intersection) (n : ℕ) (h : List Entry) (v moment : ℕ) (d : Desk L) (m : IsManaged i n h (now_of h moment) d) (l : v < n) where
   now_rises : now_of h 0 ≤ now_of h moment
@@ -154,6 +157,7 @@ module _ {L : Type 0} (i : Intersection) (n : ℕ) (h : List Entry) (v moment : 
     holds = subst (λ o. IsHeld i (now_of h moment) o (row_of d.reservations.rows.items v)) (sym (holding-kept i (fresh h) v (now_of h moment)))
         (held_is i (now_of h moment) (kept (fresh h) v) (row_of d.reservations.rows.items v) m.valid.sound.times.early m.valid.sound.times.late (m.desk.reserved.rows v l));
     policy = λ s. policy_at-changes h s ∙ ap (λ fs. policy_in fs s) (sym m.desk.changes);
+    quiet = λ lane s. sym (m.desk.quiets.same lane s);
     there = λ s. (let t : (policy_at h s).policy < length i.policies = policies_there i n h s m.valid m.legal in rw (policy_at-changes h s, ← m.desk.changes) at t);
     distance = λ lane k. sym (m.desk.distances lane k);
     lights = m.desk.lights;

@@ -33,9 +33,9 @@ no_rows i n v = go (row_of (replicate n None) v) (blank n v)
     go (Some r) e = absurd (cc)
 
 pub managed_new : {L : Type 0} (i : Intersection) (n : ℕ) (d : Desk L) → IsValid i → n ≤ MOST_VEHICLES → d.sessions ≡ replicate n no_session → d.reservations.rows.items ≡ replicate n None →
-    d.reservations.table ≡ record { size = i.grid.n; horizon = i.times.horizon; current = 0; cells = set.empty } → d.timeline.pushed ≡ [] → d.distances ≡ replicate 16 None → d.has_lights ≡ is_lit i → d.stopped ≡ false → d.approaches ≡ replicate n None →
+    d.reservations.table ≡ record { size = i.grid.n; horizon = i.times.horizon; current = 0; cells = set.empty } → d.timeline.pushed ≡ [] → d.timeline.quiets ≡ [] → d.distances ≡ replicate 16 None → d.has_lights ≡ is_lit i → d.stopped ≡ false → d.approaches ≡ replicate n None →
     IsManaged i n [] 0 d
-managed_new i n d valid few sessions rows table pushed distances lights going called = record {
+managed_new i n d valid few sessions rows table pushed quiets distances lights going called = record {
   valid = valid;
   legal = record { well_formed = λ k e l. absurd (omega arith); answered = λ k e l. absurd (omega arith) };
   few = few;
@@ -51,6 +51,7 @@ managed_new i n d valid few sessions rows table pushed distances lights going ca
       cells = λ c. ap (λ t. has_cell t c) table ∙ set.contains-empty cell_cmp c ∙ sym (rw (some_below_none n (owns i [] c) (λ w l. refl)) (none (nat_le 0 c.step)));
     };
     changes = pushed;
+    quiets = record { same = λ lane s. rw quiets refl; few = rw quiets (omega arith); begun = rw quiets (omega arith) };
     distances = rw distances distances_none;
     sixteen = rw distances refl;
     calls = rw called (calls_none i n);

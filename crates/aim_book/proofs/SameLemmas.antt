@@ -15,6 +15,7 @@ use Rattle.aim_rules.specs.Kept.{changes, is_owned}
 use Rattle.aim_rules.specs.Known.{is_stopped}
 use Rattle.aim_rules.specs.Legal.{IsLegal}
 use Rattle.aim_rules.specs.Timeline.{change_with}
+use Rattle.aim_rules.specs.Quiets.{quiet_with}
 use Rattle.aim_rules.proofs.HistoryLaws.{fresh-none, now_of-max, now_of-snoc}
 use Rattle.aim_rules.proofs.PolicyLaws.{changes-snoc, is_stopped-snoc}
 use Rattle.aim_rules.proofs.TimeLaws.{is_fresh-order}
@@ -22,10 +23,12 @@ use Rattle.aim_sessions.specs.declared.sessions.Look.{Look}
 use Rattle.aim_sessions.specs.declared.sessions.Look.TheVariants as look
 use Rattle.aim_sessions.specs.Looks.{is_fresh_look}
 use Rattle.aim_sessions.proofs.SessionLaws.{sessions_same}
+use Rattle.aim_book.specs.Desk.{AreQuiets}
 use Rattle.aim_book.specs.Managed.{IsManaged}
 use Rattle.aim_book.specs.Reserved.{AreReserved}
 use Rattle.aim_book.specs.declared.desks.Desk.{Desk}
 use Rattle.aim_reservations.specs.declared.reservations.Reservations.{Reservations}
+use Rattle.aim_book.proofs.QuietLemmas.{quiets_later, quiets_stay}
 
 pub not_fresh : (l : Look) → (l ≡ look.Fresh → ⊥) → is_fresh_look l ≡ false
 not_fresh look.Fresh other = absurd (other refl)
@@ -81,6 +84,7 @@ managed_later i n h moment now old new now_is m rest rows table cells = record {
     reserved = subst (λ t. AreReserved i n (fresh h) t new.reservations) now_same
         (reserved_later i n h (now_of h 0) now old.reservations new.reservations (let q = m.desk.reserved.current in omega arith) m.desk.reserved rows table cells);
     changes = rw rest m.desk.changes;
+    quiets = rw rest (quiets_later h (now_of h 0) (now_of h moment) old.timeline.quiets (let e = now_of-max h moment in omega arith) m.desk.quiets);
     distances = rw rest m.desk.distances;
     sixteen = rw rest m.desk.sixteen;
     calls = rw rest m.desk.calls;
@@ -93,10 +97,10 @@ managed_later i n h moment now old new now_is m rest rows table cells = record {
     now_same : now ≡ now_of h moment
     now_same = now_is ∙ ap (λ t. max t moment) m.desk.reserved.current ∙ sym (now_of-max h moment)
 
--- after an entry that is no fresh message, and neither switches nor stops
-pub managed_same : {L : Type 0} (i : Intersection) (n : ℕ) (h : List Entry) (e : Entry) (d : Desk L) → IsManaged i n h (now_of h e.moment) d → IsLegal i n (h ++ e ∷ []) → is_fresh h e ≡ false → change_with e.act e.reply ≡ None → is_stop e.act ≡ false →
+-- after an entry that is no fresh message, and neither switches nor stops nor makes a lane quiet
+pub managed_same : {L : Type 0} (i : Intersection) (n : ℕ) (h : List Entry) (e : Entry) (d : Desk L) → IsManaged i n h (now_of h e.moment) d → IsLegal i n (h ++ e ∷ []) → is_fresh h e ≡ false → change_with e.act e.reply ≡ None → quiet_with e.act (now_of h e.moment) ≡ None → is_stop e.act ≡ false →
     IsManaged i n (h ++ e ∷ []) (now_of (h ++ e ∷ []) 0) d
-managed_same i n h e d m legal old none going = record {
+managed_same i n h e d m legal old none loud going = record {
   valid = m.valid;
   legal = legal;
   few = m.few;
@@ -105,6 +109,7 @@ managed_same i n h e d m legal old none going = record {
     callers = m.desk.callers;
     reserved = subst (λ xs. AreReserved i n xs (now_of (h ++ e ∷ []) 0) d.reservations) (sym (fresh-none h e old)) (subst (λ t. AreReserved i n (fresh h) t d.reservations) (sym (now_next h e)) m.desk.reserved);
     changes = m.desk.changes ∙ sym (changes-snoc h e ∙ ap (λ o. changes h ++ filter_map (λ x. x) (o ∷ [])) none ∙ append-nil (changes h));
+    quiets = rw (now_next h e) (quiets_stay h e (now_of h e.moment) d.timeline.quiets loud m.desk.quiets);
     distances = distances_same d.distances h e old m.desk.distances;
     sixteen = m.desk.sixteen;
     calls = calls_same i d.approaches h e old m.desk.calls;
@@ -118,11 +123,11 @@ managed_same i n h e d m legal old none going = record {
     or_nothing true = refl
     or_nothing false = refl
 
--- after an order, which switches the policy or stops
+-- after an order, which switches the policy, stops or makes a lane quiet
 pub managed_order : {L : Type 0} (i : Intersection) (n : ℕ) (h : List Entry) (e : Entry) (o : Order) (d next : Desk L) → e.act ≡ act.Order o → IsManaged i n h (now_of h e.moment) d → IsLegal i n (h ++ e ∷ []) →
-    next ≡ record d { timeline = next.timeline; stopped = next.stopped } → next.timeline.pushed ≡ d.timeline.pushed ++ filter_map (λ x. x) (change_with e.act e.reply ∷ []) → next.stopped ≡ (d.stopped || is_stop e.act) →
+    next ≡ record d { timeline = next.timeline; stopped = next.stopped } → next.timeline.pushed ≡ d.timeline.pushed ++ filter_map (λ x. x) (change_with e.act e.reply ∷ []) → AreQuiets (h ++ e ∷ []) (now_of h e.moment) next.timeline.quiets → next.stopped ≡ (d.stopped || is_stop e.act) →
     IsManaged i n (h ++ e ∷ []) (now_of (h ++ e ∷ []) 0) next
-managed_order i n h e o d next is m legal rest pushed stopped = record {
+managed_order i n h e o d next is m legal rest pushed quiets stopped = record {
   valid = m.valid;
   legal = legal;
   few = m.few;
@@ -131,6 +136,7 @@ managed_order i n h e o d next is m legal rest pushed stopped = record {
     callers = rw rest m.desk.callers;
     reserved = rw rest (subst (λ xs. AreReserved i n xs (now_of (h ++ e ∷ []) 0) d.reservations) (sym (fresh-none h e old)) (subst (λ t. AreReserved i n (fresh h) t d.reservations) (sym (now_next h e)) m.desk.reserved));
     changes = pushed ∙ ap (λ fs. fs ++ filter_map (λ x. x) (change_with e.act e.reply ∷ [])) m.desk.changes ∙ sym (changes-snoc h e);
+    quiets = rw (now_next h e) quiets;
     distances = rw rest (distances_same d.distances h e old m.desk.distances);
     sixteen = rw rest m.desk.sixteen;
     calls = rw rest (calls_same i d.approaches h e old m.desk.calls);

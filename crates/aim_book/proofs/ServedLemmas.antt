@@ -41,6 +41,7 @@ use Rattle.aim_sessions.proofs.SessionLaws.{sessions_more}
 use Rattle.aim_book.specs.Asking.{AreCalling, HasGoneTo}
 use Rattle.aim_book.specs.Costs.{granted_spans, trial_spans}
 use Rattle.aim_reservations.specs.Keeping.{granted_sheet, is_changed, is_named, is_taken_then, row_next}
+use Rattle.aim_book.proofs.QuietLemmas.{quiets_stay}
 use Rattle.aim_book.specs.Managed.{IsManaged}
 use Rattle.aim_reservations.specs.Rows.{HasRoom, row_of, spans_in}
 use Rattle.aim_book.specs.Reserved.{AreReserved, IsRowOf}
@@ -124,6 +125,7 @@ module _ {L : Type 0} (i : Intersection) (n : ℕ) (h : List Entry) (v moment pl
           (reserved_next i n (fresh h) last v place (now_of h moment) r message d.reservations next.reservations m.desk.reserved (apart i n h v moment d m l) l refl (sym given) (sym at_place)
           granted count later room rows_is table_is cells_is);
       changes = rw (timeline_is, changes-snoc h more, append-nil) m.desk.changes;
+      quiets = rw timeline_is (quiets_stay h more (now_of h moment) d.timeline.quiets refl m.desk.quiets);
       distances = (let q = distances_entry d.distances h more m.desk.sixteen fresh_entry m.desk.distances in rw (distances_is, m.desk.reserved.current) q);
       sixteen = rw (distances_is, many_distances d.distances d.reservations.table.current reply (params_of message.body)) m.desk.sixteen;
       calls = rw calls_is (calls_more i d.approaches h more message m.desk.calls (let q = m.desk.calls_many in omega arith) fresh_entry refl);

@@ -11,6 +11,8 @@ use Rattle.aim_tiles.specs.Cells.{has_cell}
 use Rattle.aim_rules.specs.History.{Fresh, fresh}
 use Rattle.aim_rules.specs.Kept.{changes, policy_in}
 use Rattle.aim_rules.specs.Known.{is_stopped, Known}
+use Rattle.aim_rules.specs.Quiets.{Quiet, is_quiet, is_quiet_in}
+use Rattle.aim_policies.specs.Changes.{latest_quiet}
 use Rattle.aim_sessions.specs.Calls.{AreCalls}
 use Rattle.aim_sessions.specs.Distances.{AreDistances}
 use Rattle.aim_sessions.specs.Kept.{AreSessions, no_session}
@@ -21,12 +23,20 @@ use Rattle.aim_book.specs.Reserved.{AreReserved, IsReservationOf}
 use Rattle.aim_reservations.specs.Blocking.{is_lit}
 use Rattle.aim_reservations.specs.SpanSteps.{Reaches}
 
+-- After a history, at a time: the same steps of each lane are quiet, in no more stretches than there are entries, and each
+-- of them has begun.
+pub record AreQuiets (h : List Entry) (at : ℕ) (qs : List Quiet) : Type 0 where
+  pub same : (lane s : ℕ) → is_quiet_in qs lane s ≡ is_quiet h lane s
+  pub few : length qs ≤ length h
+  pub begun : latest_quiet qs ≤ at
+
 -- after a history of vehicles below n, at a time: each part is what the history says
 pub record IsDesk {L : Type 0} (i : Intersection) (n : ℕ) (h : List Entry) (at : ℕ) (d : Desk L) : Type 0 where
   pub sessions : AreSessions d.sessions (fresh h)
   pub callers : length d.sessions ≡ n
   pub reserved : AreReserved i n (fresh h) at d.reservations
   pub changes : d.timeline.pushed ≡ changes h
+  pub quiets : AreQuiets h at d.timeline.quiets
   pub distances : AreDistances d.distances (fresh h)
   pub sixteen : length d.distances ≡ 16
   pub calls : AreCalls i d.approaches (fresh h)
@@ -48,6 +58,7 @@ pub record Tells {L : Type 0} (i : Intersection) (v place : ℕ) (k : Known) (d 
   pub next : k.next ≡ (slice_index_or d.sessions v no_session).next
   pub holds : IsHeld i k.now k.holds (row_of d.reservations.rows.items v)
   pub policy : (s : ℕ) → k.policy s ≡ policy_in d.timeline.pushed s
+  pub quiet : (lane s : ℕ) → k.quiet lane s ≡ is_quiet_in d.timeline.quiets lane s
   pub there : (s : ℕ) → (policy_in d.timeline.pushed s).policy < length i.policies
   pub distance : (lane : ℕ) → lane < 16 → k.distance lane ≡ slice_index_or d.distances lane None
   pub lights : d.has_lights ≡ is_lit i

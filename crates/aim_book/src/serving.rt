@@ -237,7 +237,8 @@ impl<L: Ledger> Desk<L> {
         }
     }
 
-    /// Takes an order at a moment: a switch to a policy, which is in force a horizon later, or a stop.
+    /// Takes an order at a moment: a switch to a policy, which is in force a horizon later, a stop, or a lane that is quiet
+    /// from now on.
     pub fn operate(
         &mut self,
         layout: &Layout,
@@ -245,8 +246,8 @@ impl<L: Ledger> Desk<L> {
         order: Order,
         steps: &mut Steps<L>,
     ) -> Reply
-        requires managed { (n : ℕ) × (h : List Entry) × IsManaged layout.now n h (now_of h 0) self.old }
-        requires room { length self.old.timeline.pushed < self.old.timeline.room }
+        requires managed { (n : ℕ) × (h : List Entry) × IsManaged layout.now n h (now_of h 0) self.old × IsOfLayout layout.now n OPERATOR (Act.Order order) }
+        requires room { (length self.old.timeline.pushed < self.old.timeline.room) × (length self.old.timeline.quiets < self.old.timeline.room) }
         requires moment { moment ≤ LATEST_MOMENT }
         ensures reply { (n : ℕ) (h : List Entry) → IsManaged layout.now n h (now_of h 0) self.old → result ≡ answer layout.now h OPERATOR moment (Act.Order order) }
         ensures managed { (n : ℕ) (h : List Entry) → IsManaged layout.now n h (now_of h 0) self.old → IsOfLayout layout.now n OPERATOR (Act.Order order) →
@@ -265,6 +266,11 @@ impl<L: Ledger> Desk<L> {
             Order::Stop => {
                 self.stopped = true;
                 Reply::Stopped
+            }
+            Order::Quiet { lane, until } => {
+                let now = self.reservations.now();
+                self.timeline.quiet(lane, now, until);
+                Reply::Quieted
             }
         }
     }

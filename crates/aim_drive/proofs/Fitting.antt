@@ -1,5 +1,5 @@
 -- What a script that fits gives to the makers of agents and to the drive.
-use Rattle.std.proofs.Common.{◌≡◌, ℕ, ◌≤◌, length, get_or, arith}
+use Rattle.std.proofs.Common.{◌≡◌, ℕ, ◌≤◌, get_or, arith}
 use Rattle.aim_messages.specs.declared.entries.Act.TheVariants as act
 use Rattle.aim_messages.specs.declared.entries.Order.{Order}
 use Rattle.aim_messages.specs.declared.entries.Order.TheVariants as order
@@ -16,14 +16,16 @@ pub are_plans : (s : DriveScript) → IsFit s → ArePlans s.vehicles s.plans.it
 are_plans s fit = record {
   vehicle = λ k p l. (fit.plans k (get_or s.plans.items k p) (reads_at s.plans.items k p l)).vehicle;
   lead = λ k p l. (fit.plans k (get_or s.plans.items k p) (reads_at s.plans.items k p l)).short_lead;
+  wait = λ k p l. (fit.plans k (get_or s.plans.items k p) (reads_at s.plans.items k p l)).short_wait;
   one_each = λ j k p lt l same.
       let e : j ≡ k = fit.one_each j k (get_or s.plans.items j p) (get_or s.plans.items k p) (reads_at s.plans.items j p (omega arith)) (reads_at s.plans.items k p l) same in
       omega arith;
 }
 
-known : (i : Intersection) (vehicles : ℕ) (o : Order) → IsOrderOf (length i.policies) o → IsOfLayout i vehicles OPERATOR (act.Order o)
+known : (i : Intersection) (vehicles : ℕ) (o : Order) → IsOrderOf i o → IsOfLayout i vehicles OPERATOR (act.Order o)
 known i vehicles (order.Switch policy) l = l
 known i vehicles order.Stop l = l
+known i vehicles (order.Quiet lane until) l = l
 
 pub are_orders : (s : DriveScript) → IsFit s → AreOrders s.layout s.vehicles s.until s.orders.items
 are_orders s fit = record {

@@ -13,6 +13,7 @@ use Rattle.aim_drive.specs.Headline.{VehicleLog}
 pub record ArePlans (vehicles : ℕ) (plans : List Planned) : Type 0 where
   pub vehicle : All (λ p. p.vehicle < vehicles) plans
   pub lead : All (λ p. p.plan.lead ≤ 65536) plans
+  pub wait : All (λ p. p.plan.wait ≤ 65536) plans
   pub one_each : AllPairs (λ p q. p.vehicle ≢ q.vehicle) plans
 
 -- a new agent with the plan, its fates, and the pass

@@ -19,6 +19,7 @@ fn agent_of(
     spans: u32,
 ) -> Result<Agent, NoMemory>
     requires lead { planned.plan.lead ≤ 65536 }
+    requires wait { planned.plan.wait ≤ 65536 }
     requires pass { pass.mine ≡ [] }
     ensures { IfOk result (λ a. IsMadeOf planned pass spans a) }
 {

@@ -163,7 +163,7 @@ report_of_nobody = record {
 -- what isn't a run
 
 abbrev plan : ℕ → Line
-plan v = line.PlanFor v 0 10 3 (car 0 0) false
+plan v = line.PlanFor v 0 10 3 (car 0 0) false 0
 
 abbrev drive : ℕ → Drive
 drive v = record { vehicle = v; plan = plain; up = []; down = [] }

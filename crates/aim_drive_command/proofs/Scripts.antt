@@ -64,7 +64,7 @@ record SaysNoMore (lines : List Line) : Type 0 where
   down : (v : ℕ) → down_of v lines ≡ None
 
 drive_alone : (lines : List Line) (l : Line) → SaysNoMore lines → drive_in lines l ≡ drive_in [] l
-drive_alone lines (line.PlanFor v first lead resend params ahead) none = rw (none.changes v, none.cancel v, none.up v, none.down v) refl
+drive_alone lines (line.PlanFor v first lead resend params ahead wait) none = rw (none.changes v, none.cancel v, none.up v, none.down v) refl
 drive_alone lines l none = refl
 
 filter_map_same : {X Y : Type 0} (f g : X → Option Y) (xs : List X) → ((x : X) → f x ≡ g x) → filter_map f xs ≡ filter_map g xs

@@ -36,7 +36,7 @@ planned_by vehicle a b c = line.PlanFor vehicle (33 * vehicle) (100 + b % 100) 5
   length = 4500;
   width = 1900;
   emergency = false;
-}) false
+}) false 0
 
 -- the plan of a vehicle, by the next three words
 abbrev pub drawn : ℕ → Lcg → Line

@@ -34,7 +34,7 @@ pub(crate) struct Trip {
 
 // Draws how long a vehicle asks ahead, and for which crossing.
 pub(crate) fn draw(random: &mut Pcg32, vehicle: u32) -> Trip
-    ensures drawn { line.PlanFor vehicle (33 * vehicle) result.lead 50 result.params false ≡ drawn vehicle random.old }
+    ensures drawn { line.PlanFor vehicle (33 * vehicle) result.lead 50 result.params false 0 ≡ drawn vehicle random.old }
     ensures arrive { result.params.arrive ≡ 0 }
     ensures latest { result.params.latest ≡ 0 }
     ensures rest { random.new ≡ after_plan random.old }
@@ -74,6 +74,7 @@ fn plan(alloc: Global, random: &mut Pcg32, vehicle: u32) -> Planned
             first: 33 * vehicle,
             lead,
             resend: 50,
+            wait: 0,
             params,
             changes: Changes::none(),
             cancel: None,

@@ -77,6 +77,7 @@ fn put_plans(out: &mut Vec<u8>, number: u32, count: u32) -> Result<(), NoMemory>
             resend: 50,
             params,
             ahead: false,
+            wait: 0,
         };
         put_line(out, &line)?;
     }

@@ -18,7 +18,6 @@ use Rattle.aim_io.specs.Lines.{Line as LineOf}
 use Rattle.aim_script.specs.declared.decisions.Decision.TheVariants as decision
 use Rattle.aim_script.specs.declared.decisions.Kind.{Kind}
 use Rattle.aim_script.specs.declared.decisions.Limit.{Limit}
-use Rattle.aim_script.specs.Spellings.{of_words}
 use Rattle.aim_script.specs.declared.headers.Header.{Header}
 use Rattle.aim_script.specs.declared.decisions.Kind.TheVariants as kind_of
 use Rattle.aim_script.specs.declared.settings.Setting.{Setting}
@@ -58,7 +57,7 @@ is_late l = is_begin l || (is_until l || is_of_body l)
 quiet : (l : Line) → is_late l ≡ true → IsQuiet l
 quiet line.Begin e = record { place = refl; version = refl; vehicles = refl; named = refl; silent = record { version = refl; grid = refl; times = refl; lanes = refl; added = refl } }
 quiet (line.Until step) e = record { place = refl; version = refl; vehicles = refl; named = refl; silent = record { version = refl; grid = refl; times = refl; lanes = refl; added = refl } }
-quiet (line.PlanFor v first lead resend params ahead) e =
+quiet (line.PlanFor v first lead resend params ahead wait) e =
     record { place = refl; version = refl; vehicles = refl; named = refl; silent = record { version = refl; grid = refl; times = refl; lanes = refl; added = refl } }
 quiet (line.ChangeAt v step lead) e = record { place = refl; version = refl; vehicles = refl; named = refl; silent = record { version = refl; grid = refl; times = refl; lanes = refl; added = refl } }
 quiet (line.CancelAt v step) e = record { place = refl; version = refl; vehicles = refl; named = refl; silent = record { version = refl; grid = refl; times = refl; lanes = refl; added = refl } }
@@ -66,6 +65,7 @@ quiet (line.Up v fates) e = record { place = refl; version = refl; vehicles = re
 quiet (line.Down v fates) e = record { place = refl; version = refl; vehicles = refl; named = refl; silent = record { version = refl; grid = refl; times = refl; lanes = refl; added = refl } }
 quiet (line.SwitchTo moment name) e = record { place = refl; version = refl; vehicles = refl; named = refl; silent = record { version = refl; grid = refl; times = refl; lanes = refl; added = refl } }
 quiet (line.StopAt moment) e = record { place = refl; version = refl; vehicles = refl; named = refl; silent = record { version = refl; grid = refl; times = refl; lanes = refl; added = refl } }
+quiet (line.QuietAt moment lane until) e = record { place = refl; version = refl; vehicles = refl; named = refl; silent = record { version = refl; grid = refl; times = refl; lanes = refl; added = refl } }
 quiet line.End e = record { place = refl; version = refl; vehicles = refl; named = refl; silent = record { version = refl; grid = refl; times = refl; lanes = refl; added = refl } }
 quiet l e = absurd (cc)
 

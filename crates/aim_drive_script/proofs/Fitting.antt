@@ -1,6 +1,6 @@
 -- What holds of the script of lines that make a drive.
-use Rattle.std.proofs.Common.{◌≡◌, ℕ, zero, suc, ◌+◌, ◌*◌, ◌<◌, ◌≤◌, Bool, true, false, ◌==◌, ◌||◌, not, nat_lt, nat_le, List, [], ◌∷◌, ◌++◌, length, filter_map, take, Option, Some, None, option_map, Result, Ok, Err, refl, sym, ap, ◌∙◌, subst, arith, slice_get, append_assoc, append-nil, length-append}
-use Rattle.std.specs.Prelude.{bytes_eq, IfOk}
+use Rattle.std.proofs.Common.{◌≡◌, ℕ, zero, suc, ◌+◌, ◌*◌, ◌<◌, ◌≤◌, Bool, true, false, ◌==◌, ◌||◌, not, nat_lt, nat_le, List, [], ◌∷◌, ◌++◌, length, filter_map, take, Option, Some, None, option_map, refl, sym, ap, ◌∙◌, subst, arith, slice_get, append_assoc, append-nil, length-append}
+use Rattle.std.specs.Prelude.{bytes_eq}
 use Rattle.std.specs.List.{list_any, position_or_len}
 use Rattle.std.specs.Option.{unwrap_or, option_or, option_to_list}
 use Rattle.std.proofs.lemmas.Bool.{or_parts, leb-false, ltb-false, ltb-true, eq-eqb}
@@ -12,18 +12,19 @@ use Rattle.aim_messages.specs.declared.script.Line.TheVariants as line
 use Rattle.aim_messages.specs.Lines.{name_word}
 use Rattle.aim_geometry.specs.Bounded.{find_map, is_outside}
 use Rattle.aim_script.specs.declared.settings.Setting.{Setting}
-use Rattle.aim_script.specs.Kinds.{vehicles_limit as vehicles_limit_of_any}
-use Rattle.aim_script.specs.Said.{names_of, name_in, number_of, vehicles_in, vehicles_of}
+use Rattle.aim_script.specs.Kinds.{is_of_later, vehicles_limit as vehicles_limit_of_any}
+use Rattle.aim_script.specs.Said.{last_of, layout_of, names_of, name_in, number_of, version_after, vehicles_in, vehicles_of}
+use Rattle.aim_script.proofs.CallLemmas.{lane_below, version_reached}
 use Rattle.aim_script.proofs.AppendLemmas.{filter_map-one, names_are_policies}
 use Rattle.aim_drive_script.specs.declared.scripts.DriveScript.{DriveScript}
-use Rattle.aim_drive_script.specs.declared.scripts.Ending.{Ending}
 use Rattle.aim_driver.specs.declared.orders.Ordered.{Ordered}
 use Rattle.aim_drive_script.specs.declared.scripts.Planned.{Planned}
 use Rattle.aim_drive_script.specs.Said.{Drive, drive_in, drives_of, until_in, until_of, is_plan_for, is_planned, ordered_in, orders_of, moment_in, moments_of, last_number}
-use Rattle.aim_drive_script.specs.Kinds.{kind_of_fault, limit_of, vehicles_limit, orders_limit, is_bad_order, is_bad_plan}
+use Rattle.aim_drive_script.specs.Kinds.{kind_of_fault, lacks_plan, limit_of, vehicles_limit, orders_limit, is_bad_order, is_bad_plan}
+use Rattle.aim_drive_script.specs.Order.{may_follow}
 use Rattle.aim_drive_script.specs.Scripts.{IsDrive, IsScriptOf, drive_told}
 use Rattle.aim_drive_script.specs.Fits.{FitsDrive, FitsOrder, IsFit, IsOrderOf}
-use Rattle.aim_drive_script.specs.Drafts.{Ends, IsOpened}
+use Rattle.aim_drive_script.specs.Drafts.{IsOpened}
 use Rattle.aim_drive_script.proofs.Kinding.{passes}
 use Rattle.aim_drive_script.proofs.Naming.{any_is}
 use Rattle.aim_drive_script.proofs.Scanning.{last_number_more}
@@ -126,7 +127,7 @@ until_from lines before (x ∷ rest) u d split e =
     at : (x : Line) → kind_of_fault before x ≡ None → (find_map until_in rest ≡ Some u → u ≤ 65536) → option_or (until_in x) (find_map until_in rest) ≡ Some u → u ≤ 65536
     at (line.Until step) none later e =
         let same : step ≡ u = some_is step u e in
-        subst (λ n. n ≤ 65536) same (outside step 65536 (passes before (line.Until step) 11 none)).1
+        subst (λ n. n ≤ 65536) same (outside step 65536 (passes before (line.Until step) 12 none)).1
     at x none later e = later e
 
 until_fits : (lines : List Line) → IsDrive lines → until_of lines ≤ 65536
@@ -146,16 +147,18 @@ record Numbers (vehicles until : ℕ) (d : Drive) : Type 0 where
   short_lead : d.plan.lead ≤ 65536
   some_resend : 1 ≤ d.plan.resend
   short_resend : d.plan.resend ≤ 255
+  short_wait : d.plan.wait ≤ 65536
 
 plan_numbers : (lines before : List Line) (l : Line) (after : List Line) (d : Drive) → kind_of_fault before l ≡ None → lines ≡ before ++ l ∷ after → drive_in lines l ≡ Some d → Numbers (vehicles_of lines) (until_of lines) d
-plan_numbers lines before (line.PlanFor v first lead resend params ahead) after d none split e =
-    let l = line.PlanFor v first lead resend params ahead in
-    let p = or_parts (is_planned v before) (is_bad_plan (until_of before) first lead resend) (passes before l 12 none) in
-    let q = or_parts (nat_le (until_of before) first) (is_outside lead 65536 || is_outside resend 255) p.1 in
-    let r = or_parts (is_outside lead 65536) (is_outside resend 255) q.1 in
+plan_numbers lines before (line.PlanFor v first lead resend params ahead wait) after d none split e =
+    let l = line.PlanFor v first lead resend params ahead wait in
+    let p = or_parts (is_planned v before) (is_bad_plan (until_of before) first lead resend wait) (passes before l 13 none) in
+    let q = or_parts (nat_le (until_of before) first) (is_outside lead 65536 || (is_outside resend 255 || nat_lt 65536 wait)) p.1 in
+    let r = or_parts (is_outside lead 65536) (is_outside resend 255 || nat_lt 65536 wait) q.1 in
+    let u = or_parts (is_outside resend 255) (nat_lt 65536 wait) r.1 in
     let x = outside lead 65536 r.0 in
-    let y = outside resend 255 r.1 in
-    let below : v < vehicles_of before = leb-false (vehicles_of before) v (passes before l 10 none) in
+    let y = outside resend 255 u.0 in
+    let below : v < vehicles_of before = leb-false (vehicles_of before) v (passes before l 11 none) in
     let early : first < until_of before = leb-false (until_of before) first q.0 in
     let more : vehicles_of before ≤ vehicles_of lines = grows_in vehicles_in lines before l after split in
     let late : until_of before ≤ until_of lines = grows_in until_in lines before l after split in
@@ -166,6 +169,7 @@ plan_numbers lines before (line.PlanFor v first lead resend params ahead) after 
       short_lead = x.1;
       some_resend = y.0;
       short_resend = y.1;
+      short_wait = ltb-false 65536 wait u.1;
     })
 plan_numbers lines before l after d none split e = absurd (none_some d e)
 
@@ -178,9 +182,9 @@ short_leads lines k d drive at =
 
 -- a line that plans for the vehicle, which has no plan before
 plan_of : (lines before : List Line) (l : Line) (d : Drive) → kind_of_fault before l ≡ None → drive_in lines l ≡ Some d → (is_plan_for d.vehicle l ≡ true) × (is_planned d.vehicle before ≡ false)
-plan_of lines before (line.PlanFor v first lead resend params ahead) d none e =
+plan_of lines before (line.PlanFor v first lead resend params ahead wait) d none e =
     let same : v ≡ d.vehicle = ap (λ (z : Drive). z.vehicle) (some_is _ d e) in
-    let p = or_parts (is_planned v before) (is_bad_plan (until_of before) first lead resend) (passes before (line.PlanFor v first lead resend params ahead) 12 none) in
+    let p = or_parts (is_planned v before) (is_bad_plan (until_of before) first lead resend wait) (passes before (line.PlanFor v first lead resend params ahead wait) 13 none) in
     (eq-eqb v d.vehicle same, subst (λ n. is_planned n before ≡ false) same p.0)
 plan_of lines before l d none e = absurd (none_some d e)
 
@@ -216,21 +220,18 @@ one_plan lines i j d e drive c k eq = at (places c.before c.from c.after k.befor
 moment_of : (names : List (List ℕ)) (l : Line) (o : Ordered) → ordered_in names l ≡ Some o → moment_in l ≡ Some o.moment
 moment_of names (line.SwitchTo moment name) o e = ap (λ (x : Option Ordered). option_map (λ (y : Ordered). y.moment) x) e
 moment_of names (line.StopAt moment) o e = ap (λ (x : Option Ordered). option_map (λ (y : Ordered). y.moment) x) e
+moment_of names (line.QuietAt moment lane until) o e = ap (λ (x : Option Ordered). option_map (λ (y : Ordered). y.moment) x) e
 moment_of names l o e = absurd (none_some o e)
 
+times : (before : List Line) (moment m : ℕ) → is_bad_order before moment ≡ false → moment ≡ m → (m < until_of before) × (last_number (moments_of before) ≤ m)
+times before moment m good same =
+    let p = or_parts (nat_le (until_of before) moment) (nat_lt moment (last_number (moments_of before))) good in
+    subst (λ n. (n < until_of before) × (last_number (moments_of before) ≤ n)) same (leb-false (until_of before) moment p.0, ltb-false moment (last_number (moments_of before)) p.1)
+
 order_times : (before : List Line) (l : Line) (m : ℕ) → kind_of_fault before l ≡ None → moment_in l ≡ Some m → (m < until_of before) × (last_number (moments_of before) ≤ m)
-order_times before (line.SwitchTo moment name) m none e = times before moment m (passes before (line.SwitchTo moment name) 11 none) (some_is moment m e)
-  where
-    times : (before : List Line) (moment m : ℕ) → is_bad_order before moment ≡ false → moment ≡ m → (m < until_of before) × (last_number (moments_of before) ≤ m)
-    times before moment m good same =
-        let p = or_parts (nat_le (until_of before) moment) (nat_lt moment (last_number (moments_of before))) good in
-        subst (λ n. (n < until_of before) × (last_number (moments_of before) ≤ n)) same (leb-false (until_of before) moment p.0, ltb-false moment (last_number (moments_of before)) p.1)
-order_times before (line.StopAt moment) m none e = times before moment m (passes before (line.StopAt moment) 11 none) (some_is moment m e)
-  where
-    times : (before : List Line) (moment m : ℕ) → is_bad_order before moment ≡ false → moment ≡ m → (m < until_of before) × (last_number (moments_of before) ≤ m)
-    times before moment m good same =
-        let p = or_parts (nat_le (until_of before) moment) (nat_lt moment (last_number (moments_of before))) good in
-        subst (λ n. (n < until_of before) × (last_number (moments_of before) ≤ n)) same (leb-false (until_of before) moment p.0, ltb-false moment (last_number (moments_of before)) p.1)
+order_times before (line.SwitchTo moment name) m none e = times before moment m (passes before (line.SwitchTo moment name) 12 none) (some_is moment m e)
+order_times before (line.StopAt moment) m none e = times before moment m (passes before (line.StopAt moment) 12 none) (some_is moment m e)
+order_times before (line.QuietAt moment lane until) m none e = times before moment m (passes before (line.QuietAt moment lane until) 12 none) (some_is moment m e)
 order_times before l m none e = absurd (none_some m e)
 
 -- the last moment grows
@@ -289,19 +290,17 @@ as_many : (names : List (List ℕ)) (lines : List Line) → length (filter_map (
 as_many names [] = refl
 as_many names (line.SwitchTo moment name ∷ ls) = ap suc (as_many names ls)
 as_many names (line.StopAt moment ∷ ls) = ap suc (as_many names ls)
+as_many names (line.QuietAt moment lane until ∷ ls) = ap suc (as_many names ls)
 as_many names (l ∷ ls) = as_many names ls
 
+few : (before : List Line) (b : Bool) → nat_le 1024 (length (moments_of before)) ≡ b → orders_limit before ≡ None → length (moments_of before) < 1024
+few before true h none = absurd (cc (rw h at none))
+few before false h none = leb-false 1024 (length (moments_of before)) h
+
 no_more : (before : List Line) (l : Line) (m : ℕ) → moment_in l ≡ Some m → limit_of before l ≡ None → length (moments_of before) < 1024
-no_more before (line.SwitchTo moment name) m e none = few (nat_le 1024 (length (moments_of before))) refl none
-  where
-    few : (b : Bool) → nat_le 1024 (length (moments_of before)) ≡ b → orders_limit before ≡ None → length (moments_of before) < 1024
-    few true h none = absurd (cc (rw h at none))
-    few false h none = leb-false 1024 (length (moments_of before)) h
-no_more before (line.StopAt moment) m e none = few (nat_le 1024 (length (moments_of before))) refl none
-  where
-    few : (b : Bool) → nat_le 1024 (length (moments_of before)) ≡ b → orders_limit before ≡ None → length (moments_of before) < 1024
-    few true h none = absurd (cc (rw h at none))
-    few false h none = leb-false 1024 (length (moments_of before)) h
+no_more before (line.SwitchTo moment name) m e none = few before (nat_le 1024 (length (moments_of before))) refl none
+no_more before (line.StopAt moment) m e none = few before (nat_le 1024 (length (moments_of before))) refl none
+no_more before (line.QuietAt moment lane until) m e none = few before (nat_le 1024 (length (moments_of before))) refl none
 no_more before l m e none = absurd (none_some m e)
 
 get_some : {X : Type 0} (xs : List X) (i : ℕ) → i < length xs → (x : X) × (slice_get xs i ≡ Some x)
@@ -338,14 +337,23 @@ not_false : (b : Bool) → not b ≡ false → b ≡ true
 not_false true h = refl
 not_false false h = absurd (cc)
 
-order_fits : (lines before : List Line) (l : Line) (after : List Line) (o : Ordered) → kind_of_fault before l ≡ None → lines ≡ before ++ l ∷ after → ordered_in (names_of lines) l ≡ Some o → IsOrderOf (length (names_of lines)) o.order
+order_fits : (lines before : List Line) (l : Line) (after : List Line) (o : Ordered) → kind_of_fault before l ≡ None → lines ≡ before ++ l ∷ after → ordered_in (names_of lines) l ≡ Some o → IsOrderOf (layout_of lines) o.order
 order_fits lines before (line.SwitchTo moment name) after o none split e =
-    let here : list_any (bytes_eq (name_word name)) (names_of before) ≡ true = not_false _ (passes before (line.SwitchTo moment name) 8 none) in
+    let here : list_any (bytes_eq (name_word name)) (names_of before) ≡ true = not_false _ (passes before (line.SwitchTo moment name) 9 none) in
     let there : list_any (bytes_eq (name_word name)) (names_of lines) ≡ true =
     ap (list_any (bytes_eq (name_word name))) (ap names_of split ∙ filter_map-append name_in before (line.SwitchTo moment name ∷ after))
     ∙ named_in (bytes_eq (name_word name)) (names_of before) (names_of (line.SwitchTo moment name ∷ after)) here in
-    subst (λ (x : Ordered). IsOrderOf (length (names_of lines)) x.order) (some_is _ o e) (number_below (name_word name) (names_of lines) there)
-order_fits lines before (line.StopAt moment) after o none split e = subst (λ (x : Ordered). IsOrderOf (length (names_of lines)) x.order) (some_is _ o e) tt
+    let below = subst (λ n. number_of (names_of lines) (name_word name) < n) (names_are_policies lines (layout_of lines) refl) (number_below (name_word name) (names_of lines) there) in
+    subst (λ (x : Ordered). IsOrderOf (layout_of lines) x.order) (some_is _ o e) below
+order_fits lines before (line.StopAt moment) after o none split e = subst (λ (x : Ordered). IsOrderOf (layout_of lines) x.order) (some_is _ o e) tt
+order_fits lines before (line.QuietAt moment lane until) after o none split e =
+    let l = line.QuietAt moment lane until in
+    let later = (or_parts (lacks_plan before l) (is_of_later before l) (or_parts (not (may_follow (last_of before) l)) (lacks_plan before l || is_of_later before l) (passes before l 0 none)).1).1 in
+    let front : take (length before) lines ≡ before = ap (take (length before)) split ∙ take-append_seam before (l ∷ after) in
+    let version : 4 ≤ (layout_of lines).version = version_reached lines (length before) (subst (λ ls. nat_lt (version_after ls) 4 ≡ false) (sym front) later) in
+    let there : lane < length (layout_of lines).lanes =
+    lane_below lines (length before) lane (subst (λ ls. nat_le (length (layout_of ls).lanes) lane ≡ false) (sym front) (passes before l 5 none)) in
+    subst (λ (x : Ordered). IsOrderOf (layout_of lines) x.order) (some_is _ o e) (version, there)
 order_fits lines before l after o none split e = absurd (none_some o e)
 
 -- ---- the vehicles
@@ -379,17 +387,18 @@ plan_fits lines s k p d is e =
       short_lead = n.short_lead;
       some_resend = n.some_resend;
       short_resend = n.short_resend;
+      short_wait = n.short_wait;
     }
 
-each_order : (lines : List Line) (s : DriveScript) (k : ℕ) (o : Ordered) → IsDrive lines → IsScriptOf lines s → slice_get s.orders.items k ≡ Some o → FitsOrder s.until (length s.layout.policies) o
+each_order : (lines : List Line) (s : DriveScript) (k : ℕ) (o : Ordered) → IsDrive lines → IsScriptOf lines s → slice_get s.orders.items k ≡ Some o → FitsOrder s.until s.layout o
 each_order lines s k o d is e =
     let c = order_at lines s k o is e in
     let kind = kind_at lines c.before c.from c.after d c.split in
     let t = order_times c.before c.from o.moment kind (moment_of (names_of lines) c.from o c.gives) in
     let more : until_of c.before ≤ until_of lines = grows_in until_in lines c.before c.from c.after c.split in
-    let names : length (names_of lines) ≡ length s.layout.policies = names_are_policies lines s.layout (sym is.layout) in record {
+    record {
       moment = omega (arith, t.0, more, is.until);
-      order = subst (λ n. IsOrderOf n o.order) names (order_fits lines c.before c.from c.after o kind c.split c.gives);
+      order = subst (λ i. IsOrderOf i o.order) (sym is.layout) (order_fits lines c.before c.from c.after o kind c.split c.gives);
     }
 
 pub fits : (lines : List Line) (setting : Setting) (s : DriveScript) → IsDrive lines → IsOpened lines setting → IsScriptOf lines s → IsFit s

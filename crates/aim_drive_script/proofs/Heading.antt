@@ -11,7 +11,7 @@ use Rattle.aim_script.specs.declared.headers.Place.{Place as HeaderPlace}
 use Rattle.aim_script.specs.declared.headers.Place.TheVariants as header_place
 use Rattle.aim_script.specs.declared.settings.Setting.{Setting}
 use Rattle.aim_script.specs.Order.{Part, part_after, belongs as belongs_in_header, may_follow as may_follow_in_header, to_version, to_ground, to_times, to_lanes, in_moves, in_policies, to_begin, in_body, nothing}
-use Rattle.aim_script.specs.Kinds.{Test, kinds as header_kinds, kind_of_fault as header_kind, is_bad_version, has_grid_fault, has_buffers_fault, has_times_fault, is_bad_lane, is_no_move, is_wide, is_bad_policy, is_no_phase, is_no_vehicle as is_no_vehicle_of_any, is_bad_moment as is_bad_moment_of_any, is_out_of_order as is_out_of_any}
+use Rattle.aim_script.specs.Kinds.{Test, kinds as header_kinds, kind_of_fault as header_kind, is_bad_version, has_grid_fault, has_buffers_fault, has_times_fault, is_bad_lane, is_no_move, is_of_later, is_off_border, is_wide, is_bad_policy, is_no_phase, is_no_vehicle as is_no_vehicle_of_any, is_bad_moment as is_bad_moment_of_any, is_out_of_order as is_out_of_any}
 use Rattle.aim_script.specs.Headers.{Stands as StandsAsHeader, IsSet, part_of}
 use Rattle.aim_script.specs.Said.{last_of, layout_of, vehicles_in}
 use Rattle.aim_script.proofs.AppendLemmas.{IsSilent, last_of_more, layout_same}
@@ -47,6 +47,7 @@ in_header (Some (line.Version n)) e = refl
 in_header (Some (line.Grid g)) e = refl
 in_header (Some (line.Times t)) e = refl
 in_header (Some (line.Times6 t)) e = refl
+in_header (Some (line.Times7 t)) e = refl
 in_header (Some (line.Lanes n)) e = refl
 in_header (Some (line.Move lane turn s)) e = refl
 in_header (Some (line.Policy name k)) e = refl
@@ -59,6 +60,7 @@ is_headed (line.Version n) = true
 is_headed (line.Grid g) = true
 is_headed (line.Times t) = true
 is_headed (line.Times6 t) = true
+is_headed (line.Times7 t) = true
 is_headed (line.Lanes n) = true
 is_headed (line.Move lane turn s) = true
 is_headed (line.Policy name k) = true
@@ -73,6 +75,7 @@ header_form to_ground (line.Grid g) h b = refl
 header_form to_ground l h b = absurd (cc)
 header_form to_times (line.Times t) h b = refl
 header_form to_times (line.Times6 t) h b = refl
+header_form to_times (line.Times7 t) h b = refl
 header_form to_times l h b = absurd (cc)
 header_form to_lanes (line.Lanes n) h b = refl
 header_form to_lanes l h b = absurd (cc)
@@ -98,6 +101,7 @@ shared =
     ∷ (why.Lane, is_bad_lane)
     ∷ (why.Move, is_no_move)
     ∷ (why.Spacing, is_wide)
+    ∷ (why.Border, is_off_border)
     ∷ (why.Policy, is_bad_policy)
     ∷ (why.Phase, is_no_phase)
     ∷ []
@@ -118,6 +122,7 @@ last_same before (line.Version n) h = refl
 last_same before (line.Grid g) h = refl
 last_same before (line.Times t) h = refl
 last_same before (line.Times6 t) h = refl
+last_same before (line.Times7 t) h = refl
 last_same before (line.Lanes n) h = refl
 last_same before (line.Move lane turn s) h = refl
 last_same before (line.Policy name k) h = refl
@@ -132,18 +137,23 @@ needs_no_plan before (line.Up v fates) h = absurd (cc)
 needs_no_plan before (line.Down v fates) h = absurd (cc)
 needs_no_plan before l h = refl
 
+of_this_version : (before : List Line) (l : Line) → is_headed l ≡ true → is_of_later before l ≡ false
+of_this_version before (line.QuietAt at lane until) h = absurd (cc)
+of_this_version before l h = refl
+
 first_same : (out out_of_header : Bool) (some other : Option Kind) → out ≡ out_of_header → some ≡ other → (if out then Some why.Order else some) ≡ (if out_of_header then Some why.Order else other)
 first_same out out_of_header some other e f = ap (λ b. if b then Some why.Order else some) e ∙ ap (λ o. if out_of_header then Some why.Order else o) f
 
-in_place : (follows follows_in_header lacks : Bool) → follows ≡ follows_in_header → lacks ≡ false → not follows || lacks ≡ not follows_in_header
-in_place true follows_in_header lacks e f = f ∙ ap not e
-in_place false follows_in_header lacks e f = ap not e
+in_place : (follows follows_in_header lacks later : Bool) → follows ≡ follows_in_header → lacks ≡ false → later ≡ false
+    → not follows || (lacks || later) ≡ not follows_in_header || later
+in_place follows follows_in_header lacks later e f g = rw (e, f, g) refl
 
 -- a line that may stand there has the same kind
 same_rows : (before : List Line) (l : Line) → place_after (last_of before) ≡ place.InHeader → is_headed l ≡ true → first_kind kinds before l ≡ first_kind header_kinds before l
 same_rows before l at h =
     first_same (is_out_of_order before l) (is_out_of_any before l) (first_kind (shared ++ last_rows) before l) (first_kind (shared ++ last_header_rows) before l)
-    (in_place (may_follow (last_of before) l) (may_follow_in_header (last_of before) l) (lacks_plan before l) (ap (λ p. belongs p (last_of before) l) at) (needs_no_plan before l h))
+    (in_place (may_follow (last_of before) l) (may_follow_in_header (last_of before) l) (lacks_plan before l) (is_of_later before l)
+    (ap (λ p. belongs p (last_of before) l) at) (needs_no_plan before l h) (of_this_version before l h))
     (ends_same shared last_rows last_header_rows before l (last_same before l h))
 
 out_of_order : (before : List Line) (l : Line) → place_after (last_of before) ≡ place.InHeader → may_follow_in_header (last_of before) l ≡ false → first_kind kinds before l ≡ first_kind header_kinds before l
@@ -181,6 +191,7 @@ no_limit_of before (line.Version n) h none = refl
 no_limit_of before (line.Grid g) h none = refl
 no_limit_of before (line.Times t) h none = refl
 no_limit_of before (line.Times6 t) h none = refl
+no_limit_of before (line.Times7 t) h none = refl
 no_limit_of before (line.Lanes n) h none = refl
 no_limit_of before (line.Move lane turn s) h none = refl
 no_limit_of before (line.Policy name k) h none = refl

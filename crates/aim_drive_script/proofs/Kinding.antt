@@ -68,7 +68,7 @@ change_fits before v (line.ChangeAt w step lead) none = go (w == v) refl
     go true e =
         let same : w ≡ v = eqb-true w v e in
         subst (λ u. MayAdd (changes_of u before) (record { step = step; lead = lead })) same
-        (change_numbers (changes_of w before) (until_of before) (record { step = step; lead = lead }) (passes before (line.ChangeAt w step lead) 12 none))
+        (change_numbers (changes_of w before) (until_of before) (record { step = step; lead = lead }) (passes before (line.ChangeAt w step lead) 13 none))
 change_fits before v _ none = tt
 
 pub change_at : (lines : List Line) (i : ℕ) (v : ℕ) (changes : List PlannedChange) (given : Option PlannedChange) → IsDrive lines → i < length lines → changes ≡ changes_of v (take i lines) → given ≡ change_in v (get_or lines i (line.Version 0)) → IfSome given (MayAdd changes)
@@ -92,13 +92,14 @@ not_here false is out = cc
 pub in_order : (before : List Line) (l : Line) → is_open (place_after (last_of before)) ≡ true → is_out_of_order before l ≡ false → kind_of_fault before l ≡ fault_in_order before l
 in_order before line.Begin opened out = kind_is before line.Begin ∙ rw out refl
 in_order before (line.Until step) opened out = kind_is before (line.Until step) ∙ rw out refl
-in_order before (line.PlanFor v first lead resend params ahead) opened out = kind_is before (line.PlanFor v first lead resend params ahead) ∙ rw out refl
+in_order before (line.PlanFor v first lead resend params ahead wait) opened out = kind_is before (line.PlanFor v first lead resend params ahead wait) ∙ rw out refl
 in_order before (line.ChangeAt v step lead) opened out = kind_is before (line.ChangeAt v step lead) ∙ rw out refl
 in_order before (line.CancelAt v step) opened out = kind_is before (line.CancelAt v step) ∙ rw out refl
 in_order before (line.Up v fates) opened out = kind_is before (line.Up v fates) ∙ rw out refl
 in_order before (line.Down v fates) opened out = kind_is before (line.Down v fates) ∙ rw out refl
 in_order before (line.SwitchTo moment name) opened out = kind_is before (line.SwitchTo moment name) ∙ rw out refl
 in_order before (line.StopAt moment) opened out = kind_is before (line.StopAt moment) ∙ rw out refl
+in_order before (line.QuietAt moment lane until) opened out = kind_is before (line.QuietAt moment lane until) ∙ rw out refl
 in_order before line.End opened out = kind_is before line.End ∙ rw out refl
 in_order before l opened out = absurd (not_here (belongs (place_after (last_of before)) (last_of before) l) (elsewhere (place_after (last_of before)) (last_of before) l opened refl refl refl) out)
 
@@ -106,13 +107,14 @@ in_order before l opened out = absurd (not_here (belongs (place_after (last_of b
 pub only_late : (before : List Line) (l : Line) → is_open (place_after (last_of before)) ≡ true → kind_of_fault before l ≡ None → (is_begin l || (is_until l || is_of_body l)) ≡ true
 only_late before line.Begin opened none = refl
 only_late before (line.Until step) opened none = refl
-only_late before (line.PlanFor v first lead resend params ahead) opened none = refl
+only_late before (line.PlanFor v first lead resend params ahead wait) opened none = refl
 only_late before (line.ChangeAt v step lead) opened none = refl
 only_late before (line.CancelAt v step) opened none = refl
 only_late before (line.Up v fates) opened none = refl
 only_late before (line.Down v fates) opened none = refl
 only_late before (line.SwitchTo moment name) opened none = refl
 only_late before (line.StopAt moment) opened none = refl
+only_late before (line.QuietAt moment lane until) opened none = refl
 only_late before line.End opened none = refl
 only_late before l opened none =
     absurd (not_here (belongs (place_after (last_of before)) (last_of before) l) (elsewhere (place_after (last_of before)) (last_of before) l opened refl refl refl) (passes before l 0 none))

@@ -1,9 +1,10 @@
 -- Where behind others a line stands, asked of the last of them.
-use Rattle.std.proofs.Common.{◌≡◌, ℕ, ◌-◌, suc, Bool, true, false, not, ◌||◌, List, [], ◌∷◌, ◌++◌, length, find, reverse, Option, Some, None, slice_get, refl, sym, ap, ◌∙◌, arith}
+use Rattle.std.proofs.Common.{◌≡◌, ◌-◌, suc, Bool, true, false, not, ◌||◌, List, [], ◌∷◌, ◌++◌, length, find, reverse, Option, slice_get, refl, sym, ap, ◌∙◌, arith}
 use Rattle.std.proofs.lemmas.List.{reverse-append}
 use Rattle.aim_messages.specs.declared.script.Line.{Line}
 use Rattle.aim_script.specs.Order.{is_end}
 use Rattle.aim_script.specs.Said.{last_of}
+use Rattle.aim_script.specs.Kinds.{is_of_later}
 use Rattle.aim_drive_script.specs.declared.places.Place.{Place}
 use Rattle.aim_drive_script.specs.Order.{place_after, belongs, may_follow}
 use Rattle.aim_drive_script.specs.Kinds.{is_out_of_order, lacks_plan}
@@ -35,7 +36,16 @@ follows : (ls : List Line) (l : Line) (p : Place) (b : Bool) → p ≡ place_aft
 follows ls l p b at is = is (last_of ls) ∙ ap (λ q. belongs q (last_of ls) l) at
 
 pub out_of_place : (ls : List Line) (l : Line) (p : Place) (b : Bool) → p ≡ place_after (last_of ls) → ((before : Option Line) → b ≡ belongs p before l) → b ≡ false → not b ≡ is_out_of_order ls l
-out_of_place ls l p b at is false_is = ap not false_is ∙ ap (λ m. not m || lacks_plan ls l) (sym false_is ∙ follows ls l p b at is)
+out_of_place ls l p b at is false_is = ap not false_is ∙ ap (λ m. not m || (lacks_plan ls l || is_of_later ls l)) (sym false_is ∙ follows ls l p b at is)
 
-pub in_place : (ls : List Line) (l : Line) (p : Place) (b lacks : Bool) → p ≡ place_after (last_of ls) → ((before : Option Line) → b ≡ belongs p before l) → b ≡ true → lacks ≡ lacks_plan ls l → lacks ≡ is_out_of_order ls l
-in_place ls l p b lacks at is true_is e = e ∙ ap (λ m. not m || lacks_plan ls l) (sym true_is ∙ follows ls l p b at is)
+pub in_place : (ls : List Line) (l : Line) (p : Place) (b lacks : Bool) → p ≡ place_after (last_of ls) → ((before : Option Line) → b ≡ belongs p before l) → b ≡ true → lacks ≡ (lacks_plan ls l || is_of_later ls l) → lacks ≡ is_out_of_order ls l
+in_place ls l p b lacks at is true_is e = e ∙ ap (λ m. not m || (lacks_plan ls l || is_of_later ls l)) (sym true_is ∙ follows ls l p b at is)
+
+-- one of two faults
+pub first_fault : (a b : Bool) → a ≡ true → true ≡ (a || b)
+first_fault true b is = refl
+first_fault false b is = absurd (cc)
+
+pub second_fault : (a b c : Bool) → a ≡ false → c ≡ b → c ≡ (a || b)
+second_fault true b c is same = absurd (cc)
+second_fault false b c is same = same

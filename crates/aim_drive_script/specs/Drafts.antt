@@ -18,7 +18,7 @@ use Rattle.aim_script.specs.declared.decisions.Kind.TheVariants as kind
 use Rattle.aim_script.specs.declared.decisions.Limit.{Limit}
 use Rattle.aim_script.specs.declared.settings.Setting.{Setting}
 use Rattle.aim_script.specs.Headers.{HasName, Stands as StandsAsHeader}
-use Rattle.aim_script.specs.Kinds.{is_bad_policy}
+use Rattle.aim_script.specs.Kinds.{is_bad_lane, is_bad_policy}
 use Rattle.aim_script.specs.Said.{version_after, names_of, layout_of, vehicles_of, last_of}
 use Rattle.aim_script.specs.Told.{kind_told, limit_told}
 use Rattle.aim_script.specs.Versions.{version_number}
@@ -114,13 +114,16 @@ Ends lines (Err ending.NoMemory) = Unit {0}
 -- the kind of a line that stands in order behind the header, if it is at fault
 abbrev pub fault_in_order : List Line → Line → Option Kind
 fault_in_order before (line.Until step) = if is_outside step 65536 then Some kind.Moment else None
-fault_in_order before (line.PlanFor v first lead resend params ahead) =
-    let l = line.PlanFor v first lead resend params ahead in
+fault_in_order before (line.PlanFor v first lead resend params ahead wait) =
+    let l = line.PlanFor v first lead resend params ahead wait in
     if is_no_vehicle before l then Some kind.Vehicle else if is_no_driver before l then Some kind.Driver else None
 fault_in_order before (line.SwitchTo moment name) =
     let l = line.SwitchTo moment name in
     if is_bad_policy before l then Some kind.Policy else if is_bad_moment before l then Some kind.Moment else None
 fault_in_order before (line.StopAt moment) = if is_bad_moment before (line.StopAt moment) then Some kind.Moment else None
+fault_in_order before (line.QuietAt moment lane until) =
+    let l = line.QuietAt moment lane until in
+    if is_bad_lane before l then Some kind.Lane else if is_bad_moment before l then Some kind.Moment else None
 fault_in_order before (line.ChangeAt v step lead) = if is_no_driver before (line.ChangeAt v step lead) then Some kind.Driver else None
 fault_in_order before (line.CancelAt v step) = if is_no_driver before (line.CancelAt v step) then Some kind.Driver else None
 fault_in_order before (line.Up v fates) = if is_no_driver before (line.Up v fates) then Some kind.Driver else None

@@ -9,7 +9,7 @@ use Rattle.aim_script.specs.declared.decisions.Kind.{Kind}
 use Rattle.aim_script.specs.declared.decisions.Kind.TheVariants as kind
 use Rattle.aim_script.specs.declared.decisions.Limit.{Limit}
 use Rattle.aim_script.specs.declared.decisions.Limit.TheVariants as limit
-use Rattle.aim_script.specs.Kinds.{Test, is_bad_version, has_grid_fault, has_buffers_fault, has_times_fault, is_bad_lane, is_no_move, is_wide, is_bad_policy, is_no_phase, vehicles_limit as vehicles_limit_of_any}
+use Rattle.aim_script.specs.Kinds.{Test, is_bad_version, has_grid_fault, has_buffers_fault, has_times_fault, is_bad_lane, is_no_move, is_of_later, is_off_border, is_wide, is_bad_policy, is_no_phase, vehicles_limit as vehicles_limit_of_any}
 use Rattle.aim_script.specs.Said.{layout_of, vehicles_of, last_of}
 use Rattle.aim_drive_script.specs.Order.{may_follow}
 use Rattle.aim_drive_script.specs.Said.{until_of, is_planned, changes_of, cancel_of, up_of, down_of, moments_of, last_number}
@@ -23,11 +23,11 @@ lacks_plan before (line.Down v fates) = not (is_planned v before)
 lacks_plan before _ = false
 
 abbrev pub is_out_of_order : List Line → Line → Bool
-is_out_of_order before l = not (may_follow (last_of before) l) || lacks_plan before l
+is_out_of_order before l = not (may_follow (last_of before) l) || (lacks_plan before l || is_of_later before l)
 
 abbrev pub is_no_vehicle : List Line → Line → Bool
 is_no_vehicle before (line.Vehicles n) = n == 0
-is_no_vehicle before (line.PlanFor v first lead resend params ahead) = nat_le (vehicles_of before) v
+is_no_vehicle before (line.PlanFor v first lead resend params ahead wait) = nat_le (vehicles_of before) v
 is_no_vehicle before _ = false
 
 -- an order's moment is below the end, and not below that of the order before it
@@ -38,14 +38,15 @@ abbrev pub is_bad_moment : List Line → Line → Bool
 is_bad_moment before (line.Until step) = is_outside step 65536
 is_bad_moment before (line.SwitchTo moment name) = is_bad_order before moment
 is_bad_moment before (line.StopAt moment) = is_bad_order before moment
+is_bad_moment before (line.QuietAt moment lane until) = is_bad_order before moment
 is_bad_moment before _ = false
 
 -- the numbers of a plan whose drive ends at the step `until`
-abbrev pub is_bad_plan : ℕ → ℕ → ℕ → ℕ → Bool
-is_bad_plan until first lead resend = nat_le until first || (is_outside lead 65536 || is_outside resend 255)
+abbrev pub is_bad_plan : ℕ → ℕ → ℕ → ℕ → ℕ → Bool
+is_bad_plan until first lead resend wait = nat_le until first || (is_outside lead 65536 || (is_outside resend 255 || nat_lt 65536 wait))
 
 abbrev pub is_no_driver : List Line → Line → Bool
-is_no_driver before (line.PlanFor v first lead resend params ahead) = is_planned v before || is_bad_plan (until_of before) first lead resend
+is_no_driver before (line.PlanFor v first lead resend params ahead wait) = is_planned v before || is_bad_plan (until_of before) first lead resend wait
 is_no_driver before (line.ChangeAt v step lead) =
     nat_le 4 (length (changes_of v before)) || (nat_lt step (last_change (changes_of v before)) || (nat_le (until_of before) step || is_outside lead 65536))
 is_no_driver before (line.CancelAt v step) = is_some (cancel_of v before) || nat_le (until_of before) step
@@ -64,6 +65,7 @@ kinds =
     ∷ (kind.Lane, is_bad_lane)
     ∷ (kind.Move, is_no_move)
     ∷ (kind.Spacing, is_wide)
+    ∷ (kind.Border, is_off_border)
     ∷ (kind.Policy, is_bad_policy)
     ∷ (kind.Phase, is_no_phase)
     ∷ (kind.Vehicle, is_no_vehicle)
@@ -88,4 +90,5 @@ abbrev pub limit_of : List Line → Line → Option Limit
 limit_of before (line.Vehicles n) = let i = layout_of before in vehicles_limit i.grid.spans n
 limit_of before (line.SwitchTo moment name) = orders_limit before
 limit_of before (line.StopAt moment) = orders_limit before
+limit_of before (line.QuietAt moment lane until) = orders_limit before
 limit_of before _ = None

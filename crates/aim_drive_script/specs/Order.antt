@@ -11,26 +11,28 @@ abbrev pub place_after : Option Line → Place
 place_after (Some (line.Vehicles n)) = place.ToBegin
 place_after (Some line.Begin) = place.ToUntil
 place_after (Some (line.Until step)) = place.InBody
-place_after (Some (line.PlanFor vehicle first lead resend params ahead)) = place.InBody
+place_after (Some (line.PlanFor vehicle first lead resend params ahead wait)) = place.InBody
 place_after (Some (line.ChangeAt vehicle step lead)) = place.InBody
 place_after (Some (line.CancelAt vehicle step)) = place.InBody
 place_after (Some (line.Up vehicle fates)) = place.InBody
 place_after (Some (line.Down vehicle fates)) = place.InBody
 place_after (Some (line.SwitchTo moment name)) = place.InBody
 place_after (Some (line.StopAt moment)) = place.InBody
+place_after (Some (line.QuietAt moment lane until)) = place.InBody
 place_after (Some line.End) = place.Nothing
 place_after (Some (line.Event vehicle moment message)) = place.Nothing
 place_after _ = place.InHeader
 
 -- whether a line of that form may stand in the body
 abbrev pub is_of_body : Line → Bool
-is_of_body (line.PlanFor vehicle first lead resend params ahead) = true
+is_of_body (line.PlanFor vehicle first lead resend params ahead wait) = true
 is_of_body (line.ChangeAt vehicle step lead) = true
 is_of_body (line.CancelAt vehicle step) = true
 is_of_body (line.Up vehicle fates) = true
 is_of_body (line.Down vehicle fates) = true
 is_of_body (line.SwitchTo moment name) = true
 is_of_body (line.StopAt moment) = true
+is_of_body (line.QuietAt moment lane until) = true
 is_of_body line.End = true
 is_of_body _ = false
 

@@ -23,7 +23,7 @@ abbrev pub until_of : List Line → ℕ
 until_of lines = unwrap_or (find_map until_in lines) 0
 
 abbrev pub is_plan_for : ℕ → Line → Bool
-is_plan_for v (line.PlanFor vehicle first lead resend params ahead) = vehicle == v
+is_plan_for v (line.PlanFor vehicle first lead resend params ahead wait) = vehicle == v
 is_plan_for v _ = false
 
 -- whether the vehicle has a plan
@@ -79,9 +79,9 @@ pub record Drive : Type 0 where
 
 -- the drive that a line plans, with what all lines say of its vehicle
 abbrev pub drive_in : List Line → Line → Option Drive
-drive_in lines (line.PlanFor v first lead resend params ahead) = Some (record {
+drive_in lines (line.PlanFor v first lead resend params ahead wait) = Some (record {
   vehicle = v;
-  plan = record { first = first; lead = lead; resend = resend; params = params; changes = changes_of v lines; cancel = cancel_of v lines; ahead = ahead };
+  plan = record { first = first; lead = lead; resend = resend; wait = wait; params = params; changes = changes_of v lines; cancel = cancel_of v lines; ahead = ahead };
   up = fates_in (up_of v lines);
   down = fates_in (down_of v lines);
 })
@@ -94,6 +94,7 @@ drives_of lines = filter_map (drive_in lines) lines
 abbrev pub ordered_in : List (List ℕ) → Line → Option Ordered
 ordered_in names (line.SwitchTo moment name) = Some (record { moment = moment; order = order.Switch (number_of names (name_word name)) })
 ordered_in names (line.StopAt moment) = Some (record { moment = moment; order = order.Stop })
+ordered_in names (line.QuietAt moment lane until) = Some (record { moment = moment; order = order.Quiet lane until })
 ordered_in names _ = None
 
 -- the operator's orders
@@ -103,6 +104,7 @@ orders_of lines = filter_map (ordered_in (names_of lines)) lines
 abbrev pub moment_in : Line → Option ℕ
 moment_in (line.SwitchTo moment name) = Some moment
 moment_in (line.StopAt moment) = Some moment
+moment_in (line.QuietAt moment lane until) = Some moment
 moment_in _ = None
 
 -- the moments of the operator's orders

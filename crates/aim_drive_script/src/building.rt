@@ -88,12 +88,14 @@ fn add_planned(
         resend,
         params,
         ahead,
+        wait,
     } = line
     {
         let plan = DrivePlan {
             first: *first,
             lead: *lead,
             resend: *resend,
+            wait: *wait,
             params: *params,
             changes: changes_of(*vehicle, lines),
             cancel: cancel_of(*vehicle, lines),
@@ -154,6 +156,17 @@ fn ordered_in(setting: &Setting, line: &Line) -> Option<Ordered>
         Line::StopAt { moment } => Some(Ordered {
             moment: *moment,
             order: Order::Stop,
+        }),
+        Line::QuietAt {
+            moment,
+            lane,
+            until,
+        } => Some(Ordered {
+            moment: *moment,
+            order: Order::Quiet {
+                lane: *lane,
+                until: *until,
+            },
         }),
         _ => None,
     }

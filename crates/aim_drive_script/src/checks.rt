@@ -1,11 +1,14 @@
 //! What is wrong with a line behind the header.
 
-ghost use Rattle.std.specs.Prelude.{◌≡◌, Bool, None};
+ghost use Rattle.std.specs.Prelude.{◌≡◌, ℕ, Bool, None, List};
+ghost use Rattle.aim_messages.specs.declared.script.Line.{Line as AnyLine};
 ghost use Rattle.aim_messages.specs.declared.messages.Params.{Params};
 ghost use Rattle.aim_messages.specs.Lines.{IsName};
 ghost use Rattle.aim_geometry.specs.Bounded.{is_outside as is_out_of};
 ghost use Rattle.aim_script.specs.Headers.{HasName};
-ghost use Rattle.aim_script.specs.Said.{vehicles_in};
+ghost use Rattle.aim_script.specs.Kinds.{is_of_later};
+ghost use Rattle.aim_script.specs.Said.{vehicles_in, version_after};
+ghost use Rattle.aim_script.specs.Versions.{version_number};
 ghost use Rattle.aim_drive_script.specs.Kinds.{is_bad_order, is_bad_plan, is_out_of_order, kind_of_fault, lacks_plan, limit_of, orders_limit, vehicles_limit};
 ghost use Rattle.aim_drive_script.specs.Drafts.{IsOpened, fault_in_order, kind_if};
 
@@ -26,7 +29,7 @@ const MOST_SPANS: u64 = 16_777_216;
 // How many orders a drive may have.
 const MOST_ORDERS: usize = 1024;
 
-// The greatest step at which a drive ends, and the greatest lead.
+// The greatest step at which a drive ends, the greatest lead, and the longest wait.
 const LAST_STEP: u32 = 65_536;
 
 /// The limit that so many vehicles go past, where a vehicle's sheet has so many spans.
@@ -55,19 +58,30 @@ fn lacks_plan(lines: &[Line], line: &Line) -> bool
     }
 }
 
+// Whether the version of the script has no such line.
+fn is_of_later(setting: &Setting, line: &Line) -> bool
+    ensures { (lines : List AnyLine) → version_after lines ≡ version_number setting.now.version → result ≡ is_of_later lines line.now }
+{
+    match line {
+        Line::QuietAt { .. } => setting.version.number() < 4,
+        _ => false,
+    }
+}
+
 // Whether the line may not stand there.
 fn is_out_of_order(lines: &[Line], setting: &Setting, line: &Line) -> bool
     requires { IsOpened lines.now setting.now }
     ensures { result ≡ is_out_of_order lines.now line.now }
 {
-    !belongs(place_after(lines.last()), line) || lacks_plan(lines, line)
+    !belongs(place_after(lines.last()), line)
+        || (lacks_plan(lines, line) || is_of_later(setting, line))
 }
 
 /// Whether the numbers of a plan are out of their bounds.
-fn is_bad_plan(until: u32, first: u32, lead: u32, resend: u32) -> bool
-    ensures { result ≡ is_bad_plan until first lead resend }
+fn is_bad_plan(until: u32, first: u32, lead: u32, resend: u32, wait: u32) -> bool
+    ensures { result ≡ is_bad_plan until first lead resend wait }
 {
-    first >= until || (is_outside(lead, LAST_STEP) || is_outside(resend, 255))
+    first >= until || (is_outside(lead, LAST_STEP) || (is_outside(resend, 255) || wait > LAST_STEP))
 }
 
 // Whether an order's moment isn't one of the drive, or falls.
@@ -92,14 +106,15 @@ fn plan_fault(
     first: u32,
     lead: u32,
     resend: u32,
+    wait: u32,
 ) -> Option<Kind>
     requires { IsOpened lines.now setting.now }
-    ensures { (p : Params) (ahead : Bool) → result ≡ fault_in_order lines.now (Line.PlanFor vehicle first lead resend p ahead) }
+    ensures { (p : Params) (ahead : Bool) → result ≡ fault_in_order lines.now (Line.PlanFor vehicle first lead resend p ahead wait) }
 {
     if vehicle >= setting.vehicles {
         return Some(Kind::Vehicle);
     }
-    let bad = is_planned(vehicle, lines) || is_bad_plan(until_of(lines), first, lead, resend);
+    let bad = is_planned(vehicle, lines) || is_bad_plan(until_of(lines), first, lead, resend, wait);
     kind_if(bad, Kind::Driver)
 }
 
@@ -134,6 +149,17 @@ fn switch_fault(lines: &[Line], setting: &Setting, moment: u32, name: &Name) -> 
     kind_if(is_bad_order(lines, moment), Kind::Moment)
 }
 
+// What is wrong with a quiet of a lane.
+fn quiet_fault(lines: &[Line], setting: &Setting, moment: u32, lane: u8) -> Option<Kind>
+    requires { IsOpened lines.now setting.now }
+    ensures { (until : ℕ) → result ≡ fault_in_order lines.now (Line.QuietAt moment lane until) }
+{
+    if u32::from(lane) >= setting.layout.lanes() {
+        return Some(Kind::Lane);
+    }
+    kind_if(is_bad_order(lines, moment), Kind::Moment)
+}
+
 // What is wrong with a line that stands in order.
 fn fault_in_order(lines: &[Line], setting: &Setting, line: &Line) -> Option<Kind>
     requires opened { IsOpened lines.now setting.now }
@@ -147,8 +173,9 @@ fn fault_in_order(lines: &[Line], setting: &Setting, line: &Line) -> Option<Kind
             first,
             lead,
             resend,
+            wait,
             ..
-        } => plan_fault(lines, setting, *vehicle, *first, *lead, *resend),
+        } => plan_fault(lines, setting, *vehicle, *first, *lead, *resend, *wait),
         Line::ChangeAt {
             vehicle,
             step,
@@ -159,6 +186,7 @@ fn fault_in_order(lines: &[Line], setting: &Setting, line: &Line) -> Option<Kind
         Line::Down { vehicle, .. } => kind_if(down_of(*vehicle, lines).is_some(), Kind::Driver),
         Line::SwitchTo { moment, name } => switch_fault(lines, setting, *moment, name),
         Line::StopAt { moment } => kind_if(is_bad_order(lines, *moment), Kind::Moment),
+        Line::QuietAt { moment, lane, .. } => quiet_fault(lines, setting, *moment, *lane),
         _ => None,
     }
 }
@@ -195,6 +223,7 @@ pub(crate) fn limit(lines: &[Line], line: &Line) -> Option<Limit>
     match line {
         Line::SwitchTo { .. } => orders_limit(lines),
         Line::StopAt { .. } => orders_limit(lines),
+        Line::QuietAt { .. } => orders_limit(lines),
         _ => None,
     }
 }

@@ -37,6 +37,7 @@ pub(crate) fn place_after(line: Option<&Line>) -> Place
         Some(Line::Down { .. }) => Place::InBody,
         Some(Line::SwitchTo { .. }) => Place::InBody,
         Some(Line::StopAt { .. }) => Place::InBody,
+        Some(Line::QuietAt { .. }) => Place::InBody,
         Some(Line::End) => Place::Nothing,
         Some(Line::Event { .. }) => Place::Nothing,
         _ => Place::InHeader,
@@ -55,6 +56,7 @@ pub(crate) fn is_of_body(line: &Line) -> bool
         Line::Down { .. } => true,
         Line::SwitchTo { .. } => true,
         Line::StopAt { .. } => true,
+        Line::QuietAt { .. } => true,
         Line::End => true,
         _ => false,
     }

@@ -109,6 +109,7 @@ fn moment_in(line: &Line) -> Option<u32>
     match line {
         Line::SwitchTo { moment, .. } => Some(*moment),
         Line::StopAt { moment } => Some(*moment),
+        Line::QuietAt { moment, .. } => Some(*moment),
         _ => None,
     }
 }

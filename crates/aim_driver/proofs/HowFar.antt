@@ -1,5 +1,5 @@
 -- How far a driver has come behind its turns.
-use Rattle.std.proofs.Common.{◌≡◌, inl, inr, ℕ, zero, suc, ◌+◌, ◌-◌, ◌<◌, ◌≤◌, Bool, true, false, ◌&&◌, not, nat_lt, nat_le, List, [], ◌∷◌, ◌++◌, reverse, length, map, Option, Some, None, is_some, is_none, if◌then◌else◌, refl, sym, ap, ◌∙◌, subst, arith, length-append}
+use Rattle.std.proofs.Common.{◌≡◌, inl, inr, ℕ, zero, suc, ◌+◌, ◌-◌, ◌<◌, ◌≤◌, Bool, true, false, ◌&&◌, not, nat_le, List, [], ◌∷◌, ◌++◌, reverse, length, Option, Some, None, is_some, is_none, if◌then◌else◌, refl, sym, ap, ◌∙◌, subst, arith, length-append}
 use Rattle.std.proofs.lemmas.Bool.{cases_Bool}
 use Rattle.std.proofs.lemmas.Bool.Decides.{nat_tests}
 use Rattle.std.proofs.lemmas.List.{reverse-append}
@@ -22,11 +22,11 @@ use Rattle.aim_driver.specs.Rules.{act_by, cancel, change, entered_id, entered_o
 use Rattle.aim_driver.specs.Own.{kept}
 use Rattle.aim_driver.specs.Turns.{State, begun, entering, hears_all}
 use Rattle.aim_driver.specs.Links.{under_way}
-use Rattle.aim_driver.specs.Follows.{Call, Course, running, fresh, called, calling, calls_with, one_call, some_calls, turn, turns, follows_from}
+use Rattle.aim_driver.specs.Follows.{Course, running, fresh, called, calling, calls_with, one_call, some_calls, turn, turns, follows_from}
 use Rattle.aim_driver.specs.Links.{delivered}
 use Rattle.aim_driver.specs.Progress.{Progress, through, inside, shut_out, waiting, spent, asking, IsFree, Waits, HasCome, is_to_come, progress_by, progress_in, progress}
-use Rattle.aim_driver.proofs.SmallFacts.{and_right, le_true, none_some, some_is, true_le}
-use Rattle.aim_driver.proofs.SentLemmas.{IsTimely, Asks, Changes, Cancels, Leaves}
+use Rattle.aim_driver.proofs.SmallFacts.{and_right, le_true, none_some, true_le}
+use Rattle.aim_driver.proofs.SentLemmas.{IsTimely, Asks}
 use Rattle.aim_driver.proofs.ActLemmas.{Sends, Again, New, acted}
 use Rattle.aim_driver.proofs.StandLemmas.{act_is, stands_first}
 use Rattle.aim_driver.proofs.IdleLemmas.{starts_is}

@@ -33,4 +33,4 @@ refused held = reply.Reject reason.NoReservation 0 held
 
 -- a plan of lane 0 with a lead of 10, sending again after 3 steps, with no changes
 abbrev pub plain : DrivePlan
-plain = record { first = 0; lead = 10; resend = 3; params = car 0 0; changes = []; cancel = None; ahead = false }
+plain = record { first = 0; lead = 10; resend = 3; wait = 0; params = car 0 0; changes = []; cancel = None; ahead = false }

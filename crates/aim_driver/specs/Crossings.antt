@@ -38,6 +38,7 @@ Tells reply.EmergencyStop r = ⊥
 Tells (reply.Stale most) r = ⊥
 Tells (reply.Switched from) r = ⊥
 Tells reply.Stopped r = ⊥
+Tells reply.Quieted r = ⊥
 
 -- a reply to the number, among those that were heard, tells that the reservation is held
 pub record Told (heard : ℕ → Reply → Type 0) (seq id : ℕ) : Type 0 where

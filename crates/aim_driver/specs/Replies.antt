@@ -19,6 +19,7 @@ active_told change reply.EmergencyStop active = active
 active_told change (reply.Stale most) active = active
 active_told change (reply.Switched from) active = active
 active_told change reply.Stopped active = active
+active_told change reply.Quieted active = active
 
 abbrev pub is_emergency_stop : Reply → Bool
 is_emergency_stop reply.EmergencyStop = true
@@ -28,6 +29,7 @@ is_emergency_stop (reply.Ack id) = false
 is_emergency_stop (reply.Stale most) = false
 is_emergency_stop (reply.Switched from) = false
 is_emergency_stop reply.Stopped = false
+is_emergency_stop reply.Quieted = false
 
 abbrev pub held_in : Reply → Option ℕ
 held_in (reply.Confirm id start early late accelerate last) = None
@@ -37,6 +39,7 @@ held_in reply.EmergencyStop = None
 held_in (reply.Stale most) = None
 held_in (reply.Switched from) = None
 held_in reply.Stopped = None
+held_in reply.Quieted = None
 
 abbrev pub held : Option Reply → Option ℕ
 held None = None
@@ -50,6 +53,7 @@ next_told reply.EmergencyStop before = before
 next_told (reply.Stale most) before = before
 next_told (reply.Switched from) before = before
 next_told reply.Stopped before = before
+next_told reply.Quieted before = before
 
 -- in how many steps a vehicle of that speed comes a distance nearer, 65,536 at most
 abbrev pub steps_for : ℕ → ℕ → ℕ
@@ -77,3 +81,4 @@ lead_told speed reply.EmergencyStop before = before
 lead_told speed (reply.Stale most) before = before
 lead_told speed (reply.Switched from) before = before
 lead_told speed reply.Stopped before = before
+lead_told speed reply.Quieted before = before

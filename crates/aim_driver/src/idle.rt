@@ -94,6 +94,7 @@ impl Known {
         requires number { number self.now.latest ≤ self.now.sendings }
         requires step { step ≤ LATEST_MOMENT }
         requires lead { self.now.lead ≤ 65536 }
+        requires wait { plan.now.wait ≤ 65536 }
         ensures idle { (s : ℕ) → step ≤ s → s < result →
             (entered_on plan.now self.now s ≡ None) × (act_by plan.now self.now s ≡ None) }
         ensures later { entered_on plan.now self.now step ≡ None → act_by plan.now self.now step ≡ None → step < result }

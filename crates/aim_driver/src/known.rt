@@ -80,13 +80,15 @@ fn is_due_at(at: Option<u32>, step: u32) -> bool
     }
 }
 
-// The plan's params with that arrival.
+// The plan's params with that arrival, and with as much later a last one as the driver waits.
 fn arriving(plan: &DrivePlan, arrive: u32) -> Params
+    requires arrive { arrive ≤ LATEST_MOMENT + 65536 }
+    requires wait { plan.now.wait ≤ 65536 }
     ensures { result ≡ params_at plan.now arrive }
 {
     Params {
         arrive,
-        latest: arrive,
+        latest: arrive + plan.wait,
         ..plan.params
     }
 }
@@ -323,6 +325,7 @@ impl Known {
     fn change_request(&self, plan: &DrivePlan, step: u32) -> Option<Message>
         requires few { number self.now.latest < 64 }
         requires step { step ≤ LATEST_MOMENT }
+        requires wait { plan.now.wait ≤ 65536 }
         ensures { result ≡ change plan.now self.now step (reserved self.now) (next_change plan.now self.now) }
     {
         let Some(id) = self.reservation() else {
@@ -359,6 +362,7 @@ impl Known {
         requires few { number self.now.latest < 64 }
         requires step { step ≤ LATEST_MOMENT }
         requires lead { self.now.lead ≤ 65536 }
+        requires wait { plan.now.wait ≤ 65536 }
         ensures { result ≡ request plan.now self.now step }
     {
         self.new_message(Body::Request(arriving(plan, step + self.lead)))
@@ -369,6 +373,7 @@ impl Known {
         requires number { number self.now.latest ≤ self.now.sendings }
         requires step { step ≤ LATEST_MOMENT }
         requires lead { self.now.lead ≤ 65536 }
+        requires wait { plan.now.wait ≤ 65536 }
         ensures value { result ≡ act_by plan.now self.now step }
         ensures few { IfSome result (λ _. self.now.sendings < 64) }
     {

@@ -77,6 +77,8 @@ pub struct DrivePlan {
     pub lead: u32,
     /// After so many steps without an answer it sends its message again.
     pub resend: u32,
+    /// Each of its requests says that it may come so many steps later than it asks to.
+    pub wait: u32,
     /// What it says of itself; the arrival and the last one are not used.
     pub params: Params,
     pub changes: Changes,

@@ -37,13 +37,6 @@ pub few_steps : (i : Intersection) (p : Params) (fast w m : Bool) → has_window
 few_steps i p fast true m windows made tried a b few = rw (tried refl) few
 few_steps i p fast false m windows made tried a b few = let s = steps_fewer i p fast a b in omega arith
 
--- in a layout of a version without windows each trial is tried
-pub windowless : (i : Intersection) → IsValid i → has_windows i ≡ false
-windowless i valid = let v = valid.sound.version in grind (arith, nat_tests)
-
-pub tried_both : (i : Intersection) (p : Params) (fast : Bool) → IsValid i → IsTried i p fast
-tried_both i p fast valid = λ windows. absurd (let none = windowless i valid in cc)
-
 -- the fast trial is tried where it is made, and the steady one where the other isn't the judged one
 pub fast_tried : (i : Intersection) (p : Params) → is_fast_made p ≡ true → IsTried i p true
 fast_tried i p made = λ windows. sym made

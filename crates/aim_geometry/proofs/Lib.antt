@@ -1,5 +1,6 @@
 pub mod BoundedLemmas
 pub mod StationLemmas
+pub mod LegLemmas
 pub mod Quotients
 pub mod SiteLemmas
 pub mod Bits

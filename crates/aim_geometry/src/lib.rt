@@ -1,5 +1,5 @@
-//! The ground of an intersection: its grid of tiles, the tiles that a square meets, and the stations of lines and
-//! curves.
+//! The ground of an intersection: its grid of tiles, the tiles that a square meets, and the stations of lines, curves
+//! and paths of legs.
 #![tactic(auto)]
 
 pub mod ground;

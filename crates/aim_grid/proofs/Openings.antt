@@ -63,6 +63,7 @@ module _ (ms : Managers) where
     sheets = made.sheets;
     first = subst (λ (d : DrivePlan). d.first ≤ 65536) (sym made.plan_is) fit.short_first;
     lead = subst (λ (d : DrivePlan). d.lead ≤ 65536) (sym made.plan_is) fit.short_lead;
+    wait = subst (λ (d : DrivePlan). d.wait ≤ 65536) (sym made.plan_is) fit.short_wait;
   }
 
   legs_each : (vehicles crossings v : ℕ) (ps : List PlannedLeg) (ls : List LegModel) → AllByRecursion (λ (p : PlannedLeg). p.vehicle ≡ v) ps → AllByRecursion (FitsLeg vehicles crossings) ps → AllZip (IsMadeLeg ms) ps ls → AllByRecursion (IsLegOf v) ls

@@ -5,11 +5,12 @@ use Rattle.aim_driver.specs.declared.plans.PlannedChange.{PlannedChange}
 use Rattle.aim_grid_script.specs.Spelled.{IsBare}
 
 pub bare_is : (p : DrivePlan) (none : List PlannedChange) → IsBare p → none ≡ []
-    → record { first = p.first; lead = p.lead; resend = p.resend; params = p.params; changes = none; cancel = None; ahead = false } ≡ p
+    → record { first = p.first; lead = p.lead; resend = p.resend; wait = p.wait; params = p.params; changes = none; cancel = None; ahead = false } ≡ p
 bare_is p none bare is = λ i. record {
   first = p.first;
   lead = p.lead;
   resend = p.resend;
+  wait = p.wait;
   params = p.params;
   changes = (is ∙ sym bare.changes) i;
   cancel = sym bare.cancel i;

@@ -72,6 +72,7 @@ ack_keeps c reply.EmergencyStop o e = absurd (cc e)
 ack_keeps c (reply.Stale most) o e = absurd (cc e)
 ack_keeps c (reply.Switched from) o e = absurd (cc e)
 ack_keeps c reply.Stopped o e = absurd (cc e)
+ack_keeps c reply.Quieted o e = absurd (cc e)
 
 unanswered : (past : List LogItem) (seq : ℕ) → counts past seq ≡ true → answer past ≡ None
 unanswered past seq e = is_none_of (answer past) (and_right (has_number (latest past) seq) (is_none (answer past)) e)

@@ -21,6 +21,7 @@ acks reply.EmergencyStop = false
 acks (reply.Stale most) = false
 acks (reply.Switched from) = false
 acks reply.Stopped = false
+acks reply.Quieted = false
 
 abbrev pub is_ack : Option Reply → Bool
 is_ack None = false

@@ -31,6 +31,7 @@ pub record IsLegOf (vehicle : ℕ) (l : LegModel) : Type 0 where
   pub sheets : l.pool.count ≡ 3
   pub first : l.plan.first ≤ 65536
   pub lead : l.plan.lead ≤ 65536
+  pub wait : l.plan.wait ≤ 65536
 
 abbrev pub AreLegsOf : ℕ → List LegModel → Type 0
 AreLegsOf vehicle legs = All (IsLegOf vehicle) legs

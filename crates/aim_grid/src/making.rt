@@ -34,6 +34,7 @@ fn same_plan(plan: &DrivePlan) -> DrivePlan
         first: plan.first,
         lead: plan.lead,
         resend: plan.resend,
+        wait: plan.wait,
         params: plan.params,
         changes: Changes::none(),
         cancel: None,

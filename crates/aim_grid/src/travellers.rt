@@ -77,6 +77,7 @@ fn plan_behind(step: u32, mut plan: DrivePlan) -> DrivePlan
 // An agent that has done nothing, with links that deliver all in time.
 fn new_agent(alloc: Global, plan: DrivePlan, pass: ManagerPass, pool: Pool) -> Agent
     requires lead { plan.lead ≤ 65536 }
+    requires wait { plan.wait ≤ 65536 }
     requires pass { pass.mine ≡ [] }
     requires sheets { pool.count ≡ 3 }
     ensures { IsMade plan pass pool.room result }
@@ -92,6 +93,7 @@ fn new_agent(alloc: Global, plan: DrivePlan, pass: ManagerPass, pool: Pool) -> A
 // What is left of a leg that isn't begun.
 fn unbegun(alloc: Global, leg: Leg) -> (u32, Driver, ManagerPass)
     requires lead { leg.plan.lead ≤ 65536 }
+    requires wait { leg.plan.wait ≤ 65536 }
     ensures { told result ≡ told_unbegun leg }
 {
     let Leg {
@@ -112,7 +114,8 @@ fn append_unbegun(
     over: &mut Vec<(u32, Driver, ManagerPass)>,
     waiting: Vec<Leg>,
 ) -> Result<(), NoMemory>
-    requires { All (λ l. l.plan.lead ≤ 65536) waiting.items }
+    requires lead { All (λ l. l.plan.lead ≤ 65536) waiting.items }
+    requires wait { All (λ l. l.plan.wait ≤ 65536) waiting.items }
     ensures { OnOk result (map told over.new.items ≡ map told over.old.items ++ map told_unbegun waiting.items) }
 {
     for leg in waiting {

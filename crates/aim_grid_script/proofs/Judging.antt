@@ -60,6 +60,7 @@ other (plain.Vehicles n) b v = absurd (cc)
 other (plain.Grid g) b v = record { kind = λ count p. refl; limit = λ before. refl }
 other (plain.Times t) b v = record { kind = λ count p. refl; limit = λ before. refl }
 other (plain.Times6 t) b v = record { kind = λ count p. refl; limit = λ before. refl }
+other (plain.Times7 t) b v = record { kind = λ count p. refl; limit = λ before. refl }
 other (plain.Lanes n) b v = record { kind = λ count p. refl; limit = λ before. refl }
 other (plain.Move lane turn s) b v = record { kind = λ count p. refl; limit = λ before. refl }
 other (plain.Policy name k) b v = record { kind = λ count p. refl; limit = λ before. refl }
@@ -68,8 +69,9 @@ other plain.Begin b v = record { kind = λ count p. refl; limit = λ before. ref
 other (plain.Event vehicle moment m) b v = record { kind = λ count p. refl; limit = λ before. refl }
 other (plain.SwitchTo moment name) b v = record { kind = λ count p. refl; limit = λ before. refl }
 other (plain.StopAt moment) b v = record { kind = λ count p. refl; limit = λ before. refl }
+other (plain.QuietAt moment lane until) b v = record { kind = λ count p. refl; limit = λ before. refl }
 other (plain.Until step) b v = record { kind = λ count p. refl; limit = λ before. refl }
-other (plain.PlanFor v' first lead resend params ahead) b v = record { kind = λ count p. refl; limit = λ before. refl }
+other (plain.PlanFor v' first lead resend params ahead wait) b v = record { kind = λ count p. refl; limit = λ before. refl }
 other (plain.ChangeAt v' step lead) b v = record { kind = λ count p. refl; limit = λ before. refl }
 other (plain.CancelAt v' step) b v = record { kind = λ count p. refl; limit = λ before. refl }
 other (plain.Up v' fates) b v = record { kind = λ count p. refl; limit = λ before. refl }
@@ -103,6 +105,7 @@ form_in to_ground (plain.Grid g) h b f v = refl
 form_in to_ground l h b f v = absurd (cc)
 form_in to_times (plain.Times t) h b f v = refl
 form_in to_times (plain.Times6 t) h b f v = refl
+form_in to_times (plain.Times7 t) h b f v = refl
 form_in to_times l h b f v = absurd (cc)
 form_in to_lanes (plain.Lanes n) h b f v = refl
 form_in to_lanes l h b f v = absurd (cc)
@@ -144,6 +147,7 @@ empty_kind count (plain.Vehicles n) f = vehicles_early count n (nat_le count 1)
 empty_kind count (plain.Grid g) f = refl
 empty_kind count (plain.Times t) f = refl
 empty_kind count (plain.Times6 t) f = refl
+empty_kind count (plain.Times7 t) f = refl
 empty_kind count (plain.Lanes n) f = refl
 empty_kind count (plain.Move lane turn s) f = refl
 empty_kind count (plain.Policy name k) f = refl
@@ -152,8 +156,9 @@ empty_kind count plain.Begin f = refl
 empty_kind count (plain.Event vehicle moment m) f = refl
 empty_kind count (plain.SwitchTo moment name) f = refl
 empty_kind count (plain.StopAt moment) f = refl
+empty_kind count (plain.QuietAt moment lane until) f = refl
 empty_kind count (plain.Until step) f = refl
-empty_kind count (plain.PlanFor v' first lead resend params ahead) f = refl
+empty_kind count (plain.PlanFor v' first lead resend params ahead wait) f = refl
 empty_kind count (plain.ChangeAt v' step lead) f = refl
 empty_kind count (plain.CancelAt v' step) f = refl
 empty_kind count (plain.Up v' fates) f = refl

@@ -69,6 +69,7 @@ pub inside : (l : Line) → is_of_layout l ≡ true → IsInside l
 inside (plain.Grid g) e = record { part = refl; none = record { crossings = refl; vehicles = refl; until = refl; leg = refl }; parts = λ p. refl }
 inside (plain.Times t) e = record { part = refl; none = record { crossings = refl; vehicles = refl; until = refl; leg = refl }; parts = λ p. refl }
 inside (plain.Times6 t) e = record { part = refl; none = record { crossings = refl; vehicles = refl; until = refl; leg = refl }; parts = λ p. refl }
+inside (plain.Times7 t) e = record { part = refl; none = record { crossings = refl; vehicles = refl; until = refl; leg = refl }; parts = λ p. refl }
 inside (plain.Lanes n) e = record { part = refl; none = record { crossings = refl; vehicles = refl; until = refl; leg = refl }; parts = λ p. refl }
 inside (plain.Move lane turn s) e = record { part = refl; none = record { crossings = refl; vehicles = refl; until = refl; leg = refl }; parts = λ p. refl }
 inside (plain.Policy name k) e = record { part = refl; none = record { crossings = refl; vehicles = refl; until = refl; leg = refl }; parts = λ p. refl }

@@ -32,6 +32,7 @@ abbrev pub is_of_layout : Line → Bool
 is_of_layout (plain.Grid g) = true
 is_of_layout (plain.Times t) = true
 is_of_layout (plain.Times6 t) = true
+is_of_layout (plain.Times7 t) = true
 is_of_layout (plain.Lanes n) = true
 is_of_layout (plain.Move lane turn shape) = true
 is_of_layout (plain.Policy name k) = true

@@ -25,7 +25,7 @@ use Rattle.aim_json.specs.Spelling.{Names, plain_words, value_words, member_word
 abbrev act_names : Names
 act_names =
     codes "kind" ∷ codes "seq" ∷ codes "id" ∷ codes "lane" ∷ codes "turn" ∷ codes "arrive" ∷ codes "speed" ∷ codes "max"
-    ∷ codes "accel" ∷ codes "length" ∷ codes "width" ∷ codes "class" ∷ codes "latest" ∷ codes "policy" ∷ []
+    ∷ codes "accel" ∷ codes "length" ∷ codes "width" ∷ codes "class" ∷ codes "latest" ∷ codes "policy" ∷ codes "until" ∷ []
 
 abbrev reason_names : Names
 reason_names =
@@ -82,6 +82,7 @@ act_back : (a : Act) → members_words act_names (act_json a) ≡ act_words a
 act_back (act.Message m) = body_back m.seq m.body
 act_back (act.Order (order.Switch policy)) = refl
 act_back (act.Order order.Stop) = refl
+act_back (act.Order (order.Quiet lane until)) = refl
 
 caller_back : (caller : ℕ) (a : Act) → value_words (caller_json caller a) ≡ caller_word caller a ∷ []
 caller_back caller (act.Message m) = refl
@@ -113,6 +114,7 @@ reply_back reply.EmergencyStop = refl
 reply_back (reply.Stale seq) = refl
 reply_back (reply.Switched from) = refl
 reply_back reply.Stopped = refl
+reply_back reply.Quieted = refl
 
 entry_back : (position : ℕ) (e : Entry) → entry_in (entry_json position e) ≡ entry_words position e
 entry_back position e = rw (caller_back e.caller e.act, act_back e.act, reply_back e.reply) refl

@@ -19,6 +19,7 @@ use Rattle.aim_messages.specs.declared.replies.Reply.{Reply}
 use Rattle.aim_messages.specs.declared.replies.Reply.TheVariants as reply
 use Rattle.aim_messages.specs.declared.script.Name.{Name}
 use Rattle.aim_messages.specs.declared.script.FateList.{FateList}
+use Rattle.aim_messages.specs.declared.script.LegList.{LegList}
 use Rattle.aim_messages.specs.declared.script.MoveShape.TheVariants as shape
 use Rattle.aim_messages.specs.declared.script.Line.TheVariants as line
 use Rattle.aim_messages.specs.Lines.{all_lanes}
@@ -43,6 +44,9 @@ named text = record { bytes = text ++ replicate (16 - length text) 0; len = leng
 
 abbrev fated : List ℕ → FateList
 fated fates = record { fates = fates ++ replicate (64 - length fates) 0; len = length fates }
+
+abbrev led : List (ℕ × ℕ × ℕ) → LegList
+led legs = record { legs = legs ++ replicate (32 - length legs) (0, 0, 0); len = length legs }
 
 pub request_text : compact_text (message_json (message 1 (body.Request (car 0 10)))) ≡ codes "{\"accel\":0,\"arrive\":10,\"class\":\"car\",\"kind\":\"request\",\"lane\":0,\"length\":1000,\"max\":500,\"seq\":1,\"speed\":500,\"turn\":\"straight\",\"width\":700}"
 unfolding serde_json_on_literals digits
@@ -99,6 +103,10 @@ switched_text = refl
 pub stopped_text : compact_text (reply_json reply.Stopped) ≡ codes "{\"kind\":\"stopped\"}"
 unfolding serde_json_on_literals digits
 stopped_text = refl
+
+pub quieted_text : compact_text (reply_json reply.Quieted) ≡ codes "{\"kind\":\"quieted\"}"
+unfolding serde_json_on_literals digits
+quieted_text = refl
 
 pub holds_text : compact_text (reply_json (refused (reason.Holds 0) 0 (Some 0))) ≡ codes "{\"held\":0,\"kind\":\"reject\",\"next\":0,\"reason\":{\"id\":0,\"kind\":\"holds\"}}"
 unfolding serde_json_on_literals digits
@@ -216,6 +224,10 @@ pub stopped_entry_text : entry_json_text 1 (record { caller = 65536; moment = 3;
 unfolding serde_json_on_literals digits
 stopped_entry_text = refl
 
+pub quieted_entry_text : entry_json_text 2 (record { caller = 65536; moment = 3; act = act.Order (order.Quiet 11 4294967295); reply = reply.Quieted }) ≡ codes "{\"act\":{\"kind\":\"quiet\",\"lane\":11,\"until\":4294967295},\"caller\":\"operator\",\"moment\":3,\"position\":2,\"reply\":{\"kind\":\"quieted\"}}"
+unfolding serde_json_on_literals digits
+quieted_entry_text = refl
+
 pub version_line : json_text 1 (line.Version 1) ≡ codes "{\"form\":\"aim\",\"n\":1}"
 unfolding serde_json_on_literals digits
 version_line = refl
@@ -232,6 +244,10 @@ pub times_line_of_version_2 : json_text 2 (line.Times6 (record { horizon = 1500;
 unfolding serde_json_on_literals digits
 times_line_of_version_2 = refl
 
+pub times_line_of_version_4 : json_text 4 (line.Times7 (record { horizon = 1500; longest = 25; clearance = 20; early = 1; late = 3; edge = 4; window = 300 })) ≡ codes "{\"clearance\":20,\"early\":1,\"edge\":4,\"form\":\"times\",\"horizon\":1500,\"late\":3,\"longest\":25,\"window\":300}"
+unfolding serde_json_on_literals digits
+times_line_of_version_4 = refl
+
 pub lanes_line : json_text 1 (line.Lanes 2) ≡ codes "{\"form\":\"lanes\",\"n\":2}"
 unfolding serde_json_on_literals digits
 lanes_line = refl
@@ -243,6 +259,10 @@ straight_move_line = refl
 pub curved_move_line : json_text 1 (line.Move 3 Left (shape.Curve 13500 0 13500 13500 0 13500 280)) ≡ codes "{\"form\":\"move\",\"lane\":3,\"m\":280,\"shape\":\"curve\",\"turn\":\"left\",\"x0\":13500,\"x1\":13500,\"x2\":0,\"y0\":0,\"y1\":13500,\"y2\":13500}"
 unfolding serde_json_on_literals digits
 curved_move_line = refl
+
+pub path_move_line : json_text 4 (line.Move 1 Right (shape.Path 0 1500 (led ((1000, 1400, 10) ∷ (2000, 0, 25) ∷ [])))) ≡ codes "{\"form\":\"move\",\"lane\":1,\"legs\":[1000,1400,10,2000,0,25],\"shape\":\"path\",\"turn\":\"right\",\"x0\":0,\"y0\":1500}"
+unfolding serde_json_on_literals digits
+path_move_line = refl
 
 pub plain_policy_line : json_text 1 (line.Policy (named (codes "plain")) 0) ≡ codes "{\"form\":\"policy\",\"kind\":\"fcfs\",\"name\":\"plain\"}"
 unfolding serde_json_on_literals digits
@@ -288,25 +308,33 @@ pub stop_line : json_text 1 (line.StopAt 3) ≡ codes "{\"form\":\"stop\",\"mome
 unfolding serde_json_on_literals digits
 stop_line = refl
 
+pub quiet_line : json_text 4 (line.QuietAt 3 1 4294967295) ≡ codes "{\"form\":\"quiet\",\"lane\":1,\"moment\":3,\"until\":4294967295}"
+unfolding serde_json_on_literals digits
+quiet_line = refl
+
 pub until_line : json_text 1 (line.Until 40) ≡ codes "{\"form\":\"until\",\"step\":40}"
 unfolding serde_json_on_literals digits
 until_line = refl
 
-pub plan_line_of_version_1 : json_text 1 (line.PlanFor 1 1 12 3 (car 1 0) false) ≡ codes "{\"accel\":0,\"class\":\"car\",\"first\":1,\"form\":\"plan\",\"lane\":1,\"lead\":12,\"length\":1000,\"max\":500,\"resend\":3,\"speed\":500,\"turn\":\"straight\",\"v\":1,\"width\":700}"
+pub plan_line_of_version_1 : json_text 1 (line.PlanFor 1 1 12 3 (car 1 0) false 0) ≡ codes "{\"accel\":0,\"class\":\"car\",\"first\":1,\"form\":\"plan\",\"lane\":1,\"lead\":12,\"length\":1000,\"max\":500,\"resend\":3,\"speed\":500,\"turn\":\"straight\",\"v\":1,\"width\":700}"
 unfolding serde_json_on_literals digits
 plan_line_of_version_1 = refl
 
-pub plan_line_of_version_2 : json_text 2 (line.PlanFor 1 1 12 3 (car 1 0) false) ≡ codes "{\"accel\":0,\"class\":\"car\",\"first\":1,\"form\":\"plan\",\"lane\":1,\"lead\":12,\"length\":1000,\"max\":500,\"resend\":3,\"speed\":500,\"turn\":\"straight\",\"v\":1,\"width\":700}"
+pub plan_line_of_version_2 : json_text 2 (line.PlanFor 1 1 12 3 (car 1 0) false 0) ≡ codes "{\"accel\":0,\"class\":\"car\",\"first\":1,\"form\":\"plan\",\"lane\":1,\"lead\":12,\"length\":1000,\"max\":500,\"resend\":3,\"speed\":500,\"turn\":\"straight\",\"v\":1,\"width\":700}"
 unfolding serde_json_on_literals digits
 plan_line_of_version_2 = refl
 
-pub early_plan_line_of_version_3 : json_text 3 (line.PlanFor 0 0 10 3 (car 0 0) true) ≡ codes "{\"accel\":0,\"class\":\"car\",\"first\":0,\"form\":\"plan\",\"lane\":0,\"lead\":10,\"length\":1000,\"max\":500,\"resend\":3,\"speed\":500,\"turn\":\"straight\",\"v\":0,\"width\":700,\"window\":\"early\"}"
+pub early_plan_line_of_version_3 : json_text 3 (line.PlanFor 0 0 10 3 (car 0 0) true 0) ≡ codes "{\"accel\":0,\"class\":\"car\",\"first\":0,\"form\":\"plan\",\"lane\":0,\"lead\":10,\"length\":1000,\"max\":500,\"resend\":3,\"speed\":500,\"turn\":\"straight\",\"v\":0,\"width\":700,\"window\":\"early\"}"
 unfolding serde_json_on_literals digits
 early_plan_line_of_version_3 = refl
 
-pub plan_line_of_version_3 : json_text 3 (line.PlanFor 0 0 10 3 (car 0 0) false) ≡ codes "{\"accel\":0,\"class\":\"car\",\"first\":0,\"form\":\"plan\",\"lane\":0,\"lead\":10,\"length\":1000,\"max\":500,\"resend\":3,\"speed\":500,\"turn\":\"straight\",\"v\":0,\"width\":700,\"window\":\"start\"}"
+pub plan_line_of_version_3 : json_text 3 (line.PlanFor 0 0 10 3 (car 0 0) false 0) ≡ codes "{\"accel\":0,\"class\":\"car\",\"first\":0,\"form\":\"plan\",\"lane\":0,\"lead\":10,\"length\":1000,\"max\":500,\"resend\":3,\"speed\":500,\"turn\":\"straight\",\"v\":0,\"width\":700,\"window\":\"start\"}"
 unfolding serde_json_on_literals digits
 plan_line_of_version_3 = refl
+
+pub plan_line_of_version_4 : json_text 4 (line.PlanFor 0 0 10 3 (car 0 0) true 300) ≡ codes "{\"accel\":0,\"class\":\"car\",\"first\":0,\"form\":\"plan\",\"lane\":0,\"lead\":10,\"length\":1000,\"max\":500,\"resend\":3,\"speed\":500,\"turn\":\"straight\",\"v\":0,\"wait\":300,\"width\":700,\"window\":\"early\"}"
+unfolding serde_json_on_literals digits
+plan_line_of_version_4 = refl
 
 pub change_line : json_text 1 (line.ChangeAt 0 1 40) ≡ codes "{\"form\":\"change\",\"lead\":40,\"step\":1,\"v\":0}"
 unfolding serde_json_on_literals digits

@@ -4,13 +4,14 @@ use Rattle.std.specs.Prelude.{replicate}
 use Rattle.std.specs.Fmt.{digits}
 use Rattle.std.specs.Str.{chars, is_utf8}
 use Rattle.serde_json.proofs.OnLiterals.{serde_json_on_literals}
-use Rattle.aim_messages.specs.declared.messages.Turn.TheVariants.{Left, Straight}
+use Rattle.aim_messages.specs.declared.messages.Turn.TheVariants.{Left, Straight, Right}
 use Rattle.aim_messages.specs.declared.messages.Params.{Params}
 use Rattle.aim_messages.specs.declared.messages.Body.{Body}
 use Rattle.aim_messages.specs.declared.messages.Body.TheVariants as body
 use Rattle.aim_messages.specs.declared.messages.Message.{Message}
 use Rattle.aim_messages.specs.declared.script.Name.{Name}
 use Rattle.aim_messages.specs.declared.script.FateList.{FateList}
+use Rattle.aim_messages.specs.declared.script.LegList.{LegList}
 use Rattle.aim_messages.specs.declared.script.MoveShape.TheVariants as shape
 use Rattle.aim_messages.specs.declared.script.Line.TheVariants as line
 use Rattle.aim_messages.specs.Lines.{all_lanes}
@@ -29,6 +30,9 @@ named text = record { bytes = text ++ replicate (16 - length text) 0; len = leng
 
 abbrev fated : List ℕ → FateList
 fated fates = record { fates = fates ++ replicate (64 - length fates) 0; len = length fates }
+
+abbrev led : List (ℕ × ℕ × ℕ) → LegList
+led legs = record { legs = legs ++ replicate (32 - length legs) (0, 0, 0); len = length legs }
 
 pub version_line : json_line_at 1 (codes "{\"form\":\"aim\",\"n\":1}")
     ≡ Ok (line.Version 1)
@@ -50,6 +54,11 @@ pub times_line_of_version_2 : json_line_at 2 (codes "{\"form\":\"times\",\"horiz
 unfolding serde_json_on_literals digits is_utf8 chars
 times_line_of_version_2 = refl
 
+pub times_line_of_version_4 : json_line_at 4 (codes "{\"form\":\"times\",\"horizon\":1500,\"longest\":25,\"clearance\":20,\"early\":1,\"late\":3,\"edge\":4,\"window\":300}")
+    ≡ Ok (line.Times7 (record { horizon = 1500; longest = 25; clearance = 20; early = 1; late = 3; edge = 4; window = 300 }))
+unfolding serde_json_on_literals digits is_utf8 chars
+times_line_of_version_4 = refl
+
 pub lanes_line : json_line_at 1 (codes "{\"form\":\"lanes\",\"n\":2}")
     ≡ Ok (line.Lanes 2)
 unfolding serde_json_on_literals digits is_utf8 chars
@@ -64,6 +73,11 @@ pub curved_move_line : json_line_at 1 (codes "{\"form\":\"move\",\"lane\":3,\"tu
     ≡ Ok (line.Move 3 Left (shape.Curve 13500 0 13500 13500 0 13500 280))
 unfolding serde_json_on_literals digits is_utf8 chars
 curved_move_line = refl
+
+pub path_move_line : json_line_at 4 (codes "{\"form\":\"move\",\"lane\":1,\"turn\":\"right\",\"shape\":\"path\",\"x0\":0,\"y0\":1500,\"legs\":[1000,1400,10,2000,0,25]}")
+    ≡ Ok (line.Move 1 Right (shape.Path 0 1500 (led ((1000, 1400, 10) ∷ (2000, 0, 25) ∷ []))))
+unfolding serde_json_on_literals digits is_utf8 chars
+path_move_line = refl
 
 pub plain_policy_line : json_line_at 1 (codes "{\"form\":\"policy\",\"name\":\"plain\",\"kind\":\"fcfs\"}")
     ≡ Ok (line.Policy (named (codes "plain")) 0)
@@ -135,30 +149,45 @@ pub stop_line : json_line_at 1 (codes "{\"form\":\"stop\",\"moment\":3}")
 unfolding serde_json_on_literals digits is_utf8 chars
 stop_line = refl
 
+pub quiet_line : json_line_at 4 (codes "{\"form\":\"quiet\",\"moment\":3,\"lane\":1,\"until\":4294967295}")
+    ≡ Ok (line.QuietAt 3 1 4294967295)
+unfolding serde_json_on_literals digits is_utf8 chars
+quiet_line = refl
+
 pub until_line : json_line_at 1 (codes "{\"form\":\"until\",\"step\":40}")
     ≡ Ok (line.Until 40)
 unfolding serde_json_on_literals digits is_utf8 chars
 until_line = refl
 
 pub plan_line_of_version_1 : json_line_at 1 (codes "{\"form\":\"plan\",\"v\":1,\"first\":1,\"lead\":12,\"resend\":3,\"lane\":1,\"turn\":\"straight\",\"speed\":500,\"max\":500,\"accel\":0,\"length\":1000,\"width\":700,\"class\":\"car\"}")
-    ≡ Ok (line.PlanFor 1 1 12 3 (car 1 0) false)
+    ≡ Ok (line.PlanFor 1 1 12 3 (car 1 0) false 0)
 unfolding serde_json_on_literals digits is_utf8 chars
 plan_line_of_version_1 = refl
 
 pub plan_line_of_version_2 : json_line_at 2 (codes "{\"form\":\"plan\",\"v\":1,\"first\":1,\"lead\":12,\"resend\":3,\"lane\":1,\"turn\":\"straight\",\"speed\":500,\"max\":500,\"accel\":0,\"length\":1000,\"width\":700,\"class\":\"car\"}")
-    ≡ Ok (line.PlanFor 1 1 12 3 (car 1 0) false)
+    ≡ Ok (line.PlanFor 1 1 12 3 (car 1 0) false 0)
 unfolding serde_json_on_literals digits is_utf8 chars
 plan_line_of_version_2 = refl
 
 pub early_plan_line_of_version_3 : json_line_at 3 (codes "{\"form\":\"plan\",\"v\":0,\"first\":0,\"lead\":10,\"resend\":3,\"lane\":0,\"turn\":\"straight\",\"speed\":500,\"max\":500,\"accel\":0,\"length\":1000,\"width\":700,\"class\":\"car\",\"window\":\"early\"}")
-    ≡ Ok (line.PlanFor 0 0 10 3 (car 0 0) true)
+    ≡ Ok (line.PlanFor 0 0 10 3 (car 0 0) true 0)
 unfolding serde_json_on_literals digits is_utf8 chars
 early_plan_line_of_version_3 = refl
 
 pub plan_line_of_version_3 : json_line_at 3 (codes "{\"form\":\"plan\",\"v\":0,\"first\":0,\"lead\":10,\"resend\":3,\"lane\":0,\"turn\":\"straight\",\"speed\":500,\"max\":500,\"accel\":0,\"length\":1000,\"width\":700,\"class\":\"car\",\"window\":\"start\"}")
-    ≡ Ok (line.PlanFor 0 0 10 3 (car 0 0) false)
+    ≡ Ok (line.PlanFor 0 0 10 3 (car 0 0) false 0)
 unfolding serde_json_on_literals digits is_utf8 chars
 plan_line_of_version_3 = refl
+
+pub plan_line_of_version_4 : json_line_at 4 (codes "{\"form\":\"plan\",\"v\":0,\"first\":0,\"lead\":10,\"resend\":3,\"lane\":0,\"turn\":\"straight\",\"speed\":500,\"max\":500,\"accel\":0,\"length\":1000,\"width\":700,\"class\":\"car\",\"window\":\"early\",\"wait\":300}")
+    ≡ Ok (line.PlanFor 0 0 10 3 (car 0 0) true 300)
+unfolding serde_json_on_literals digits is_utf8 chars
+plan_line_of_version_4 = refl
+
+pub plan_line_that_never_waits : json_line_at 4 (codes "{\"form\":\"plan\",\"v\":0,\"first\":0,\"lead\":10,\"resend\":3,\"lane\":0,\"turn\":\"straight\",\"speed\":500,\"max\":500,\"accel\":0,\"length\":1000,\"width\":700,\"class\":\"car\",\"window\":\"early\",\"wait\":0}")
+    ≡ Ok (line.PlanFor 0 0 10 3 (car 0 0) true 0)
+unfolding serde_json_on_literals digits is_utf8 chars
+plan_line_that_never_waits = refl
 
 pub change_line : json_line_at 1 (codes "{\"form\":\"change\",\"v\":0,\"step\":1,\"lead\":40}")
     ≡ Ok (line.ChangeAt 0 1 40)
@@ -289,6 +318,14 @@ pub new_times_in_version_1 : json_line_at 1 (codes "{\"form\":\"times\",\"horizo
 unfolding serde_json_on_literals digits is_utf8 chars
 new_times_in_version_1 = refl
 
+pub window_of_times_in_version_3 : json_line_at 3 (codes "{\"form\":\"times\",\"horizon\":1500,\"longest\":25,\"clearance\":20,\"early\":1,\"late\":3,\"edge\":4,\"window\":300}") ≡ Err fault.Form
+unfolding serde_json_on_literals digits is_utf8 chars
+window_of_times_in_version_3 = refl
+
+pub no_window_of_times_in_version_4 : json_line_at 4 (codes "{\"form\":\"times\",\"horizon\":1500,\"longest\":25,\"clearance\":20,\"early\":1,\"late\":3,\"edge\":4}") ≡ Err fault.Form
+unfolding serde_json_on_literals digits is_utf8 chars
+no_window_of_times_in_version_4 = refl
+
 pub new_kind_in_version_2 : json_line_at 2 (codes "{\"form\":\"policy\",\"name\":\"both\",\"kind\":\"light-emerg\"}") ≡ Err fault.Form
 unfolding serde_json_on_literals digits is_utf8 chars
 new_kind_in_version_2 = refl
@@ -300,6 +337,42 @@ window_in_version_2 = refl
 pub no_window_in_version_3 : json_line_at 3 (codes "{\"form\":\"plan\",\"v\":0,\"first\":0,\"lead\":10,\"resend\":3,\"lane\":0,\"turn\":\"straight\",\"speed\":500,\"max\":500,\"accel\":0,\"length\":1000,\"width\":700,\"class\":\"car\"}") ≡ Err fault.Form
 unfolding serde_json_on_literals digits is_utf8 chars
 no_window_in_version_3 = refl
+
+pub wait_in_version_3 : json_line_at 3 (codes "{\"form\":\"plan\",\"v\":0,\"first\":0,\"lead\":10,\"resend\":3,\"lane\":0,\"turn\":\"straight\",\"speed\":500,\"max\":500,\"accel\":0,\"length\":1000,\"width\":700,\"class\":\"car\",\"window\":\"early\",\"wait\":300}") ≡ Err fault.Form
+unfolding serde_json_on_literals digits is_utf8 chars
+wait_in_version_3 = refl
+
+pub no_wait_in_version_4 : json_line_at 4 (codes "{\"form\":\"plan\",\"v\":0,\"first\":0,\"lead\":10,\"resend\":3,\"lane\":0,\"turn\":\"straight\",\"speed\":500,\"max\":500,\"accel\":0,\"length\":1000,\"width\":700,\"class\":\"car\",\"window\":\"early\"}") ≡ Err fault.Form
+unfolding serde_json_on_literals digits is_utf8 chars
+no_wait_in_version_4 = refl
+
+pub path_in_version_3 : json_line_at 3 (codes "{\"form\":\"move\",\"lane\":1,\"turn\":\"right\",\"shape\":\"path\",\"x0\":0,\"y0\":1500,\"legs\":[1000,1400,10]}") ≡ Err fault.Form
+unfolding serde_json_on_literals digits is_utf8 chars
+path_in_version_3 = refl
+
+pub part_of_a_leg : json_line_at 4 (codes "{\"form\":\"move\",\"lane\":1,\"turn\":\"right\",\"shape\":\"path\",\"x0\":0,\"y0\":1500,\"legs\":[1000,1400,10,2000]}") ≡ Err fault.Form
+unfolding serde_json_on_literals digits is_utf8 chars
+part_of_a_leg = refl
+
+pub no_legs : json_line_at 4 (codes "{\"form\":\"move\",\"lane\":1,\"turn\":\"right\",\"shape\":\"path\",\"x0\":0,\"y0\":1500,\"legs\":[]}") ≡ Err fault.Form
+unfolding serde_json_on_literals digits is_utf8 chars
+no_legs = refl
+
+pub path_with_parts : json_line_at 4 (codes "{\"form\":\"move\",\"lane\":1,\"turn\":\"right\",\"shape\":\"path\",\"x0\":0,\"y0\":1500,\"legs\":[1000,1400],\"m\":10}") ≡ Err fault.Form
+unfolding serde_json_on_literals digits is_utf8 chars
+path_with_parts = refl
+
+pub quiet_in_version_3 : json_line_at 3 (codes "{\"form\":\"quiet\",\"moment\":3,\"lane\":1,\"until\":40}") ≡ Err fault.Form
+unfolding serde_json_on_literals digits is_utf8 chars
+quiet_in_version_3 = refl
+
+pub quiet_with_a_name : json_line_at 4 (codes "{\"form\":\"quiet\",\"moment\":3,\"name\":\"lights\",\"lane\":1,\"until\":40}") ≡ Err fault.Form
+unfolding serde_json_on_literals digits is_utf8 chars
+quiet_with_a_name = refl
+
+pub stop_with_a_lane : json_line_at 4 (codes "{\"form\":\"stop\",\"moment\":3,\"lane\":1}") ≡ Err fault.Form
+unfolding serde_json_on_literals digits is_utf8 chars
+stop_with_a_lane = refl
 
 pub latest_in_version_3 : json_line_at 3 (codes "{\"form\":\"event\",\"vehicle\":1,\"moment\":8,\"message\":{\"kind\":\"request\",\"seq\":2,\"lane\":1,\"turn\":\"straight\",\"arrive\":18,\"speed\":500,\"max\":500,\"accel\":0,\"length\":1000,\"width\":700,\"class\":\"car\",\"latest\":30}}") ≡ Err fault.Form
 unfolding serde_json_on_literals digits is_utf8 chars

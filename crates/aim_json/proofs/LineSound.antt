@@ -1,6 +1,6 @@
 -- A line within its ranges is read again from the text that is written for it. In the tuples below the members of an
 -- object stand in the order of their names: of each its name is ASCII, and its value sound.
-use Rattle.std.proofs.Common.{◌≡◌, ℕ, ◌<◌, ◌≤◌, ◌==◌, ◌^◌, List, [], ◌∷◌, map, take, filter, Bool, true, false, Ok, codes, nat_lt, nat_le, if◌then◌else◌, refl, inl, inr, arith}
+use Rattle.std.proofs.Common.{◌≡◌, ℕ, ◌<◌, ◌≤◌, ◌==◌, ◌^◌, List, [], ◌∷◌, map, flat_map, take, filter, Bool, true, false, Ok, codes, nat_lt, nat_le, if◌then◌else◌, refl, inl, inr, arith}
 use Rattle.std.specs.List.{list_all}
 use Rattle.std.specs.Str.{IsUtf8}
 use Rattle.std.proofs.lemmas.Bool.{and_parts, cases_Bool, ltb-true, leb-true}
@@ -17,9 +17,9 @@ use Rattle.aim_messages.specs.declared.script.MoveShape.TheVariants as shape
 use Rattle.aim_messages.specs.Texts.{turn_word, class_word}
 use Rattle.aim_messages.specs.Lines.{kind_word, window_word, has_lane, all_lanes, KeepsRanges}
 use Rattle.aim_text_words.specs.Ranges.{Is8, Is32, AreParams, IsBody}
-use Rattle.aim_text_lines.specs.Ranges.{IsLine}
+use Rattle.aim_text_lines.specs.Ranges.{AreLegs, IsLine}
 use Rattle.aim_json.specs.Members.{count}
-use Rattle.aim_json.specs.Lines.{body_json, fate_json, json_of, json_text}
+use Rattle.aim_json.specs.Lines.{body_json, fate_json, leg_json, json_of, json_text}
 use Rattle.aim_json.proofs.Names.{name_is_utf8}
 use Rattle.aim_json.proofs.Values.{fate_by, plan_by, line_is_shallow}
 use Rattle.aim_json.specs.Reading.{json_line_at}
@@ -88,6 +88,10 @@ fates_are_sound (f ∷ fs) h =
     let small : f ≤ 257 = leb-true f 257 both.0 in
     (fate_is_sound (f == 0) (f == 256) (f == 257) f (omega arith), fates_are_sound fs both.1)
 
+legs_are_sound : (ls : List (ℕ × ℕ × ℕ)) → AreLegs ls → AreSound (items_of (flat_map leg_json ls))
+legs_are_sound [] r = tt
+legs_are_sound (l ∷ ls) r = (n32 l.0 r.0.0, (n32 l.1 r.0.1, (n32 l.2 r.0.2, legs_are_sound ls r.1)))
+
 body_is_sound : (seq : ℕ) (b : Body) → Is32 seq → IsBody b → IsSound (body_json seq b)
 body_is_sound seq (body.Request p) s r = elim (cases_Bool (p.latest == p.arrive)) [
   | inl is ↦ rw is ((refl, (n32 p.accel r.accel, (refl, (n32 p.arrive r.arrive, (refl, (class_is_utf8 p.emergency, (refl, (ascii (codes "request") refl, (refl, (n8 p.lane r.lane, (refl, (n32 p.length r.len, (refl, (n32 p.max_speed r.max_speed, (refl, (n32 seq s, (refl, (n32 p.speed r.speed, (refl, (turn_is_utf8 p.turn, (refl, (n32 p.width r.width, tt)))))))))))))))))))))), refl)
@@ -100,19 +104,23 @@ body_is_sound seq (body.Change id p) s r = elim (cases_Bool (p.latest == p.arriv
 body_is_sound seq (body.Cancel id) s r = ((refl, (n32 id r, (refl, (ascii (codes "cancel") refl, (refl, (n32 seq s, tt)))))), refl)
 body_is_sound seq (body.Done id) s r = ((refl, (n32 id r, (refl, (ascii (codes "done") refl, (refl, (n32 seq s, tt)))))), refl)
 
-plan_is_sound : (windowed : Bool) (vehicle first lead resend : ℕ) (params : Params) (ahead : Bool)
-    → Is32 vehicle × Is32 first × Is32 lead × Is32 resend × AreParams params → IsSound (plan_by windowed vehicle first lead resend params ahead)
-plan_is_sound true vehicle first lead resend params ahead r = ((refl, (n32 params.accel r.4.accel, (refl, (class_is_utf8 params.emergency, (refl, (n32 first r.1, (refl, (ascii (codes "plan") refl, (refl, (n8 params.lane r.4.lane, (refl, (n32 lead r.2, (refl, (n32 params.length r.4.len, (refl, (n32 params.max_speed r.4.max_speed, (refl, (n32 resend r.3, (refl, (n32 params.speed r.4.speed, (refl, (turn_is_utf8 params.turn, (refl, (n32 vehicle r.0, (refl, (n32 params.width r.4.width, (refl, (window_is_utf8 ahead, tt)))))))))))))))))))))))))))), refl)
-plan_is_sound false vehicle first lead resend params ahead r = ((refl, (n32 params.accel r.4.accel, (refl, (class_is_utf8 params.emergency, (refl, (n32 first r.1, (refl, (ascii (codes "plan") refl, (refl, (n8 params.lane r.4.lane, (refl, (n32 lead r.2, (refl, (n32 params.length r.4.len, (refl, (n32 params.max_speed r.4.max_speed, (refl, (n32 resend r.3, (refl, (n32 params.speed r.4.speed, (refl, (turn_is_utf8 params.turn, (refl, (n32 vehicle r.0, (refl, (n32 params.width r.4.width, tt)))))))))))))))))))))))))), refl)
+plan_is_sound : (windowed waits : Bool) (vehicle first lead resend : ℕ) (params : Params) (ahead : Bool) (wait : ℕ)
+    → Is32 vehicle × Is32 first × Is32 lead × Is32 resend × AreParams params × Is32 wait → IsSound (plan_by windowed waits vehicle first lead resend params ahead wait)
+plan_is_sound true true vehicle first lead resend params ahead wait r = ((refl, (n32 params.accel r.4.accel, (refl, (class_is_utf8 params.emergency, (refl, (n32 first r.1, (refl, (ascii (codes "plan") refl, (refl, (n8 params.lane r.4.lane, (refl, (n32 lead r.2, (refl, (n32 params.length r.4.len, (refl, (n32 params.max_speed r.4.max_speed, (refl, (n32 resend r.3, (refl, (n32 params.speed r.4.speed, (refl, (turn_is_utf8 params.turn, (refl, (n32 vehicle r.0, (refl, (n32 wait r.5, (refl, (n32 params.width r.4.width, (refl, (window_is_utf8 ahead, tt)))))))))))))))))))))))))))))), refl)
+plan_is_sound true false vehicle first lead resend params ahead wait r = ((refl, (n32 params.accel r.4.accel, (refl, (class_is_utf8 params.emergency, (refl, (n32 first r.1, (refl, (ascii (codes "plan") refl, (refl, (n8 params.lane r.4.lane, (refl, (n32 lead r.2, (refl, (n32 params.length r.4.len, (refl, (n32 params.max_speed r.4.max_speed, (refl, (n32 resend r.3, (refl, (n32 params.speed r.4.speed, (refl, (turn_is_utf8 params.turn, (refl, (n32 vehicle r.0, (refl, (n32 params.width r.4.width, (refl, (window_is_utf8 ahead, tt)))))))))))))))))))))))))))), refl)
+plan_is_sound false true vehicle first lead resend params ahead wait r = ((refl, (n32 params.accel r.4.accel, (refl, (class_is_utf8 params.emergency, (refl, (n32 first r.1, (refl, (ascii (codes "plan") refl, (refl, (n8 params.lane r.4.lane, (refl, (n32 lead r.2, (refl, (n32 params.length r.4.len, (refl, (n32 params.max_speed r.4.max_speed, (refl, (n32 resend r.3, (refl, (n32 params.speed r.4.speed, (refl, (turn_is_utf8 params.turn, (refl, (n32 vehicle r.0, (refl, (n32 wait r.5, (refl, (n32 params.width r.4.width, tt)))))))))))))))))))))))))))), refl)
+plan_is_sound false false vehicle first lead resend params ahead wait r = ((refl, (n32 params.accel r.4.accel, (refl, (class_is_utf8 params.emergency, (refl, (n32 first r.1, (refl, (ascii (codes "plan") refl, (refl, (n8 params.lane r.4.lane, (refl, (n32 lead r.2, (refl, (n32 params.length r.4.len, (refl, (n32 params.max_speed r.4.max_speed, (refl, (n32 resend r.3, (refl, (n32 params.speed r.4.speed, (refl, (turn_is_utf8 params.turn, (refl, (n32 vehicle r.0, (refl, (n32 params.width r.4.width, tt)))))))))))))))))))))))))), refl)
 
 line_is_sound : (version : ℕ) (l : Line) → IsLine l → KeepsRanges version l → IsSound (json_of version l)
 line_is_sound version (line.Version n) r k = ((refl, (ascii (codes "aim") refl, (refl, (n32 n r, tt)))), refl)
 line_is_sound version (line.Grid g) r k = ((refl, (ascii (codes "grid") refl, (refl, (n32 g.half r.half, (refl, (n32 g.n r.n, (refl, (n32 g.side r.side, (refl, (n32 g.spacing r.spacing, (refl, (n32 g.spans r.spans, (refl, (n32 g.fixed r.fixed, tt)))))))))))))), refl)
 line_is_sound version (line.Times t) r k = ((refl, (n32 t.clearance r.clearance, (refl, (n32 t.edge r.edge, (refl, (ascii (codes "times") refl, (refl, (n32 t.horizon r.horizon, (refl, (n32 t.internal r.internal, (refl, (n32 t.longest r.longest, tt)))))))))))), refl)
 line_is_sound version (line.Times6 t) r k = ((refl, (n32 t.clearance r.clearance, (refl, (n32 t.early r.early, (refl, (n32 t.edge r.edge, (refl, (ascii (codes "times") refl, (refl, (n32 t.horizon r.horizon, (refl, (n32 t.late r.late, (refl, (n32 t.longest r.longest, tt)))))))))))))), refl)
+line_is_sound version (line.Times7 t) r k = ((refl, (n32 t.clearance r.clearance, (refl, (n32 t.early r.early, (refl, (n32 t.edge r.edge, (refl, (ascii (codes "times") refl, (refl, (n32 t.horizon r.horizon, (refl, (n32 t.late r.late, (refl, (n32 t.longest r.longest, (refl, (n32 t.window r.window, tt)))))))))))))))), refl)
 line_is_sound version (line.Lanes n) r k = ((refl, (ascii (codes "lanes") refl, (refl, (n32 n r, tt)))), refl)
 line_is_sound version (line.Move lane turn (shape.Line x0 y0 x1 y1 m)) r k = ((refl, (ascii (codes "move") refl, (refl, (n8 lane r.0, (refl, (n32 m r.1.4, (refl, (ascii (codes "line") refl, (refl, (turn_is_utf8 turn, (refl, (n32 x0 r.1.0, (refl, (n32 x1 r.1.2, (refl, (n32 y0 r.1.1, (refl, (n32 y1 r.1.3, tt)))))))))))))))))), refl)
 line_is_sound version (line.Move lane turn (shape.Curve x0 y0 x1 y1 x2 y2 m)) r k = ((refl, (ascii (codes "move") refl, (refl, (n8 lane r.0, (refl, (n32 m r.1.6, (refl, (ascii (codes "curve") refl, (refl, (turn_is_utf8 turn, (refl, (n32 x0 r.1.0, (refl, (n32 x1 r.1.2, (refl, (n32 x2 r.1.4, (refl, (n32 y0 r.1.1, (refl, (n32 y1 r.1.3, (refl, (n32 y2 r.1.5, tt)))))))))))))))))))))), refl)
+line_is_sound version (line.Move lane turn (shape.Path x0 y0 ls)) r k = ((refl, (ascii (codes "move") refl, (refl, (n8 lane r.0, (refl, (legs_are_sound (take ls.len ls.legs) r.1.2, (refl, (ascii (codes "path") refl, (refl, (turn_is_utf8 turn, (refl, (n32 x0 r.1.0, (refl, (n32 y0 r.1.1, tt)))))))))))))), refl)
 line_is_sound version (line.Policy name kind) r k = ((refl, (ascii (codes "policy") refl, (refl, (kind_is_utf8 kind, (refl, (name_is_utf8 name k.0, tt)))))), refl)
 line_is_sound version (line.Phase red green lanes) r k = ((refl, (ascii (codes "phase") refl, (refl, (n32 green r.1, (refl, (lanes_are_sound lanes, (refl, (n32 red r.0, tt)))))))), refl)
 line_is_sound version (line.Vehicles n) r k = ((refl, (ascii (codes "vehicles") refl, (refl, (n32 n r, tt)))), refl)
@@ -120,8 +128,9 @@ line_is_sound version line.Begin r k = ((refl, (ascii (codes "begin") refl, tt))
 line_is_sound version (line.Event vehicle moment m) r k = ((refl, (ascii (codes "event") refl, (refl, (body_is_sound m.seq m.body r.2.seq r.2.body, (refl, (n32 moment r.1, (refl, (n32 vehicle r.0, tt)))))))), refl)
 line_is_sound version (line.SwitchTo moment name) r k = ((refl, (ascii (codes "switch") refl, (refl, (n32 moment r.0, (refl, (name_is_utf8 name k, tt)))))), refl)
 line_is_sound version (line.StopAt moment) r k = ((refl, (ascii (codes "stop") refl, (refl, (n32 moment r, tt)))), refl)
+line_is_sound version (line.QuietAt moment lane until) r k = ((refl, (ascii (codes "quiet") refl, (refl, (n8 lane r.1, (refl, (n32 moment r.0, (refl, (n32 until r.2, tt)))))))), refl)
 line_is_sound version (line.Until step) r k = ((refl, (ascii (codes "until") refl, (refl, (n32 step r, tt)))), refl)
-line_is_sound version (line.PlanFor vehicle first lead resend params ahead) r k = plan_is_sound (nat_le 3 version) vehicle first lead resend params ahead r
+line_is_sound version (line.PlanFor vehicle first lead resend params ahead wait) r k = plan_is_sound (nat_le 3 version) (nat_le 4 version) vehicle first lead resend params ahead wait r
 line_is_sound version (line.ChangeAt vehicle step lead) r k = ((refl, (ascii (codes "change") refl, (refl, (n32 lead r.2, (refl, (n32 step r.1, (refl, (n32 vehicle r.0, tt)))))))), refl)
 line_is_sound version (line.CancelAt vehicle step) r k = ((refl, (ascii (codes "cancel") refl, (refl, (n32 step r.1, (refl, (n32 vehicle r.0, tt)))))), refl)
 line_is_sound version (line.Up vehicle fs) r k = ((refl, (fates_are_sound (take fs.len fs.fates) k.fates, (refl, (ascii (codes "up") refl, (refl, (n32 vehicle r.0, tt)))))), refl)

@@ -1,5 +1,5 @@
 -- The values of lines and entries are made of texts, numbers from 0 on and null, and nest no deeper than a reader goes.
-use Rattle.std.proofs.Common.{◌≡◌, ℕ, ◌≤◌, ◌==◌, List, [], ◌∷◌, ◌++◌, ◌&&◌, map, take, filter, nat_le, Bool, true, false, Option, Some, None, codes, if◌then◌else◌, refl, sym, true≢false, inl, inr, arith}
+use Rattle.std.proofs.Common.{◌≡◌, ℕ, ◌≤◌, ◌==◌, List, [], ◌∷◌, ◌++◌, ◌&&◌, map, flat_map, take, filter, nat_le, Bool, true, false, Option, Some, None, codes, if◌then◌else◌, refl, sym, true≢false, inl, inr, arith}
 use Rattle.std.proofs.lemmas.Bool.{and_parts, cases_Bool}
 use Rattle.serde_json.specs.Data.{Num, unsigned, negative, float, Data, null, boolean, number, string, array, object, Items, no_items, item, Members, no_members, member, depth, items_depth}
 use Rattle.serde_json.specs.Read.{max_depth}
@@ -21,7 +21,7 @@ use Rattle.aim_messages.specs.declared.script.Line.TheVariants as line
 use Rattle.aim_messages.specs.declared.script.MoveShape.TheVariants as shape
 use Rattle.aim_messages.specs.Lines.{window_word, has_lane, all_lanes}
 use Rattle.aim_json.specs.Members.{count, word}
-use Rattle.aim_json.specs.Lines.{of_form, way_members, vehicle_members, body_json, fate_json, json_of}
+use Rattle.aim_json.specs.Lines.{of_form, way_members, vehicle_members, body_json, fate_json, leg_json, json_of}
 use Rattle.aim_json.specs.Entries.{act_json, caller_json, reason_json, held_json, reply_json, entry_json}
 
 abbrev pub is_plain_number : Num → Bool
@@ -103,6 +103,14 @@ fates_are_flat : (fs : List ℕ) → items_depth (items_of (map fate_json fs)) �
 fates_are_flat [] = refl
 fates_are_flat (f ∷ fs) = rw (fate_is_flat (f == 0) (f == 256) (f == 257) f, fates_are_flat fs) refl
 
+legs_are_plain : (ls : List (ℕ × ℕ × ℕ)) → are_plain (items_of (flat_map leg_json ls)) ≡ true
+legs_are_plain [] = refl
+legs_are_plain (l ∷ ls) = legs_are_plain ls
+
+legs_are_flat : (ls : List (ℕ × ℕ × ℕ)) → items_depth (items_of (flat_map leg_json ls)) ≡ 0
+legs_are_flat [] = refl
+legs_are_flat (l ∷ ls) = rw (legs_are_flat ls) refl
+
 -- ---- messages and lines
 
 body_is_plain : (seq : ℕ) (b : Body) → is_plain (body_json seq b) ≡ true
@@ -129,28 +137,37 @@ body_depth seq (body.Change id p) = elim (cases_Bool (p.latest == p.arrive)) [
 body_depth seq (body.Cancel id) = refl
 body_depth seq (body.Done id) = refl
 
-abbrev pub plan_by : Bool → ℕ → ℕ → ℕ → ℕ → Params → Bool → Data
-plan_by windowed vehicle first lead resend params ahead =
+abbrev pub plan_by : Bool → Bool → ℕ → ℕ → ℕ → ℕ → Params → Bool → ℕ → Data
+plan_by windowed waits vehicle first lead resend params ahead wait =
     of_form (codes "plan")
     (((codes "v", count vehicle) ∷ (codes "first", count first) ∷ (codes "lead", count lead) ∷ (codes "resend", count resend) ∷ way_members params)
-    ++ (vehicle_members params ++ (if windowed then (codes "window", word (window_word ahead)) ∷ [] else [])))
+    ++ (vehicle_members params
+    ++ ((if windowed then (codes "window", word (window_word ahead)) ∷ [] else []) ++ (if waits then (codes "wait", count wait) ∷ [] else []))))
 
-plan_is_plain : (windowed : Bool) (vehicle first lead resend : ℕ) (params : Params) (ahead : Bool) → is_plain (plan_by windowed vehicle first lead resend params ahead) ≡ true
-plan_is_plain true vehicle first lead resend params ahead = refl
-plan_is_plain false vehicle first lead resend params ahead = refl
+plan_is_plain : (windowed waits : Bool) (vehicle first lead resend : ℕ) (params : Params) (ahead : Bool) (wait : ℕ)
+    → is_plain (plan_by windowed waits vehicle first lead resend params ahead wait) ≡ true
+plan_is_plain true true vehicle first lead resend params ahead wait = refl
+plan_is_plain true false vehicle first lead resend params ahead wait = refl
+plan_is_plain false true vehicle first lead resend params ahead wait = refl
+plan_is_plain false false vehicle first lead resend params ahead wait = refl
 
-plan_depth : (windowed : Bool) (vehicle first lead resend : ℕ) (params : Params) (ahead : Bool) → depth (plan_by windowed vehicle first lead resend params ahead) ≡ 1
-plan_depth true vehicle first lead resend params ahead = refl
-plan_depth false vehicle first lead resend params ahead = refl
+plan_depth : (windowed waits : Bool) (vehicle first lead resend : ℕ) (params : Params) (ahead : Bool) (wait : ℕ)
+    → depth (plan_by windowed waits vehicle first lead resend params ahead wait) ≡ 1
+plan_depth true true vehicle first lead resend params ahead wait = refl
+plan_depth true false vehicle first lead resend params ahead wait = refl
+plan_depth false true vehicle first lead resend params ahead wait = refl
+plan_depth false false vehicle first lead resend params ahead wait = refl
 
 pub line_is_plain : (version : ℕ) (l : Line) → is_plain (json_of version l) ≡ true
 line_is_plain version (line.Version n) = refl
 line_is_plain version (line.Grid g) = refl
 line_is_plain version (line.Times t) = refl
 line_is_plain version (line.Times6 t) = refl
+line_is_plain version (line.Times7 t) = refl
 line_is_plain version (line.Lanes n) = refl
 line_is_plain version (line.Move lane turn (shape.Line x0 y0 x1 y1 m)) = refl
 line_is_plain version (line.Move lane turn (shape.Curve x0 y0 x1 y1 x2 y2 m)) = refl
+line_is_plain version (line.Move lane turn (shape.Path x0 y0 ls)) = rw (legs_are_plain (take ls.len ls.legs)) refl
 line_is_plain version (line.Policy name k) = refl
 line_is_plain version (line.Phase red green lanes) = rw (counts_are_plain (filter (has_lane lanes) all_lanes)) refl
 line_is_plain version (line.Vehicles n) = refl
@@ -158,8 +175,9 @@ line_is_plain version line.Begin = refl
 line_is_plain version (line.Event vehicle moment m) = rw (body_is_plain m.seq m.body) refl
 line_is_plain version (line.SwitchTo moment name) = refl
 line_is_plain version (line.StopAt moment) = refl
+line_is_plain version (line.QuietAt moment lane until) = refl
 line_is_plain version (line.Until step) = refl
-line_is_plain version (line.PlanFor vehicle first lead resend params ahead) = plan_is_plain (nat_le 3 version) vehicle first lead resend params ahead
+line_is_plain version (line.PlanFor vehicle first lead resend params ahead wait) = plan_is_plain (nat_le 3 version) (nat_le 4 version) vehicle first lead resend params ahead wait
 line_is_plain version (line.ChangeAt vehicle step lead) = refl
 line_is_plain version (line.CancelAt vehicle step) = refl
 line_is_plain version (line.Up vehicle fs) = rw (fates_are_plain (take fs.len fs.fates)) refl
@@ -174,9 +192,11 @@ line_is_shallow version (line.Version n) = omega arith
 line_is_shallow version (line.Grid g) = omega arith
 line_is_shallow version (line.Times t) = omega arith
 line_is_shallow version (line.Times6 t) = omega arith
+line_is_shallow version (line.Times7 t) = omega arith
 line_is_shallow version (line.Lanes n) = omega arith
 line_is_shallow version (line.Move lane turn (shape.Line x0 y0 x1 y1 m)) = omega arith
 line_is_shallow version (line.Move lane turn (shape.Curve x0 y0 x1 y1 x2 y2 m)) = omega arith
+line_is_shallow version (line.Move lane turn (shape.Path x0 y0 ls)) = rw (legs_are_flat (take ls.len ls.legs)) (omega arith)
 line_is_shallow version (line.Policy name k) = omega arith
 line_is_shallow version (line.Phase red green lanes) = rw (counts_are_flat (filter (has_lane lanes) all_lanes)) (omega arith)
 line_is_shallow version (line.Vehicles n) = omega arith
@@ -184,8 +204,10 @@ line_is_shallow version line.Begin = omega arith
 line_is_shallow version (line.Event vehicle moment m) = rw (body_depth m.seq m.body) (omega arith)
 line_is_shallow version (line.SwitchTo moment name) = omega arith
 line_is_shallow version (line.StopAt moment) = omega arith
+line_is_shallow version (line.QuietAt moment lane until) = omega arith
 line_is_shallow version (line.Until step) = omega arith
-line_is_shallow version (line.PlanFor vehicle first lead resend params ahead) = rw (plan_depth (nat_le 3 version) vehicle first lead resend params ahead) (omega arith)
+line_is_shallow version (line.PlanFor vehicle first lead resend params ahead wait) =
+    rw (plan_depth (nat_le 3 version) (nat_le 4 version) vehicle first lead resend params ahead wait) (omega arith)
 line_is_shallow version (line.ChangeAt vehicle step lead) = omega arith
 line_is_shallow version (line.CancelAt vehicle step) = omega arith
 line_is_shallow version (line.Up vehicle fs) = rw (fates_are_flat (take fs.len fs.fates)) (omega arith)
@@ -198,11 +220,13 @@ act_is_plain : (a : Act) → is_plain (act_json a) ≡ true
 act_is_plain (act.Message m) = body_is_plain m.seq m.body
 act_is_plain (act.Order (order.Switch policy)) = refl
 act_is_plain (act.Order order.Stop) = refl
+act_is_plain (act.Order (order.Quiet lane until)) = refl
 
 act_depth : (a : Act) → depth (act_json a) ≡ 1
 act_depth (act.Message m) = body_depth m.seq m.body
 act_depth (act.Order (order.Switch policy)) = refl
 act_depth (act.Order order.Stop) = refl
+act_depth (act.Order (order.Quiet lane until)) = refl
 
 caller_is_plain : (caller : ℕ) (a : Act) → is_plain (caller_json caller a) ≡ true
 caller_is_plain caller (act.Message m) = refl
@@ -256,6 +280,7 @@ reply_is_plain reply.EmergencyStop = refl
 reply_is_plain (reply.Stale seq) = refl
 reply_is_plain (reply.Switched from) = refl
 reply_is_plain reply.Stopped = refl
+reply_is_plain reply.Quieted = refl
 
 reply_depth : (r : Reply) → depth (reply_json r) ≤ 2
 reply_depth (reply.Confirm id start before after accelerate end) = omega arith
@@ -265,6 +290,7 @@ reply_depth reply.EmergencyStop = omega arith
 reply_depth (reply.Stale seq) = omega arith
 reply_depth (reply.Switched from) = omega arith
 reply_depth reply.Stopped = omega arith
+reply_depth reply.Quieted = omega arith
 
 pub entry_is_plain : (position : ℕ) (e : Entry) → is_plain (entry_json position e) ≡ true
 entry_is_plain position e = rw (act_is_plain e.act, caller_is_plain e.caller e.act, reply_is_plain e.reply) refl

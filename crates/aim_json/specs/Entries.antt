@@ -23,6 +23,7 @@ abbrev pub act_json : Act → Data
 act_json (act.Message m) = message_json m
 act_json (act.Order (order.Switch policy)) = of_kind (codes "switch") ((codes "policy", count policy) ∷ [])
 act_json (act.Order order.Stop) = of_kind (codes "stop") []
+act_json (act.Order (order.Quiet lane until)) = of_kind (codes "quiet") ((codes "lane", count lane) ∷ (codes "until", count until) ∷ [])
 
 abbrev pub reason_json : Reason → Data
 reason_json (reason.Holds id) = of_kind (codes "holds") ((codes "id", count id) ∷ [])
@@ -57,6 +58,7 @@ reply_json reply.EmergencyStop = of_kind (codes "emergency-stop") []
 reply_json (reply.Stale seq) = of_kind (codes "stale") ((codes "last", count seq) ∷ [])
 reply_json (reply.Switched from) = of_kind (codes "switched") ((codes "from", count from) ∷ [])
 reply_json reply.Stopped = of_kind (codes "stopped") []
+reply_json reply.Quieted = of_kind (codes "quieted") []
 
 -- the value of an entry at that position of the journal
 abbrev pub entry_json : ℕ → Entry → Data

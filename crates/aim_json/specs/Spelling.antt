@@ -63,7 +63,7 @@ abbrev pub event_words : Data → Words
 event_words d = members_words (codes "vehicle" ∷ codes "moment" ∷ []) d ++ message_words (get (codes "message") d)
 
 abbrev pub order_words : Data → Words
-order_words d = codes "operator" ∷ members_words (codes "moment" ∷ codes "form" ∷ codes "name" ∷ []) d
+order_words d = codes "operator" ∷ members_words (codes "moment" ∷ codes "form" ∷ codes "name" ∷ codes "lane" ∷ codes "until" ∷ []) d
 
 -- The members of the other lines. All of them keep this order.
 abbrev pub line_names : Names
@@ -72,8 +72,8 @@ line_names =
     ∷ codes "horizon" ∷ codes "longest" ∷ codes "clearance" ∷ codes "internal" ∷ codes "early" ∷ codes "late" ∷ codes "edge"
     ∷ codes "name" ∷ codes "kind" ∷ codes "red" ∷ codes "green" ∷ codes "lanes"
     ∷ codes "v" ∷ codes "first" ∷ codes "step" ∷ codes "lead" ∷ codes "resend" ∷ codes "fates"
-    ∷ codes "lane" ∷ codes "turn" ∷ codes "shape" ∷ codes "x0" ∷ codes "y0" ∷ codes "x1" ∷ codes "y1" ∷ codes "x2" ∷ codes "y2" ∷ codes "m"
-    ∷ codes "speed" ∷ codes "max" ∷ codes "accel" ∷ codes "length" ∷ codes "width" ∷ codes "class" ∷ codes "window" ∷ []
+    ∷ codes "lane" ∷ codes "turn" ∷ codes "shape" ∷ codes "x0" ∷ codes "y0" ∷ codes "x1" ∷ codes "y1" ∷ codes "x2" ∷ codes "y2" ∷ codes "m" ∷ codes "legs"
+    ∷ codes "speed" ∷ codes "max" ∷ codes "accel" ∷ codes "length" ∷ codes "width" ∷ codes "class" ∷ codes "window" ∷ codes "wait" ∷ []
 
 -- the form, which is empty where the value has none
 abbrev pub form_of : Data → List ℕ
@@ -82,7 +82,7 @@ form_of d = unwrap_or (option_and_then as_str (get (codes "form") d)) []
 abbrev pub words_of_form : List ℕ → Data → Words
 words_of_form form d =
     if bytes_eq form (codes "event") then event_words d
-    else if bytes_eq form (codes "switch") || bytes_eq form (codes "stop") then order_words d
+    else if bytes_eq form (codes "switch") || bytes_eq form (codes "stop") || bytes_eq form (codes "quiet") then order_words d
     else members_words line_names d
 
 abbrev pub spelled_words : Data → Words

@@ -22,6 +22,16 @@ fn caller_value(alloc: Global, caller: u32, act: &Act) -> Result<Value, AllocErr
     }
 }
 
+// An order that a lane is quiet.
+fn quiet_act(alloc: Global, lane: u32, until: u32) -> Result<Value, AllocError>
+    ensures { IfOk result (λ v. view v ≡ of_kind (codes "quiet") ((codes "lane", count lane) ∷ (codes "until", count until) ∷ [])) }
+{
+    Object::with(alloc, "kind", "quiet")
+        .count("lane", lane)
+        .count("until", until)
+        .value()
+}
+
 fn act_value(alloc: Global, act: &Act) -> Result<Value, AllocError>
     ensures { IfOk result (λ v. view v ≡ act_json act.now) }
 {
@@ -31,6 +41,7 @@ fn act_value(alloc: Global, act: &Act) -> Result<Value, AllocError>
             single_kind(alloc, "switch", "policy", u32::from(*policy))
         }
         Act::Order(Order::Stop) => bare_kind(alloc, "stop"),
+        Act::Order(Order::Quiet { lane, until }) => quiet_act(alloc, u32::from(*lane), *until),
     }
 }
 
@@ -157,6 +168,7 @@ fn reply_value(alloc: Global, reply: &Reply) -> Result<Value, AllocError>
         Reply::Stale { last } => single_kind(alloc, "stale", "last", last),
         Reply::Switched { from } => single_kind(alloc, "switched", "from", from),
         Reply::Stopped => bare_kind(alloc, "stopped"),
+        Reply::Quieted => bare_kind(alloc, "quieted"),
     }
 }
 

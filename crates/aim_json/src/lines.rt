@@ -5,15 +5,16 @@ ghost use Rattle.serde_json.specs.Data.{Members, no_members};
 ghost use Rattle.serde_json.specs.View.{view};
 ghost use Rattle.aim_messages.specs.declared.script.Line.{Line};
 ghost use Rattle.aim_messages.specs.Texts.{turn_word};
-ghost use Rattle.aim_messages.specs.Lines.{has_lane, KeepsRanges, IsFateList};
+ghost use Rattle.aim_messages.specs.Lines.{has_lane, KeepsRanges, IsFateList, IsLegList};
 ghost use Rattle.aim_json.specs.Members.{count, word, with_members};
 ghost use Rattle.aim_json.specs.Objects.{Holds};
-ghost use Rattle.aim_json.specs.Lines.{body_json, fate_json, fates_json, json_of, lanes_json, latest_members, message_json, of_form, of_kind, params_members, shape_members, vehicle_members, window_members};
+ghost use Rattle.aim_json.specs.Lines.{body_json, fate_json, fates_json, json_of, lanes_json, latest_members, leg_json, legs_json, message_json, of_form, of_kind, params_members, shape_members, vehicle_members, wait_members, window_members, HasLegs};
 
 use crate::object::Object;
 use crate::words::{class_text, kind_text, name_text, turn_text, window_text};
 use aim_messages::{
-    Body, FateList, Grid6, Line, Message, MoveShape, Name, Params, Times5, Times6, Turn,
+    Body, FateList, Grid6, LegList, Line, Message, MoveShape, Name, Params, Times5, Times6, Times7,
+    Turn,
 };
 use serde_json::Value;
 use std::alloc::{AllocError, Global};
@@ -155,8 +156,44 @@ fn times6_value(alloc: Global, times: &Times6) -> Result<Value, AllocError>
         .value()
 }
 
+fn times7_value(alloc: Global, times: &Times7) -> Result<Value, AllocError>
+    ensures { IfOk result (λ v. view v ≡ json_of 1 (Line.Times7 times.now)) }
+{
+    Object::with(alloc, "form", "times")
+        .count("horizon", times.horizon)
+        .count("longest", times.longest)
+        .count("clearance", times.clearance)
+        .count("early", times.early)
+        .count("late", times.late)
+        .count("edge", times.edge)
+        .count("window", times.window)
+        .value()
+}
+
+// Adds the numbers of a leg.
+fn push_leg(list: &mut Vec<Value>, leg: (u32, u32, u32)) -> Result<(), AllocError>
+    ensures { OnOk result (map view list.new.items ≡ map view list.old.items ++ leg_json leg) }
+{
+    list.push(Value::from(leg.0))?;
+    list.push(Value::from(leg.1))?;
+    list.push(Value::from(leg.2))?;
+    Ok(())
+}
+
+fn legs_value(alloc: Global, legs: &LegList) -> Result<Value, AllocError>
+    requires { IsLegList legs.now }
+    ensures { IfOk result (λ v. view v ≡ legs_json legs.now) }
+{
+    let mut list = Vec::new(alloc);
+    for leg in &legs.legs[..usize::from(legs.len)] {
+        push_leg(&mut list, *leg)?;
+    }
+    Ok(Value::Array(list))
+}
+
 // Adds the members of a move's shape.
-fn put_shape(object: Object, shape: &MoveShape) -> Object
+fn put_shape(object: Object, alloc: Global, shape: &MoveShape) -> Object
+    requires { HasLegs shape.now }
     ensures { (ms : Members) → Holds object ms → Holds result (with_members (shape_members shape.now) ms) }
 {
     match *shape {
@@ -188,14 +225,22 @@ fn put_shape(object: Object, shape: &MoveShape) -> Object
                 .count("y2", y2)
                 .count("m", m)
         }
+        MoveShape::Path { x0, y0, ref legs } => {
+            let object = object.word("shape", "path");
+            object
+                .count("x0", x0)
+                .count("y0", y0)
+                .member("legs", legs_value(alloc, legs))
+        }
     }
 }
 
 fn move_value(alloc: Global, lane: u8, turn: Turn, shape: &MoveShape) -> Result<Value, AllocError>
+    requires { HasLegs shape.now }
     ensures { IfOk result (λ v. view v ≡ json_of 1 (Line.Move lane turn shape.now)) }
 {
     let object = put_way(Object::with(alloc, "form", "move"), lane, turn);
-    put_shape(object, shape).value()
+    put_shape(object, alloc, shape).value()
 }
 
 fn policy_value(alloc: Global, name: &Name, kind: u8) -> Result<Value, AllocError>
@@ -265,12 +310,33 @@ fn switch_value(alloc: Global, moment: u32, name: &Name) -> Result<Value, AllocE
         .value()
 }
 
+fn quiet_value(alloc: Global, moment: u32, lane: u32, until: u32) -> Result<Value, AllocError>
+    ensures { IfOk result (λ v. view v ≡ json_of 1 (Line.QuietAt moment lane until)) }
+{
+    Object::with(alloc, "form", "quiet")
+        .count("moment", moment)
+        .count("lane", lane)
+        .count("until", until)
+        .value()
+}
+
 // Adds the window, which plans have from version 3 on.
 fn put_window(object: Object, version: u8, ahead: bool) -> Object
     ensures { (ms : Members) → Holds object ms → Holds result (with_members (window_members version ahead) ms) }
 {
     if version >= 3 {
         object.word("window", window_text(ahead))
+    } else {
+        object
+    }
+}
+
+// Adds how many steps a driver waits, which plans have from version 4 on.
+fn put_wait(object: Object, version: u8, wait: u32) -> Object
+    ensures { (ms : Members) → Holds object ms → Holds result (with_members (wait_members version wait) ms) }
+{
+    if version >= 4 {
+        object.count("wait", wait)
     } else {
         object
     }
@@ -286,8 +352,9 @@ fn plan_value(
     resend: u32,
     params: &Params,
     ahead: bool,
+    wait: u32,
 ) -> Result<Value, AllocError>
-    ensures { IfOk result (λ v. view v ≡ json_of version (Line.PlanFor vehicle first lead resend params.now ahead)) }
+    ensures { IfOk result (λ v. view v ≡ json_of version (Line.PlanFor vehicle first lead resend params.now ahead wait)) }
 {
     let object = Object::with(alloc, "form", "plan")
         .count("v", vehicle)
@@ -295,7 +362,8 @@ fn plan_value(
         .count("lead", lead)
         .count("resend", resend);
     let object = put_way(object, params.lane, params.turn);
-    put_window(put_vehicle(object, params), version, ahead).value()
+    let object = put_window(put_vehicle(object, params), version, ahead);
+    put_wait(object, version, wait).value()
 }
 
 fn fate_value(alloc: Global, fate: u16) -> Result<Value, AllocError>
@@ -374,6 +442,7 @@ pub(crate) fn line_value(alloc: Global, version: u8, line: &Line) -> Result<Valu
         Line::Grid(ref grid) => grid_value(alloc, grid),
         Line::Times(ref times) => times5_value(alloc, times),
         Line::Times6(ref times) => times6_value(alloc, times),
+        Line::Times7(ref times) => times7_value(alloc, times),
         Line::Lanes(n) => single(alloc, "lanes", "n", n),
         Line::Move {
             lane,
@@ -391,6 +460,11 @@ pub(crate) fn line_value(alloc: Global, version: u8, line: &Line) -> Result<Valu
         } => event_value(alloc, vehicle, moment, message),
         Line::SwitchTo { moment, ref name } => switch_value(alloc, moment, name),
         Line::StopAt { moment } => single(alloc, "stop", "moment", moment),
+        Line::QuietAt {
+            moment,
+            lane,
+            until,
+        } => quiet_value(alloc, moment, u32::from(lane), until),
         Line::Until(step) => single(alloc, "until", "step", step),
         Line::PlanFor {
             vehicle,
@@ -399,7 +473,10 @@ pub(crate) fn line_value(alloc: Global, version: u8, line: &Line) -> Result<Valu
             resend,
             ref params,
             ahead,
-        } => plan_value(alloc, version, vehicle, first, lead, resend, params, ahead),
+            wait,
+        } => plan_value(
+            alloc, version, vehicle, first, lead, resend, params, ahead, wait,
+        ),
         Line::ChangeAt {
             vehicle,
             step,

@@ -10,7 +10,7 @@ use aim_messages::{NoMemory, put_number};
 use serde_json::Value;
 use std::alloc::Global;
 
-const LINE_NAMES: [&str; 42] = [
+const LINE_NAMES: [&str; 44] = [
     "form",
     "side",
     "n",
@@ -46,6 +46,7 @@ const LINE_NAMES: [&str; 42] = [
     "x2",
     "y2",
     "m",
+    "legs",
     "speed",
     "max",
     "accel",
@@ -53,6 +54,7 @@ const LINE_NAMES: [&str; 42] = [
     "width",
     "class",
     "window",
+    "wait",
 ];
 
 const MESSAGE_NAMES: [&str; 13] = [
@@ -143,7 +145,7 @@ fn put_order(out: &mut Vec<u8>, value: &Value) -> Result<(), NoMemory>
     ensures { OnOk result (out.new.items ≡ added out.old.items (order_words (view value.now))) }
 {
     put_word(out, "operator")?;
-    put_members(out, value, &["moment", "form", "name"])
+    put_members(out, value, &["moment", "form", "name", "lane", "until"])
 }
 
 // The form, which is empty where the value has none.
@@ -161,9 +163,9 @@ fn form_of(value: &Value) -> &str
 
 // Whether lines of that form are orders.
 fn is_order(form: &str) -> bool
-    ensures { result ≡ (bytes_eq form.now (codes "switch") || bytes_eq form.now (codes "stop")) }
+    ensures { result ≡ (bytes_eq form.now (codes "switch") || bytes_eq form.now (codes "stop") || bytes_eq form.now (codes "quiet")) }
 {
-    form == "switch" || form == "stop"
+    form == "switch" || form == "stop" || form == "quiet"
 }
 
 // Adds the words of a line.

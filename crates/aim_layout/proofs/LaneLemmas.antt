@@ -16,6 +16,14 @@ pub offered_some : (xs ss : List Station) → offered xs ≡ Some ss → xs ≡ 
 offered_some [] ss h = absurd (cc)
 offered_some (x ∷ xs) ss h = cc
 
+-- a shape has a station
+pub offered_stations : (s : Shape) → offered (stations_of s) ≡ Some (stations_of s)
+offered_stations s = go (stations_of s) (omega (arith, length-stations_of s))
+  where
+    go : (ss : List Station) → 0 < length ss → offered ss ≡ Some ss
+    go [] h = absurd (omega arith)
+    go (x ∷ ss) h = refl
+
 pub path_of-with_path_same : (l : Lane) (turn : Turn) (ss : List Station) → path_of (with_path l turn ss) turn ≡ Some ss
 path_of-with_path_same l Left ss = refl
 path_of-with_path_same l Straight ss = refl

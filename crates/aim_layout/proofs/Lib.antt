@@ -1,4 +1,6 @@
+mod Rows
 pub mod ShapeLemmas
+mod PathLemmas
 pub mod ValidLemmas
 pub mod LaneLemmas
 pub mod Elements

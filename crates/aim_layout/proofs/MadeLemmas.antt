@@ -2,6 +2,7 @@
 use Rattle.std.proofs.Common.{◌≡◌, ℕ, zero, suc, ◌+◌, ◌-◌, ◌/◌, ◌%◌, ◌^◌, ◌<◌, ◌≤◌, inl, inr, ◌⊎◌, Bool, true, false, ◌&&◌, ◌||◌, not, List, [], ◌∷◌, ◌++◌, length, slice_get, get_or, set, replicate, Option, Some, None, arith, refl, sym, subst, ◌∙◌, ap, nat_lt, length-append}
 use Rattle.std.specs.Prelude.{nat_le, ◌==◌}
 use Rattle.std.specs.List.{fold}
+use Rattle.std.proofs.Math.Bool.{and-false}
 use Rattle.std.proofs.Math.Decide.{dec_lt}
 use Rattle.std.proofs.Math.Seq.{set-append_seam, get_or-append_seam, append_snoc}
 use Rattle.std.proofs.lemmas.Bool.Decides.{nat_tests}
@@ -19,11 +20,11 @@ use Rattle.aim_geometry.proofs.BoundedLemmas.{least_below_none, some_below_none}
 use Rattle.aim_layout.specs.declared.policies.PolicyKind.{PolicyKind}
 use Rattle.aim_layout.specs.declared.policies.Phase.{Phase}
 use Rattle.aim_layout.specs.declared.shapes.Shape.{Shape}
-use Rattle.aim_layout.specs.Shapes.{stations_of, is_bad_shape, are_wide, wide_step, origin}
+use Rattle.aim_layout.specs.Shapes.{stations_of, is_bad_shape, are_wide, ends_inside, wide_step, origin}
 use Rattle.aim_layout.specs.Intersection.{Intersection, Lane, Policy, path_of, path}
 use Rattle.aim_layout.specs.Policies.{has_lights, has_lane}
 use Rattle.aim_layout.specs.LaneTiles.{in_lane_tiles}
-use Rattle.aim_layout.specs.Building.{no_paths, bare, with_path, move_fault, last_policy, lacks_phase, policy_fault, share_tile, has_bad_lanes, is_bad_phase_of, phase_fault, with_phase_of, with_phase}
+use Rattle.aim_layout.specs.Building.{no_paths, bare, with_path, leaves_border, move_fault, last_policy, lacks_phase, policy_fault, share_tile, has_bad_lanes, is_bad_phase_of, phase_fault, with_phase_of, with_phase}
 use Rattle.aim_layout.specs.Added.{Added, AddMove, AddPolicy, AddPhase, added, added_fault, AreTaken, layout_of}
 use Rattle.aim_layout.specs.Valid.{IsPath, IsPhase, IsPolicy, IsValid}
 use Rattle.aim_layout.proofs.AddedLemmas.{layout_is_its_lines}
@@ -66,29 +67,42 @@ path_taken g ss p =
     (λ j l. p.near j (get_or ss j origin) (get_or ss (j + 1) origin) (slice_get-get_or ss j origin (omega arith)) (slice_get-get_or ss (j + 1) origin (omega arith)))
 
 move_taken : (s : Site) (version : ℕ) (before after : List Lane) (m : Lane) (t : Turn) (sh : Shape) → path_of m t ≡ None → is_bad_shape s.grid.side sh ≡ false → wide_step s.grid.spacing (stations_of sh) ≡ None →
-    move_fault (laned s version (before ++ m ∷ after)) (length before) t sh ≡ None
-move_taken s version before after m t sh free fine near =
+    leaves_border (laned s version (before ++ m ∷ after)) (stations_of sh) ≡ false → move_fault (laned s version (before ++ m ∷ after)) (length before) t sh ≡ None
+move_taken s version before after m t sh free fine near border =
     let ls = before ++ m ∷ after in
     let there : nat_le (length ls) (length before) ≡ false = grind (arith, nat_tests, length-append before (m ∷ after)) in
     let none : path (laned s version ls) (length before) t ≡ None = rw (seam_there before after m) free in
-    rw (there, none, fine, near) refl
+    rw (there, none, fine, near, border) refl
 
 -- the lane with the path, where there is one
 abbrev put : Lane → Turn → Option (List Station) → Lane
 put m t None = m
 put m t (Some ss) = with_path m t ss
 
-put_made : (s : Site) (n version : ℕ) (before after : List Lane) (m : Lane) (t : Turn) (o : Option (List Station)) → path_of m t ≡ None → ((ss : List Station) → o ≡ Some ss → IsPath s.grid ss) →
+-- a path within its ranges, which has its ends on the border from version 4 on
+abbrev IsFine : Site → ℕ → List Station → Type 0
+IsFine s version ss = IsPath s.grid ss × (4 ≤ version → ends_inside s.grid.side ss ≡ false)
+
+border_taken : (s : Site) (version : ℕ) (ls : List Lane) (ss : List Station) → (4 ≤ version → ends_inside s.grid.side ss ≡ false) → leaves_border (laned s version ls) ss ≡ false
+border_taken s version ls ss h = elim (dec_lt version 4) [
+  | yes l ↦ (let early : nat_le 4 version ≡ false = grind (arith, nat_tests) in rw early refl)
+  | no l ↦ rw (h (omega arith)) (and-false (nat_le 4 version))
+]
+
+put_made : (s : Site) (n version : ℕ) (before after : List Lane) (m : Lane) (t : Turn) (o : Option (List Station)) → path_of m t ≡ None → ((ss : List Station) → o ≡ Some ss → IsFine s version ss) →
     IsMade s n version (laned s version (before ++ m ∷ after)) → IsMade s n version (laned s version (before ++ put m t o ∷ after))
 put_made s n version before after m t None free fine made = made
 put_made s n version before after m t (Some ss) free fine made =
-    let p = fine ss refl in
+    let both = fine ss refl in
+    let p = both.0 in
     let f = p.formed in
+    let border : leaves_border (laned s version (before ++ m ∷ after)) (stations_of f.0) ≡ false =
+    subst (λ xs. leaves_border (laned s version (before ++ m ∷ after)) xs ≡ false) f.2 (border_taken s version (before ++ m ∷ after) ss both.1) in
     let near : wide_step s.grid.spacing (stations_of f.0) ≡ None = subst (λ xs. wide_step s.grid.spacing xs ≡ None) f.2 (path_taken s.grid ss p) in
     let put_there : set (before ++ m ∷ after) (length before) (with_path (get_or (before ++ m ∷ after) (length before) no_paths) t (stations_of f.0)) ≡ before ++ with_path m t (stations_of f.0) ∷ after =
     rw (get_or-append_seam before m after no_paths, set-append_seam before m after (with_path m t (stations_of f.0))) refl in
     subst (λ ls. IsMade s n version (laned s version ls)) (put_there ∙ ap (λ xs. before ++ with_path m t xs ∷ after) (sym f.2))
-    (one_more s n version (laned s version (before ++ m ∷ after)) (AddMove (length before) t f.0) made (move_taken s version before after m t f.0 free f.1 near))
+    (one_more s n version (laned s version (before ++ m ∷ after)) (AddMove (length before) t f.0) made (move_taken s version before after m t f.0 free f.1 near border))
 
 put_all : (a b c : Option (List Station)) → put (put (put no_paths Left a) Straight b) Right c ≡ record { left = a; straight = b; right = c }
 put_all None None None = refl
@@ -110,11 +124,11 @@ free_right None (Some b) = refl
 free_right (Some a) None = refl
 free_right (Some a) (Some b) = refl
 
-AreOffered : Grid → List Lane → Type 0
-AreOffered g [] = Unit {0}
-AreOffered g (l ∷ ls) = ((t : Turn) (ss : List Station) → path_of l t ≡ Some ss → IsPath g ss) × AreOffered g ls
+AreOffered : Site → ℕ → List Lane → Type 0
+AreOffered s version [] = Unit {0}
+AreOffered s version (l ∷ ls) = ((t : Turn) (ss : List Station) → path_of l t ≡ Some ss → IsFine s version ss) × AreOffered s version ls
 
-lane_made : (s : Site) (n version : ℕ) (before after : List Lane) (l : Lane) → ((t : Turn) (ss : List Station) → path_of l t ≡ Some ss → IsPath s.grid ss) →
+lane_made : (s : Site) (n version : ℕ) (before after : List Lane) (l : Lane) → ((t : Turn) (ss : List Station) → path_of l t ≡ Some ss → IsFine s version ss) →
     IsMade s n version (laned s version (before ++ no_paths ∷ after)) → IsMade s n version (laned s version (before ++ l ∷ after))
 lane_made s n version before after l fine made =
     let a = put_made s n version before after no_paths Left l.left refl (fine Left) made in
@@ -131,7 +145,7 @@ unfolding blanks
 blanks_are [] = refl
 blanks_are (l ∷ ls) = ap (λ ms. no_paths ∷ ms) (blanks_are ls)
 
-lanes_made : (s : Site) (n version : ℕ) (before rest : List Lane) → AreOffered s.grid rest → IsMade s n version (laned s version (before ++ blanks rest)) → IsMade s n version (laned s version (before ++ rest))
+lanes_made : (s : Site) (n version : ℕ) (before rest : List Lane) → AreOffered s version rest → IsMade s n version (laned s version (before ++ blanks rest)) → IsMade s n version (laned s version (before ++ rest))
 unfolding blanks AreOffered
 lanes_made s n version before [] fine made = made
 lanes_made s n version before (l ∷ ls) fine made =
@@ -276,10 +290,10 @@ policies_made s n version lanes before (p ∷ ps) room whole ruled made =
 
 -- from what a valid layout says of places to what is needed of elements
 
-all_offered : (g : Grid) (ls : List Lane) → ((k : ℕ) (l : Lane) → slice_get ls k ≡ Some l → (t : Turn) (ss : List Station) → path_of l t ≡ Some ss → IsPath g ss) → AreOffered g ls
+all_offered : (s : Site) (version : ℕ) (ls : List Lane) → ((k : ℕ) (l : Lane) → slice_get ls k ≡ Some l → (t : Turn) (ss : List Station) → path_of l t ≡ Some ss → IsFine s version ss) → AreOffered s version ls
 unfolding AreOffered
-all_offered g [] each = tt
-all_offered g (l ∷ ls) each = (each 0 l refl, all_offered g ls (λ k m e. each (suc k) m e))
+all_offered s version [] each = tt
+all_offered s version (l ∷ ls) each = (each 0 l refl, all_offered s version ls (λ k m e. each (suc k) m e))
 
 all_fine : (i : Intersection) (fs : List Phase) → ((k : ℕ) (f : Phase) → slice_get fs k ≡ Some f → IsPhase i f) → AreFine i fs
 unfolding AreFine
@@ -310,7 +324,7 @@ valid_made i v =
     let n = length i.lanes in
     let version = i.version in
     let start : IsMade s n version (laned s version (blanks i.lanes)) = record { lines = []; taken = tt; made = ap (λ ls. laned s version ls) (sym (blanks_are i.lanes)) } in
-    let lanes = lanes_made s n version [] i.lanes (all_offered i.grid i.lanes (λ k l e t ss f. v.sound.paths k t ss (rw e f))) start in
+    let lanes = lanes_made s n version [] i.lanes (all_offered s version i.lanes (λ k l e t ss f. (v.sound.paths k t ss (rw e f), λ four. v.sound.borders four k t ss (rw e f)))) start in
     let made = policies_made s n version i.lanes [] i.policies v.sound.policies refl
     (all_ruled (governed s version i.lanes []) i.policies (λ k p e. is_ruled i p (v.sound.each k p e) (v.whole k p e))) lanes in
     (made.lines, made.taken, sym (layout_is_its_lines s n version made.lines made.taken) ∙ made.made)

@@ -3,6 +3,8 @@ use Rattle.std.proofs.Common.{◌≡◌, ℕ, ◌+◌, ◌-◌, ◌^◌, ◌<◌
 use Rattle.std.specs.Prelude.{nat_le, option_map, option_and_then, ◌⊎◌, if◌then◌else◌, ◌==◌, is_some}
 use Rattle.std.proofs.Math.Decide.{dec_lt}
 use Rattle.std.proofs.lemmas.Bool.{or_parts, ltb-false, leb-false, eqb-false, cases_eq}
+use Rattle.std.specs.Option.{option_or}
+use Rattle.std.proofs.lemmas.Bool.Decides.{nat_tests}
 use Rattle.std.specs.Int.{bit_at}
 use Rattle.std.proofs.lemmas.Nat.Bits.{bit_at_above}
 use Rattle.std.proofs.lemmas.List.{length-set, length-replicate}
@@ -18,11 +20,11 @@ use Rattle.aim_layout.specs.declared.builders.LayoutFault.TheVariants as fault
 use Rattle.aim_layout.specs.declared.policies.PolicyKind.{PolicyKind}
 use Rattle.aim_layout.specs.declared.policies.Phase.{Phase}
 use Rattle.aim_layout.specs.declared.shapes.Shape.{Shape}
-use Rattle.aim_layout.specs.Shapes.{stations_of, is_bad_shape, are_wide, wide_step, origin}
+use Rattle.aim_layout.specs.Shapes.{stations_of, is_bad_shape, are_wide, ends_inside, wide_step, origin}
 use Rattle.aim_layout.specs.Intersection.{Intersection, Lane, Policy, path_of, path}
 use Rattle.aim_layout.specs.Policies.{has_lights, has_lane}
 use Rattle.aim_layout.specs.LaneTiles.{in_lane_tiles}
-use Rattle.aim_layout.specs.Building.{no_paths, bare, with_path, is_bad_move, move_fault, with_move, last_policy, lacks_phase, with_policy, share_tile, has_bad_lanes, is_bad_phase_of, phase_count, phase_fault, with_phase_of}
+use Rattle.aim_layout.specs.Building.{no_paths, bare, with_path, is_bad_move, leaves_border, move_fault, with_move, last_policy, lacks_phase, with_policy, share_tile, has_bad_lanes, is_bad_phase_of, phase_count, phase_fault, with_phase_of}
 use Rattle.aim_layout.specs.Valid.{IsPath, IsPhase, IsPolicy, IsSound, IsValid}
 use Rattle.aim_layout.proofs.Elements.{slice_get-set_same, slice_get-set_other, set_cases, append_cases, replicate_all}
 use Rattle.aim_layout.proofs.ShapeLemmas.{length-stations_of, parts_most}
@@ -97,14 +99,22 @@ pub record IsMove (i : Intersection) (lane : ℕ) (turn : Turn) (s : Shape) : Ty
   pub first : length i.policies ≤ 0
   pub shape : is_bad_shape i.grid.side s ≡ false
   pub near : wide_step i.grid.spacing (stations_of s) ≡ None
+  pub border : leaves_border i (stations_of s) ≡ false
 
 is_none : {X : Type 0} (o : Option X) → is_some o ≡ false → o ≡ None
 is_none None h = refl
 is_none (Some x) h = absurd (cc)
 
+neither : {X : Type 0} (o p : Option X) → option_or o p ≡ None → (o ≡ None) × (p ≡ None)
+neither None p h = (refl, h)
+neither (Some x) p h = absurd (cc)
+
 pub IsMove-tests : (i : Intersection) (lane : ℕ) (turn : Turn) (s : Shape) → move_fault i lane turn s ≡ None → IsMove i lane turn s
 IsMove-tests i lane turn s h =
-    let a = no_fault (is_bad_move i lane turn s) (fault.Move lane turn) (option_map (λ j. fault.Spacing lane turn j) (wide_step i.grid.spacing (stations_of s))) h in
+    let wide = option_map (λ j. fault.Spacing lane turn j) (wide_step i.grid.spacing (stations_of s)) in
+    let inner = if leaves_border i (stations_of s) then Some (fault.Border lane turn) else None in
+    let a = no_fault (is_bad_move i lane turn s) (fault.Move lane turn) (option_or wide inner) h in
+    let b = neither wide inner a.1 in
     let p = or_parts (nat_le (length i.lanes) lane || is_some (path i lane turn) || nat_lt 0 (length i.policies)) (is_bad_shape i.grid.side s) a.0 in
     let q = or_parts (nat_le (length i.lanes) lane || is_some (path i lane turn)) (nat_lt 0 (length i.policies)) p.0 in
     let r = or_parts (nat_le (length i.lanes) lane) (is_some (path i lane turn)) q.0 in
@@ -113,8 +123,13 @@ IsMove-tests i lane turn s h =
       free = is_none (path i lane turn) r.1;
       first = ltb-false 0 (length i.policies) q.1;
       shape = p.1;
-      near = no_map (λ j. fault.Spacing lane turn j) (wide_step i.grid.spacing (stations_of s)) a.1;
+      near = no_map (λ j. fault.Spacing lane turn j) (wide_step i.grid.spacing (stations_of s)) b.0;
+      border = (no_fault (leaves_border i (stations_of s)) (fault.Border lane turn) None b.1).0;
     }
+
+-- from version 4 on a path begins and ends on the border
+at_border : (i : Intersection) (ss : List Station) → 4 ≤ i.version → leaves_border i ss ≡ false → ends_inside i.grid.side ss ≡ false
+at_border i ss four h = let late : nat_le 4 i.version ≡ true = grind (arith, nat_tests) in rw late at h
 
 pub IsSound-move : (i : Intersection) (lane : ℕ) (turn : Turn) (s : Shape) → IsSound i → IsMove i lane turn s → IsSound (with_move i lane turn s)
 IsSound-move i lane turn s v m =
@@ -129,6 +144,10 @@ IsSound-move i lane turn s v m =
       paths = λ k t ss e. elim (moved_paths i lane k turn t s ss m.there e) [
         | inl q ↦ rw q (IsPath-shape i.grid s m.shape m.near)
         | inr old ↦ v.paths k t ss old
+      ];
+      borders = λ four k t ss e. elim (moved_paths i lane k turn t s ss m.there e) [
+        | inl q ↦ rw q (at_border i (stations_of s) four m.border)
+        | inr old ↦ v.borders four k t ss old
       ];
       policies = v.policies;
       each = λ k p e. absurd (no_element i.policies k p m.first e);
@@ -179,6 +198,7 @@ IsSound-policy i k v room h =
       some_lanes = v.some_lanes;
       lanes = v.lanes;
       paths = v.paths;
+      borders = v.borders;
       policies = omega (arith, length-append i.policies (bare ∷ []));
       each = λ n p e. elim (append_cases i.policies bare p n e) [
         | inl (l, old) ↦ IsPolicy-same i j p refl refl refl (v.each n p old)
@@ -282,6 +302,7 @@ IsSound-phase i f q v last t =
       some_lanes = v.some_lanes;
       lanes = v.lanes;
       paths = v.paths;
+      borders = v.borders;
       policies = let a = v.policies in omega arith;
       each = λ n p e. elim (set_cases i.policies k n new p there e) [
         | inl (a, b) ↦ rw b (record {
@@ -310,7 +331,7 @@ IsValid-finish i v h =
       whole = λ k q e. all_whole i k q v p.1 e;
     }
 
-pub IsSound-bare : (s : Site) (lanes version : ℕ) → IsGrid s.grid → IsTimes s.times → 0 < lanes → lanes ≤ 16 → 0 < version → version ≤ 3 → IsSound (bare s lanes version)
+pub IsSound-bare : (s : Site) (lanes version : ℕ) → IsGrid s.grid → IsTimes s.times → 0 < lanes → lanes ≤ 16 → 0 < version → version ≤ 4 → IsSound (bare s lanes version)
 IsSound-bare s lanes version g t a b some most =
     let count = length-replicate lanes no_paths in
     record {
@@ -321,6 +342,7 @@ IsSound-bare s lanes version g t a b some most =
       some_lanes = omega arith;
       lanes = omega arith;
       paths = λ k turn ss e. absurd (no_path (slice_get (replicate lanes no_paths) k) turn ss (λ l f. replicate_all lanes k no_paths l f) e);
+      borders = λ four k turn ss e. absurd (no_path (slice_get (replicate lanes no_paths) k) turn ss (λ l f. replicate_all lanes k no_paths l f) e);
       policies = omega arith;
       each = λ k p e. absurd (no_element [] k p (omega arith) e);
       earlier = λ k p l e. absurd (no_element [] k p (omega arith) e);

@@ -1,6 +1,7 @@
 -- Which lines make a layout, and why a line is refused.
 use Rattle.std.specs.Prelude.{ℕ, ◌-◌, ◌^◌, ◌==◌, Bool, true, false, ◌&&◌, ◌||◌, not, nat_lt, nat_le, List, [], ◌∷◌, ◌++◌, length, replicate, slice_get, slice_set, Option, Some, None, is_some, option_map, if◌then◌else◌}
 use Rattle.std.specs.List.{slice_index_or}
+use Rattle.std.specs.Option.{option_or}
 use Rattle.aim_messages.specs.declared.messages.Turn.{Turn}
 use Rattle.aim_messages.specs.declared.messages.Turn.TheVariants.{Left, Straight, Right}
 use Rattle.aim_geometry.specs.declared.stations.Station.{Station}
@@ -11,7 +12,7 @@ use Rattle.aim_layout.specs.declared.builders.LayoutFault.TheVariants as fault
 use Rattle.aim_layout.specs.declared.policies.PolicyKind.{PolicyKind}
 use Rattle.aim_layout.specs.declared.policies.Phase.{Phase}
 use Rattle.aim_layout.specs.declared.shapes.Shape.{Shape}
-use Rattle.aim_layout.specs.Shapes.{stations_of, is_bad_shape, wide_step}
+use Rattle.aim_layout.specs.Shapes.{stations_of, is_bad_shape, wide_step, ends_inside}
 use Rattle.aim_layout.specs.Intersection.{Intersection, Lane, Policy, path}
 use Rattle.aim_layout.specs.Policies.{has_lights, has_lane}
 use Rattle.aim_layout.specs.LaneTiles.{in_lane_tiles}
@@ -33,10 +34,15 @@ abbrev pub is_bad_move : Intersection → ℕ → Turn → Shape → Bool
 is_bad_move i lane turn s =
     nat_le (length i.lanes) lane || is_some (path i lane turn) || nat_lt 0 (length i.policies) || is_bad_shape i.grid.side s
 
+-- whether a path begins or ends within the ground, which is refused from version 4 on
+abbrev pub leaves_border : Intersection → List Station → Bool
+leaves_border i ss = nat_le 4 i.version && ends_inside i.grid.side ss
+
 abbrev pub move_fault : Intersection → ℕ → Turn → Shape → Option LayoutFault
 move_fault i lane turn s =
     if is_bad_move i lane turn s then Some (fault.Move lane turn)
-    else option_map (λ j. fault.Spacing lane turn j) (wide_step i.grid.spacing (stations_of s))
+    else option_or (option_map (λ j. fault.Spacing lane turn j) (wide_step i.grid.spacing (stations_of s)))
+    (if leaves_border i (stations_of s) then Some (fault.Border lane turn) else None)
 
 abbrev pub with_move : Intersection → ℕ → Turn → Shape → Intersection
 with_move i lane turn s =

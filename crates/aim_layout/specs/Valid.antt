@@ -6,14 +6,14 @@ use Rattle.aim_geometry.specs.declared.stations.Station.{Station}
 use Rattle.aim_geometry.specs.Sites.{IsGrid, IsTimes}
 use Rattle.aim_layout.specs.declared.policies.Phase.{Phase}
 use Rattle.aim_layout.specs.declared.shapes.Shape.{Shape}
-use Rattle.aim_layout.specs.Shapes.{stations_of, is_bad_shape, are_wide}
+use Rattle.aim_layout.specs.Shapes.{stations_of, is_bad_shape, are_wide, ends_inside}
 use Rattle.aim_layout.specs.Intersection.{Intersection, Policy, path}
 use Rattle.aim_layout.specs.Policies.{has_lights, has_lane}
 use Rattle.aim_layout.specs.LaneTiles.{in_lane_tiles}
 use Rattle.aim_layout.specs.Building.{lacks_phase}
 
--- The stations are those of a shape within its ranges, a line or a curve: 2 to 4097, on the ground, and each near the
--- next.
+-- The stations are those of a shape within its ranges, a line, a curve or a path of legs: 2 to 4097, on the ground, and
+-- each near the next.
 pub record IsPath (g : Grid) (ss : List Station) : Type 0 where
   pub some : 1 < length ss
   pub most : length ss ≤ 4097
@@ -41,12 +41,13 @@ pub record IsPolicy (i : Intersection) (p : Policy) : Type 0 where
 -- nothing that was added so far is refused
 pub record IsSound (i : Intersection) : Type 0 where
   pub some_version : 0 < i.version
-  pub version : i.version ≤ 3
+  pub version : i.version ≤ 4
   pub grid : IsGrid i.grid
   pub times : IsTimes i.times
   pub some_lanes : 0 < length i.lanes
   pub lanes : length i.lanes ≤ 16
   pub paths : (lane : ℕ) (turn : Turn) (ss : List Station) → path i lane turn ≡ Some ss → IsPath i.grid ss
+  pub borders : 4 ≤ i.version → (lane : ℕ) (turn : Turn) (ss : List Station) → path i lane turn ≡ Some ss → ends_inside i.grid.side ss ≡ false
   pub policies : length i.policies ≤ 8
   pub each : (k : ℕ) (p : Policy) → slice_get i.policies k ≡ Some p → IsPolicy i p
   pub earlier : (k : ℕ) (p : Policy) → k + 1 < length i.policies → slice_get i.policies k ≡ Some p → lacks_phase (Some p) ≡ false

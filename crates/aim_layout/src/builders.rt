@@ -6,9 +6,10 @@ ghost use Rattle.std.specs.List.{fold};
 ghost use Rattle.std.specs.Result.{result_err};
 ghost use Rattle.aim_geometry.specs.Bounded.{is_outside, some_below};
 ghost use Rattle.aim_geometry.specs.Sites.{Site};
-ghost use Rattle.aim_layout.specs.Building.{bare, finish_fault, has_bad_lanes as has_bad_lanes_of, is_bad_move, is_bad_phase_of, lacks_phase as lacks_phase_of, last_policy, move_fault, no_paths, phase_count as phase_count_of, phase_fault, policy_fault, share_tile as share_tile_of, with_move, with_phase, with_policy};
+ghost use Rattle.aim_layout.specs.Building.{bare, finish_fault, has_bad_lanes as has_bad_lanes_of, is_bad_move, is_bad_phase_of, lacks_phase as lacks_phase_of, last_policy, leaves_border as leaves_border_of, move_fault, no_paths, phase_count as phase_count_of, phase_fault, policy_fault, share_tile as share_tile_of, with_move, with_phase, with_policy};
 ghost use Rattle.aim_layout.specs.Intersection.{path};
 ghost use Rattle.aim_layout.specs.Policies.{has_lane as has_lane_of};
+ghost use Rattle.aim_layout.specs.Shapes.{is_bad_shape, stations_of};
 ghost use Rattle.aim_layout.specs.Valid.{IsValid};
 
 use crate::lanes::{LanePaths, add_path};
@@ -28,6 +29,8 @@ pub enum LayoutFault {
     Move { lane: u32, turn: Turn },
     /// The station is the least that is more than the spacing away from the next one, in x or in y.
     Spacing { lane: u32, turn: Turn, station: u32 },
+    /// The path begins or ends within the ground, and not at its border, in version 4.
+    Border { lane: u32, turn: Turn },
     /// The policy, or that phase of it, can't be added, or the policy lacks a phase.
     Phase { policy: u8, phase: u8 },
     /// There is no memory for the layout.
@@ -71,7 +74,7 @@ impl Builder {
         version: u8,
     ) -> Result<Builder, LayoutFault>
         requires some_version { 0 < version }
-        requires version { version ≤ 3 }
+        requires version { version ≤ 4 }
         ensures lane { (result ≡ Err LayoutFault.Lane) ↔ IsTrue (is_outside lanes 16) }
         ensures memory { IfErr result (λ e. (e ≡ LayoutFault.Lane) ⊎ (e ≡ LayoutFault.NoMemory)) }
         ensures bare { IfOk result (λ b. b ≡ bare ground lanes version) }
@@ -101,6 +104,9 @@ impl Builder {
                 turn,
                 station,
             });
+        }
+        if self.leaves_border(&shape) {
+            return Err(LayoutFault::Border { lane, turn });
         }
         self.put(lane, turn, &shape);
         Ok(())
@@ -207,6 +213,14 @@ impl Builder {
         let is_offered = self.offers(lane, turn);
         let is_bad = shape.is_bad(self.ground.grid().side);
         lane as usize >= self.lanes.len() || is_offered || !self.policies.is_empty() || is_bad
+    }
+
+    // Whether the path begins or ends within the ground, which is refused from version 4 on.
+    fn leaves_border(&self, shape: &Shape) -> bool
+        requires { is_bad_shape 1000000 shape.now ≡ false }
+        ensures { result ≡ leaves_border_of self.now (stations_of shape.now) }
+    {
+        self.version >= 4 && shape.ends_inside(self.ground.grid().side)
     }
 
     // Whether the last policy is a light policy without a phase.
@@ -323,7 +337,7 @@ fn make(alloc: Global, ground: Ground, lanes: u32, version: u8) -> Result<Builde
     requires some { 0 < lanes }
     requires most { lanes ≤ 16 }
     requires some_version { 0 < version }
-    requires version { version ≤ 3 }
+    requires version { version ≤ 4 }
     ensures { IfOk result (λ b. b ≡ bare ground lanes version) }
 {
     ground.has_ranges();

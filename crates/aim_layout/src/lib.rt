@@ -5,6 +5,7 @@ pub mod builders;
 mod lanes;
 pub mod laws;
 pub mod layouts;
+mod legs;
 pub mod paths;
 pub mod policies;
 pub mod shapes;

@@ -1,5 +1,5 @@
 -- What a line comes to in a session.
-use Rattle.std.proofs.Common.{◌≡◌, ℕ, ◌+◌, ◌<◌, ◌≤◌, Bool, true, false, not, nat_lt, List, [], ◌∷◌, ◌++◌, length, filter, Some, None, Ok, Err, refl, sym, ap, ◌∙◌, subst, arith, length-append, suc, cond, ◌||◌}
+use Rattle.std.proofs.Common.{◌≡◌, ℕ, ◌+◌, ◌<◌, ◌≤◌, Bool, true, false, not, nat_lt, nat_le, if◌then◌else◌, List, [], ◌∷◌, ◌++◌, length, filter, Some, None, Ok, Err, refl, sym, ap, ◌∙◌, subst, arith, length-append, suc, cond, ◌||◌}
 use Rattle.std.specs.Prelude.{bytes_eq, position, Option, Result}
 use Rattle.std.specs.List.{list_any, position_or_len}
 use Rattle.std.proofs.lemmas.Bool.Decides.{nat_tests}
@@ -25,15 +25,16 @@ use Rattle.aim_script.specs.Kinds.{kind_of_fault, limit_of}
 use Rattle.aim_script.specs.Verdicts.{bad, of_read}
 use Rattle.aim_script_reading.specs.Verdicts.{decides, goes_on}
 use Rattle.aim_script.specs.Headers.{IsSet}
+use Rattle.aim_script.specs.Versions.{version_number}
 use Rattle.aim_script.proofs.AppendLemmas.{IsSilent, last_of_more, version_same, names_same, layout_same, vehicles_same, calls_more, calls_same, journal_more}
-use Rattle.aim_script.proofs.KindLemmas.{event_kind as event_kind_of, switch_kind, stop_kind, begin_kind, end_kind, out_of_order}
+use Rattle.aim_script.proofs.KindLemmas.{event_kind as event_kind_of, switch_kind, stop_kind, quiet_kind, begin_kind, end_kind, out_of_order}
 use Rattle.aim_line_session.specs.declared.servers.DeskServer.{DeskServer}
 use Rattle.aim_line_session.specs.declared.progress.Answered.{Answered}
 use Rattle.aim_line_session.specs.declared.progress.Progress.{Progress}
 use Rattle.aim_line_session.specs.declared.progress.Untaken.{Untaken}
 use Rattle.aim_line_session.specs.declared.progress.Untaken.TheVariants as untaken
 use Rattle.aim_line_session.specs.Servers.{IsNext, Serves}
-use Rattle.aim_line_session.specs.Sessions.{Comes, IsOrdered, IsPlayed, LeadTo, Makes, Opens, Stands, event_kind, is_order, journal_so_far, order_call, orders_in}
+use Rattle.aim_line_session.specs.Sessions.{Comes, IsOrdered, IsPlayed, LeadTo, Makes, Opens, Stands, event_kind, is_order, journal_so_far, order_call, orders_in, quiet_fault}
 
 -- a line without a kind and a limit goes on
 pub goes : (before : List Line) (l : Line) → kind_of_fault before l ≡ None → limit_of before l ≡ None → of_read before (Ok l) ≡ goes_on l
@@ -137,6 +138,9 @@ quiet_switch at name = record { version = refl; vehicles = refl; name = refl; si
 quiet_stop : (at : ℕ) → IsQuiet (line.StopAt at)
 quiet_stop at = record { version = refl; vehicles = refl; name = refl; silent = record { version = refl; grid = refl; times = refl; lanes = refl; added = refl } }
 
+quiet_quiet : (at lane until : ℕ) → IsQuiet (line.QuietAt at lane until)
+quiet_quiet at lane until = record { version = refl; vehicles = refl; name = refl; silent = record { version = refl; grid = refl; times = refl; lanes = refl; added = refl } }
+
 -- an order was answered
 ordered : {L : Type 0} (before : List Line) (s new : Progress L) (l : Line) (at : ℕ) (o : Order) (a : Answered) → s.ended ≡ false → Stands before s → IsQuiet l → call_in (names_of before) l ≡ Some (order_call at o)
     → part_after (Some l) ≡ in_body → is_end (Some l) ≡ false → orders_in (l ∷ []) ≡ 1 → IsOrdered before at o s new (Ok (Some a)) → Stands (before ++ l ∷ []) new × Makes (journal_so_far before) (journal_so_far (before ++ l ∷ [])) (Some a)
@@ -159,6 +163,38 @@ stop_came before s new at (Err untaken.Full) going early st (full, same) =
 
 pub stop_late : {L : Type 0} (before : List Line) (s : Progress L) (at : ℕ) → s.ended ≡ false → LATEST_MOMENT < at → Stands before s → Comes before (Ok (line.StopAt at)) s s (Err (untaken.Bad why.Moment))
 stop_late before s at going late st = (falls before (line.StopAt at) why.Moment (stop_kind before at (body_of before s st going) ∙ rw (past at late) refl), refl)
+
+-- a quiet of a lane
+quiet_says : {L : Type 0} (before : List Line) (s : Progress L) (at lane until : ℕ) → s.ended ≡ false → Stands before s
+    → kind_of_fault before (line.QuietAt at lane until) ≡ quiet_fault (version_number s.version) (length s.server.layout.lanes) at lane
+quiet_says before s at lane until going st = quiet_kind before at lane until (body_of before s st going) ∙ rw (st.played.version, st.played.layout) refl
+
+-- the version is the fourth at least, and the lane is there
+pub quiet_of_layout : (version lanes at lane : ℕ) → quiet_fault version lanes at lane ≡ None → (4 ≤ version) × (lane < lanes) × (at ≤ LATEST_MOMENT)
+quiet_of_layout version lanes at lane none = go (nat_lt version 4) refl (nat_le lanes lane) refl (nat_lt LATEST_MOMENT at) refl none
+  where
+    go : (a : Bool) → nat_lt version 4 ≡ a → (b : Bool) → nat_le lanes lane ≡ b → (c : Bool) → nat_lt LATEST_MOMENT at ≡ c
+        → (if a then Some why.Order else if b then Some why.Lane else if c then Some why.Moment else None) ≡ None → (4 ≤ version) × (lane < lanes) × (at ≤ LATEST_MOMENT)
+    go true x b y c z is = absurd (cc)
+    go false x true y c z is = absurd (cc)
+    go false x false y true z is = absurd (cc)
+    go false x false y false z is = (grind (arith, nat_tests), grind (arith, nat_tests), grind (arith, nat_tests))
+
+pub quiet_came : {L : Type 0} (before : List Line) (s new : Progress L) (at lane until : ℕ) (r : Result (Option Answered) Untaken) → s.ended ≡ false
+    → quiet_fault (version_number s.version) (length s.server.layout.lanes) at lane ≡ None → Stands before s → IsOrdered before at (order.Quiet lane until) s new r
+    → Comes before (Ok (line.QuietAt at lane until)) s new r
+quiet_came before s new at lane until (Ok (Some a)) going none st done =
+    let good = goes before (line.QuietAt at lane until) (quiet_says before s at lane until going st ∙ none) refl in
+    let all = ordered before s new (line.QuietAt at lane until) at (order.Quiet lane until) a going st (quiet_quiet at lane until) refl refl refl refl done in
+    (line.QuietAt at lane until, good, all.0, all.1)
+quiet_came before s new at lane until (Ok None) going none st done = absurd done
+quiet_came before s new at lane until (Err (untaken.Bad k)) going none st done = absurd done
+quiet_came before s new at lane until (Err untaken.Full) going none st (full, same) =
+    (line.QuietAt at lane until, goes before (line.QuietAt at lane until) (quiet_says before s at lane until going st ∙ none) refl, full, same)
+
+pub quiet_fell : {L : Type 0} (before : List Line) (s : Progress L) (at lane until : ℕ) (k : Kind) → s.ended ≡ false → Stands before s
+    → Some k ≡ quiet_fault (version_number s.version) (length s.server.layout.lanes) at lane → Comes before (Ok (line.QuietAt at lane until)) s s (Err (untaken.Bad k))
+quiet_fell before s at lane until k going st bad = (falls before (line.QuietAt at lane until) k (quiet_says before s at lane until going st ∙ sym bad), refl)
 
 -- a place is found exactly where an element passes
 any_is : {X : Type 0} (p : X → Bool) (xs : List X) → list_any p xs ≡ nat_lt (position_or_len p xs) (length xs)

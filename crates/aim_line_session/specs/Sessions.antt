@@ -33,6 +33,7 @@ journal_so_far before = journal (layout_of before) (calls_of before)
 abbrev pub is_order : Line → Bool
 is_order (line.SwitchTo moment name) = true
 is_order (line.StopAt moment) = true
+is_order (line.QuietAt moment lane until) = true
 is_order _ = false
 
 -- how many orders the lines have
@@ -78,6 +79,7 @@ abbrev pub IsFull : {L : Type 0} → Line → DeskServer L → Type 0
 IsFull (line.Event vehicle moment message) s = no_position s
 IsFull (line.SwitchTo moment name) s = no_order s
 IsFull (line.StopAt moment) s = no_order s
+IsFull (line.QuietAt moment lane until) s = no_order s
 IsFull _ s = ⊥
 
 -- What a further line comes to, which was read so: it is taken, by what a script decides of it behind the lines so far; or
@@ -96,6 +98,11 @@ Opens before s (Err unopened.NoMemory) = Unit {0}
 -- what is wrong with an event, where there are so many vehicles
 abbrev pub event_kind : ℕ → ℕ → ℕ → Option Kind
 event_kind vehicles v at = if nat_le vehicles v then Some kind.Vehicle else if nat_lt LATEST_MOMENT at then Some kind.Moment else None
+
+-- what is wrong with a quiet of a lane, where the version has so many and there are so many lanes
+abbrev pub quiet_fault : ℕ → ℕ → ℕ → ℕ → Option Kind
+quiet_fault version lanes at lane =
+    if nat_lt version 4 then Some kind.Order else if nat_le lanes lane then Some kind.Lane else if nat_lt LATEST_MOMENT at then Some kind.Moment else None
 
 -- the call of an order
 abbrev pub order_call : ℕ → Order → Call

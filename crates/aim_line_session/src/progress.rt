@@ -1,6 +1,7 @@
 //! How far a session has come: what each line comes to, one after the other.
 
-ghost use Rattle.std.specs.Prelude.{◌≡◌, ◌<◌, ◌≤◌, List, Ok, false};
+ghost use Rattle.std.specs.Prelude.{◌≡◌, ◌<◌, ◌≤◌, List, Ok, false, length};
+ghost use Rattle.aim_script.specs.Versions.{version_number};
 ghost use Rattle.aim_messages.specs.declared.entries.Act.{Act};
 ghost use Rattle.aim_messages.specs.declared.entries.TheConstants.{LATEST_MOMENT, OPERATOR};
 ghost use Rattle.aim_messages.specs.declared.script.Line.{Line};
@@ -12,7 +13,7 @@ ghost use Rattle.aim_script.specs.Said.{version_after};
 ghost use Rattle.aim_script.specs.Spellings.{reads_words};
 ghost use Rattle.aim_geometry.specs.Cells.{cell_at};
 ghost use Rattle.aim_line_session.specs.Charted.{Marks, TellsCell};
-ghost use Rattle.aim_line_session.specs.Sessions.{Comes, IsOrdered, Opens, Stands, event_kind, journal_so_far};
+ghost use Rattle.aim_line_session.specs.Sessions.{Comes, IsOrdered, Opens, Stands, event_kind, journal_so_far, quiet_fault as quiet_fault_of};
 
 use crate::cells::CellUse;
 use crate::servers::DeskServer;
@@ -77,6 +78,21 @@ fn event_fault<L: Ledger>(server: &DeskServer<L>, vehicle: u32, moment: u32) -> 
 {
     if vehicle >= server.vehicles() {
         Some(Kind::Vehicle)
+    } else if moment > LATEST_MOMENT {
+        Some(Kind::Moment)
+    } else {
+        None
+    }
+}
+
+// What is wrong with a quiet of a lane.
+fn quiet_fault(version: ScriptVersion, layout: &Layout, moment: u32, lane: u8) -> Option<Kind>
+    ensures { result ≡ quiet_fault_of (version_number version) (length layout.now.lanes) moment lane }
+{
+    if version.number() < 4 {
+        Some(Kind::Order)
+    } else if lane as usize >= layout.lanes() as usize {
+        Some(Kind::Lane)
     } else if moment > LATEST_MOMENT {
         Some(Kind::Moment)
     } else {
@@ -238,6 +254,24 @@ impl<L: Ledger> Progress<L> {
         self.order(moment, Order::Stop, steps)
     }
 
+    // Takes a quiet of a lane.
+    fn quiet(
+        &mut self,
+        moment: u32,
+        lane: u8,
+        until: u32,
+        steps: &mut Steps<L>,
+    ) -> Result<Option<Answered>, Untaken>
+        requires stands { (before : List Line) × Stands before self.old }
+        requires going { self.old.ended ≡ false }
+        ensures { (before : List Line) → Stands before self.old → Comes before (Ok (Line.QuietAt moment lane until)) self.old self.new result }
+    {
+        if let Some(kind) = quiet_fault(self.version, self.server.layout(), moment, lane) {
+            return Err(Untaken::Bad(kind));
+        }
+        self.order(moment, Order::Quiet { lane, until }, steps)
+    }
+
     /// Takes a line, and answers its event or order, if it is one. A line that isn't taken changes nothing, and any line may
     /// come next. No memory is taken.
     pub fn take(&mut self, line: &Line, steps: &mut Steps<L>) -> Result<Option<Answered>, Untaken>
@@ -256,6 +290,11 @@ impl<L: Ledger> Progress<L> {
             } => self.serve(*vehicle, *moment, message, steps),
             Line::SwitchTo { moment, name } => self.switch(*moment, name, steps),
             Line::StopAt { moment } => self.stop(*moment, steps),
+            Line::QuietAt {
+                moment,
+                lane,
+                until,
+            } => self.quiet(*moment, *lane, *until, steps),
             Line::End => {
                 self.ended = true;
                 Ok(None)

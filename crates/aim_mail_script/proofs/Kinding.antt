@@ -59,6 +59,7 @@ stop_nowhere (place.Policies b names) moment = refl
 order_nowhere : (before : List Line) (l : Line) (p : Place) → is_order before l ≡ true → belongs (part_of p) l ≡ false
 order_nowhere before (line.SwitchTo moment name) p is = switch_nowhere p moment name
 order_nowhere before (line.StopAt moment) p is = stop_nowhere p moment
+order_nowhere before (line.QuietAt moment lane until) p is = stop_nowhere p moment
 order_nowhere before l p is = absurd (cc)
 
 -- the kind of a line of the header

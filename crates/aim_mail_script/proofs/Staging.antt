@@ -122,6 +122,7 @@ no_events names [] e = refl
 no_events names (line.Event v at m ∷ ls) e = absurd (cc)
 no_events names (line.SwitchTo at name ∷ ls) e = absurd (cc)
 no_events names (line.StopAt at ∷ ls) e = absurd (cc)
+no_events names (line.QuietAt at lane until ∷ ls) e = absurd (cc)
 no_events names (l ∷ ls) e = no_events names ls e
 
 -- `begin`

@@ -14,6 +14,7 @@ use Rattle.aim_drive_script.specs.Kinds.{vehicles_limit}
 abbrev pub is_order : List Line → Line → Bool
 is_order before (line.SwitchTo moment name) = true
 is_order before (line.StopAt moment) = true
+is_order before (line.QuietAt moment lane until) = true
 is_order before _ = false
 
 -- The kinds, in the order in which they are told. Those of a line that doesn't read come before them.

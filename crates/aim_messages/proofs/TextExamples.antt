@@ -17,6 +17,7 @@ use Rattle.aim_messages.specs.declared.replies.Reply.{Reply}
 use Rattle.aim_messages.specs.declared.replies.Reply.TheVariants as reply
 use Rattle.aim_messages.specs.declared.script.Name.{Name}
 use Rattle.aim_messages.specs.declared.script.FateList.{FateList}
+use Rattle.aim_messages.specs.declared.script.LegList.{LegList}
 use Rattle.aim_messages.specs.declared.script.MoveShape.TheVariants as shape
 use Rattle.aim_messages.specs.declared.script.Line.TheVariants as line
 use Rattle.aim_messages.specs.Texts.{message_text, reply_text, entry_text}
@@ -98,6 +99,9 @@ switched_text = refl
 
 pub stopped_text : reply_text reply.Stopped ≡ codes "stopped"
 stopped_text = refl
+
+pub quieted_text : reply_text reply.Quieted ≡ codes "quieted"
+quieted_text = refl
 
 -- reasons
 
@@ -228,6 +232,11 @@ pub stopped_entry_text : entry_text 1 (record { caller = 65536; moment = 3; act 
 unfolding digits
 stopped_entry_text = refl
 
+pub quieted_entry_text : entry_text 2 (record { caller = 65536; moment = 3; act = act.Order (order.Quiet 11 4294967295); reply = reply.Quieted })
+    ≡ codes "2 operator 3 quiet 11 4294967295 -> quieted"
+unfolding digits
+quieted_entry_text = refl
+
 -- script lines
 
 abbrev named : List ℕ → Name
@@ -235,6 +244,9 @@ named text = record { bytes = text ++ replicate (16 - length text) 0; len = leng
 
 abbrev fated : List ℕ → FateList
 fated fates = record { fates = fates ++ replicate (64 - length fates) 0; len = length fates }
+
+abbrev led : List (ℕ × ℕ × ℕ) → LegList
+led legs = record { legs = legs ++ replicate (32 - length legs) (0, 0, 0); len = length legs }
 
 pub version_line : line_text 1 (line.Version 1) ≡ codes "aim 1"
 unfolding digits
@@ -252,6 +264,10 @@ pub times_line_of_version_2 : line_text 2 (line.Times6 (record { horizon = 1500;
 unfolding digits
 times_line_of_version_2 = refl
 
+pub times_line_of_version_4 : line_text 4 (line.Times7 (record { horizon = 1500; longest = 25; clearance = 20; early = 1; late = 3; edge = 4; window = 300 })) ≡ codes "times 1500 25 20 1 3 4 300"
+unfolding digits
+times_line_of_version_4 = refl
+
 pub lanes_line : line_text 1 (line.Lanes 2) ≡ codes "lanes 2"
 unfolding digits
 lanes_line = refl
@@ -263,6 +279,14 @@ straight_move_line = refl
 pub curved_move_line : line_text 1 (line.Move 3 Left (shape.Curve 13500 0 13500 13500 0 13500 280)) ≡ codes "move 3 left curve 13500 0 13500 13500 0 13500 280"
 unfolding digits
 curved_move_line = refl
+
+pub path_move_line : line_text 4 (line.Move 1 Right (shape.Path 0 1500 (led ((1000, 1400, 10) ∷ (2000, 0, 25) ∷ [])))) ≡ codes "move 1 right path 0 1500 1000 1400 10 2000 0 25"
+unfolding digits
+path_move_line = refl
+
+pub shortest_path_line : line_text 4 (line.Move 0 Straight (shape.Path 0 1500 (led ((4000, 1500, 40) ∷ [])))) ≡ codes "move 0 straight path 0 1500 4000 1500 40"
+unfolding digits
+shortest_path_line = refl
 
 pub plain_policy_line : line_text 1 (line.Policy (named (codes "plain")) 0) ≡ codes "policy plain fcfs"
 plain_policy_line = refl
@@ -310,29 +334,37 @@ pub stop_line : line_text 1 (line.StopAt 3) ≡ codes "operator 3 stop"
 unfolding digits
 stop_line = refl
 
+pub quiet_line : line_text 4 (line.QuietAt 3 1 4294967295) ≡ codes "operator 3 quiet 1 4294967295"
+unfolding digits
+quiet_line = refl
+
 pub until_line : line_text 1 (line.Until 40) ≡ codes "until 40"
 unfolding digits
 until_line = refl
 
-pub plan_line_of_version_1 : line_text 1 (line.PlanFor 1 1 12 3 (car 1 0) false) ≡ codes "plan 1 1 12 3 1 straight 500 500 0 1000 700 car"
+pub plan_line_of_version_1 : line_text 1 (line.PlanFor 1 1 12 3 (car 1 0) false 0) ≡ codes "plan 1 1 12 3 1 straight 500 500 0 1000 700 car"
 unfolding digits
 plan_line_of_version_1 = refl
 
-pub plan_line_of_version_2 : line_text 2 (line.PlanFor 1 1 12 3 (car 1 0) false) ≡ codes "plan 1 1 12 3 1 straight 500 500 0 1000 700 car"
+pub plan_line_of_version_2 : line_text 2 (line.PlanFor 1 1 12 3 (car 1 0) false 0) ≡ codes "plan 1 1 12 3 1 straight 500 500 0 1000 700 car"
 unfolding digits
 plan_line_of_version_2 = refl
 
-pub early_plan_line_of_version_3 : line_text 3 (line.PlanFor 0 0 10 3 (car 0 0) true) ≡ codes "plan 0 0 10 3 0 straight 500 500 0 1000 700 car early"
+pub early_plan_line_of_version_3 : line_text 3 (line.PlanFor 0 0 10 3 (car 0 0) true 0) ≡ codes "plan 0 0 10 3 0 straight 500 500 0 1000 700 car early"
 unfolding digits
 early_plan_line_of_version_3 = refl
 
-pub plan_line_of_version_3 : line_text 3 (line.PlanFor 0 0 10 3 (car 0 0) false) ≡ codes "plan 0 0 10 3 0 straight 500 500 0 1000 700 car start"
+pub plan_line_of_version_3 : line_text 3 (line.PlanFor 0 0 10 3 (car 0 0) false 0) ≡ codes "plan 0 0 10 3 0 straight 500 500 0 1000 700 car start"
 unfolding digits
 plan_line_of_version_3 = refl
 
-pub plan_line_of_version_4 : line_text 4 (line.PlanFor 0 0 10 3 (car 0 0) true) ≡ codes "plan 0 0 10 3 0 straight 500 500 0 1000 700 car early"
+pub plan_line_of_version_4 : line_text 4 (line.PlanFor 0 0 10 3 (car 0 0) true 300) ≡ codes "plan 0 0 10 3 0 straight 500 500 0 1000 700 car early 300"
 unfolding digits
 plan_line_of_version_4 = refl
+
+pub plan_line_that_never_waits : line_text 4 (line.PlanFor 0 0 10 3 (car 0 0) false 0) ≡ codes "plan 0 0 10 3 0 straight 500 500 0 1000 700 car start 0"
+unfolding digits
+plan_line_that_never_waits = refl
 
 pub change_line : line_text 1 (line.ChangeAt 0 1 40) ≡ codes "change 0 1 40"
 unfolding digits

@@ -1,14 +1,18 @@
 -- Words that are added to a text one by one.
 use Rattle.std.proofs.Common.{◌≡◌, ℕ, ◌+◌, ◌-◌, List, [], ◌∷◌, ◌++◌, length, take, refl, ap, ◌∙◌, append_assoc, length-append, arith, ◌<◌, map, filter, decimal, if◌then◌else◌, suc, inl, inr, mul-add, add-one, drop-cons, get_or, subst, ◌≤◌, ◌*◌, drop, sym}
 use Rattle.std.proofs.lemmas.Bool.{cases_Bool}
-use Rattle.std.proofs.lemmas.List.{take_at, length-take}
+use Rattle.std.proofs.lemmas.List.{take_at, length-take, nil_from_length}
+use Rattle.std.specs.Prelude.{flat_map, codes}
 use Rattle.std.specs.List.{range_with_len}
 use borrow.Rule.Slice.PartMut.{put_mid, post_of}
 use Rattle.aim_messages.specs.declared.entries.Entry.{Entry}
-use Rattle.aim_messages.specs.Texts.{Words, spaced, entry_words, entry_text}
+use Rattle.aim_messages.specs.Texts.{Words, spaced, turn_word, entry_words, entry_text}
+use Rattle.aim_messages.specs.declared.messages.Turn.{Turn}
+use Rattle.aim_messages.specs.declared.script.MoveShape.{MoveShape}
+use Rattle.aim_messages.specs.declared.script.MoveShape.TheVariants as shape
 use Rattle.aim_messages.specs.declared.script.Line.{Line}
-use Rattle.aim_messages.specs.Lines.{has_lane, line_words, line_text}
-use Rattle.aim_messages.specs.Writing.{added}
+use Rattle.aim_messages.specs.Lines.{has_lane, leg_words, shape_words, line_words, line_text, IsMove}
+use Rattle.aim_messages.specs.Writing.{added, HasRoom}
 
 pub added_append : (text : List ℕ) (xs ys : Words) → added text (xs ++ ys) ≡ added (added text xs) ys
 added_append text [] ys = refl
@@ -76,6 +80,70 @@ pub first_words_on : (f : ℕ → List ℕ) (text new all xs : List ℕ) (len n 
 first_words_on f text new all xs len n i same below is before =
     words_on f text new all (take len xs) i (subst (λ (m : ℕ). i < length (take m xs)) same below)
     (subst (λ (m : ℕ). new ≡ added text (f (get_or (take m xs) i 0) ∷ [])) same is) before
+
+-- the legs from one on: that one, and then the legs behind it
+leg_here : (text : List ℕ) (xs : List (ℕ × ℕ × ℕ)) (i : ℕ) → i < length xs
+    → added text (flat_map leg_words (drop i xs)) ≡ added (added text (leg_words (get_or xs i (0, 0, 0)))) (flat_map leg_words (drop (i + 1) xs))
+leg_here text xs i below =
+    let here : drop i xs ≡ get_or xs i (0, 0, 0) ∷ drop (i + 1) xs = drop-cons xs i (0, 0, 0) below ∙ ap (λ (n : ℕ). get_or xs i (0, 0, 0) ∷ drop n xs) (sym (add-one i)) in
+    ap (λ (l : List (ℕ × ℕ × ℕ)). added text (flat_map leg_words l)) here
+    ∙ added_append text (leg_words (get_or xs i (0, 0, 0))) (flat_map leg_words (drop (i + 1) xs))
+
+pub legs_on : (text new all : List ℕ) (xs : List (ℕ × ℕ × ℕ)) (len n i : ℕ) → n ≡ len → i < length (take n xs) → new ≡ added text (leg_words (get_or (take n xs) i (0, 0, 0)))
+    → added text (flat_map leg_words (drop i (take len xs))) ≡ all → added new (flat_map leg_words (drop (i + 1) (take len xs))) ≡ all
+legs_on text new all xs len n i same below is before =
+    let there = subst (λ (m : ℕ). i < length (take m xs)) same below in
+    let put : new ≡ added text (leg_words (get_or (take len xs) i (0, 0, 0))) = subst (λ (m : ℕ). new ≡ added text (leg_words (get_or (take m xs) i (0, 0, 0)))) same is in
+    ap (λ (t : List ℕ). added t (flat_map leg_words (drop (i + 1) (take len xs)))) put ∙ sym (leg_here text (take len xs) i there) ∙ before
+
+-- a text is no longer than with words behind it
+added_longer : (text : List ℕ) (words : Words) → length text ≤ length (added text words)
+added_longer text [] = omega arith
+added_longer text (word ∷ words) =
+    let more = added_longer ((text ++ word) ++ 32 ∷ []) words in
+    let size : length ((text ++ word) ++ 32 ∷ []) ≡ length (text ++ word) + 1 = length-append (text ++ word) (32 ∷ []) in
+    let first : length (text ++ word) ≡ length text + length word = length-append text word in
+    omega arith
+
+-- a leg has room where all have
+pub leg_room : (text all : List ℕ) (xs : List (ℕ × ℕ × ℕ)) (len n i : ℕ) → n ≡ len → i < length (take n xs) → length all ≤ 401
+    → added text (flat_map leg_words (drop i (take len xs))) ≡ all → length (added text (leg_words (get_or (take n xs) i (0, 0, 0)))) ≤ 401
+leg_room text all xs len n i same below room before =
+    let there = subst (λ (m : ℕ). i < length (take m xs)) same below in
+    let leg = added text (leg_words (get_or (take len xs) i (0, 0, 0))) in
+    let whole : added leg (flat_map leg_words (drop (i + 1) (take len xs))) ≡ all = sym (leg_here text (take len xs) i there) ∙ before in
+    let more : length leg ≤ length all = subst (λ (t : List ℕ). length leg ≤ length t) whole (added_longer leg (flat_map leg_words (drop (i + 1) (take len xs)))) in
+    let fits : length leg ≤ 401 = omega arith in
+    subst (λ (m : ℕ). length (added text (leg_words (get_or (take m xs) i (0, 0, 0)))) ≤ 401) (sym same) fits
+
+pub move_begun : (lane : ℕ) (turn : Turn) (start one two text word : List ℕ) → one ≡ added start (codes "move" ∷ []) → two ≡ added one (decimal lane ∷ [])
+    → text ≡ added two (word ∷ []) → word ≡ turn_word turn → text ≡ added start (codes "move" ∷ decimal lane ∷ turn_word turn ∷ [])
+move_begun lane turn start one two text word first second third is =
+    third ∙ ap (λ (w : List ℕ). added two (w ∷ [])) is
+    ∙ ap (λ (t : List ℕ). added t (turn_word turn ∷ [])) (second ∙ ap (λ (t : List ℕ). added t (decimal lane ∷ [])) first)
+
+-- a move has room in a line where it has a spelling
+pub move_room : (version lane : ℕ) (turn : Turn) (shape : MoveShape) (start text : List ℕ) → IsMove version lane turn shape → length start ≡ 0
+    → text ≡ added start (codes "move" ∷ decimal lane ∷ turn_word turn ∷ []) → HasRoom text shape
+move_room version lane turn (shape.Line x0 y0 x1 y1 m) start text is empty put = tt
+move_room version lane turn (shape.Curve x0 y0 x1 y1 x2 y2 m) start text is empty put = tt
+move_room version lane turn (shape.Path x0 y0 ls) start text is empty put = (is.1.most, room)
+  where
+    words : Words
+    words = codes "move" ∷ decimal lane ∷ turn_word turn ∷ []
+
+    path : Words
+    path = shape_words (shape.Path x0 y0 ls)
+
+    whole : added text path ≡ spaced (words ++ path) ++ 32 ∷ []
+    whole = ap (λ (t : List ℕ). added t path) (put ∙ ap (λ (t : List ℕ). added t words) (nil_from_length start empty))
+        ∙ sym (added_append [] words path) ∙ added_spaced [] (codes "move") (decimal lane ∷ turn_word turn ∷ path)
+
+    room : length (added text path) ≤ 401
+    room =
+        let size : length (added text path) ≡ length (spaced (words ++ path)) + 1 = ap (λ (t : List ℕ). length t) whole ∙ length-append (spaced (words ++ path)) (32 ∷ []) in
+        let fits : length (spaced (words ++ path)) ≤ 400 = is.2 in
+        omega arith
 
 -- what a word was written over
 pub written : (bytes new word : List ℕ) (at size : ℕ) → at + length word ≤ length bytes → new ≡ word

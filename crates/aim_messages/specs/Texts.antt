@@ -59,6 +59,7 @@ abbrev pub act_words : Act → Words
 act_words (act.Message m) = message_words m
 act_words (act.Order (order.Switch policy)) = codes "switch" ∷ decimal policy ∷ []
 act_words (act.Order order.Stop) = codes "stop" ∷ []
+act_words (act.Order (order.Quiet lane until)) = codes "quiet" ∷ decimal lane ∷ decimal until ∷ []
 
 abbrev pub field_word : Field → List ℕ
 field_word field.Lane = codes "lane"
@@ -104,6 +105,7 @@ reply_words reply.EmergencyStop = codes "emergency-stop" ∷ []
 reply_words (reply.Stale seq) = codes "stale" ∷ decimal seq ∷ []
 reply_words (reply.Switched from) = codes "switched" ∷ decimal from ∷ []
 reply_words reply.Stopped = codes "stopped" ∷ []
+reply_words reply.Quieted = codes "quieted" ∷ []
 
 abbrev pub caller_word : ℕ → Act → List ℕ
 caller_word caller (act.Message m) = decimal caller

@@ -10,6 +10,8 @@ pub enum Order {
     Switch(u8),
     /// Grant nothing any more.
     Stop,
+    /// Let that lane's greens count for nothing before the step `until`: who isn't automated enters from no such lane.
+    Quiet { lane: u8, until: u32 },
 }
 
 /// What a caller did.

@@ -97,4 +97,6 @@ pub enum Reply {
     },
     /// The intersection is shut from now on.
     Stopped,
+    /// The lane is quiet.
+    Quieted,
 }

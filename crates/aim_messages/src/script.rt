@@ -24,7 +24,7 @@ pub struct Times5 {
     pub edge: u32,
 }
 
-/// `times` of versions 2 to 4, in steps.
+/// `times` of versions 2 and 3, in steps.
 #[derive(Clone, Copy)]
 pub struct Times6 {
     pub horizon: u32,
@@ -33,6 +33,27 @@ pub struct Times6 {
     pub early: u32,
     pub late: u32,
     pub edge: u32,
+}
+
+/// `times` of version 4, in steps.
+#[derive(Clone, Copy)]
+pub struct Times7 {
+    pub horizon: u32,
+    pub longest: u32,
+    pub clearance: u32,
+    pub early: u32,
+    pub late: u32,
+    pub edge: u32,
+    /// The longest window of arrivals.
+    pub window: u32,
+}
+
+/// The straight legs of a path, one behind the other: `len` of them, 1 to 32. Each is its end's x and y, in
+/// millimetres, and its number of parts. The rest of the array is 0.
+#[derive(Clone, Copy)]
+pub struct LegList {
+    pub legs: [(u32, u32, u32); 32],
+    pub len: u8,
 }
 
 /// The way of a move, in `m` parts. Coordinates are in millimetres.
@@ -53,6 +74,12 @@ pub enum MoveShape {
         x2: u32,
         y2: u32,
         m: u32,
+    },
+    /// From version 4 on. It has as many parts as its legs have together.
+    Path {
+        x0: u32,
+        y0: u32,
+        legs: LegList,
     },
 }
 
@@ -80,11 +107,14 @@ pub enum Line {
     Grid(Grid6),
     /// `times HORIZON LONGEST CLEARANCE INTERNAL EDGE`, version 1
     Times(Times5),
-    /// `times HORIZON LONGEST CLEARANCE EARLY LATE EDGE`, versions 2 to 4
+    /// `times HORIZON LONGEST CLEARANCE EARLY LATE EDGE`, versions 2 and 3
     Times6(Times6),
+    /// `times HORIZON LONGEST CLEARANCE EARLY LATE EDGE WINDOW`, version 4
+    Times7(Times7),
     /// `lanes N`
     Lanes(u32),
-    /// `move LANE TURN line X0 Y0 X1 Y1 M` and `move LANE TURN curve X0 Y0 X1 Y1 X2 Y2 M`
+    /// `move LANE TURN line X0 Y0 X1 Y1 M` and `move LANE TURN curve X0 Y0 X1 Y1 X2 Y2 M`, from version 4 on also
+    /// `move LANE TURN path X0 Y0 X1 Y1 M1 X2 Y2 M2 ..`, as far as a line has room
     Move {
         lane: u8,
         turn: Turn,
@@ -122,10 +152,17 @@ pub enum Line {
     StopAt {
         moment: u32,
     },
+    /// `operator MOMENT quiet LANE UNTIL`, from version 4 on
+    QuietAt {
+        moment: u32,
+        lane: u8,
+        until: u32,
+    },
     /// `until STEP`
     Until(u32),
     /// `plan V FIRST LEAD RESEND LANE TURN SPEED MAX ACCEL LENGTH WIDTH CLASS`, from version 3 on with a last word
-    /// `early` or `start`. The params' `arrive` and `latest` are 0. `ahead` is true for `early`.
+    /// `early` or `start`, from version 4 on behind it WAIT. The params' `arrive` and `latest` are 0. `ahead` is true
+    /// for `early`. Before version 4 `wait` is 0.
     PlanFor {
         vehicle: u32,
         first: u32,
@@ -133,6 +170,7 @@ pub enum Line {
         resend: u32,
         params: Params,
         ahead: bool,
+        wait: u32,
     },
     /// `change V STEP LEAD`
     ChangeAt {

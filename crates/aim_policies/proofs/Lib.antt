@@ -5,5 +5,7 @@ pub mod UnitedRows
 pub mod Greens
 pub mod Instants
 pub mod Windows
+mod TellLemmas
+mod GapLemmas
 pub mod Histories
 mod Pushes

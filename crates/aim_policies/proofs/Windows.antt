@@ -1,7 +1,7 @@
 -- Greens within the clearance before a step, policy by policy.
 use Rattle.std.proofs.Common.{◌≡◌, ℕ, ◌+◌, ◌-◌, ◌<◌, ◌≤◌, Bool, true, false, ◌||◌, ◌&&◌, List, [], ◌∷◌, length, Option, Some, None, arith, refl, sym, ◌∙◌, ap, slice_get}
 use Rattle.std.specs.Prelude.{if◌then◌else◌, ◌%◌}
-use Rattle.std.specs.List.{list_any, range_with_len}
+use Rattle.std.specs.List.{list_any}
 use Rattle.std.proofs.Math.Decide.{dec_lt}
 use Rattle.aim_layout.specs.Intersection.{Intersection, Policy}
 use Rattle.aim_layout.specs.Policies.{has_lane, has_lights}
@@ -17,12 +17,9 @@ use Rattle.aim_policies.proofs.Rounds.{both_ways, has_lane-none, range_found, ra
 use Rattle.aim_policies.proofs.Greens.{green_there}
 use Rattle.aim_policies.specs.Claimed.{is_other, is_tile_of}
 use Rattle.aim_policies.specs.Plans.{lights_of}
-use Rattle.aim_policies.specs.Changes.{green_in, is_claimed_for}
+use Rattle.aim_rules.specs.Quiets.{Quiet, is_quiet_in}
+use Rattle.aim_policies.specs.Changes.{at_some, counts_in, green_in, is_claimed_for}
 use Rattle.aim_policies.proofs.Instants.{policy_in-same}
-
--- a test at the steps from one to another
-abbrev pub at_some : (ℕ → Bool) → ℕ → ℕ → Bool
-at_some p first last = list_any p (range_with_len first (last + 1 - first))
 
 -- what is green while a policy is in force
 pub green_since : (i : Intersection) (fs : List InForce) (policy from last s lane : ℕ) → record { policy = policy; from = from } ≡ policy_in fs last → from ≤ s → s ≤ last →
@@ -110,10 +107,10 @@ and_turn true false false = refl
 and_turn false h t = refl
 
 -- the tiles of the lanes that claim them
-pub tile_claimed : (i : Intersection) (fs : List InForce) (lanes : ℕ) (except : Option ℕ) (c : Cell) →
-    ((lane : ℕ) → has_lane lanes lane ≡ at_some (λ s. has_lane (green_in i fs s) lane) (c.step - i.times.clearance) c.step) →
-    is_tile_of i lanes except c.row c.col ≡ is_claimed_for i (policy_in fs) except c
-tile_claimed i fs lanes except c green =
-    some_below-same (length i.lanes) (λ lane. is_other except lane && has_lane lanes lane && in_lane_tiles i lane c.row c.col) (λ lane. is_other except lane && is_claimed_by i (policy_in fs) lane c)
+pub tile_claimed : (i : Intersection) (fs : List InForce) (qs : List Quiet) (lanes : ℕ) (except : Option ℕ) (c : Cell) →
+    ((lane : ℕ) → has_lane lanes lane ≡ at_some (counts_in i fs qs lane) (c.step - i.times.clearance) c.step) →
+    is_tile_of i lanes except c.row c.col ≡ is_claimed_for i (policy_in fs) (is_quiet_in qs) except c
+tile_claimed i fs qs lanes except c green =
+    some_below-same (length i.lanes) (λ lane. is_other except lane && has_lane lanes lane && in_lane_tiles i lane c.row c.col) (λ lane. is_other except lane && is_claimed_by i (policy_in fs) (is_quiet_in qs) lane c)
     (λ lane l. ap (λ b. is_other except lane && b && in_lane_tiles i lane c.row c.col) (green lane)
-    ∙ and_turn (is_other except lane) (at_some (λ s. has_lane (green_in i fs s) lane) (c.step - i.times.clearance) c.step) (in_lane_tiles i lane c.row c.col))
+    ∙ and_turn (is_other except lane) (at_some (counts_in i fs qs lane) (c.step - i.times.clearance) c.step) (in_lane_tiles i lane c.row c.col))

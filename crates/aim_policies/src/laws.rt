@@ -13,8 +13,9 @@ ghost use Rattle.aim_rules.specs.History.{now_of};
 ghost use Rattle.aim_rules.specs.Kept.{changes, policy_in};
 ghost use Rattle.aim_rules.specs.Legal.{IsAnswered, IsLegal};
 ghost use Rattle.aim_rules.specs.Lights.{green_lanes};
+ghost use Rattle.aim_rules.specs.Quiets.{Quiet, is_quiet, is_quiet_in, quiets};
 ghost use Rattle.aim_rules.specs.Timeline.{InForce, change_with, policy_at};
-ghost use Rattle.aim_policies.specs.Changes.{is_claimed_for, latest};
+ghost use Rattle.aim_policies.specs.Changes.{is_claimed_for, latest, latest_quiet};
 
 /// No lane is green until the clearance is over since the policy came into force.
 pub fn policies_begin_with_a_red_that_clears()
@@ -41,10 +42,13 @@ pub fn policies_are_those_of_the_history()
     ensures { (h : List Entry) (step : ℕ) → policy_in (changes h) step ≡ policy_at h step }
 {}
 
-/// It claims for others than a lane what the least other lane's green blocks, and without exception what some lane claims.
+/// Where it has the same steps quiet too it claims for others than a lane what the least other lane's green blocks, and
+/// without exception what some lane claims.
 pub fn claims_are_those_of_the_history()
-    ensures others { (i : Intersection) (h : List Entry) (except : ℕ) (c : Cell) → is_claimed_for i (policy_in (changes h)) (Some except) c ≡ is_some (green i h c except) }
-    ensures all { (i : Intersection) (h : List Entry) (c : Cell) → is_claimed_for i (policy_in (changes h)) None c ≡ some_below (length i.lanes) (λ lane. is_claimed i h lane c) }
+    ensures others { (i : Intersection) (h : List Entry) (qs : List Quiet) (except : ℕ) (c : Cell) → ((lane s : ℕ) → is_quiet_in qs lane s ≡ is_quiet h lane s) →
+        is_claimed_for i (policy_in (changes h)) (is_quiet_in qs) (Some except) c ≡ is_some (green i h c except) }
+    ensures all { (i : Intersection) (h : List Entry) (qs : List Quiet) (c : Cell) → ((lane s : ℕ) → is_quiet_in qs lane s ≡ is_quiet h lane s) →
+        is_claimed_for i (policy_in (changes h)) (is_quiet_in qs) None c ≡ some_below (length i.lanes) (λ lane. is_claimed i h lane c) }
 {}
 
 /// A cell is claimed by one lane at most, over any history, also where policies change within the clearance.
@@ -56,4 +60,9 @@ pub fn a_cell_is_claimed_by_one_lane()
 pub fn switches_come_in_order()
     ensures from { (i : Intersection) (h : List Entry) (e : Entry) (f : InForce) → IsAnswered i h e → change_with e.act e.reply ≡ Some f → f.from ≡ now_of h e.moment + i.times.horizon }
     ensures order { (i : Intersection) (vehicles : ℕ) (h : List Entry) → IsLegal i vehicles h → latest (changes h) ≤ now_of h 0 + i.times.horizon }
+{}
+
+/// What is made quiet is so from the order's own now on, so that the quiets of a history are told in order.
+pub fn quiets_come_in_order()
+    ensures { (h : List Entry) → latest_quiet (quiets h) ≤ now_of h 0 }
 {}

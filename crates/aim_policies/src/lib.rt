@@ -5,6 +5,7 @@
 pub mod claims;
 pub mod lanes;
 pub mod laws;
+mod lulls;
 pub mod plans;
 pub mod timelines;
 

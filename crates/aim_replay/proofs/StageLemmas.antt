@@ -45,7 +45,9 @@ never_full before l old new (m, is, full, same) may = go m full
     go (line.SwitchTo at name) (inl full) = let few = may.0 in omega (arith, full, few)
     go (line.SwitchTo at name) (inr many) = let few = may.1 in omega (arith, many, few)
     go (line.StopAt at) (inl full) = let few = may.0 in omega (arith, full, few)
+    go (line.QuietAt at lane until) (inl full) = let few = may.0 in omega (arith, full, few)
     go (line.StopAt at) (inr many) = let few = may.1 in omega (arith, many, few)
+    go (line.QuietAt at lane until) (inr many) = let few = may.1 in omega (arith, many, few)
     go m full = absurd full
 
 -- a journal has an entry of each call

@@ -62,6 +62,7 @@ keeps to_begin line.Begin past is = record { past = refl; silent = record { vers
 keeps in_body (line.Event v at m) past is = record { past = refl; silent = record { version = refl; grid = refl; times = refl; lanes = refl; added = refl }; name = refl }
 keeps in_body (line.SwitchTo at name) past is = record { past = refl; silent = record { version = refl; grid = refl; times = refl; lanes = refl; added = refl }; name = refl }
 keeps in_body (line.StopAt at) past is = record { past = refl; silent = record { version = refl; grid = refl; times = refl; lanes = refl; added = refl }; name = refl }
+keeps in_body (line.QuietAt at lane until) past is = record { past = refl; silent = record { version = refl; grid = refl; times = refl; lanes = refl; added = refl }; name = refl }
 keeps in_body line.End past is = record { past = refl; silent = record { version = refl; grid = refl; times = refl; lanes = refl; added = refl }; name = refl }
 keeps p l past is = absurd (cc)
 

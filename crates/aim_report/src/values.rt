@@ -62,6 +62,10 @@ fn act_fits(act: &Act)
         Act::Message(message) => message_fits(message),
         Act::Order(Order::Switch(policy)) => byte_fits(*policy),
         Act::Order(Order::Stop) => {}
+        Act::Order(Order::Quiet { lane, until }) => {
+            byte_fits(*lane);
+            number_fits(*until);
+        }
     }
 }
 
@@ -141,6 +145,7 @@ fn reply_fits(reply: &Reply)
         Reply::Stale { last } => number_fits(*last),
         Reply::Switched { from } => number_fits(*from),
         Reply::Stopped => {}
+        Reply::Quieted => {}
     }
 }
 

@@ -1,5 +1,5 @@
 -- The least cell that can't be had.
-use Rattle.std.proofs.Common.{◌≡◌, ℕ, ◌+◌, ◌-◌, Bool, true, false, ◌&&◌, ◌||◌, List, [], ◌∷◌, length, Option, Some, None, refl, sym, ap, slice_get, zero, suc}
+use Rattle.std.proofs.Common.{◌≡◌, ℕ, ◌+◌, ◌-◌, Bool, true, false, ◌&&◌, ◌||◌, not, List, [], ◌∷◌, length, Option, Some, None, refl, sym, ap, slice_get, zero, suc}
 use Rattle.std.specs.Prelude.{◌%◌, IfNone, IfSome, if◌then◌else◌}
 use Rattle.std.specs.List.{list_any, range_with_len}
 use Rattle.aim_geometry.proofs.BoundedLemmas.{some_below_none}
@@ -14,8 +14,10 @@ use Rattle.aim_tiles.specs.Searches.{IsFirst, is_taken}
 use Rattle.aim_rules.specs.Kept.{policy_in}
 use Rattle.aim_rules.specs.Claims.{is_claimed_by}
 use Rattle.aim_rules.specs.Lights.{green_lanes, lit, round}
+use Rattle.aim_rules.specs.Quiets.{Quiet, is_quiet_in}
 use Rattle.aim_rules.specs.Timeline.{InForce}
 use Rattle.aim_policies.specs.Claimed.{is_other}
+use Rattle.aim_policies.specs.Changes.{counts_in}
 use Rattle.aim_policies.proofs.Rounds.{has_lane-none}
 use Rattle.aim_reservations.specs.Blocking.{IsLeastOf, is_green, is_held, is_lit}
 use Rattle.aim_reservations.proofs.BeforeLemmas.{first_least, least_same}
@@ -42,12 +44,12 @@ and_false : (a b : Bool) → b ≡ false → (a && b) ≡ false
 and_false true b e = e
 and_false false b e = refl
 
-pub dark : (i : Intersection) (fs : List InForce) (lane : ℕ) (c : Cell) → is_lit i ≡ false → is_green i fs lane c ≡ false
-dark i fs lane c none = some_below_none (length i.lanes) (λ l. is_other (Some lane) l && is_claimed_by i (policy_in fs) l c)
-    (λ l b. and_false (is_other (Some lane) l) (is_claimed_by i (policy_in fs) l c) (and_false (in_lane_tiles i l c.row c.col)
-    (list_any (λ s. has_lane (green_lanes (slice_get i.policies (policy_in fs s).policy) (s - (policy_in fs s).from)) l) (range_with_len (c.step - i.times.clearance) (c.step + 1 - (c.step - i.times.clearance))))
-    (none_passes (λ s. has_lane (green_lanes (slice_get i.policies (policy_in fs s).policy) (s - (policy_in fs s).from)) l) (range_with_len (c.step - i.times.clearance) (c.step + 1 - (c.step - i.times.clearance)))
-    (λ s. dark_policy i.policies (policy_in fs s).policy (s - (policy_in fs s).from) l none))))
+pub dark : (i : Intersection) (fs : List InForce) (qs : List Quiet) (lane : ℕ) (c : Cell) → is_lit i ≡ false → is_green i fs qs lane c ≡ false
+dark i fs qs lane c none = some_below_none (length i.lanes) (λ l. is_other (Some lane) l && is_claimed_by i (policy_in fs) (is_quiet_in qs) l c)
+    (λ l b. and_false (is_other (Some lane) l) (is_claimed_by i (policy_in fs) (is_quiet_in qs) l c) (and_false (in_lane_tiles i l c.row c.col)
+    (list_any (counts_in i fs qs l) (range_with_len (c.step - i.times.clearance) (c.step + 1 - (c.step - i.times.clearance))))
+    (none_passes (counts_in i fs qs l) (range_with_len (c.step - i.times.clearance) (c.step + 1 - (c.step - i.times.clearance)))
+    (λ s. ap (λ b. b && not (is_quiet_in qs l s)) (dark_policy i.policies (policy_in fs s).policy (s - (policy_in fs s).from) l none)))))
 
 -- what a search gives is the least
 pub least_of : (test : Cell → Bool) (o : Option (ℕ × ℕ × ℕ)) → IfSome o (λ r. IsFirst test (cell_at r.0 r.1 r.2)) → IfNone o ((c : Cell) → test c ≡ false) → IsLeastOf test o
@@ -59,14 +61,14 @@ and_or true g h = refl
 and_or false g h = refl
 
 -- the least cell that another lane claims or another vehicle has
-pub least_both : (i : Intersection) (fs : List InForce) (table : TakenCells) (own spans : List Span) (lane : ℕ) (o : Option (ℕ × ℕ × ℕ)) →
-    IsLeastOf (λ c. (in_spans spans c && is_green i fs lane c) || is_taken table spans own c) o → IsLeastOf (λ c. in_spans spans c && (is_green i fs lane c || is_held table own c)) o
-least_both i fs table own spans lane o least =
-    least_same (λ c. (in_spans spans c && is_green i fs lane c) || is_taken table spans own c) (λ c. in_spans spans c && (is_green i fs lane c || is_held table own c)) o
-    (λ c. and_or (in_spans spans c) (is_green i fs lane c) (is_held table own c)) least
+pub least_both : (i : Intersection) (fs : List InForce) (qs : List Quiet) (table : TakenCells) (own spans : List Span) (lane : ℕ) (o : Option (ℕ × ℕ × ℕ)) →
+    IsLeastOf (λ c. (in_spans spans c && is_green i fs qs lane c) || is_taken table spans own c) o → IsLeastOf (λ c. in_spans spans c && (is_green i fs qs lane c || is_held table own c)) o
+least_both i fs qs table own spans lane o least =
+    least_same (λ c. (in_spans spans c && is_green i fs qs lane c) || is_taken table spans own c) (λ c. in_spans spans c && (is_green i fs qs lane c || is_held table own c)) o
+    (λ c. and_or (in_spans spans c) (is_green i fs qs lane c) (is_held table own c)) least
 
-pub least_dark : (i : Intersection) (fs : List InForce) (table : TakenCells) (own spans : List Span) (lane : ℕ) (o : Option (ℕ × ℕ × ℕ)) → is_lit i ≡ false →
-    IsLeastOf (is_taken table spans own) o → IsLeastOf (λ c. in_spans spans c && (is_green i fs lane c || is_held table own c)) o
-least_dark i fs table own spans lane o none least =
-    least_same (is_taken table spans own) (λ c. in_spans spans c && (is_green i fs lane c || is_held table own c)) o
-    (λ c. ap (λ b. in_spans spans c && (b || is_held table own c)) (sym (dark i fs lane c none))) least
+pub least_dark : (i : Intersection) (fs : List InForce) (qs : List Quiet) (table : TakenCells) (own spans : List Span) (lane : ℕ) (o : Option (ℕ × ℕ × ℕ)) → is_lit i ≡ false →
+    IsLeastOf (is_taken table spans own) o → IsLeastOf (λ c. in_spans spans c && (is_green i fs qs lane c || is_held table own c)) o
+least_dark i fs qs table own spans lane o none least =
+    least_same (is_taken table spans own) (λ c. in_spans spans c && (is_green i fs qs lane c || is_held table own c)) o
+    (λ c. ap (λ b. in_spans spans c && (b || is_held table own c)) (sym (dark i fs qs lane c none))) least

@@ -1,6 +1,6 @@
 -- The cells of a crossing that can't be had.
 use Rattle.std.specs.Prelude.{◌≡◌, ℕ, ◌+◌, ◌-◌, ◌<◌, ◌⊎◌, nat_le, Bool, true, false, ◌&&◌, not, List, Option, Some, None, IfSome}
-use Rattle.std.specs.List.{list_any, range_with_len}
+use Rattle.std.specs.List.{list_any}
 use Rattle.aim_geometry.specs.Cells.{Cell, cell_at}
 use Rattle.aim_geometry.specs.Rects.{tile_at}
 use Rattle.aim_messages.specs.declared.messages.Params.{Params}
@@ -13,7 +13,8 @@ use Rattle.aim_requests.specs.Cells.{HaveCells}
 use Rattle.aim_rules.specs.Kept.{policy_in}
 use Rattle.aim_rules.specs.Known.{Known}
 use Rattle.aim_rules.specs.Timeline.{InForce}
-use Rattle.aim_policies.specs.Changes.{green_in, is_claimed_for}
+use Rattle.aim_rules.specs.Quiets.{Quiet, is_quiet_in}
+use Rattle.aim_policies.specs.Changes.{at_some, counts_in, is_claimed_for}
 use Rattle.aim_policies.specs.Claimed.{is_tile_of}
 use Rattle.aim_reservations.specs.declared.greens.Greens.{Greens}
 
@@ -22,8 +23,8 @@ abbrev pub is_lit : Intersection → Bool
 is_lit i = list_any (λ p. has_lights p.kind) i.policies
 
 -- whether another lane claims the cell
-abbrev pub is_green : Intersection → List InForce → ℕ → Cell → Bool
-is_green i fs lane c = is_claimed_for i (policy_in fs) (Some lane) c
+abbrev pub is_green : Intersection → List InForce → List Quiet → ℕ → Cell → Bool
+is_green i fs qs lane c = is_claimed_for i (policy_in fs) (is_quiet_in qs) (Some lane) c
 
 -- whether another vehicle has taken the cell, where the own spans are these
 abbrev pub is_held : TakenCells → List Span → Cell → Bool
@@ -48,11 +49,11 @@ pub record AreAsked (i : Intersection) (k : Known) (p : Params) (fast : Bool) (s
   pub cells : HaveCells i p fast spans
   pub ahead : nat_le p.arrive (k.now + i.times.edge) ≡ false
 
--- the lanes are those that are green in the window before the step
-abbrev pub AreLanesAt : Intersection → List InForce → ℕ → ℕ → Type 0
-AreLanesAt i fs lanes s = (lane : ℕ) → has_lane lanes lane ≡ list_any (λ t. has_lane (green_in i fs t) lane) (range_with_len (s - i.times.clearance) (s + 1 - (s - i.times.clearance)))
+-- the lanes are those whose greens count in the window before the step
+abbrev pub AreLanesAt : Intersection → List InForce → List Quiet → ℕ → ℕ → Type 0
+AreLanesAt i fs qs lanes s = (lane : ℕ) → has_lane lanes lane ≡ at_some (counts_in i fs qs lane) (s - i.times.clearance) s
 
 -- the rows are the tiles of the lanes other than one, and the lanes those of the step, if one is set
-pub record AreGreens (i : Intersection) (fs : List InForce) (lane : ℕ) (g : Greens) : Type 0 where
+pub record AreGreens (i : Intersection) (fs : List InForce) (qs : List Quiet) (lane : ℕ) (g : Greens) : Type 0 where
   pub tiles : (row col : ℕ) → row < 64 → col < 64 → tile_at g.rows row col ≡ is_tile_of i g.lanes (Some lane) row col
-  pub lanes_at : IfSome g.step (AreLanesAt i fs g.lanes)
+  pub lanes_at : IfSome g.step (AreLanesAt i fs qs g.lanes)

@@ -62,7 +62,7 @@ impl<L: Ledger> Reservations<L> {
         requires lights { has_lights ≡ is_lit layout.now }
         requires size { self.now.table.size ≡ layout.now.grid.n }
         requires tiles { AreTiles layout.now.grid.n sheet.now.spans }
-        ensures least { IsLeastOf (λ c. in_spans sheet.now.spans c && (is_green layout.now timeline.now.pushed lane c || is_held self.now.table (spans_in (row_of self.now.rows.items vehicle)) c)) result }
+        ensures least { IsLeastOf (λ c. in_spans sheet.now.spans c && (is_green layout.now timeline.now.pushed timeline.now.quiets lane c || is_held self.now.table (spans_in (row_of self.now.rows.items vehicle)) c)) result }
         ensures cost { steps.new ≤ steps.old + length sheet.now.spans }
         ensures counted { steps.old ≤ steps.new }
     {

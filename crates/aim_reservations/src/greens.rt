@@ -9,6 +9,7 @@ ghost use Rattle.aim_layout.specs.Valid.{IsValid};
 ghost use Rattle.aim_sheets.specs.Spans.{in_spans};
 ghost use Rattle.aim_rules.specs.Kept.{policy_in};
 ghost use Rattle.aim_rules.specs.Claims.{green_by};
+ghost use Rattle.aim_rules.specs.Quiets.{Quiet, is_quiet_in};
 ghost use Rattle.aim_rules.specs.Timeline.{InForce};
 ghost use Rattle.aim_tiles.specs.Searches.{IsFirst};
 ghost use Rattle.aim_tiles.specs.Sheets.{AreTiles};
@@ -18,7 +19,7 @@ use aim_layout::{Layout, lane_rows};
 use aim_policies::{Timeline, claimed_rows};
 use aim_sheets::Sheet;
 
-/// The lanes that were green shortly before a step, and the tiles of those other than one.
+/// The lanes whose greens counted shortly before a step, and the tiles of those other than one.
 #[derive(Drop)]
 struct Greens {
     step: Option<u32>,
@@ -29,7 +30,7 @@ struct Greens {
 impl Greens {
     // No lane, at no step. The call also tells that the layout is valid.
     fn none(layout: &Layout, lane: u8) -> Greens
-        ensures greens { (fs : List InForce) → AreGreens layout.now fs lane result }
+        ensures greens { (fs : List InForce) (qs : List Quiet) → AreGreens layout.now fs qs lane result }
         ensures valid { IsValid layout.now }
     {
         Greens {
@@ -41,8 +42,8 @@ impl Greens {
 
     // Goes on to a step. The tiles are found again only where the lanes are others.
     fn go_to(&mut self, layout: &Layout, timeline: &Timeline, lane: u8, step: u32)
-        requires { AreGreens layout.now timeline.now.pushed lane self.old }
-        ensures greens { AreGreens layout.now timeline.now.pushed lane self.new }
+        requires { AreGreens layout.now timeline.now.pushed timeline.now.quiets lane self.old }
+        ensures greens { AreGreens layout.now timeline.now.pushed timeline.now.quiets lane self.new }
         ensures step { self.new.step ≡ Some step }
     {
         if self.step == Some(step) {
@@ -76,8 +77,8 @@ pub(crate) fn first_green(
     sheet: &Sheet,
 ) -> Option<(u32, u8, u8)>
     requires tiles { AreTiles layout.now.grid.n sheet.now.spans }
-    ensures found { IfSome result (λ r. IsFirst (λ c. in_spans sheet.now.spans c && is_green layout.now timeline.now.pushed lane c) (cell_at r.0 r.1 r.2)) }
-    ensures none { IfNone result ((c : Cell) → (in_spans sheet.now.spans c && is_green layout.now timeline.now.pushed lane c) ≡ false) }
+    ensures found { IfSome result (λ r. IsFirst (λ c. in_spans sheet.now.spans c && is_green layout.now timeline.now.pushed timeline.now.quiets lane c) (cell_at r.0 r.1 r.2)) }
+    ensures none { IfNone result ((c : Cell) → (in_spans sheet.now.spans c && is_green layout.now timeline.now.pushed timeline.now.quiets lane c) ≡ false) }
 {
     let mut greens = Greens::none(layout, lane);
     for span in sheet.spans() {
@@ -101,7 +102,7 @@ pub fn green_lane(
 ) -> Option<u8>
     requires row { row < layout.now.grid.n }
     requires col { col < layout.now.grid.n }
-    ensures lane { result ≡ green_by layout.now (policy_in timeline.now.pushed) (cell_at step row col) except }
+    ensures lane { result ≡ green_by layout.now (policy_in timeline.now.pushed) (is_quiet_in timeline.now.quiets) (cell_at step row col) except }
     ensures valid { IsValid layout.now }
 {
     let lanes = timeline.claimants(layout, step);

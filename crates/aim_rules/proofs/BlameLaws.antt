@@ -25,6 +25,7 @@ use Rattle.aim_rules.specs.Blame.{IsClaimedBy, IsHeldBy, IsYielded, Yielded, cel
 use Rattle.aim_rules.specs.Windows.{IsBlockedFor}
 use Rattle.aim_rules.specs.Kept.{kept}
 use Rattle.aim_rules.specs.Timeline.{change_with}
+use Rattle.aim_rules.specs.Quiets.{quiet_with}
 use Rattle.aim_rules.specs.Claims.{green, green_by, is_claimed}
 use Rattle.aim_rules.specs.History.{Fresh, fresh, given_up, is_confirm, is_fresh, is_fresh_seq, message_of, now_of, params_of}
 use Rattle.aim_rules.specs.Legal.{IsAnswered, IsLegal}
@@ -156,12 +157,12 @@ find_map-where f (x ∷ xs) y h = go (f x) refl (λ r. find_map-where f xs y r) 
 -- the cell of the first reason is the one that the reason names
 
 blocked_taken : (i : Intersection) (k : Known) (p : Params) (c : Cell) (row col step by : ℕ) → blocked_by i k p c ≡ Some (reason.Taken row col step by) →
-    (c ≡ cell_at step row col) × (green_by i k.policy c p.lane ≡ None) × (k.taken c ≡ Some by)
-blocked_taken i k p c row col step by h = go (green_by i k.policy c p.lane) refl (k.taken c) refl h
+    (c ≡ cell_at step row col) × (green_by i k.policy k.quiet c p.lane ≡ None) × (k.taken c ≡ Some by)
+blocked_taken i k p c row col step by h = go (green_by i k.policy k.quiet c p.lane) refl (k.taken c) refl h
   where
-    go : (g : Option ℕ) → green_by i k.policy c p.lane ≡ g → (t : Option ℕ) → k.taken c ≡ t →
+    go : (g : Option ℕ) → green_by i k.policy k.quiet c p.lane ≡ g → (t : Option ℕ) → k.taken c ≡ t →
         option_or (option_map (λ lane. reason.Green c.row c.col c.step lane) g) (option_map (λ by. reason.Taken c.row c.col c.step by) t) ≡ Some (reason.Taken row col step by) →
-        (c ≡ cell_at step row col) × (green_by i k.policy c p.lane ≡ None) × (k.taken c ≡ Some by)
+        (c ≡ cell_at step row col) × (green_by i k.policy k.quiet c p.lane ≡ None) × (k.taken c ≡ Some by)
     go (Some l) e t f h = absurd (cc)
     go None e None f h = absurd (cc)
     go None e (Some w) f h =
@@ -172,12 +173,12 @@ blocked_taken i k p c row col step by h = go (green_by i k.policy c p.lane) refl
         ((λ j. record { row = x j; col = y j; step = z j }), e, f ∙ ap Some b)
 
 blocked_green : (i : Intersection) (k : Known) (p : Params) (c : Cell) (row col step by : ℕ) → blocked_by i k p c ≡ Some (reason.Green row col step by) →
-    (c ≡ cell_at step row col) × (green_by i k.policy c p.lane ≡ Some by)
-blocked_green i k p c row col step by h = go (green_by i k.policy c p.lane) refl (k.taken c) h
+    (c ≡ cell_at step row col) × (green_by i k.policy k.quiet c p.lane ≡ Some by)
+blocked_green i k p c row col step by h = go (green_by i k.policy k.quiet c p.lane) refl (k.taken c) h
   where
-    go : (g : Option ℕ) → green_by i k.policy c p.lane ≡ g → (t : Option ℕ) →
+    go : (g : Option ℕ) → green_by i k.policy k.quiet c p.lane ≡ g → (t : Option ℕ) →
         option_or (option_map (λ lane. reason.Green c.row c.col c.step lane) g) (option_map (λ by. reason.Taken c.row c.col c.step by) t) ≡ Some (reason.Green row col step by) →
-        (c ≡ cell_at step row col) × (green_by i k.policy c p.lane ≡ Some by)
+        (c ≡ cell_at step row col) × (green_by i k.policy k.quiet c p.lane ≡ Some by)
     go (Some l) e t h =
         let x : c.row ≡ row = cc in
         let y : c.col ≡ col = cc in
@@ -263,9 +264,9 @@ not_confirmed i h d id answered new gives = go d.act refl
         let f : is_fresh_seq h d.caller m.seq ≡ true = rw e at new in
         ap is_confirm ((rw e at answered) ∙ fresh_answer i h d.caller d.moment m f) ∙ body_of m.body (known_after i h d.caller d.moment) (rw e at gives)
 
-no_change : (x : Act) (r : Reply) (id : ℕ) → option_and_then (λ m. given_up m.body) (message_of x) ≡ Some id → change_with x r ≡ None
-no_change (act.Order o) r id gives = absurd (cc)
-no_change (act.Message m) r id gives = refl
+no_change : (x : Act) (r : Reply) (id now : ℕ) → option_and_then (λ m. given_up m.body) (message_of x) ≡ Some id → (change_with x r ≡ None) × (quiet_with x now ≡ None)
+no_change (act.Order o) r id now gives = absurd (cc)
+no_change (act.Message m) r id now gives = (refl, refl)
 
 -- what a vehicle keeps, after another one's fresh message
 kept_other : (h : List Entry) (e : Entry) (u : ℕ) → is_fresh h e ≡ true → (e.caller == u) ≡ false → kept (fresh (h ++ e ∷ [])) u ≡ kept (fresh h) u
@@ -332,8 +333,9 @@ over i n y k = record { ahead = ahead; clear = clear; apart = alone }
 
     clear : green i (before ++ y.gone ∷ []) c y.params.lane ≡ None
     clear =
-        green-none i before y.gone c y.params.lane (no_change y.gone.act y.gone.reply y.reservation.place k.gone_with)
-        ∙ green-none i h y.refused c y.params.lane (rw k.message refl)
+        let none = no_change y.gone.act y.gone.reply y.reservation.place (now_of before y.gone.moment) k.gone_with in
+        green-none i before y.gone c y.params.lane none.0 none.1
+        ∙ green-none i h y.refused c y.params.lane (rw k.message refl) (rw k.message refl)
         ∙ clear_h
 
     kept_by : kept (fresh h) y.by ≡ Some y.reservation

@@ -14,6 +14,7 @@ pub mod Lists
 pub mod VehicleLaws
 pub mod HistoryLaws
 pub mod LaneLaws
+pub mod QuietLaws
 pub mod PolicyLaws
 pub mod TakenLaws
 pub mod AnswerLaws
@@ -22,5 +23,6 @@ pub mod WindowLaws
 pub mod WaitLaws
 pub mod OneArrival
 pub mod TimeLaws
+pub mod ShrinkLaws
 pub mod TableLaws
 pub mod RunLaws

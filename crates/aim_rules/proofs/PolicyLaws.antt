@@ -9,12 +9,14 @@ use Rattle.aim_messages.specs.declared.entries.Entry.{Entry}
 use Rattle.aim_geometry.specs.Bounded.{last, least_below}
 use Rattle.aim_layout.specs.Intersection.{Intersection}
 use Rattle.aim_geometry.specs.Cells.{Cell}
-use Rattle.aim_rules.specs.History.{is_stop}
+use Rattle.aim_rules.specs.History.{is_stop, now_of}
 use Rattle.aim_rules.specs.Timeline.{InForce, change_with, is_from_at, policy_at}
 use Rattle.aim_layout.specs.Policies.{has_lane}
 use Rattle.aim_rules.specs.Lights.{green_lanes}
 use Rattle.aim_layout.specs.LaneTiles.{in_lane_tiles}
-use Rattle.aim_rules.specs.Claims.{green, is_claimed_by, green_by}
+use Rattle.aim_rules.specs.Quiets.{is_quiet, quiet_with}
+use Rattle.aim_rules.specs.Claims.{counts, green, is_claimed_by, green_by}
+use Rattle.aim_rules.proofs.QuietLaws.{is_quiet-none, no_quiet}
 use Rattle.aim_rules.proofs.Lists.{from_front, last-snoc, list_any-range_same}
 use Rattle.aim_rules.specs.Kept.{changes, policy_in, in_force, pruned}
 use Rattle.aim_rules.specs.Known.{is_stopped}
@@ -67,21 +69,29 @@ policy_at-before h e f s c l = policy_at-snoc h e s ∙ rw (c, late) refl
 pub policy_at-none : (h : List Entry) (e : Entry) (s : ℕ) → change_with e.act e.reply ≡ None → policy_at (h ++ e ∷ []) s ≡ policy_at h s
 policy_at-none h e s c = policy_at-snoc h e s ∙ rw c refl
 
--- where policies agree up to a cell's step, and back to the clearance before it, the same lane claims the cell
-pub green_by-same : (i : Intersection) (f g : ℕ → InForce) (c : Cell) (except : ℕ) → ((s : ℕ) → s ≤ c.step → c.step ≤ s + i.times.clearance → f s ≡ g s) → green_by i f c except ≡ green_by i g c except
-green_by-same i f g c except same = ap {A = ℕ → Bool} (λ claimed. least_below (length i.lanes) (λ lane. not (lane == except) && claimed lane)) (λ j lane. claims lane j)
-  where
-    claims : (lane : ℕ) → is_claimed_by i f lane c ≡ is_claimed_by i g lane c
-    claims lane = ap (λ b. in_lane_tiles i lane c.row c.col && b)
-        (list_any-range_same (c.step - i.times.clearance) (c.step + 1 - (c.step - i.times.clearance)) (λ s. has_lane (green_lanes (slice_get i.policies (f s).policy) (s - (f s).from)) lane) (λ s. has_lane (green_lanes (slice_get i.policies (g s).policy) (s - (g s).from)) lane)
-        (λ s b l. ap (λ f. has_lane (green_lanes (slice_get i.policies f.policy) (s - f.from)) lane) (same s (omega arith) (omega arith))))
+-- where policies and quiet lanes agree up to a cell's step, and back to the clearance before it, the same lane claims the
+-- cell
+pub claimed_by-same : (i : Intersection) (f g : ℕ → InForce) (q r : ℕ → ℕ → Bool) (lane : ℕ) (c : Cell) → ((s : ℕ) → s ≤ c.step → c.step ≤ s + i.times.clearance → f s ≡ g s) →
+    ((s : ℕ) → s ≤ c.step → c.step ≤ s + i.times.clearance → q lane s ≡ r lane s) → is_claimed_by i f q lane c ≡ is_claimed_by i g r lane c
+claimed_by-same i f g q r lane c same quiet = ap (λ b. in_lane_tiles i lane c.row c.col && b)
+    (list_any-range_same (c.step - i.times.clearance) (c.step + 1 - (c.step - i.times.clearance)) (counts i f q lane) (counts i g r lane)
+    (λ s b l j. has_lane (green_lanes (slice_get i.policies (same s (omega arith) (omega arith) j).policy) (s - (same s (omega arith) (omega arith) j).from)) lane && not (quiet s (omega arith) (omega arith) j)))
+
+pub green_by-same : (i : Intersection) (f g : ℕ → InForce) (q r : ℕ → ℕ → Bool) (c : Cell) (except : ℕ) → ((s : ℕ) → s ≤ c.step → c.step ≤ s + i.times.clearance → f s ≡ g s) →
+    ((lane s : ℕ) → s ≤ c.step → c.step ≤ s + i.times.clearance → q lane s ≡ r lane s) → green_by i f q c except ≡ green_by i g r c except
+green_by-same i f g q r c except same quiet =
+    ap {A = ℕ → Bool} (λ claimed. least_below (length i.lanes) (λ lane. not (lane == except) && claimed lane)) (λ j lane. claimed_by-same i f g q r lane c same (quiet lane) j)
 
 -- A change of policy leaves the claims on the cells before it.
 pub green-before : (i : Intersection) (h : List Entry) (e : Entry) (f : InForce) (c : Cell) (except : ℕ) → change_with e.act e.reply ≡ Some f → c.step < f.from → green i (h ++ e ∷ []) c except ≡ green i h c except
-green-before i h e f c except change l = green_by-same i (policy_at (h ++ e ∷ [])) (policy_at h) c except (λ s m b. policy_at-before h e f s change (omega arith))
+green-before i h e f c except change l =
+    green_by-same i (policy_at (h ++ e ∷ [])) (policy_at h) (is_quiet (h ++ e ∷ [])) (is_quiet h) c except (λ s m b. policy_at-before h e f s change (omega arith))
+    (λ lane s m b. is_quiet-none h e lane s (no_quiet e.act e.reply f (now_of h e.moment) change))
 
-pub green-none : (i : Intersection) (h : List Entry) (e : Entry) (c : Cell) (except : ℕ) → change_with e.act e.reply ≡ None → green i (h ++ e ∷ []) c except ≡ green i h c except
-green-none i h e c except change = green_by-same i (policy_at (h ++ e ∷ [])) (policy_at h) c except (λ s m b. policy_at-none h e s change)
+pub green-none : (i : Intersection) (h : List Entry) (e : Entry) (c : Cell) (except : ℕ) → change_with e.act e.reply ≡ None → quiet_with e.act (now_of h e.moment) ≡ None → green i (h ++ e ∷ []) c except ≡ green i h c except
+green-none i h e c except change quiet =
+    green_by-same i (policy_at (h ++ e ∷ [])) (policy_at h) (is_quiet (h ++ e ∷ [])) (is_quiet h) c except (λ s m b. policy_at-none h e s change)
+    (λ lane s m b. is_quiet-none h e lane s quiet)
 
 -- whether there was a Stop
 pub is_stopped-snoc : (h : List Entry) (e : Entry) → is_stopped (h ++ e ∷ []) ≡ (is_stopped h || is_stop e.act)

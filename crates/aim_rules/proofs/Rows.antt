@@ -8,6 +8,7 @@ pub mod Large
 pub mod Bounds
 pub mod Acts
 pub mod Windows
+pub mod Quieted
 use Rattle.std.proofs.Common.{◌≡◌, ℕ, ◌+◌, Bool, true, false, List, [], ◌∷◌, map, Option, Some, None}
 use Rattle.aim_messages.specs.declared.messages.Params.{Params}
 use Rattle.aim_messages.specs.declared.entries.TheConstants.{OPERATOR}

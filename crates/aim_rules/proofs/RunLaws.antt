@@ -36,6 +36,7 @@ pub answer-tables : (i : Intersection) (n : ℕ) (h : List Entry) (t : Tables) (
 answer-tables i n h t v moment (act.Message m) before after legal may f = answer-kept i n h v moment (known_by i n t v moment) m before after legal (IsKnown-tables i n h t v moment before after may.1 legal f)
 answer-tables i n h t v moment (act.Order (order.Switch p)) before after legal may f = ap (λ now. reply.Switched (now + i.times.horizon)) (now_of-max h moment ∙ ap (λ now. max now moment) (sym f.now))
 answer-tables i n h t v moment (act.Order order.Stop) before after legal may f = refl
+answer-tables i n h t v moment (act.Order (order.Quiet lane until)) before after legal may f = refl
 
 follows_from : (i : Intersection) (n : ℕ) (h : List Entry) (t : Tables) (calls : List Call) → i.times.early ≤ i.times.edge → i.times.late ≤ i.times.edge → IsLegal i n h → AreTables i n h t → MayCall i n calls →
     AreTables i n (fold (λ h c. h ++ entry_of i h c ∷ []) h calls) (run i n t calls)

@@ -28,6 +28,8 @@ use Rattle.aim_rules.proofs.PolicyLaws.{policy_in-snoc, policy_in-pruned, policy
 use Rattle.aim_rules.proofs.TakenLaws.{last_legal, AreApart-legal, AreApart-later}
 use Rattle.aim_rules.specs.Kept.{kept, kept_next, if_lasts, has_cell, owns, holder, owner, other_than, is_coming_by, distance_next, policy_in, pruned, in_force, AreApart, IsKnown}
 use Rattle.aim_rules.specs.Known.{is_stopped, is_above_all, exchange_at, exchange_of, seq_in}
+use Rattle.aim_rules.specs.Quiets.{is_covered, is_quiet, is_quiet_in, quiet_with, with_one}
+use Rattle.aim_rules.proofs.QuietLaws.{is_quiet-snoc, is_quiet_in-snoc}
 use Rattle.aim_rules.specs.Tables.{Tables, AreTables, empty, calling_in, known_by, is_fresh_after, is_fresh_by, served_by, taken_next, tables_with, tables_next}
 
 -- the vehicle that keeps a cell
@@ -105,6 +107,7 @@ AreTables-empty i n = record {
   kept = λ v l. refl;
   distance = λ lane l. refl;
   policy = λ s l. refl;
+  quiet = λ lane s. refl;
   taken = λ c row col m. sym (least_below_none n (owns i [] c) (λ w l. refl));
 }
 
@@ -130,6 +133,7 @@ IsKnown-tables i n h t v moment before after l legal f = record {
   next = f.next v l;
   holds = λ j. if_lasts i (now j) (f.kept v l j);
   policy = λ s l. f.policy s (omega (arith, now_of-max h moment));
+  quiet = λ lane s l. f.quiet lane s;
   distance = f.distance;
   coming = λ lane m. some_below-same n (λ w. not (w == v) && is_coming i (max t.now moment) lane (calling_in i (t.last w))) (λ w. not (w == v) && is_coming_by i (now_of h moment) lane (last_of (fresh h) w))
       (λ w k. (λ j. not (w == v) && is_coming i (now j) lane ((ap (calling_in i) (f.last w k) ∙ calling_in-of i (last_of (fresh h) w)) j)));
@@ -178,6 +182,12 @@ AreTables-snoc i n h t e before after legal f = subst (λ b. AreTables i n (h ++
     policies : (s : ℕ) → now_of (h ++ e ∷ []) 0 < s + i.times.clearance → policy_in (t.changes ++ filter_map (λ x. x) (change_with e.act e.reply ∷ [])) s ≡ policy_at (h ++ e ∷ []) s
     policies s l = policy_in-snoc t.changes (change_with e.act e.reply) s ∙ ap (unwrap_or (in_force (change_with e.act e.reply) s)) (f.policy s (omega (arith, now_of-snoc h e 0))) ∙ sym (policy_at-snoc h e s)
 
+    quiet : (lane s : ℕ) → is_quiet_in (t.quiets ++ with_one (quiet_with e.act (max t.now e.moment)) []) lane s ≡ is_quiet (h ++ e ∷ []) lane s
+    quiet lane s =
+        is_quiet_in-snoc t.quiets (quiet_with e.act (max t.now e.moment)) lane s
+        ∙ (λ j. f.quiet lane s j || is_covered (quiet_with e.act ((ap (λ m. max m e.moment) f.now ∙ sym (now_of-max h e.moment)) j)) lane s)
+        ∙ sym (is_quiet-snoc h e lane s)
+
     same : served_by t e ≡ served h e
     same = λ j. record { place = f.place j; now = (ap (λ m. max m e.moment) f.now ∙ sym (now_of-max h e.moment)) j; entry = e }
 
@@ -191,6 +201,7 @@ AreTables-snoc i n h t e before after legal f = subst (λ b. AreTables i n (h ++
       kept = λ v l. rw (fresh-none h e g) (f.kept v l);
       distance = λ lane l. rw (fresh-none h e g) (f.distance lane l);
       policy = policies;
+      quiet = quiet;
       taken = λ c row col m. rw (fresh-none h e g) (f.taken c row col (omega (arith, now_of-snoc h e 0)));
     }
 
@@ -213,6 +224,7 @@ AreTables-snoc i n h t e before after legal f = subst (λ b. AreTables i n (h ++
       kept = λ v l. (λ j. if e.caller == v then kept_next (f.kept v l j) (same j) else f.kept v l j) ∙ sym (kept-snoc (fresh h) (served h e) v) ∙ ap (λ xs. kept xs v) (sym (fresh-one h e g));
       distance = λ lane l. (λ j. distance_next (f.distance lane l j) lane ((same j).now) e.reply (params_at (same j))) ∙ sym (reservation_distance-snoc (fresh h) (served h e) lane) ∙ ap (λ xs. reservation_distance xs lane) (sym (fresh-one h e g));
       policy = policies;
+      quiet = quiet;
       taken = λ c row col m. (λ j. taken_next i e.caller (kept_next (f.kept e.caller below j) (same j)) c (f.taken c row col (omega (arith, now_of-snoc h e 0)) j))
           ∙ sym (holder-snoc i n (fresh h) (served h e) (now_of (h ++ e ∷ []) 0) c (AreApart-later i (fresh h) (now_of h 0) (now_of (h ++ e ∷ []) 0) (omega (arith, now_of-snoc h e 0)) (AreApart-legal i n h before after (IsLegal-before i n h (e ∷ []) legal)))
           (rw (fresh-one h e g) at (AreApart-legal i n (h ++ e ∷ []) before after legal)) below m)
@@ -237,5 +249,6 @@ AreTables-pruned i n h t before l f = record {
   kept = f.kept;
   distance = f.distance;
   policy = λ s m. policy_in-pruned before t.changes s (omega arith) ∙ f.policy s m;
+  quiet = f.quiet;
   taken = f.taken;
 }

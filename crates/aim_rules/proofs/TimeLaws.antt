@@ -18,6 +18,7 @@ use Rattle.aim_rules.specs.Trials.{granted_trial}
 use Rattle.aim_rules.specs.Bad.{bad}
 use Rattle.aim_rules.specs.History.{Fresh, fresh, is_fresh, is_fresh_seq, is_confirm, params_of, given_up_at, message_of, now_of, last_of}
 use Rattle.aim_rules.specs.Holds.{is_number, granted, is_granted, is_granted_with, holding}
+use Rattle.aim_rules.specs.Quiets.{quiet_with}
 use Rattle.aim_rules.specs.Claims.{green}
 use Rattle.aim_rules.specs.Approach.{is_coming}
 use Rattle.aim_rules.specs.Answer.{answer}
@@ -127,13 +128,14 @@ owns-ahead i vehicles h c w spaced before after legal k = from_front (λ h. IsLe
     go h e (act.Message m) earlier answered is true f k = kept_by h e m earlier answered is f (e.caller == w) (is_confirm e.reply) refl (rw (fresh-one h e f, kept-snoc (fresh h) (served h e) w) at k)
     go h e (act.Order o) earlier answered is true f k = absurd (let g : false ≡ true = rw is at f in cc)
 
--- An entry of a legal history leaves the claims of green lanes below now + horizon.
-pub green-legal : (i : Intersection) (h : List Entry) (e : Entry) (c : Cell) (except : ℕ) → IsAnswered i h e → c.step < now_of h e.moment + i.times.horizon → green i (h ++ e ∷ []) c except ≡ green i h c except
-green-legal i h e c except answered l = go e.act refl
+-- An entry of a legal history that makes no lane quiet leaves the claims of green lanes below now + horizon.
+pub green-legal : (i : Intersection) (h : List Entry) (e : Entry) (c : Cell) (except : ℕ) → IsAnswered i h e → quiet_with e.act (now_of h e.moment) ≡ None → c.step < now_of h e.moment + i.times.horizon → green i (h ++ e ∷ []) c except ≡ green i h c except
+green-legal i h e c except answered quiet l = go e.act refl
   where
     go : (a : Act) → e.act ≡ a → green i (h ++ e ∷ []) c except ≡ green i h c except
-    go (act.Message m) is = green-none i h e c except (rw is refl)
-    go (act.Order order.Stop) is = green-none i h e c except (rw is refl)
+    go (act.Message m) is = green-none i h e c except (rw is refl) quiet
+    go (act.Order order.Stop) is = green-none i h e c except (rw is refl) quiet
+    go (act.Order (order.Quiet lane until)) is = green-none i h e c except (rw is refl) quiet
     go (act.Order (order.Switch p)) is =
         let r : e.reply ≡ reply.Switched (now_of h e.moment + i.times.horizon) = rw is at answered in
         green-before i h e (record { policy = p; from = now_of h e.moment + i.times.horizon }) c except (rw (is, r) refl) l

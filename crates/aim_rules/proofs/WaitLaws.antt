@@ -21,7 +21,8 @@ use Rattle.aim_rules.specs.Cells.{IsIn}
 use Rattle.aim_rules.specs.Trials.{Trial, arriving_at, granted_trial, has_windows, trial_cells}
 use Rattle.aim_rules.specs.Lights.{green_at}
 use Rattle.aim_rules.specs.Timeline.{policy_at}
-use Rattle.aim_rules.specs.Claims.{green, is_claimed}
+use Rattle.aim_rules.specs.Quiets.{is_quiet}
+use Rattle.aim_rules.specs.Claims.{counts, green, is_claimed}
 use Rattle.aim_rules.specs.History.{Fresh, fresh, is_confirm, now_of, params_at, params_of}
 use Rattle.aim_rules.specs.Holds.{granted, granted_with, is_granted, is_granted_with, reservations, taken_by}
 use Rattle.aim_rules.specs.Known.{Known, known_after}
@@ -50,11 +51,12 @@ and_none false = refl
 
 unclaimed : (i : Intersection) (h : List Entry) (c : Cell) (lane : ℕ) → ((t : ℕ) → c.step ≤ t + i.times.clearance → t ≤ c.step → green_at i (policy_at h) t ≡ 0) → is_claimed i h lane c ≡ false
 unclaimed i h c lane dark =
-    ap (λ b. in_lane_tiles i lane c.row c.col && b) (none_of_range (λ s. has_lane (green_at i (policy_at h) s) lane) (c.step - i.times.clearance) (c.step + 1 - (c.step - i.times.clearance)) each)
+    ap (λ b. in_lane_tiles i lane c.row c.col && b) (none_of_range (counts i (policy_at h) (is_quiet h) lane) (c.step - i.times.clearance) (c.step + 1 - (c.step - i.times.clearance)) each)
     ∙ and_none (in_lane_tiles i lane c.row c.col)
   where
-    each : (s : ℕ) → c.step - i.times.clearance ≤ s → s < c.step - i.times.clearance + (c.step + 1 - (c.step - i.times.clearance)) → has_lane (green_at i (policy_at h) s) lane ≡ false
-    each s low high = ap (λ g. has_lane g lane) (dark s (omega arith) (omega arith)) ∙ nobody lane
+    each : (s : ℕ) → c.step - i.times.clearance ≤ s → s < c.step - i.times.clearance + (c.step + 1 - (c.step - i.times.clearance)) → counts i (policy_at h) (is_quiet h) lane s ≡ false
+    each s low high =
+        ap (λ g. has_lane g lane && not (is_quiet h lane s)) (dark s (omega arith) (omega arith)) ∙ ap (λ b. b && not (is_quiet h lane s)) (nobody lane)
 
 no_green : (i : Intersection) (h : List Entry) (c : Cell) (except : ℕ) → ((t : ℕ) → c.step ≤ t + i.times.clearance → t ≤ c.step → green_at i (policy_at h) t ≡ 0) → green i h c except ≡ None
 no_green i h c except dark = least_below_none (length i.lanes) (λ lane. not (lane == except) && is_claimed i h lane c) (λ lane l. ap (λ b. not (lane == except) && b) (unclaimed i h c lane dark) ∙ and_none (not (lane == except)))

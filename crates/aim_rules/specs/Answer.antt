@@ -124,7 +124,7 @@ first_reason i k p = find_map (λ test. test i k p) tests
 -- why a cell can't be had: a lane that claims it, or else a vehicle that holds it
 abbrev pub blocked_by : Intersection → Known → Params → Cell → Option Reason
 blocked_by i k p c =
-    option_or (option_map (λ lane. reason.Green c.row c.col c.step lane) (green_by i k.policy c p.lane))
+    option_or (option_map (λ lane. reason.Green c.row c.col c.step lane) (green_by i k.policy k.quiet c p.lane))
     (option_map (λ by. reason.Taken c.row c.col c.step by) (k.taken c))
 
 -- why the least cell of a trial can't be had that can't, by step, row and column
@@ -181,6 +181,7 @@ abbrev pub answer_act : Intersection → Known → Act → Reply
 answer_act i k (act.Message m) = answer_message i k m
 answer_act i k (act.Order (order.Switch policy)) = reply.Switched (k.now + i.times.horizon)
 answer_act i k (act.Order order.Stop) = reply.Stopped
+answer_act i k (act.Order (order.Quiet lane until)) = reply.Quieted
 
 -- the answer to a caller's act after a history
 abbrev pub answer : Intersection → List Entry → ℕ → ℕ → Act → Reply

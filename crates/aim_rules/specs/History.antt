@@ -34,6 +34,7 @@ message_of (act.Order o) = None
 abbrev pub is_stop : Act → Bool
 is_stop (act.Order order.Stop) = true
 is_stop (act.Order (order.Switch p)) = false
+is_stop (act.Order (order.Quiet lane until)) = false
 is_stop (act.Message m) = false
 
 abbrev pub is_confirm : Reply → Bool

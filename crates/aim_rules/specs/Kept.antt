@@ -14,6 +14,7 @@ use Rattle.aim_rules.specs.Asking.{standing_next}
 use Rattle.aim_rules.specs.Distance.{is_blocked_reply, asked_from, reservation_distance}
 use Rattle.aim_rules.specs.Approach.{is_coming, calling_at}
 use Rattle.aim_rules.specs.Timeline.{InForce, change_with, policy_at}
+use Rattle.aim_rules.specs.Quiets.{is_quiet}
 use Rattle.aim_rules.specs.Known.{Known, exchange_of, is_stopped}
 
 -- the sequence number of a fresh message
@@ -131,6 +132,7 @@ pub record IsKnown (i : Intersection) (n : ℕ) (h : List Entry) (v moment : ℕ
   pub next : k.next ≡ standing_next (fresh h) v
   pub holds : k.holds ≡ if_lasts i (now_of h moment) (kept (fresh h) v)
   pub policy : (s : ℕ) → now_of h moment < s + i.times.clearance → k.policy s ≡ policy_at h s
+  pub quiet : (lane s : ℕ) → now_of h moment < s + i.times.clearance → k.quiet lane s ≡ is_quiet h lane s
   pub distance : (lane : ℕ) → lane < length i.lanes → k.distance lane ≡ reservation_distance (fresh h) lane
   pub coming : (lane : ℕ) → lane < length i.lanes → k.coming lane ≡ is_coming_in i n (fresh h) v (now_of h moment) lane
   pub taken : (c : Cell) → c.row < i.grid.n → c.col < i.grid.n → now_of h moment ≤ c.step → k.taken c ≡ owner i n (fresh h) v c

@@ -10,6 +10,7 @@ use Rattle.aim_geometry.specs.Cells.{Cell}
 use Rattle.aim_rules.specs.History.{Fresh, fresh, last_of, now_of, message_at, is_stop}
 use Rattle.aim_rules.specs.Holds.{holding, reservations, taken_by}
 use Rattle.aim_rules.specs.Timeline.{InForce, policy_at}
+use Rattle.aim_rules.specs.Quiets.{is_quiet}
 use Rattle.aim_rules.specs.Asking.{standing_next}
 use Rattle.aim_rules.specs.Distance.{reservation_distance}
 use Rattle.aim_rules.specs.Approach.{others_come}
@@ -40,8 +41,8 @@ is_stopped h = list_any (λ e. is_stop e.act) h
 
 -- What is known at a time for the answer to a vehicle: the place that the answer gets, the time, whether a Stop stands,
 -- the vehicle's last fresh message with its answer, its standing next and the reservation that it holds; and, of all
--- vehicles, the policy of each step, each lane's distance, the lanes in which others' emergencies come, and who else has
--- taken a cell.
+-- vehicles, the policy of each step, in which steps each lane is quiet, each lane's distance, the lanes in which others'
+-- emergencies come, and who else has taken a cell.
 pub record Known : Type 0 where
   pub place : ℕ
   pub now : ℕ
@@ -50,6 +51,7 @@ pub record Known : Type 0 where
   pub next : ℕ
   pub holds : Option Fresh
   pub policy : ℕ → InForce
+  pub quiet : ℕ → ℕ → Bool
   pub distance : ℕ → Option ℕ
   pub coming : ℕ → Bool
   pub taken : Cell → Option ℕ
@@ -64,6 +66,7 @@ known_after i h v moment = record {
   next = standing_next (fresh h) v;
   holds = holding i (fresh h) v (now_of h moment);
   policy = policy_at h;
+  quiet = is_quiet h;
   distance = reservation_distance (fresh h);
   coming = others_come i (fresh h) v (now_of h moment);
   taken = taken_by (reservations i (fresh h) (now_of h moment)) i v;

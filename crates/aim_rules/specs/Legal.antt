@@ -9,11 +9,13 @@ use Rattle.aim_messages.specs.Actors.{IsCallerOf}
 use Rattle.aim_layout.specs.Intersection.{Intersection}
 use Rattle.aim_rules.specs.Answer.{answer}
 
--- whether the act is one of the layout: its vehicle is there, and a switch names a policy
+-- whether the act is one of the layout: its vehicle is there, a switch names a policy, and a quiet, from version 4 on, a
+-- lane
 abbrev pub IsOfLayout : Intersection → ℕ → ℕ → Act → Type 0
 IsOfLayout i vehicles caller (act.Message m) = caller < vehicles
 IsOfLayout i vehicles caller (act.Order (order.Switch policy)) = policy < length i.policies
 IsOfLayout i vehicles caller (act.Order order.Stop) = Unit {0}
+IsOfLayout i vehicles caller (act.Order (order.Quiet lane until)) = (4 ≤ i.version) × (lane < length i.lanes)
 
 -- whether the caller may act so
 abbrev pub MayAct : Intersection → ℕ → ℕ → Act → Type 0

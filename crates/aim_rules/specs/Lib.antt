@@ -6,6 +6,7 @@ pub mod Bad
 pub mod History
 pub mod Holds
 pub mod Timeline
+pub mod Quiets
 pub mod Lights
 pub mod Claims
 pub mod Asking

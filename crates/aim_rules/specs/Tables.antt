@@ -12,6 +12,7 @@ use Rattle.aim_layout.specs.Intersection.{Intersection}
 use Rattle.aim_geometry.specs.Cells.{Cell}
 use Rattle.aim_rules.specs.History.{Fresh, fresh, last_of, now_of, params_of, params_at, message_of, is_stop}
 use Rattle.aim_rules.specs.Timeline.{InForce, change_with, policy_at}
+use Rattle.aim_rules.specs.Quiets.{Quiet, is_quiet, is_quiet_in, quiet_with, with_one}
 use Rattle.aim_rules.specs.Approach.{is_coming, calling}
 use Rattle.aim_rules.specs.Asking.{standing_next, next_with}
 use Rattle.aim_rules.specs.Distance.{reservation_distance}
@@ -28,6 +29,7 @@ pub record Tables : Type 0 where
   pub kept : ℕ → Option Fresh
   pub distance : ℕ → Option ℕ
   pub changes : List InForce
+  pub quiets : List Quiet
   pub taken : Cell → Option ℕ
 
 -- what each table says after a history, of vehicles below n
@@ -40,6 +42,7 @@ pub record AreTables (i : Intersection) (n : ℕ) (h : List Entry) (t : Tables) 
   pub kept : (v : ℕ) → v < n → t.kept v ≡ kept (fresh h) v
   pub distance : (lane : ℕ) → lane < length i.lanes → t.distance lane ≡ reservation_distance (fresh h) lane
   pub policy : (s : ℕ) → now_of h 0 < s + i.times.clearance → policy_in t.changes s ≡ policy_at h s
+  pub quiet : (lane s : ℕ) → is_quiet_in t.quiets lane s ≡ is_quiet h lane s
   pub taken : (c : Cell) → c.row < i.grid.n → c.col < i.grid.n → now_of h 0 ≤ c.step → t.taken c ≡ holder i n (fresh h) c
 
 -- the tables at the start
@@ -53,6 +56,7 @@ empty = record {
   kept = λ v. None;
   distance = λ lane. None;
   changes = [];
+  quiets = [];
   taken = λ c. None;
 }
 
@@ -70,6 +74,7 @@ known_by i n t v moment = record {
   next = t.next v;
   holds = if_lasts i (max t.now moment) (t.kept v);
   policy = policy_in t.changes;
+  quiet = is_quiet_in t.quiets;
   distance = t.distance;
   coming = λ lane. some_below n (λ w. not (w == v) && is_coming i (max t.now moment) lane (calling_in i (t.last w)));
   taken = λ c. other_than v (t.taken c);
@@ -102,6 +107,7 @@ tables_with i t e b = record {
   kept = λ v. if b && e.caller == v then kept_next (t.kept v) (served_by t e) else t.kept v;
   distance = λ lane. if b then distance_next (t.distance lane) lane (max t.now e.moment) e.reply (params_at (served_by t e)) else t.distance lane;
   changes = t.changes ++ filter_map (λ x. x) (change_with e.act e.reply ∷ []);
+  quiets = t.quiets ++ with_one (quiet_with e.act (max t.now e.moment)) [];
   taken = λ c. if b then taken_next i e.caller (kept_next (t.kept e.caller) (served_by t e)) c (t.taken c) else t.taken c;
 }
 

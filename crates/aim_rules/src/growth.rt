@@ -14,6 +14,7 @@ ghost use Rattle.aim_geometry.specs.Cells.{Cell};
 ghost use Rattle.aim_rules.specs.Cells.{IsIn};
 ghost use Rattle.aim_rules.specs.Timeline.{InForce, change_with, policy_at};
 ghost use Rattle.aim_rules.specs.Claims.{green};
+ghost use Rattle.aim_rules.specs.Quiets.{is_covered, is_quiet, quiet_with};
 ghost use Rattle.aim_messages.specs.declared.messages.Params.{Params};
 ghost use Rattle.aim_rules.specs.Legal.{IsLegal, IsAnswered, MayAct};
 ghost use Rattle.aim_rules.specs.Journals.{MayCall, Call, journal};
@@ -21,6 +22,7 @@ ghost use Rattle.aim_geometry.specs.Bounded.{some_below, greatest};
 ghost use Rattle.aim_rules.specs.Answer.{answer, answer_message};
 ghost use Rattle.aim_messages.specs.declared.messages.Message.{Message};
 ghost use Rattle.aim_messages.specs.declared.entries.Act.{Act};
+ghost use Rattle.aim_messages.specs.declared.entries.Order.{Order};
 ghost use Rattle.aim_rules.specs.Known.{Known, is_above_all, is_stopped, known_after, seq_in};
 ghost use Rattle.aim_rules.specs.Tables.{act_by, run, IsNear, IsRing, cleared, taken_next, Tables, AreTables, empty, tables_next, known_by};
 ghost use Rattle.aim_rules.specs.Kept.{IsKnown, holder, other_than, pruned, reaches, has_cell, owns, is_owned, owner, AreApart, distance_next, are_below, is_coming_in, policy_in, changes, seq_of, lasts, kept, kept_next, if_lasts};
@@ -73,9 +75,17 @@ pub fn policies_of_one_more()
     ensures changed { (h : List Entry) (e : Entry) → changes (h ++ e ∷ []) ≡ changes h ++ filter_map (λ x. x) (change_with e.act e.reply ∷ []) }
     ensures before { (i : Intersection) (h : List Entry) (e : Entry) (f : InForce) (c : Cell) (except : ℕ) → change_with e.act e.reply ≡ Some f → c.step < f.from →
         green i (h ++ e ∷ []) c except ≡ green i h c except }
-    ensures none { (i : Intersection) (h : List Entry) (e : Entry) (c : Cell) (except : ℕ) → change_with e.act e.reply ≡ None →
+    ensures none { (i : Intersection) (h : List Entry) (e : Entry) (c : Cell) (except : ℕ) → change_with e.act e.reply ≡ None → quiet_with e.act (now_of h e.moment) ≡ None →
         green i (h ++ e ∷ []) c except ≡ green i h c except }
     ensures stop { (h : List Entry) (e : Entry) → is_stopped (h ++ e ∷ []) ≡ (is_stopped h || is_stop e.act) }
+{}
+
+/// The steps in which a lane is quiet: what an order makes quiet adds to what was so, whatever comes after, and an order
+/// whose last step isn't to come adds nothing.
+pub fn quiet_steps_of_one_more()
+    ensures more { (h : List Entry) (e : Entry) (lane step : ℕ) → is_quiet (h ++ e ∷ []) lane step ≡ (is_quiet h lane step || is_covered (quiet_with e.act (now_of h e.moment)) lane step) }
+    ensures stays { (h more : List Entry) (lane step : ℕ) → is_quiet h lane step ≡ true → is_quiet (h ++ more) lane step ≡ true }
+    ensures past { (h : List Entry) (e : Entry) (quiet until lane step : ℕ) → e.act ≡ Act.Order (Order.Quiet quiet until) → until ≤ now_of h e.moment → is_quiet (h ++ e ∷ []) lane step ≡ is_quiet h lane step }
 {}
 
 /// What is reservations is what is kept and lasts, so by places too.
@@ -125,11 +135,12 @@ pub fn time_passes()
     ensures policy { (before : ℕ) (fs : List InForce) (s : ℕ) → before ≤ s → policy_in (pruned before fs) s ≡ policy_in fs s }
 {}
 
-/// How far ahead cells are kept, and what no entry changes.
+/// How far ahead cells are kept, and what no entry changes: a quiet lane takes greens away, and no entry brings one.
 pub fn nothing_past_the_horizon()
     ensures kept { (i : Intersection) (vehicles : ℕ) (h : List Entry) (c : Cell) (w : ℕ) → 0 < i.grid.spacing → i.times.early ≤ i.times.edge → i.times.late ≤ i.times.edge → IsLegal i vehicles h →
         owns i (fresh h) c w ≡ true → c.step < now_of h 0 + i.times.horizon }
-    ensures green { (i : Intersection) (h : List Entry) (e : Entry) (c : Cell) (except : ℕ) → IsAnswered i h e → c.step < now_of h e.moment + i.times.horizon → green i (h ++ e ∷ []) c except ≡ green i h c except }
+    ensures green { (i : Intersection) (h : List Entry) (e : Entry) (c : Cell) (except : ℕ) → IsAnswered i h e → quiet_with e.act (now_of h e.moment) ≡ None → c.step < now_of h e.moment + i.times.horizon → green i (h ++ e ∷ []) c except ≡ green i h c except }
+    ensures none { (i : Intersection) (h : List Entry) (e : Entry) (c : Cell) (except : ℕ) → IsAnswered i h e → c.step < now_of h e.moment + i.times.horizon → green i h c except ≡ None → green i (h ++ e ∷ []) c except ≡ None }
 {}
 
 /// The tables of a manager: those of the empty history, those of one more entry, and what is known by them for an

@@ -19,6 +19,9 @@ ghost use Rattle.aim_rules.specs.Trials.{Trial, arriving_at, granted_trial, has_
 ghost use Rattle.aim_rules.specs.Bad.{IsGood, bad, span_count};
 ghost use Rattle.aim_rules.specs.History.{Fresh, fresh, is_confirm, is_fresh_seq, now_of, params_at, params_of};
 ghost use Rattle.aim_rules.specs.Holds.{reservations, is_granted, is_granted_with};
+ghost use Rattle.aim_rules.specs.Timeline.{policy_at};
+ghost use Rattle.aim_rules.specs.Quiets.{is_quiet};
+ghost use Rattle.aim_rules.specs.Claims.{is_claimed};
 ghost use Rattle.aim_rules.specs.Known.{Known};
 ghost use Rattle.aim_rules.specs.Answer.{answer, answer_asking, first_reason, own_refusal, refused_or};
 ghost use Rattle.aim_rules.specs.Windows.{IsBlockedFor, IsTried, WaitsForAll, later, trial_at, two_trials};
@@ -148,4 +151,19 @@ pub fn one_arrival_has_two_trials()
         answer_asking i k b p ≡ refused_or i k p (option_or (own_refusal i k b) (first_reason i k p)) (two_trials i k p) }
     ensures starts { (i : Intersection) (vehicles : ℕ) (h : List Entry) (x : Fresh) (p : Params) (t : Trial) → has_windows i ≡ false → IsLegal i vehicles h →
         IsIn x (fresh h) → params_at x ≡ Some p → granted_trial x.entry.reply ≡ Some t → t.start ≡ p.arrive }
+{}
+
+/// Greens only shrink: a cell that a lane doesn't claim is not claimed by it after a longer history either, where the
+/// policies at the steps that count are the same; and so they are, after a legal history, below now + horizon.
+pub fn greens_only_shrink()
+    ensures claimed { (i : Intersection) (h more : List Entry) (lane : ℕ) (c : Cell) →
+        ((s : ℕ) → s ≤ c.step → c.step ≤ s + i.times.clearance → policy_at (h ++ more) s ≡ policy_at h s) →
+        is_claimed i h lane c ≡ false → is_claimed i (h ++ more) lane c ≡ false }
+    ensures legal { (i : Intersection) (vehicles : ℕ) (h more : List Entry) (lane : ℕ) (c : Cell) → IsLegal i vehicles (h ++ more) → c.step < now_of h 0 + i.times.horizon →
+        is_claimed i h lane c ≡ false → is_claimed i (h ++ more) lane c ≡ false }
+{}
+
+/// In versions 1 to 3 no lane is ever quiet.
+pub fn lanes_are_quiet_from_version_4_on()
+    ensures { (i : Intersection) (vehicles : ℕ) (h : List Entry) (lane step : ℕ) → i.version < 4 → IsLegal i vehicles h → is_quiet h lane step ≡ false }
 {}

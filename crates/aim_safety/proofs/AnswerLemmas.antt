@@ -1,5 +1,5 @@
 -- Where in a legal history a reply comes from that a driver heard.
-use Rattle.std.proofs.Common.{◌≡◌, ◌⊎◌, inl, inr, ℕ, ◌<◌, ◌≤◌, Bool, true, false, ◌&&◌, nat_lt, List, length, take, Option, Some, None, is_none, arith, refl, sym, ap, ◌∙◌, slice_get}
+use Rattle.std.proofs.Common.{◌≡◌, ◌⊎◌, inl, inr, ℕ, ◌<◌, ◌≤◌, Bool, true, false, ◌&&◌, nat_lt, List, length, take, Option, Some, None, arith, refl, sym, ap, ◌∙◌, slice_get}
 use Rattle.std.specs.Prelude.{find, ◌==◌, if◌then◌else◌, option_map}
 use Rattle.std.specs.Option.{option_or}
 use Rattle.std.proofs.lemmas.Bool.{eqb-true}
@@ -37,6 +37,7 @@ Says k reply.EmergencyStop = Unit {0}
 Says k (reply.Stale most) = Unit {0}
 Says k (reply.Switched from) = Unit {0}
 Says k reply.Stopped = Unit {0}
+Says k reply.Quieted = Unit {0}
 
 says_if : (k : Known) (b : Bool) (r s : Reply) → Says k r → Says k s → Says k (if b then r else s)
 says_if k true r s x y = x

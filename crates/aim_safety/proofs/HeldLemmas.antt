@@ -144,6 +144,7 @@ tells_cases k reply.EmergencyStop id says tells = absurd tells
 tells_cases k (reply.Stale most) id says tells = absurd tells
 tells_cases k (reply.Switched from) id says tells = absurd tells
 tells_cases k reply.Stopped id says tells = absurd tells
+tells_cases k reply.Quieted id says tells = absurd tells
 
 -- what is held is kept
 held_kept : (i : Intersection) (xs : List Fresh) (v now id : ℕ) → holds i xs v now ≡ Some id → (x : Fresh) × (kept xs v ≡ Some x) × (x.place ≡ id)

@@ -1,9 +1,11 @@
 -- The calls of the lines before a verdict may be made on the layout of these lines.
-use Rattle.std.proofs.Common.{◌≡◌, ℕ, suc, ◌*◌, ◌<◌, ◌≤◌, Bool, true, false, cond, not, nat_lt, nat_le, List, [], ◌∷◌, ◌++◌, length, take, drop, slice_get, Option, Some, None, arith, refl, sym, subst, ◌∙◌, unwrap_or, length-append, if◌then◌else◌}
+use Rattle.std.proofs.Common.{◌≡◌, ℕ, suc, ◌*◌, ◌<◌, ◌≤◌, Bool, true, false, cond, not, ◌||◌, nat_lt, nat_le, List, [], ◌∷◌, ◌++◌, length, take, drop, slice_get, Option, Some, None, arith, refl, sym, subst, ◌∙◌, unwrap_or, length-append, if◌then◌else◌}
 use Rattle.std.specs.Prelude.{filter_map, bytes_eq}
 use Rattle.std.specs.List.{AllByRecursion, list_any, position_or_len, cons_option}
 use Rattle.std.specs.Option.{option_or}
 use Rattle.std.proofs.lemmas.List.{take-append-drop}
+use Rattle.std.proofs.lemmas.List.FromFn.{length-map-range_with_len}
+use Rattle.aim_layout.specs.Added.{lane_of}
 use Rattle.std.proofs.lemmas.List.Elements.{filter_map-append}
 use Rattle.std.proofs.lemmas.Bool.Decides.{nat_tests}
 use Rattle.aim_messages.specs.declared.script.Line.{Line}
@@ -16,8 +18,9 @@ use Rattle.aim_rules.specs.Legal.{IsLegal, MayAct}
 use Rattle.aim_rules.proofs.LegalLemmas.{IsLegal-journal}
 use Rattle.aim_script_reading.specs.Verdicts.{IsScript}
 use Rattle.aim_script.specs.declared.decisions.Limit.TheVariants as limit
-use Rattle.aim_script.specs.Said.{layout_of, name_in, names_of, is_named, number_of, vehicles_in, vehicles_of, call_in, calls_of}
-use Rattle.aim_script.specs.Kinds.{vehicles_limit}
+use Rattle.aim_script.specs.Said.{described, lanes_in, last_of, layout_of, name_in, names_of, is_named, number_of, version_in, version_after, vehicles_in, vehicles_of, call_in, calls_of}
+use Rattle.aim_script.specs.Kinds.{is_of_later, is_out_of_order, vehicles_limit}
+use Rattle.aim_script.specs.Order.{may_follow}
 use Rattle.aim_script.specs.Told.{Verdict}
 use Rattle.aim_script.specs.Verdicts.{Reads, journal_of, replay_rules}
 use Rattle.aim_script.proofs.AppendLemmas.{names_are_policies}
@@ -63,6 +66,40 @@ vehicle_below before k v h =
     let e : find_map vehicles_in before ≡ Some d.0 = subst (λ ls. find_map vehicles_in ls ≡ Some d.0) (take-append-drop k before) (first_stays vehicles_in (take k before) (drop k before) d.0 d.1) in
     rw e d.2
 
+-- the lanes and the version of the layout that lines describe
+lanes_said : (lines : List Line) → length (layout_of lines).lanes ≡ unwrap_or (find_map lanes_in lines) 0
+unfolding layout_of
+lanes_said lines = let d = described lines in length-map-range_with_len (lane_of d.added) 0 (unwrap_or d.lanes 0)
+
+version_said : (lines : List Line) → (layout_of lines).version ≡ version_after lines
+unfolding layout_of
+version_said lines = refl
+
+-- a lane that was there is there
+pub lane_below : (before : List Line) (k lane : ℕ) → nat_le (length (layout_of (take k before)).lanes) lane ≡ false → lane < length (layout_of before).lanes
+lane_below before k lane h =
+    let d = declared (find_map lanes_in (take k before)) lane (subst (λ n. nat_le n lane ≡ false) (lanes_said (take k before)) h) in
+    let e : find_map lanes_in before ≡ Some d.0 = subst (λ ls. find_map lanes_in ls ≡ Some d.0) (take-append-drop k before) (first_stays lanes_in (take k before) (drop k before) d.0 d.1) in
+    subst (λ n. lane < n) (sym (lanes_said before ∙ rw e refl)) d.2
+
+-- a version that was said stays
+fourth : (o : Option ℕ) → nat_lt (unwrap_or o 1) 4 ≡ false → (n : ℕ) × (o ≡ Some n) × (4 ≤ n)
+fourth None h = absurd (grind (arith, nat_tests))
+fourth (Some n) h = (n, refl, grind (arith, nat_tests))
+
+pub version_reached : (before : List Line) (k : ℕ) → nat_lt (version_after (take k before)) 4 ≡ false → 4 ≤ (layout_of before).version
+version_reached before k h =
+    let d = fourth (find_map version_in (take k before)) h in
+    let e : find_map version_in before ≡ Some d.0 = subst (λ ls. find_map version_in ls ≡ Some d.0) (take-append-drop k before) (first_stays version_in (take k before) (drop k before) d.0 d.1) in
+    subst (λ n. 4 ≤ n) (sym (version_said before ∙ rw e refl)) d.2
+
+of_version : (before : List Line) (l : Line) → is_out_of_order before l ≡ false → is_of_later before l ≡ false
+of_version before l h = second (not (may_follow (last_of before) l)) (is_of_later before l) h
+  where
+    second : (a b : Bool) → (a || b) ≡ false → b ≡ false
+    second false b h = h
+    second true b h = absurd (cc)
+
 not_true : (b : Bool) → not b ≡ false → b ≡ true
 not_true true h = refl
 not_true false h = absurd (cc)
@@ -86,15 +123,19 @@ switch_below before k name h =
 
 call_may_be : (before : List Line) (k : ℕ) (l : Line) (c : Call) → vehicles_of before ≤ MOST_VEHICLES → GoesOn (take k before) l → call_in (names_of before) l ≡ Some c → MayBe before c
 call_may_be before k (line.Event vehicle moment message) c few g e =
-    subst (MayBe before) (some_call _ c e) (in_time moment (passes (take k before) (line.Event vehicle moment message) 11 g), ((let m = vehicle_below before k vehicle (passes (take k before) (line.Event vehicle moment message) 10 g) in omega arith), vehicle_below before k vehicle (passes (take k before) (line.Event vehicle moment message) 10 g)))
+    subst (MayBe before) (some_call _ c e) (in_time moment (passes (take k before) (line.Event vehicle moment message) 12 g), ((let m = vehicle_below before k vehicle (passes (take k before) (line.Event vehicle moment message) 11 g) in omega arith), vehicle_below before k vehicle (passes (take k before) (line.Event vehicle moment message) 11 g)))
 call_may_be before k (line.SwitchTo moment name) c few g e =
-    subst (MayBe before) (some_call _ c e) (in_time moment (passes (take k before) (line.SwitchTo moment name) 11 g), (refl, switch_below before k (name_word name) (passes (take k before) (line.SwitchTo moment name) 8 g)))
+    subst (MayBe before) (some_call _ c e) (in_time moment (passes (take k before) (line.SwitchTo moment name) 12 g), (refl, switch_below before k (name_word name) (passes (take k before) (line.SwitchTo moment name) 9 g)))
 call_may_be before k (line.StopAt moment) c few g e =
-    subst (MayBe before) (some_call _ c e) (in_time moment (passes (take k before) (line.StopAt moment) 11 g), (refl, tt))
+    subst (MayBe before) (some_call _ c e) (in_time moment (passes (take k before) (line.StopAt moment) 12 g), (refl, tt))
+call_may_be before k (line.QuietAt moment lane until) c few g e =
+    let l = line.QuietAt moment lane until in
+    subst (MayBe before) (some_call _ c e) (in_time moment (passes (take k before) l 12 g), (refl, (version_reached before k (of_version (take k before) l (passes (take k before) l 0 g)), lane_below before k lane (passes (take k before) l 5 g))))
 call_may_be before k (line.Version n) c few g e = absurd (cc)
 call_may_be before k (line.Grid n) c few g e = absurd (cc)
 call_may_be before k (line.Times t) c few g e = absurd (cc)
 call_may_be before k (line.Times6 t) c few g e = absurd (cc)
+call_may_be before k (line.Times7 t) c few g e = absurd (cc)
 call_may_be before k (line.Lanes n) c few g e = absurd (cc)
 call_may_be before k (line.Move lane turn s) c few g e = absurd (cc)
 call_may_be before k (line.Policy name n) c few g e = absurd (cc)
@@ -102,7 +143,7 @@ call_may_be before k (line.Phase red green lanes) c few g e = absurd (cc)
 call_may_be before k (line.Vehicles n) c few g e = absurd (cc)
 call_may_be before k line.Begin c few g e = absurd (cc)
 call_may_be before k (line.Until step) c few g e = absurd (cc)
-call_may_be before k (line.PlanFor vehicle first lead resend params ahead) c few g e = absurd (cc)
+call_may_be before k (line.PlanFor vehicle first lead resend params ahead wait) c few g e = absurd (cc)
 call_may_be before k (line.ChangeAt vehicle step lead) c few g e = absurd (cc)
 call_may_be before k (line.CancelAt vehicle step) c few g e = absurd (cc)
 call_may_be before k (line.Up vehicle fates) c few g e = absurd (cc)

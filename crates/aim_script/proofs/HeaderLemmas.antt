@@ -2,6 +2,7 @@
 use Rattle.std.proofs.Common.{◌≡◌, ◌⊎◌, inl, inr, ℕ, ◌<◌, ◌==◌, Bool, true, false, is_some, List, [], ◌∷◌, ◌++◌, length, Option, Some, None, option_map, Result, Ok, Err, refl, sym, ap, ◌∙◌, subst, arith, if◌then◌else◌}
 use Rattle.std.specs.Prelude.{bytes_eq, ◌↔◌}
 use Rattle.std.specs.List.{list_any}
+use Rattle.std.specs.Option.{option_or}
 use Rattle.std.specs.Bool.{IsTrue}
 use Rattle.std.proofs.lemmas.Bool.{cases_Bool, eqb-false}
 use Rattle.std.proofs.lemmas.List.{append-nil}
@@ -10,6 +11,7 @@ use Rattle.aim_messages.specs.declared.messages.Turn.{Turn}
 use Rattle.aim_messages.specs.declared.script.Grid6.{Grid6}
 use Rattle.aim_messages.specs.declared.script.Times5.{Times5}
 use Rattle.aim_messages.specs.declared.script.Times6.{Times6}
+use Rattle.aim_messages.specs.declared.script.Times7.{Times7}
 use Rattle.aim_messages.specs.declared.script.MoveShape.{MoveShape}
 use Rattle.aim_messages.specs.declared.script.Name.{Name}
 use Rattle.aim_messages.specs.declared.script.Line.{Line}
@@ -25,7 +27,7 @@ use Rattle.aim_layout.specs.declared.builders.LayoutFault.{LayoutFault}
 use Rattle.aim_layout.specs.declared.builders.LayoutFault.TheVariants as layout_fault
 use Rattle.aim_layout.specs.Shapes.{stations_of, wide_step}
 use Rattle.aim_layout.specs.Added.{AddMove, AddPolicy, AddPhase}
-use Rattle.aim_layout.specs.Building.{bare, is_bad_move, move_fault, with_move, policy_fault, with_policy, phase_fault, with_phase, with_phase_of, last_policy, finish_fault}
+use Rattle.aim_layout.specs.Building.{bare, is_bad_move, leaves_border, move_fault, with_move, policy_fault, with_policy, phase_fault, with_phase, with_phase_of, last_policy, finish_fault}
 use Rattle.aim_script.specs.declared.decisions.Kind.TheVariants as why
 use Rattle.aim_script.specs.declared.headers.Place.{Place}
 use Rattle.aim_script.specs.declared.headers.Place.TheVariants as place
@@ -36,12 +38,12 @@ use Rattle.aim_script.specs.declared.headers.HeaderRefusal.TheVariants as refusa
 use Rattle.aim_script.specs.declared.settings.Setting.{Setting}
 use Rattle.aim_script.specs.declared.versions.ScriptVersion.{ScriptVersion}
 use Rattle.aim_script.specs.Order.{part_after, is_end, in_moves, in_policies}
-use Rattle.aim_script.specs.Said.{Described, version_after, grid_of, times_of, times6_of, kind_of, shape_of, last_of}
+use Rattle.aim_script.specs.Said.{Described, version_after, grid_of, times_of, times6_of, times7_of, kind_of, shape_of, last_of}
 use Rattle.aim_script.specs.Kinds.{kind_of_fault}
 use Rattle.aim_script.specs.Versions.{version_number}
 use Rattle.aim_script.specs.Headers.{IsBuilt, part_of, unsaid, Says, StandsAt, IsSet, Goes, Heeds, SaysNoMore, AddsPolicy, Closes, move_kind_of}
 use Rattle.aim_script.proofs.AppendLemmas.{last_of_more, version_same, header_more, built_more, layout_built, names_are_policies, layout_same, names_same, vehicles_first, calls_none}
-use Rattle.aim_script.proofs.KindLemmas.{grid_kind, times_kind, times6_kind, lanes_kind, move_kind, policy_kind, phase_kind, vehicles_kind}
+use Rattle.aim_script.proofs.KindLemmas.{grid_kind, times_kind, times6_kind, times7_kind, lanes_kind, move_kind, policy_kind, phase_kind, vehicles_kind}
 
 stands_after : (before : List Line) (l : Line) (p : Place) → part_after (Some l) ≡ part_of p → is_end (Some l) ≡ false → Says (before ++ l ∷ []) p → StandsAt (before ++ l ∷ []) p
 stands_after before l p part over says = record {
@@ -53,6 +55,10 @@ stands_after before l p part over says = record {
 unguarded : {X : Type 0} (b : Bool) (x : X) (o : Option X) → None ≡ (if b then Some x else o) → (b ≡ false) × (o ≡ None)
 unguarded true x o is = absurd (cc)
 unguarded false x o is = (refl, sym is)
+
+neither : {X : Type 0} (a b : Option X) → option_or a b ≡ None → (a ≡ None) × (b ≡ None)
+neither None b is = (refl, is)
+neither (Some x) b is = absurd (cc)
 
 unmapped : {X Y : Type 0} (f : X → Y) (o : Option X) → option_map f o ≡ None → is_some o ≡ false
 unmapped f None is = refl
@@ -107,6 +113,20 @@ times6_taken before p g t times site at is fault same st =
     ) in
     subst (λ x. Goes before l (Ok (place.Lanes x))) (sym (same ∙ rw is refl)) taken
 
+pub times7_taken : (before : List Line) (p : Place) (g : Grid) (t : Times7) (times : Times) (site : Site) → p ≡ place.Times g → times ≡ times7_of t → None ≡ ground_fault g times
+    → site ≡ record { grid = g; times = times } → StandsAt before p → Goes before (line.Times7 t) (Ok (place.Lanes site))
+times7_taken before p g t times site at is fault same st =
+    let good = ground_good g (times7_of t) (rw is at fault) in
+    let st : StandsAt before (place.Times g) = subst (StandsAt before) at st in
+    let l = line.Times7 t in
+    let d : Described = record unsaid { grid = Some g } in
+    let all : Site = record { grid = g; times = times7_of t } in
+    let taken : Goes before l (Ok (place.Lanes all)) = (
+      times7_kind before t st.part ∙ rw (good.0, good.1) refl,
+      stands_after before l (place.Lanes all) refl refl (header_more before d [] l st.says.0 (record { vehicles = refl; call = λ _. refl })),
+    ) in
+    subst (λ x. Goes before l (Ok (place.Lanes x))) (sym (same ∙ rw is refl)) taken
+
 -- the lanes of a builder are few enough
 pub lanes_inside : {B F : Type 0} (n : ℕ) (b : B) (f : F) → (Ok b ≡ Err f) ↔ IsTrue (is_outside n 16) → is_outside n 16 ≡ false
 lanes_inside n b f only = elim (cases_Bool (is_outside n 16)) [
@@ -134,11 +154,15 @@ move_taken before p b new lane turn shape at fault same st =
     let l = line.Move lane turn shape in
     let path = shape_of shape in
     let step = wide_step b.grid.spacing (stations_of path) in
-    let good = unguarded (is_bad_move b lane turn path) (layout_fault.Move lane turn) (option_map (λ j. layout_fault.Spacing lane turn j) step) fault in
-    let near : is_some step ≡ false = unmapped (λ j. layout_fault.Spacing lane turn j) step good.1 in
+    let off = leaves_border b (stations_of path) in
+    let border = if off then Some (layout_fault.Border lane turn) else None in
+    let good = unguarded (is_bad_move b lane turn path) (layout_fault.Move lane turn) (option_or (option_map (λ j. layout_fault.Spacing lane turn j) step) border) fault in
+    let none = neither (option_map (λ j. layout_fault.Spacing lane turn j) step) border good.1 in
+    let near : is_some step ≡ false = unmapped (λ j. layout_fault.Spacing lane turn j) step none.0 in
+    let ends = unguarded off (layout_fault.Border lane turn) None (sym none.1) in
     let next = with_move b lane turn path in
     let taken : Goes before l (Ok (place.Moves next)) = (
-      move_kind before lane turn shape st.part ∙ rw (layout_built before b [] st.says.0, good.0, near) refl,
+      move_kind before lane turn shape st.part ∙ rw (layout_built before b [] st.says.0, good.0, near, ends.0) refl,
       stands_after before l (place.Moves next) refl refl
           (built_more before b [] l (AddMove lane turn path) st.says.0 (record { vehicles = refl; call = λ _. refl }) refl refl refl refl refl (sym fault) refl refl refl, st.says.1),
     ) in
@@ -150,16 +174,19 @@ pub move_falls : (before : List Line) (p : Place) (b : Intersection) (lane : ℕ
 move_falls before p b lane turn shape f at fault st =
     let st : StandsAt before (place.Moves b) = subst (StandsAt before) at st in
     move_kind before lane turn shape st.part
-    ∙ rw (layout_built before b [] st.says.0) (refused (is_bad_move b lane turn (shape_of shape)) (wide_step b.grid.spacing (stations_of (shape_of shape))) fault)
+    ∙ rw (layout_built before b [] st.says.0) (refused (is_bad_move b lane turn (shape_of shape)) (wide_step b.grid.spacing (stations_of (shape_of shape))) (leaves_border b (stations_of (shape_of shape))) fault)
   where
     same : (f g : LayoutFault) → Some f ≡ Some g → Some (move_kind_of g) ≡ Some (move_kind_of f)
     same f g is = let e : f ≡ g = cc in ap (λ h. Some (move_kind_of h)) (sym e)
 
-    refused : (b : Bool) (o : Option ℕ) → Some f ≡ (if b then Some (layout_fault.Move lane turn) else option_map (λ k. layout_fault.Spacing lane turn k) o)
-        → (if b then Some why.Move else if is_some o then Some why.Spacing else None) ≡ Some (move_kind_of f)
-    refused true o is = same f (layout_fault.Move lane turn) is
-    refused false None is = absurd (cc)
-    refused false (Some k) is = same f (layout_fault.Spacing lane turn k) is
+    refused : (b : Bool) (o : Option ℕ) (off : Bool)
+        → Some f ≡ (if b then Some (layout_fault.Move lane turn)
+        else option_or (option_map (λ k. layout_fault.Spacing lane turn k) o) (if off then Some (layout_fault.Border lane turn) else None))
+        → (if b then Some why.Move else if is_some o then Some why.Spacing else if off then Some why.Border else None) ≡ Some (move_kind_of f)
+    refused true o off is = same f (layout_fault.Move lane turn) is
+    refused false (Some k) off is = same f (layout_fault.Spacing lane turn k) is
+    refused false None true is = same f (layout_fault.Border lane turn) is
+    refused false None false is = absurd (cc)
 
 -- lines that build a layout, and the part behind them
 record Builds (before : List Line) (i : Intersection) (names : List (List ℕ)) : Type 0 where

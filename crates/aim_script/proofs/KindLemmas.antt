@@ -1,5 +1,5 @@
 -- The kinds that each form of line can have.
-use Rattle.std.proofs.Common.{◌≡◌, ◌⊎◌, inl, inr, ℕ, ◌==◌, false, not, nat_lt, nat_le, is_some, List, [], ◌∷◌, find, Option, Some, None, option_map, refl, ◌∙◌, if◌then◌else◌}
+use Rattle.std.proofs.Common.{◌≡◌, ◌⊎◌, inl, inr, ℕ, ◌==◌, false, not, nat_lt, nat_le, is_some, List, [], ◌∷◌, length, find, Option, Some, None, option_map, refl, ◌∙◌, if◌then◌else◌}
 use Rattle.std.proofs.lemmas.Bool.{cases_Bool}
 use Rattle.aim_messages.specs.Lines.{name_word}
 use Rattle.aim_messages.specs.declared.messages.Message.{Message}
@@ -7,6 +7,7 @@ use Rattle.aim_messages.specs.declared.messages.Turn.{Turn}
 use Rattle.aim_messages.specs.declared.script.Grid6.{Grid6}
 use Rattle.aim_messages.specs.declared.script.Times5.{Times5}
 use Rattle.aim_messages.specs.declared.script.Times6.{Times6}
+use Rattle.aim_messages.specs.declared.script.Times7.{Times7}
 use Rattle.aim_messages.specs.declared.script.MoveShape.{MoveShape}
 use Rattle.aim_messages.specs.declared.script.Name.{Name}
 use Rattle.aim_messages.specs.declared.script.Line.{Line}
@@ -18,8 +19,8 @@ use Rattle.aim_layout.specs.Building.{policy_fault, phase_fault, finish_fault}
 use Rattle.aim_script.specs.declared.decisions.Kind.{Kind}
 use Rattle.aim_script.specs.declared.decisions.Kind.TheVariants as why
 use Rattle.aim_script.specs.Order.{Part, part_after, belongs, to_version, to_ground, to_times, to_lanes, in_moves, in_policies, to_begin, in_body}
-use Rattle.aim_script.specs.Said.{last_of, layout_of, grid_of, times_of, times6_of, is_named, vehicles_of}
-use Rattle.aim_script.specs.Kinds.{Test, kinds, kind_of_fault, is_wide, is_no_move}
+use Rattle.aim_script.specs.Said.{version_after, last_of, layout_of, grid_of, times_of, times6_of, times7_of, is_named, vehicles_of}
+use Rattle.aim_script.specs.Kinds.{Test, kinds, kind_of_fault, is_off_border, is_wide, is_no_move}
 
 -- the kind of the first row whose test holds
 abbrev pub first_kind : List (Kind × Test) → List Line → Line → Option Kind
@@ -41,7 +42,7 @@ pub out_of_order : (before : List Line) (l : Line) (p : Part) → part_after (la
 out_of_order before l p part not_there = kind_is before l ∙ rw (part, not_there) refl
 
 pub version_kind : (before : List Line) (n : ℕ) → part_after (last_of before) ≡ to_version
-    → kind_of_fault before (line.Version n) ≡ (if is_outside n 3 then Some why.Version else None)
+    → kind_of_fault before (line.Version n) ≡ (if is_outside n 4 then Some why.Version else None)
 version_kind before n part = kind_is before (line.Version n) ∙ rw part refl
 
 pub grid_kind : (before : List Line) (g : Grid6) → part_after (last_of before) ≡ to_ground
@@ -56,12 +57,17 @@ pub times6_kind : (before : List Line) (t : Times6) → part_after (last_of befo
     → kind_of_fault before (line.Times6 t) ≡ (if has_bad_buffers (times6_of t) then Some why.Buffers else if has_bad_times (times6_of t) then Some why.Times else None)
 times6_kind before t part = kind_is before (line.Times6 t) ∙ rw part refl
 
+pub times7_kind : (before : List Line) (t : Times7) → part_after (last_of before) ≡ to_times
+    → kind_of_fault before (line.Times7 t) ≡ (if has_bad_buffers (times7_of t) then Some why.Buffers else if has_bad_times (times7_of t) then Some why.Times else None)
+times7_kind before t part = kind_is before (line.Times7 t) ∙ rw part refl
+
 pub lanes_kind : (before : List Line) (n : ℕ) → part_after (last_of before) ≡ to_lanes
     → kind_of_fault before (line.Lanes n) ≡ (if is_outside n 16 then Some why.Lane else None)
 lanes_kind before n part = kind_is before (line.Lanes n) ∙ rw part refl
 
 pub move_kind : (before : List Line) (lane : ℕ) (turn : Turn) (s : MoveShape) → part_after (last_of before) ≡ in_moves
-    → kind_of_fault before (line.Move lane turn s) ≡ (if is_no_move before (line.Move lane turn s) then Some why.Move else if is_wide before (line.Move lane turn s) then Some why.Spacing else None)
+    → kind_of_fault before (line.Move lane turn s) ≡ (if is_no_move before (line.Move lane turn s) then Some why.Move else if is_wide before (line.Move lane turn s) then Some why.Spacing
+    else if is_off_border before (line.Move lane turn s) then Some why.Border else None)
 move_kind before lane turn s part = kind_is before (line.Move lane turn s) ∙ rw part refl
 
 pub policy_kind : (before : List Line) (name : Name) (k : ℕ) → (part_after (last_of before) ≡ in_moves) ⊎ (part_after (last_of before) ≡ in_policies)
@@ -95,3 +101,8 @@ switch_kind before at name part = kind_is before (line.SwitchTo at name) ∙ rw 
 pub stop_kind : (before : List Line) (at : ℕ) → part_after (last_of before) ≡ in_body
     → kind_of_fault before (line.StopAt at) ≡ (if nat_lt LATEST_MOMENT at then Some why.Moment else None)
 stop_kind before at part = kind_is before (line.StopAt at) ∙ rw part refl
+
+pub quiet_kind : (before : List Line) (at lane until : ℕ) → part_after (last_of before) ≡ in_body
+    → kind_of_fault before (line.QuietAt at lane until) ≡ (if nat_lt (version_after before) 4 then Some why.Order
+    else if nat_le (length (layout_of before).lanes) lane then Some why.Lane else if nat_lt LATEST_MOMENT at then Some why.Moment else None)
+quiet_kind before at lane until part = kind_is before (line.QuietAt at lane until) ∙ rw part refl

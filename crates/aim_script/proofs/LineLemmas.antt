@@ -1,12 +1,12 @@
 -- What a line that goes on says of the lines before it.
-use Rattle.std.proofs.Common.{◌≡◌, ℕ, zero, suc, Bool, true, false, cond, not, List, [], ◌∷◌, Option, Some, None, refl, take, slice_get}
+use Rattle.std.proofs.Common.{◌≡◌, ℕ, zero, suc, Bool, true, false, cond, not, ◌||◌, List, [], ◌∷◌, Option, Some, None, Result, Ok, Err, refl, take, slice_get}
 use Rattle.std.specs.Prelude.{find, option_map}
 use Rattle.aim_messages.specs.declared.script.Line.{Line as ScriptLine}
 use Rattle.aim_script_reading.specs.Verdicts.{IsScript}
 use Rattle.aim_script.specs.declared.decisions.Kind.{Kind}
 use Rattle.aim_script.specs.Order.{may_follow}
-use Rattle.aim_script.specs.Said.{last_of}
-use Rattle.aim_script.specs.Kinds.{Test, kinds, kind_of_fault, limit_of}
+use Rattle.aim_script.specs.Said.{version_after, last_of}
+use Rattle.aim_script.specs.Kinds.{Test, kinds, kind_of_fault, limit_of, is_of_later}
 use Rattle.aim_script.specs.Verdicts.{Reads, replay_rules}
 
 -- the line has no fault, and goes past no limit
@@ -57,7 +57,11 @@ pub passes : (before : List ScriptLine) (l : ScriptLine) (n : ℕ) → GoesOn be
 passes before l n g = row_none before l n kinds (map_none (λ row. row.0) (find (λ row. row.1 before l) kinds) g.no_fault)
 
 pub in_order : (before : List ScriptLine) (l : ScriptLine) → GoesOn before l → may_follow (last_of before) l ≡ true
-in_order before l g = not_false (may_follow (last_of before) l) (passes before l 0 g)
+in_order before l g = not_false (may_follow (last_of before) l) (first (not (may_follow (last_of before) l)) (is_of_later before l) (passes before l 0 g))
+  where
+    first : (a b : Bool) → (a || b) ≡ false → a ≡ false
+    first false b h = refl
+    first true b h = absurd (cc)
 
 pub lines_in_order : (reads : Reads) (lines : List ScriptLine) → IsScript (replay_rules reads) lines → (k : ℕ) (l : ScriptLine) → slice_get lines k ≡ Some l → may_follow (last_of (take k lines)) l ≡ true
 lines_in_order reads lines s k l at = in_order (take k lines) l (each_goes_on reads lines s k l at)

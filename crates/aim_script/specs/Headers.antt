@@ -112,6 +112,7 @@ Heeds before l (Err refusal.NoMemory) = Unit {0}
 -- the kind of a line whose move is refused
 abbrev pub move_kind_of : LayoutFault → Kind
 move_kind_of (fault.Spacing lane turn station) = kind.Spacing
+move_kind_of (fault.Border lane turn) = kind.Border
 move_kind_of _ = kind.Move
 
 -- a line that names no version and no vehicles

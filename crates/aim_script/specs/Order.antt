@@ -22,6 +22,7 @@ part_after (Some (line.Version n)) = to_ground
 part_after (Some (line.Grid g)) = to_times
 part_after (Some (line.Times t)) = to_lanes
 part_after (Some (line.Times6 t)) = to_lanes
+part_after (Some (line.Times7 t)) = to_lanes
 part_after (Some (line.Lanes n)) = in_moves
 part_after (Some (line.Move lane turn shape)) = in_moves
 part_after (Some (line.Policy name k)) = in_policies
@@ -31,6 +32,7 @@ part_after (Some line.Begin) = in_body
 part_after (Some (line.Event vehicle moment message)) = in_body
 part_after (Some (line.SwitchTo moment name)) = in_body
 part_after (Some (line.StopAt moment)) = in_body
+part_after (Some (line.QuietAt moment lane until)) = in_body
 part_after (Some _) = nothing
 
 -- whether a line of that form may stand in the part
@@ -39,6 +41,7 @@ belongs to_version (line.Version n) = true
 belongs to_ground (line.Grid g) = true
 belongs to_times (line.Times t) = true
 belongs to_times (line.Times6 t) = true
+belongs to_times (line.Times7 t) = true
 belongs to_lanes (line.Lanes n) = true
 belongs in_moves (line.Move lane turn shape) = true
 belongs in_moves (line.Policy name k) = true
@@ -50,6 +53,7 @@ belongs to_begin line.Begin = true
 belongs in_body (line.Event vehicle moment message) = true
 belongs in_body (line.SwitchTo moment name) = true
 belongs in_body (line.StopAt moment) = true
+belongs in_body (line.QuietAt moment lane until) = true
 belongs in_body line.End = true
 belongs _ _ = false
 

@@ -7,6 +7,7 @@ use Rattle.aim_messages.specs.declared.entries.TheConstants.{OPERATOR}
 use Rattle.aim_messages.specs.declared.script.Grid6.{Grid6}
 use Rattle.aim_messages.specs.declared.script.Times5.{Times5}
 use Rattle.aim_messages.specs.declared.script.Times6.{Times6}
+use Rattle.aim_messages.specs.declared.script.Times7.{Times7}
 use Rattle.aim_messages.specs.declared.script.MoveShape.{MoveShape}
 use Rattle.aim_messages.specs.declared.script.MoveShape.TheVariants as shape
 use Rattle.aim_messages.specs.declared.script.Line.{Line}
@@ -35,12 +36,16 @@ version_after lines = unwrap_or (find_map version_in lines) 1
 abbrev pub grid_of : Grid6 → Grid
 grid_of g = record { side = g.side; n = g.n; spacing = g.spacing; fixed = g.fixed; half = g.half; spans = g.spans }
 
--- In these versions no request has a window. In version 1 the time buffer of inner tiles is the same before and after
+-- Before version 4 no request has a window. In version 1 the time buffer of inner tiles is the same before and after
 abbrev pub times_of : Times5 → Times
 times_of t = record { horizon = t.horizon; longest = t.longest; clearance = t.clearance; early = t.internal; late = t.internal; edge = t.edge; window = 0 }
 
 abbrev pub times6_of : Times6 → Times
 times6_of t = record { horizon = t.horizon; longest = t.longest; clearance = t.clearance; early = t.early; late = t.late; edge = t.edge; window = 0 }
+
+abbrev pub times7_of : Times7 → Times
+times7_of t =
+    record { horizon = t.horizon; longest = t.longest; clearance = t.clearance; early = t.early; late = t.late; edge = t.edge; window = t.window }
 
 abbrev pub kind_of : ℕ → PolicyKind
 kind_of k = if k == 0 then kind.Fcfs else if k == 1 then kind.Emerg else if k == 2 then kind.Light else kind.LightEmerg
@@ -48,6 +53,7 @@ kind_of k = if k == 0 then kind.Fcfs else if k == 1 then kind.Emerg else if k ==
 abbrev pub shape_of : MoveShape → Shape
 shape_of (shape.Line x0 y0 x1 y1 m) = path.Line x0 y0 x1 y1 m
 shape_of (shape.Curve x0 y0 x1 y1 x2 y2 m) = path.Curve x0 y0 x1 y1 x2 y2 m
+shape_of (shape.Path x0 y0 legs) = path.Path x0 y0 legs
 
 -- what a line says of a layout
 abbrev pub grid_in : Line → Option Grid
@@ -57,6 +63,7 @@ grid_in _ = None
 abbrev pub times_in : Line → Option Times
 times_in (line.Times t) = Some (times_of t)
 times_in (line.Times6 t) = Some (times6_of t)
+times_in (line.Times7 t) = Some (times7_of t)
 times_in _ = None
 
 abbrev pub lanes_in : Line → Option ℕ
@@ -124,6 +131,7 @@ call_in names (line.Event vehicle moment message) = Some (record { caller = vehi
 call_in names (line.SwitchTo moment name) =
     Some (record { caller = OPERATOR; moment = moment; act = act.Order (order.Switch (number_of names (name_word name))) })
 call_in names (line.StopAt moment) = Some (record { caller = OPERATOR; moment = moment; act = act.Order order.Stop })
+call_in names (line.QuietAt moment lane until) = Some (record { caller = OPERATOR; moment = moment; act = act.Order (order.Quiet lane until) })
 call_in names _ = None
 
 -- the calls of the events and orders, in their order

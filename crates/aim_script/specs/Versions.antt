@@ -7,3 +7,4 @@ abbrev pub version_number : ScriptVersion → ℕ
 version_number version.One = 1
 version_number version.Two = 2
 version_number version.Three = 3
+version_number version.Four = 4

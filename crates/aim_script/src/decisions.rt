@@ -25,7 +25,7 @@ pub enum Kind {
     Form,
     /// A line of that form may not stand at that place.
     Order,
-    /// The version isn't 1, 2 or 3.
+    /// The version isn't 1 to 4.
     Version,
     /// A number of the grid is out of its range, or the number of rows doesn't divide the side.
     Grid,
@@ -33,12 +33,14 @@ pub enum Kind {
     Buffers,
     /// One of the times is out of its range.
     Times,
-    /// There are no lanes, or more than 16.
+    /// There are no lanes, or more than 16; or the lane of an order isn't there.
     Lane,
     /// The lane isn't there or has that turn already, or the shape is out of its ranges.
     Move,
     /// Two stations of the path are farther apart than the spacing.
     Spacing,
+    /// The path begins or ends within the ground, and not at its border, in version 4.
+    Border,
     /// The policy's name was given before, or the name of a switch wasn't.
     Policy,
     /// The policy or phase can't be added, or a policy or a phase is missing.
@@ -109,6 +111,7 @@ fn kind_text(kind: Kind) -> &'static [u8]
         Kind::Lane => b"lane",
         Kind::Move => b"move",
         Kind::Spacing => b"spacing",
+        Kind::Border => b"border",
         Kind::Policy => b"policy",
         Kind::Phase => b"phase",
         Kind::Vehicle => b"vehicle",

@@ -4,9 +4,10 @@ ghost use Rattle.std.specs.Prelude.{◌≡◌, ◌==◌, ℕ, false, List, [], N
 ghost use Rattle.aim_messages.specs.declared.script.Line.{Line};
 ghost use Rattle.aim_messages.specs.declared.script.Times5.{Times5};
 ghost use Rattle.aim_messages.specs.declared.script.Times6.{Times6};
+ghost use Rattle.aim_messages.specs.declared.script.Times7.{Times7};
 ghost use Rattle.aim_messages.specs.Lines.{IsName};
 ghost use Rattle.aim_layout.specs.Building.{finish_fault};
-ghost use Rattle.aim_script.specs.Said.{grid_of as grid_from, kind_of, shape_of as shape_from, times6_of as times_from_six, times_of as times_from, version_after};
+ghost use Rattle.aim_script.specs.Said.{grid_of as grid_from, kind_of, shape_of as shape_from, times6_of as times_from_six, times7_of as times_from_seven, times_of as times_from, version_after};
 ghost use Rattle.aim_script.specs.Versions.{version_number};
 ghost use Rattle.aim_script.specs.Headers.{AddsPolicy, Closes, Goes, HasName, Heeds, SaysNoMore, Stands, StandsAt, adds, move_kind_of};
 
@@ -17,7 +18,7 @@ use crate::versions::ScriptVersion;
 use aim_geometry::{Grid, Ground, GroundFault, Times};
 use aim_layout::builders::{Builder, LayoutFault};
 use aim_layout::{Layout, PolicyKind, Shape};
-use aim_messages::{Grid6, Line, MoveShape, Name, Times5, Times6, Turn};
+use aim_messages::{Grid6, Line, MoveShape, Name, Times5, Times6, Times7, Turn};
 use std::alloc::Global;
 
 /// Where a header stands, and what is kept of the lines so far.
@@ -104,6 +105,21 @@ fn times_of_six(times: &Times6) -> Times
     }
 }
 
+// The times of a line with seven numbers.
+fn times_of_seven(times: &Times7) -> Times
+    ensures { result ≡ times_from_seven times.now }
+{
+    Times {
+        horizon: times.horizon,
+        longest: times.longest,
+        clearance: times.clearance,
+        early: times.early,
+        late: times.late,
+        edge: times.edge,
+        window: times.window,
+    }
+}
+
 // The shape of a line.
 fn shape_of(shape: &MoveShape) -> Shape
     ensures { result ≡ shape_from shape.now }
@@ -127,6 +143,7 @@ fn shape_of(shape: &MoveShape) -> Shape
             y2,
             m,
         },
+        MoveShape::Path { x0, y0, legs } => Shape::Path { x0, y0, legs },
     }
 }
 
@@ -148,6 +165,7 @@ fn move_kind(fault: LayoutFault) -> Kind
 {
     match fault {
         LayoutFault::Spacing { .. } => Kind::Spacing,
+        LayoutFault::Border { .. } => Kind::Border,
         _ => Kind::Move,
     }
 }
@@ -260,6 +278,7 @@ impl Place {
     fn times(&self, times: Times) -> Result<Place, HeaderRefusal>
         ensures five { (before : List Line) (t : Times5) → times ≡ times_from t → StandsAt before self.now → Goes before (Line.Times t) result }
         ensures six { (before : List Line) (t : Times6) → times ≡ times_from_six t → StandsAt before self.now → Goes before (Line.Times6 t) result }
+        ensures seven { (before : List Line) (t : Times7) → times ≡ times_from_seven t → StandsAt before self.now → Goes before (Line.Times7 t) result }
     {
         match self {
             Place::Times(grid) => match Ground::build(*grid, times) {
@@ -342,6 +361,7 @@ impl Place {
             Line::Grid(grid) => self.grid(grid),
             Line::Times(times) => self.times(times_of(times)),
             Line::Times6(times) => self.times(times_of_six(times)),
+            Line::Times7(times) => self.times(times_of_seven(times)),
             Line::Lanes(lanes) => self.lanes(alloc, version, *lanes),
             _ => Err(HeaderRefusal::Bad(Kind::Order)),
         }

@@ -13,18 +13,21 @@ pub enum ScriptVersion {
     Two,
     /// Lights that give way to emergencies, and drivers that enter early.
     Three,
+    /// Windows of arrivals, quiet lanes and paths of legs.
+    Four,
 }
 
 impl ScriptVersion {
-    /// The version of that number, or `None` exactly where it isn't 1, 2 or 3.
+    /// The version of that number, or `None` exactly where it isn't 1 to 4.
     pub fn of(number: u32) -> Option<ScriptVersion>
         ensures known { IfSome result (λ version. version_number version ≡ number) }
-        ensures unknown { IsNone result ↔ IsTrue (is_outside number 3) }
+        ensures unknown { IsNone result ↔ IsTrue (is_outside number 4) }
     {
         match number {
             1 => Some(ScriptVersion::One),
             2 => Some(ScriptVersion::Two),
             3 => Some(ScriptVersion::Three),
+            4 => Some(ScriptVersion::Four),
             _ => None,
         }
     }
@@ -33,12 +36,13 @@ impl ScriptVersion {
     pub fn number(self) -> u8
         ensures number { result ≡ version_number self }
         ensures some { 0 < result }
-        ensures most { result ≤ 3 }
+        ensures most { result ≤ 4 }
     {
         match self {
             ScriptVersion::One => 1,
             ScriptVersion::Two => 2,
             ScriptVersion::Three => 3,
+            ScriptVersion::Four => 4,
         }
     }
 }

@@ -47,6 +47,7 @@ pub record IsRefused (w : Spelled) (d : Decision) (before after : List Line) (te
 abbrev pub MayLackRoom : List Line → Line → Type 0
 MayLackRoom before (line.SwitchTo moment name) = 262144 ≤ orders_in before
 MayLackRoom before (line.StopAt moment) = 262144 ≤ orders_in before
+MayLackRoom before (line.QuietAt moment lane until) = 262144 ≤ orders_in before
 MayLackRoom before _ = ⊥
 
 -- What a line is answered, the one of that number in the input, behind the lines that were taken: which lines are taken then, and what is written.

@@ -126,6 +126,7 @@ order_act_again : (o : Order) (ws : Words) → IsAct (act.Order o) → act_in No
 unfolding act_in word_in order_in
 order_act_again (order.Switch policy) ws r = rw (n8 policy ws r) refl
 order_act_again order.Stop ws r = refl
+order_act_again (order.Quiet lane until) ws r = rw (n8 lane _ r.0, n32 until ws r.1) refl
 
 -- the form of a reason
 abbrev form_of_reason : Reason → ReasonForm
@@ -187,6 +188,7 @@ answer_again reply.EmergencyStop r = refl
 answer_again (reply.Stale seq) r = rw (n32 seq _ r) refl
 answer_again (reply.Switched from) r = rw (n32 from _ r) refl
 answer_again reply.Stopped r = refl
+answer_again reply.Quieted r = refl
 
 call_again : (caller moment : ℕ) (a : Act) (r : Reply) → IsCallerOf caller a → Is32 moment → IsAct a → ActHasWindow a → IsReply r
     → call_in (caller_word caller a ∷ decimal moment ∷ (act_words a ++ codes "->" ∷ reply_words r)) ≡ Ok (record { caller = caller; moment = moment; act = a; reply = r }, [])
@@ -242,11 +244,13 @@ reply_are_words reply.EmergencyStop r = (refl, tt)
 reply_are_words (reply.Stale seq) r = (refl, (w32 seq r, tt))
 reply_are_words (reply.Switched from) r = (refl, (w32 from r, tt))
 reply_are_words reply.Stopped r = (refl, tt)
+reply_are_words reply.Quieted r = (refl, tt)
 
 act_are_words : (a : Act) → IsAct a → AreWords (act_words a)
 act_are_words (act.Message m) r = message_are_words m r
 act_are_words (act.Order (order.Switch policy)) r = (refl, (w8 policy r, tt))
 act_are_words (act.Order order.Stop) r = (refl, tt)
+act_are_words (act.Order (order.Quiet lane until)) r = (refl, (w8 lane r.0, (w32 until r.1, tt)))
 
 caller_is_word : (caller : ℕ) (a : Act) → Is32 caller → IsWord (caller_word caller a)
 caller_is_word caller (act.Message m) c = w32 caller c
@@ -273,6 +277,7 @@ some_words reply.EmergencyStop = omega arith
 some_words (reply.Stale seq) = omega arith
 some_words (reply.Switched from) = omega arith
 some_words reply.Stopped = omega arith
+some_words reply.Quieted = omega arith
 
 words_split : (ws : Words) → AreWords ws → 0 < length ws → words_of (spaced ws) ≡ ws
 words_split [] are some = absurd (omega arith)
@@ -299,6 +304,14 @@ order_alone (order.Switch p) (order.Switch q) ws vs a b e = let same = alone8 p 
 order_alone (order.Switch p) order.Stop ws vs a b e = absurd (other_word (codes "switch") (codes "stop") refl (ap first e))
 order_alone order.Stop (order.Switch q) ws vs a b e = absurd (other_word (codes "stop") (codes "switch") refl (ap first e))
 order_alone order.Stop order.Stop ws vs a b e = (refl, ap rest e)
+order_alone (order.Switch p) (order.Quiet l u) ws vs a b e = absurd (other_word (codes "switch") (codes "quiet") refl (ap first e))
+order_alone order.Stop (order.Quiet l u) ws vs a b e = absurd (other_word (codes "stop") (codes "quiet") refl (ap first e))
+order_alone (order.Quiet l u) (order.Switch q) ws vs a b e = absurd (other_word (codes "quiet") (codes "switch") refl (ap first e))
+order_alone (order.Quiet l u) order.Stop ws vs a b e = absurd (other_word (codes "quiet") (codes "stop") refl (ap first e))
+order_alone (order.Quiet l u) (order.Quiet k v) ws vs a b e =
+    let same_lane = alone8 l k a.0 b.0 (ap (λ (us : Words). word_at us 1) e) in
+    let same_until = alone32 u v a.1 b.1 (ap (λ (us : Words). word_at us 2) e) in
+    ((λ i. order.Quiet (same_lane i) (same_until i)), ap (from 3) e)
 
 -- a vehicle's word is none of the operator's
 no_operator : (n : ℕ) → Is32 n → decimal n ≡ codes "operator" → ⊥

@@ -56,6 +56,9 @@ switch = refl
 stop : entry_at (codes "1 operator 2 stop -> stopped") ≡ Ok (1, record { caller = 65536; moment = 2; act = act.Order order.Stop; reply = reply.Stopped })
 stop = refl
 
+quiet : entry_at (codes "2 operator 3 quiet 255 4294967295 -> quieted") ≡ Ok (2, record { caller = 65536; moment = 3; act = act.Order (order.Quiet 255 4294967295); reply = reply.Quieted })
+quiet = refl
+
 emergency_stop : told (codes "emergency-stop") ≡ tells reply.EmergencyStop
 emergency_stop = refl
 
@@ -128,6 +131,15 @@ message_of_operator = refl
 
 policy_range : entry_at (codes "0 operator 2 switch 256 -> switched 1502") ≡ Err kind.Range
 policy_range = refl
+
+quiet_lane_range : entry_at (codes "0 operator 2 quiet 256 1502 -> quieted") ≡ Err kind.Range
+quiet_lane_range = refl
+
+until_range : entry_at (codes "0 operator 2 quiet 1 4294967296 -> quieted") ≡ Err kind.Range
+until_range = refl
+
+no_until : entry_at (codes "0 operator 2 quiet 1 -> quieted") ≡ Err kind.Number
+no_until = refl
 
 latest_at_arrive : entry_at (codes "0 0 0 request 1 0 straight 10 500 501 0 1000 700 car 10 -> ack 0") ≡ Err kind.Range
 latest_at_arrive = refl

@@ -131,6 +131,10 @@ order_part command.Switch w ws c n = record {
   ranges = in8 ws n.0;
 }
 order_part command.Stop w ws c n = record { spelled = rw (sym c) refl; ranges = tt }
+order_part command.Quiet w ws c n = record {
+  spelled = rw (sym c) (ap (λ (vs : Words). w ∷ vs) (front_is (order_places command.Quiet) ws n refl));
+  ranges = (in8 ws n.0, in32 (from 1 ws) n.1.0);
+}
 
 -- who did it: the operator orders, and a vehicle sends messages
 abbrev IsBy : Option ℕ → Act → Type 0
@@ -307,10 +311,11 @@ reply_key answer.EmergencyStop = codes "emergency-stop"
 reply_key answer.Stale = codes "stale"
 reply_key answer.Switched = codes "switched"
 reply_key answer.Stopped = codes "stopped"
+reply_key answer.Quieted = codes "quieted"
 
 reply_chosen : (w : List ℕ) (a : ReplyForm) → reply_form w ≡ Ok a → w ≡ reply_key a
 unfolding reply_key
-reply_chosen w a h = look_up_has (λ v f. v ≡ reply_key f) kind.Words reply_forms w a (refl, (refl, (refl, (refl, (refl, (refl, (refl, tt))))))) h
+reply_chosen w a h = look_up_has (λ v f. v ≡ reply_key f) kind.Words reply_forms w a (refl, (refl, (refl, (refl, (refl, (refl, (refl, (refl, tt)))))))) h
 
 reply_part : (a : ReplyForm) (w : List ℕ) (ws : Words) → w ≡ reply_key a → NoFaults (reply_places a ws) ws
     → IsPart (reply_words (reply_of a ws)) (behind (reply_places a ws) ws) (w ∷ ws) (IsReply (reply_of a ws))
@@ -335,6 +340,7 @@ reply_part answer.Switched w ws c n = record {
 }
 reply_part answer.EmergencyStop w ws c n = record { spelled = rw (sym c) refl; ranges = tt }
 reply_part answer.Stopped w ws c n = record { spelled = rw (sym c) refl; ranges = tt }
+reply_part answer.Quieted w ws c n = record { spelled = rw (sym c) refl; ranges = tt }
 
 answer_part : (w : List ℕ) (ws : Words) (r : Result ReplyForm LineKind) → reply_form w ≡ r → NoFaults (answer_places r (w ∷ ws)) (w ∷ ws)
     → IsPart (reply_words (answer_of r (w ∷ ws))) (behind (answer_places r (w ∷ ws)) (w ∷ ws)) (w ∷ ws) (IsReply (answer_of r (w ∷ ws)))

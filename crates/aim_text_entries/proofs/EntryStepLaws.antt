@@ -65,6 +65,7 @@ order_step : {B : Type 0} (o : OrderForm) (ws : Words) (f : Order × Words → R
 unfolding order_in
 order_step command.Switch ws f b later h = bind_more _ _ _ _ _ _ _ h
 order_step command.Stop ws f b later h = h
+order_step command.Quiet ws f b later h = bind_more _ _ _ _ _ _ _ (bind_more _ _ _ _ _ _ _ h)
 
 order_more : {B C : Type 0} (o : OrderForm) (ws : Words) (g : Order × Words → Result B LineKind) (f : B → Result C LineKind) (c : C) (later : Option LineKind)
     → (g (order_of o ws, behind (order_places o) ws) >>= f) ≡ unless c later
@@ -153,6 +154,7 @@ reply_step answer.EmergencyStop ws f b later h = h
 reply_step answer.Stale ws f b later h = bind_more _ _ _ _ _ _ _ h
 reply_step answer.Switched ws f b later h = bind_more _ _ _ _ _ _ _ h
 reply_step answer.Stopped ws f b later h = h
+reply_step answer.Quieted ws f b later h = h
 
 answer_form : {B : Type 0} (w : List ℕ) (ws : Words) (f : Reply × Words → Result B LineKind) (b : B) (later : Option LineKind)
     (r : Result ReplyForm LineKind) → ((k : LineKind) → r ≡ Err k → k ≡ kind.Words)

@@ -76,6 +76,7 @@ reply_places answer.EmergencyStop words = []
 reply_places answer.Stale words = number32 ∷ []
 reply_places answer.Switched words = number32 ∷ []
 reply_places answer.Stopped words = []
+reply_places answer.Quieted words = []
 
 abbrev pub answer_places : Result ReplyForm LineKind → Words → List Place
 answer_places (Ok a) words = chosen ∷ reply_places a (rest words)
@@ -85,6 +86,7 @@ answer_places (Err k) words = wrong ∷ []
 abbrev pub order_places : OrderForm → List Place
 order_places command.Switch = number8 ∷ []
 order_places command.Stop = []
+order_places command.Quiet = number8 ∷ number32 ∷ []
 
 abbrev pub order_act_places : Result OrderForm LineKind → List Place
 order_act_places (Ok o) = chosen ∷ order_places o
@@ -174,6 +176,7 @@ reply_of answer.EmergencyStop words = reply.EmergencyStop
 reply_of answer.Stale words = reply.Stale (at words 0)
 reply_of answer.Switched words = reply.Switched (at words 0)
 reply_of answer.Stopped words = reply.Stopped
+reply_of answer.Quieted words = reply.Quieted
 
 -- a reply, and any where the words have no form
 abbrev pub answer_of : Result ReplyForm LineKind → Words → Reply
@@ -184,6 +187,7 @@ answer_of (Err k) words = reply.Stopped
 abbrev pub order_of : OrderForm → Words → Order
 order_of command.Switch words = order.Switch (at words 0)
 order_of command.Stop words = order.Stop
+order_of command.Quiet words = order.Quiet (at words 0) (at words 1)
 
 -- an order, and any where the words have no form
 abbrev pub order_act_of : Result OrderForm LineKind → Words → Act

@@ -31,6 +31,10 @@ order_in command.Switch words = do
   policy ← lane_in words
   Ok (order.Switch policy.0, policy.1)
 order_in command.Stop words = Ok (order.Stop, words)
+order_in command.Quiet words = do
+  lane ← lane_in words
+  until ← number_in lane.1
+  Ok (order.Quiet lane.0 until.0, until.1)
 
 unfoldable pub act_in : Option ℕ → Words → Read Act
 act_in None words = do
@@ -104,6 +108,7 @@ reply_in answer.EmergencyStop words = Ok (reply.EmergencyStop, words)
 reply_in answer.Stale words = number_in words >>= λ n. Ok (reply.Stale n.0, n.1)
 reply_in answer.Switched words = number_in words >>= λ n. Ok (reply.Switched n.0, n.1)
 reply_in answer.Stopped words = Ok (reply.Stopped, words)
+reply_in answer.Quieted words = Ok (reply.Quieted, words)
 
 unfoldable pub answer_in : Words → Read Reply
 answer_in words = do

@@ -18,6 +18,7 @@ reply_forms =
     ∷ (codes "stale", reply.Stale)
     ∷ (codes "switched", reply.Switched)
     ∷ (codes "stopped", reply.Stopped)
+    ∷ (codes "quieted", reply.Quieted)
     ∷ []
 
 abbrev pub reply_form : List ℕ → Result ReplyForm LineKind

@@ -14,6 +14,7 @@ abbrev pub IsAct : Act → Type 0
 IsAct (act.Message m) = IsMessage m
 IsAct (act.Order (order.Switch policy)) = Is8 policy
 IsAct (act.Order order.Stop) = Unit {0}
+IsAct (act.Order (order.Quiet lane until)) = Is8 lane × Is32 until
 
 abbrev pub IsReason : Reason → Type 0
 IsReason (reason.Holds id) = Is32 id
@@ -37,6 +38,7 @@ IsReply reply.EmergencyStop = Unit {0}
 IsReply (reply.Stale seq) = Is32 seq
 IsReply (reply.Switched from) = Is32 from
 IsReply reply.Stopped = Unit {0}
+IsReply reply.Quieted = Unit {0}
 
 pub record IsEntry (e : Entry) : Type 0 where
   pub caller : Is32 e.caller

@@ -35,6 +35,10 @@ fn order(words: &mut Words<'_>, form: OrderForm) -> Result<Order, LineKind>
     match form {
         OrderForm::Switch => Ok(Order::Switch(number8(words)?)),
         OrderForm::Stop => Ok(Order::Stop),
+        OrderForm::Quiet => Ok(Order::Quiet {
+            lane: number8(words)?,
+            until: number32(words)?,
+        }),
     }
 }
 

@@ -15,6 +15,7 @@ pub enum ReplyForm {
     Stale,
     Switched,
     Stopped,
+    Quieted,
 }
 
 /// The forms of reasons.
@@ -34,7 +35,7 @@ pub enum ReasonForm {
     Reused,
 }
 
-const REPLIES: [(&[u8], ReplyForm); 7] = [
+const REPLIES: [(&[u8], ReplyForm); 8] = [
     (b"confirm", ReplyForm::Confirm),
     (b"reject", ReplyForm::Reject),
     (b"ack", ReplyForm::Ack),
@@ -42,6 +43,7 @@ const REPLIES: [(&[u8], ReplyForm); 7] = [
     (b"stale", ReplyForm::Stale),
     (b"switched", ReplyForm::Switched),
     (b"stopped", ReplyForm::Stopped),
+    (b"quieted", ReplyForm::Quieted),
 ];
 
 const REASONS: [(&[u8], ReasonForm); 12] = [

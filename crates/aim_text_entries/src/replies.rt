@@ -168,6 +168,7 @@ fn reply_of(words: &mut Words<'_>, form: ReplyForm) -> Result<Reply, LineKind>
             from: number32(words)?,
         }),
         ReplyForm::Stopped => Ok(Reply::Stopped),
+        ReplyForm::Quieted => Ok(Reply::Quieted),
     }
 }
 

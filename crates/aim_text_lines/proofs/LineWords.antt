@@ -1,5 +1,6 @@
 -- The words of lines have no space.
-use Rattle.std.proofs.Common.{◌≡◌, ℕ, zero, suc, ◌+◌, ◌≤◌, ◌==◌, nat_le, Bool, true, false, not, List, [], ◌∷◌, map, filter, take, decimal, refl, arith, inl, inr}
+use Rattle.std.proofs.Common.{◌≡◌, ℕ, zero, suc, ◌+◌, ◌≤◌, ◌==◌, nat_le, Bool, true, false, not, List, [], ◌∷◌, ◌++◌, map, filter, take, decimal, refl, arith, inl, inr}
+use Rattle.std.specs.Prelude.{flat_map}
 use Rattle.std.specs.List.{list_all, range_with_len}
 use Rattle.std.proofs.lemmas.Bool.{cases_Bool, and_parts, eqb-true, leb-true, lt-ltb}
 use Rattle.aim_messages.specs.declared.script.MoveShape.{MoveShape}
@@ -8,16 +9,22 @@ use Rattle.aim_messages.specs.declared.script.Name.{Name}
 use Rattle.aim_messages.specs.declared.script.Line.{Line}
 use Rattle.aim_messages.specs.declared.script.Line.TheVariants as line
 use Rattle.aim_messages.specs.Texts.{vehicle_words}
-use Rattle.aim_messages.specs.Lines.{name_word, kind_word, fate_word, window_word, window_words, has_lane, all_lanes, lane_words, shape_words, line_words, IsName, is_name_byte, KeepsRanges}
-use Rattle.aim_text_lines.specs.Ranges.{IsShape, IsLine}
+use Rattle.aim_messages.specs.Lines.{name_word, kind_word, fate_word, window_word, window_words, wait_words, has_lane, all_lanes, lane_words, leg_words, shape_words, line_words, IsName, is_name_byte, KeepsRanges}
+use Rattle.aim_text_words.specs.Ranges.{Is32}
+use Rattle.aim_text_lines.specs.Ranges.{AreLegs, IsShape, IsLine}
 use Rattle.aim_text_words.proofs.NumberLaws.{is_visible, decimal_visible}
 use Rattle.aim_text_words.proofs.WordLaws.{IsWord, AreWords, words_append}
 use Rattle.aim_text_words.proofs.MessageWords.{w32, w8, turn_is_word, vehicle_are_words, message_are_words}
+
+legs_are_words : (legs : List (ℕ × ℕ × ℕ)) → AreLegs legs → AreWords (flat_map leg_words legs)
+legs_are_words [] are = tt
+legs_are_words (l ∷ legs) are = (w32 l.0 are.0.0, (w32 l.1 are.0.1, (w32 l.2 are.0.2, legs_are_words legs are.1)))
 
 shape_are_words : (s : MoveShape) → IsShape s → AreWords (shape_words s)
 shape_are_words (shape.Line x0 y0 x1 y1 m) r = (refl, (w32 x0 r.0, (w32 y0 r.1, (w32 x1 r.2, (w32 y1 r.3, (w32 m r.4, tt))))))
 shape_are_words (shape.Curve x0 y0 x1 y1 x2 y2 m) r =
     (refl, (w32 x0 r.0, (w32 y0 r.1, (w32 x1 r.2, (w32 y1 r.3, (w32 x2 r.4, (w32 y2 r.5, (w32 m r.6, tt))))))))
+shape_are_words (shape.Path x0 y0 ls) r = (refl, (w32 x0 r.0, (w32 y0 r.1, legs_are_words (take ls.len ls.legs) r.2)))
 
 name_bytes : (bs : List ℕ) → list_all is_name_byte bs ≡ true → list_all is_visible bs ≡ true
 name_bytes [] h = refl
@@ -88,11 +95,18 @@ window_are_words version ahead = elim (cases_Bool (nat_le 3 version)) [
     window_is_word true = refl
     window_is_word false = refl
 
+wait_are_words : (version wait : ℕ) → Is32 wait → AreWords (wait_words version wait)
+wait_are_words version wait is = elim (cases_Bool (nat_le 4 version)) [
+  | inl waits ↦ rw waits (w32 wait is, tt)
+  | inr not ↦ rw not tt
+]
+
 pub line_are_words : (version : ℕ) (l : Line) → IsLine l → KeepsRanges version l → AreWords (line_words version l)
 line_are_words version (line.Version n) r k = (refl, (w32 n r, tt))
 line_are_words version (line.Grid g) r k = (refl, (w32 g.side r.side, (w32 g.n r.n, (w32 g.spacing r.spacing, (w32 g.fixed r.fixed, (w32 g.half r.half, (w32 g.spans r.spans, tt)))))))
 line_are_words version (line.Times t) r k = (refl, (w32 t.horizon r.horizon, (w32 t.longest r.longest, (w32 t.clearance r.clearance, (w32 t.internal r.internal, (w32 t.edge r.edge, tt))))))
 line_are_words version (line.Times6 t) r k = (refl, (w32 t.horizon r.horizon, (w32 t.longest r.longest, (w32 t.clearance r.clearance, (w32 t.early r.early, (w32 t.late r.late, (w32 t.edge r.edge, tt)))))))
+line_are_words version (line.Times7 t) r k = (refl, (w32 t.horizon r.horizon, (w32 t.longest r.longest, (w32 t.clearance r.clearance, (w32 t.early r.early, (w32 t.late r.late, (w32 t.edge r.edge, (w32 t.window r.window, tt))))))))
 line_are_words version (line.Lanes n) r k = (refl, (w32 n r, tt))
 line_are_words version (line.Move lane turn s) r k = (refl, (w8 lane r.0, (turn_is_word turn, shape_are_words s r.1)))
 line_are_words version (line.Policy name kind) r k = (refl, (name_is_word name k.0, (kind_is_word kind, tt)))
@@ -102,8 +116,9 @@ line_are_words version line.Begin r k = (refl, tt)
 line_are_words version (line.Event vehicle moment m) r k = (w32 vehicle r.0, (w32 moment r.1, message_are_words m r.2))
 line_are_words version (line.SwitchTo moment name) r k = (refl, (w32 moment r.0, (refl, (name_is_word name k, tt))))
 line_are_words version (line.StopAt moment) r k = (refl, (w32 moment r, (refl, tt)))
+line_are_words version (line.QuietAt moment lane until) r k = (refl, (w32 moment r.0, (refl, (w8 lane r.1, (w32 until r.2, tt)))))
 line_are_words version (line.Until step) r k = (refl, (w32 step r, tt))
-line_are_words version (line.PlanFor vehicle first lead resend params ahead) r k = (
+line_are_words version (line.PlanFor vehicle first lead resend params ahead wait) r k = (
   refl,
   (
     w32 vehicle r.0,
@@ -117,7 +132,8 @@ line_are_words version (line.PlanFor vehicle first lead resend params ahead) r k
             w8 params.lane r.4.lane,
             (
               turn_is_word params.turn,
-              words_append (vehicle_words params) (window_words version ahead) (vehicle_are_words params r.4) (window_are_words version ahead),
+              words_append (vehicle_words params) (window_words version ahead ++ wait_words version wait) (vehicle_are_words params r.4)
+                  (words_append (window_words version ahead) (wait_words version wait) (window_are_words version ahead) (wait_are_words version wait r.5)),
             ),
           ),
         ),

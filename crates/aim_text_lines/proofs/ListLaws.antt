@@ -1,5 +1,5 @@
 -- Lists of lanes and of fates, element by element.
-use Rattle.std.proofs.Common.{◌≡◌, ℕ, ◌+◌, ◌-◌, ◌*◌, ◌%◌, ◌^◌, ◌<◌, ◌≤◌, Bool, true, false, ◌||◌, not, nat_lt, List, [], ◌∷◌, length, take, drop, set, replicate, Option, Some, None, Ok, Err, refl, sym, ap, ◌∙◌, arith, add-one, cond, ltb-false, drop-drop, length-take-le}
+use Rattle.std.proofs.Common.{◌≡◌, ℕ, suc, get_or, ◌+◌, ◌-◌, ◌*◌, ◌%◌, ◌^◌, ◌<◌, ◌≤◌, Bool, true, false, ◌||◌, not, nat_lt, List, [], ◌∷◌, length, take, drop, set, replicate, Option, Some, None, Ok, Err, refl, sym, ap, ◌∙◌, arith, add-one, cond, ltb-false, drop-drop, length-take-le}
 use Rattle.std.proofs.Math.Nat.{mod-eq_of_lt, pow-suc}
 use Rattle.std.proofs.Math.Pow.{pow_mono}
 use Rattle.std.proofs.lemmas.List.{take_more_set, drop-set-lt, drop-replicate, take-append-drop}
@@ -10,8 +10,8 @@ use Rattle.aim_text_words.specs.Faults.{value_of, is_number, number_fault, word_
 use Rattle.aim_text_lines.specs.Forms.{fate}
 use Rattle.aim_text_words.specs.Reading.{unless}
 use Rattle.aim_text_lines.specs.Reading.{fate_of}
-use Rattle.aim_text_words.specs.Steps.{Read, with_rest, read_in}
-use Rattle.aim_text_lines.specs.Steps.{lanes_in, fates_in}
+use Rattle.aim_text_words.specs.Steps.{Read, with_rest, read_in, numbers_in}
+use Rattle.aim_text_lines.specs.Steps.{lanes_in, fates_in, legs_in}
 
 -- a number that is read is the word's, and within the bounds
 pub record IsWithin (low high : ℕ) (word : List ℕ) (n : ℕ) : Type 0 where
@@ -74,3 +74,23 @@ unfolding fates_in
 fates_end fates len size room rest =
     let taken : length (take len fates) ≡ len = length-take-le len fates (omega arith) in
     rw (taken, sym rest, take-append-drop len fates) refl
+
+pub legs_next : (legs : List (ℕ × ℕ × ℕ)) (i count : ℕ) (ws left : Words) (ns : List ℕ) → length legs ≡ 32 → i < 32 → i < count → numbers_in [] 3 ws ≡ Ok (ns, left)
+    → legs_in (take i legs) (count - i) ws ≡ legs_in (take (i + 1) (set legs i (get_or ns 0 0, get_or ns 1 0, get_or ns 2 0))) (count - (i + 1)) left
+unfolding legs_in
+legs_next legs i count ws left ns size room below read =
+    let inside : i < length legs = omega arith in
+    let more : count - i ≡ suc (count - (i + 1)) = omega arith in
+    rw (more, read, take_more_set legs i (get_or ns 0 0, get_or ns 1 0, get_or ns 2 0) inside) refl
+
+pub no_legs_next : (legs : List (ℕ × ℕ × ℕ)) (i : ℕ) (leg : ℕ × ℕ × ℕ) → drop i legs ≡ replicate (32 - i) (0, 0, 0) → drop (i + 1) (set legs i leg) ≡ replicate (32 - (i + 1)) (0, 0, 0)
+no_legs_next legs i leg rest =
+    let less : 32 - i - 1 ≡ 32 - (i + 1) = omega arith in
+    rw (drop-set-lt (i + 1) legs i leg (omega arith), sym (drop-drop 1 i legs), rest, drop-replicate {X = ℕ × ℕ × ℕ} 1 (32 - i) (0, 0, 0), less) refl
+
+pub legs_end : (legs : List (ℕ × ℕ × ℕ)) (count : ℕ) (ws : Words) → length legs ≡ 32 → count ≤ 32 → drop count legs ≡ replicate (32 - count) (0, 0, 0)
+    → legs_in (take count legs) 0 ws ≡ Ok (record { legs = legs; len = count })
+unfolding legs_in
+legs_end legs count ws size room rest =
+    let taken : length (take count legs) ≡ count = length-take-le count legs (omega arith) in
+    rw (taken, sym rest, take-append-drop count legs) refl

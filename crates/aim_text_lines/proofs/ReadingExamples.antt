@@ -1,9 +1,10 @@
 -- Worked lines: what they spell, or why they spell nothing.
-use Rattle.std.specs.Prelude.{◌≡◌, ℕ, zero, suc, List, [], ◌∷◌, ◌++◌, replicate, Some, None, Ok, codes, refl, true, false}
+use Rattle.std.specs.Prelude.{◌≡◌, ℕ, zero, suc, ◌-◌, length, List, [], ◌∷◌, ◌++◌, replicate, Some, None, Ok, codes, refl, true, false}
 use Rattle.aim_messages.specs.declared.messages.Turn.TheVariants.{Left, Straight}
 use Rattle.aim_messages.specs.declared.messages.Params.{Params}
 use Rattle.aim_messages.specs.declared.messages.Body.{Body}
 use Rattle.aim_messages.specs.declared.messages.Body.TheVariants as body
+use Rattle.aim_messages.specs.declared.script.LegList.{LegList}
 use Rattle.aim_messages.specs.declared.script.MoveShape.TheVariants as shape
 use Rattle.aim_messages.specs.declared.script.Line.{Line}
 use Rattle.aim_messages.specs.declared.script.Line.TheVariants as line
@@ -29,6 +30,9 @@ times_1 = refl
 times_2 : line_at 2 (codes "times 1500 25 20 1 3 4") ≡ Ok (line.Times6 (record { horizon = 1500; longest = 25; clearance = 20; early = 1; late = 3; edge = 4 }))
 times_2 = refl
 
+times_4 : line_at 4 (codes "times 1500 25 20 1 3 4 300") ≡ Ok (line.Times7 (record { horizon = 1500; longest = 25; clearance = 20; early = 1; late = 3; edge = 4; window = 300 }))
+times_4 = refl
+
 lanes_line : line_at 1 (codes "lanes 2") ≡ Ok (line.Lanes 2)
 lanes_line = refl
 
@@ -37,6 +41,15 @@ straight_move = refl
 
 curved_move : line_at 1 (codes "move 255 left curve 0 10500 13500 10500 13500 24000 280") ≡ Ok (line.Move 255 Left (shape.Curve 0 10500 13500 10500 13500 24000 280))
 curved_move = refl
+
+abbrev led : List (ℕ × ℕ × ℕ) → LegList
+led legs = record { legs = legs ++ replicate (32 - length legs) (0, 0, 0); len = length legs }
+
+path_move : line_at 4 (codes "move 1 left path 0 1500 1000 1400 10 2000 0 25") ≡ Ok (line.Move 1 Left (shape.Path 0 1500 (led ((1000, 1400, 10) ∷ (2000, 0, 25) ∷ []))))
+path_move = refl
+
+shortest_path : line_at 4 (codes "move 255 straight path 0 1500 4000 1500 40") ≡ Ok (line.Move 255 Straight (shape.Path 0 1500 (led ((4000, 1500, 40) ∷ []))))
+shortest_path = refl
 
 policy_line : line_at 1 (codes "policy a-1 light") ≡ Ok (line.Policy (record { bytes = 97 ∷ 45 ∷ 49 ∷ replicate 13 0; len = 3 }) 2)
 policy_line = refl
@@ -80,19 +93,22 @@ switch_line = refl
 stop_line : line_at 1 (codes "operator 2 stop") ≡ Ok (line.StopAt 2)
 stop_line = refl
 
+quiet_line : line_at 4 (codes "operator 2 quiet 255 4294967295") ≡ Ok (line.QuietAt 2 255 4294967295)
+quiet_line = refl
+
 until_line : line_at 1 (codes "until 40") ≡ Ok (line.Until 40)
 until_line = refl
 
-plan_1 : line_at 1 (codes "plan 0 1 10 3 1 straight 500 501 0 1000 700 car") ≡ Ok (line.PlanFor 0 1 10 3 (truck 0) false)
+plan_1 : line_at 1 (codes "plan 0 1 10 3 1 straight 500 501 0 1000 700 car") ≡ Ok (line.PlanFor 0 1 10 3 (truck 0) false 0)
 plan_1 = refl
 
-plan_4 : line_at 4 (codes "plan 0 1 10 3 1 straight 500 501 0 1000 700 car start") ≡ Ok (line.PlanFor 0 1 10 3 (truck 0) false)
+plan_4 : line_at 4 (codes "plan 0 1 10 3 1 straight 500 501 0 1000 700 car start 300") ≡ Ok (line.PlanFor 0 1 10 3 (truck 0) false 300)
 plan_4 = refl
 
 policy_4 : line_at 4 (codes "policy both light-emerg") ≡ Ok (line.Policy (name_of (codes "both")) 3)
 policy_4 = refl
 
-plan_3 : line_at 3 (codes "plan 0 1 10 3 1 straight 500 501 0 1000 700 car early") ≡ Ok (line.PlanFor 0 1 10 3 (truck 0) true)
+plan_3 : line_at 3 (codes "plan 0 1 10 3 1 straight 500 501 0 1000 700 car early") ≡ Ok (line.PlanFor 0 1 10 3 (truck 0) true 0)
 plan_3 = refl
 
 change_plan : line_at 1 (codes "change 1 7 12") ≡ Ok (line.ChangeAt 1 7 12)
@@ -153,6 +169,53 @@ plan_of_2 = refl
 
 plan_of_3 : line_fault 2 (codes "plan 0 1 10 3 1 straight 500 501 0 1000 700 car start") ≡ Some kind.Words
 plan_of_3 = refl
+
+times_of_3 : line_fault 4 (codes "times 1500 25 20 1 3 4") ≡ Some kind.Words
+times_of_3 = refl
+
+times_of_4 : line_fault 3 (codes "times 1500 25 20 1 3 4 300") ≡ Some kind.Words
+times_of_4 = refl
+
+plan_of_3_in_4 : line_fault 4 (codes "plan 0 1 10 3 1 straight 500 501 0 1000 700 car start") ≡ Some kind.Words
+plan_of_3_in_4 = refl
+
+plan_of_4 : line_fault 3 (codes "plan 0 1 10 3 1 straight 500 501 0 1000 700 car start 300") ≡ Some kind.Words
+plan_of_4 = refl
+
+path_before_4 : line_fault 3 (codes "move 255 straight path 0 1500 4000 1500 40") ≡ Some kind.Words
+path_before_4 = refl
+
+quiet_before_4 : line_fault 3 (codes "operator 2 quiet 256 x") ≡ Some kind.Words
+quiet_before_4 = refl
+
+quiet_without_until : line_fault 4 (codes "operator 2 quiet 1") ≡ Some kind.Words
+quiet_without_until = refl
+
+no_legs : line_fault 4 (codes "move 1 left path 0 1500") ≡ Some kind.Words
+no_legs = refl
+
+half_a_leg : line_fault 4 (codes "move 1 left path 0 1500 1000 1400 10 2000 0") ≡ Some kind.Words
+half_a_leg = refl
+
+abbrev legs : ℕ → List ℕ
+legs zero = []
+legs (suc n) = codes " 1 2 3" ++ legs n
+
+legs_33 : line_fault 4 (codes "move 1 left path 0 0" ++ legs 33) ≡ Some kind.Words
+legs_33 = refl
+
+legs_32 : line_fault 4 (codes "move 1 left path 0 0" ++ legs 32) ≡ None
+legs_32 = refl
+
+abbrev long_legs : ℕ → List ℕ
+long_legs zero = []
+long_legs (suc n) = codes " 123456 123456 1234" ++ long_legs n
+
+bytes_400 : line_fault 4 (codes "move 1 left path 0 0" ++ long_legs 20) ≡ None
+bytes_400 = refl
+
+bytes_401 : line_fault 4 (codes "move 1 left path 0 x0" ++ long_legs 20) ≡ Some kind.Words
+bytes_401 = refl
 
 latest_before_4 : line_fault 3 (codes "7 20 request 3 1 straight 30 500 501 0 1000 700 car 31") ≡ Some kind.Words
 latest_before_4 = refl
@@ -235,6 +298,15 @@ no_number = refl
 number_before_range : line_fault 1 (codes "1x 4294967296 cancel 1 0") ≡ Some kind.Number
 number_before_range = refl
 
+no_wait : line_fault 4 (codes "plan 0 1 10 3 1 straight 500 501 0 1000 700 car start x") ≡ Some kind.Number
+no_wait = refl
+
+leg_word : line_fault 4 (codes "move 1 left path 0 1500 1000 x 4294967296") ≡ Some kind.Number
+leg_word = refl
+
+until_word : line_fault 4 (codes "operator 2 quiet 1 x") ≡ Some kind.Number
+until_word = refl
+
 latest_word : line_fault 4 (codes "7 20 request 3 1 straight 30 500 501 0 1000 700 car late") ≡ Some kind.Number
 latest_word = refl
 
@@ -259,6 +331,15 @@ move_256 = refl
 
 plan_256 : line_fault 1 (codes "plan 0 1 10 3 256 straight 500 501 0 1000 700 car") ≡ Some kind.Range
 plan_256 = refl
+
+quiet_256 : line_fault 4 (codes "operator 2 quiet 256 x") ≡ Some kind.Range
+quiet_256 = refl
+
+until_too_great : line_fault 4 (codes "operator 2 quiet 1 4294967296") ≡ Some kind.Range
+until_too_great = refl
+
+leg_too_great : line_fault 4 (codes "move 1 left path 0 1500 1000 4294967296 x") ≡ Some kind.Range
+leg_too_great = refl
 
 falling : line_fault 1 (codes "phase 20 80 1 0") ≡ Some kind.Range
 falling = refl

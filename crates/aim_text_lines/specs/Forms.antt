@@ -1,5 +1,5 @@
 -- The tables of script lines: by which words a line's form is chosen, and which places it has.
-use Rattle.std.specs.Prelude.{ℕ, ◌+◌, ◌==◌, Bool, nat_lt, List, [], ◌∷◌, ◌++◌, length, Result, Ok, Err, codes, nat_le, ◌&&◌, if◌then◌else◌, bytes_eq}
+use Rattle.std.specs.Prelude.{ℕ, zero, suc, ◌+◌, ◌-◌, ◌*◌, ◌/◌, ◌==◌, true, Bool, nat_lt, List, [], ◌∷◌, ◌++◌, length, Result, Ok, Err, codes, nat_le, ◌&&◌, if◌then◌else◌, bytes_eq}
 use Rattle.aim_messages.specs.declared.script.LineKind.{LineKind}
 use Rattle.aim_messages.specs.declared.script.LineKind.TheVariants as kind
 use Rattle.aim_text_words.specs.declared.forms.MessageForm.{MessageForm}
@@ -13,20 +13,20 @@ use Rattle.aim_text_words.specs.Tables.{look_up}
 use Rattle.aim_text_words.specs.Faults.{Place, chosen, keyword, name, number, either, from, word_at, begins_with_digit, value_of, number32, number8, turns}
 use Rattle.aim_text_words.specs.Forms.{message_form, order_form, vehicle_places, message_places, message_size, in_window}
 
--- by the fourth word of a move
-abbrev pub shape_forms : List (List ℕ × ShapeForm)
-shape_forms =
-    (codes "line", shape.Line) ∷ (codes "curve", shape.Curve) ∷ []
+-- by the fourth word of a move of so many words, of which a path has six beside three for each leg
+abbrev pub shape_forms : ℕ → List (List ℕ × ShapeForm)
+shape_forms count =
+    (codes "line", shape.Line) ∷ (codes "curve", shape.Curve) ∷ (codes "path", shape.Path ((count - 6) / 3)) ∷ []
 
-abbrev pub shape_form : List ℕ → Result ShapeForm LineKind
-shape_form word = look_up kind.Words shape_forms word
+abbrev pub shape_form : ℕ → List ℕ → Result ShapeForm LineKind
+shape_form count word = look_up kind.Words (shape_forms count) word
 
 -- the form of `times`, and that of `plan`
 abbrev pub times_form : ℕ → LineForm
-times_form version = if version == 1 then form.Times else form.Times6
+times_form version = if version == 1 then form.Times else if nat_le 4 version then form.Times7 else form.Times6
 
 abbrev pub plan_form : ℕ → LineForm
-plan_form version = if nat_le 3 version then form.PlanInWindow else form.Plan
+plan_form version = if nat_le 4 version then form.PlanWithWait else if nat_le 3 version then form.PlanInWindow else form.Plan
 
 -- the form that a line of version 1 has in a version
 abbrev pub in_version : ℕ → LineForm → LineForm
@@ -71,7 +71,7 @@ abbrev pub line_form : ℕ → Words → Result LineForm LineKind
 line_form version words =
     if begins_with_digit (word_at words 0) then map_ok (λ m. form.Event (event_form version (length words) m)) (message_form (word_at words 2))
     else if bytes_eq (word_at words 0) (codes "operator") then map_ok form.Order (order_form (word_at words 2))
-    else if bytes_eq (word_at words 0) (codes "move") then map_ok form.Move (shape_form (word_at words 3))
+    else if bytes_eq (word_at words 0) (codes "move") then map_ok form.Move (shape_form (length words) (word_at words 3))
     else plain_form version (word_at words 0)
 
 -- lanes of a phase: each below 16 and above the one before it
@@ -98,10 +98,16 @@ windows = keyword (codes "early" ∷ codes "start" ∷ [])
 abbrev pub plan_places : List Place
 plan_places = chosen ∷ number32 ∷ number32 ∷ number32 ∷ number32 ∷ number8 ∷ turns ∷ vehicle_places
 
+-- of so many legs: where each ends, and in how many parts
+abbrev pub leg_places : ℕ → List Place
+leg_places zero = []
+leg_places (suc legs) = number32 ∷ number32 ∷ number32 ∷ leg_places legs
+
 -- of a move's words behind the shape's
 abbrev pub shape_places : ShapeForm → List Place
 shape_places shape.Line = number32 ∷ number32 ∷ number32 ∷ number32 ∷ number32 ∷ []
 shape_places shape.Curve = number32 ∷ number32 ∷ number32 ∷ number32 ∷ number32 ∷ number32 ∷ number32 ∷ []
+shape_places (shape.Path legs) = number32 ∷ number32 ∷ leg_places legs
 
 -- the places of a line's words
 abbrev pub line_places : ℕ → LineForm → Words → List Place
@@ -109,6 +115,7 @@ line_places version form.Version words = chosen ∷ number32 ∷ []
 line_places version form.Grid words = chosen ∷ number32 ∷ number32 ∷ number32 ∷ number32 ∷ number32 ∷ number32 ∷ []
 line_places version form.Times words = chosen ∷ number32 ∷ number32 ∷ number32 ∷ number32 ∷ number32 ∷ []
 line_places version form.Times6 words = chosen ∷ number32 ∷ number32 ∷ number32 ∷ number32 ∷ number32 ∷ number32 ∷ []
+line_places version form.Times7 words = chosen ∷ number32 ∷ number32 ∷ number32 ∷ number32 ∷ number32 ∷ number32 ∷ number32 ∷ []
 line_places version form.Lanes words = chosen ∷ number32 ∷ []
 line_places version (form.Move s) words = chosen ∷ number8 ∷ turns ∷ chosen ∷ shape_places s
 line_places version form.Policy words = chosen ∷ name ∷ kinds version ∷ []
@@ -118,18 +125,28 @@ line_places version form.Begin words = chosen ∷ []
 line_places version (form.Event m) words = number32 ∷ number32 ∷ chosen ∷ message_places m (from 3 words)
 line_places version (form.Order order.Switch) words = chosen ∷ number32 ∷ chosen ∷ name ∷ []
 line_places version (form.Order order.Stop) words = chosen ∷ number32 ∷ chosen ∷ []
+line_places version (form.Order order.Quiet) words = chosen ∷ number32 ∷ chosen ∷ number8 ∷ number32 ∷ []
 line_places version form.Until words = chosen ∷ number32 ∷ []
 line_places version form.Plan words = plan_places
 line_places version form.PlanInWindow words = plan_places ++ windows ∷ []
+line_places version form.PlanWithWait words = plan_places ++ windows ∷ number32 ∷ []
 line_places version form.ChangePlan words = chosen ∷ number32 ∷ number32 ∷ number32 ∷ []
 line_places version form.CancelPlan words = chosen ∷ number32 ∷ number32 ∷ []
 line_places version form.Up words = chosen ∷ number32 ∷ fate_places (from 2 words)
 line_places version form.Down words = chosen ∷ number32 ∷ fate_places (from 2 words)
 line_places version form.End words = chosen ∷ []
 
--- whether a line of the form may have so many words: 1 to 16 lanes, 1 to 64 fates, and of the others as many words as places
-abbrev pub has_count : LineForm → ℕ → Bool
-has_count form.Phase n = nat_le 4 n && nat_le n 19
-has_count form.Up n = nat_le 3 n && nat_le n 66
-has_count form.Down n = nat_le 3 n && nat_le n 66
-has_count f n = n == length (line_places 1 f [])
+-- whether a line of the form may have so many words in that version: 1 to 16 lanes, 1 to 64 fates, 1 to 32 legs, and of
+-- the others as many words as places. Paths and quiet lanes are of version 4
+abbrev pub has_count : ℕ → LineForm → ℕ → Bool
+has_count version form.Phase n = nat_le 4 n && nat_le n 19
+has_count version form.Up n = nat_le 3 n && nat_le n 66
+has_count version form.Down n = nat_le 3 n && nat_le n 66
+has_count version (form.Move (shape.Path legs)) n = (nat_le 4 version && (nat_le 1 legs && nat_le legs 32)) && n == 6 + 3 * legs
+has_count version (form.Order order.Quiet) n = nat_le 4 version && n == 5
+has_count version f n = n == length (line_places 1 f [])
+
+-- whether a line of the form may have so many bytes: a path may be too long, and the others never are
+abbrev pub has_room : LineForm → ℕ → Bool
+has_room (form.Move (shape.Path legs)) size = nat_le size 400
+has_room f size = true

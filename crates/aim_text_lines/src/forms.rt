@@ -1,8 +1,8 @@
 // The forms of script lines, each of which words choose.
-ghost use Rattle.std.specs.Prelude.{◌≡◌, ◌==◌, ◌&&◌, ◌+◌, ◌<◌, ◌^◌, count_by, nat_le, nat_lt, if◌then◌else◌, length, bytes_eq, codes};
+ghost use Rattle.std.specs.Prelude.{◌≡◌, ◌==◌, ◌&&◌, ◌+◌, ◌*◌, ◌<◌, ◌^◌, count_by, nat_le, nat_lt, if◌then◌else◌, length, bytes_eq, codes};
 ghost use Rattle.aim_text_words.specs.Faults.{words_of};
 ghost use Rattle.aim_text_words.specs.Forms.{message_form, order_form, message_size, in_window};
-ghost use Rattle.aim_text_lines.specs.Forms.{shape_form, times_form, plan_form, in_version, plain_form, event_form, line_form, has_count};
+ghost use Rattle.aim_text_lines.specs.Forms.{shape_form, times_form, plan_form, in_version, plain_form, event_form, line_form, has_count, has_room};
 
 use aim_messages::LineKind;
 use aim_text_words::forms::{
@@ -17,6 +17,8 @@ use aim_text_words::words::Words;
 pub enum ShapeForm {
     Line,
     Curve,
+    /// A path of so many legs.
+    Path(usize),
 }
 
 /// The forms of script lines. A form that has other words in another version is another form there.
@@ -26,6 +28,7 @@ pub enum LineForm {
     Grid,
     Times,
     Times6,
+    Times7,
     Lanes,
     Move(ShapeForm),
     Policy,
@@ -37,14 +40,13 @@ pub enum LineForm {
     Until,
     Plan,
     PlanInWindow,
+    PlanWithWait,
     ChangePlan,
     CancelPlan,
     Up,
     Down,
     End,
 }
-
-const SHAPES: [(&[u8], ShapeForm); 2] = [(b"line", ShapeForm::Line), (b"curve", ShapeForm::Curve)];
 
 // The lines of version 1 that only their first word chooses.
 const LINES: [(&[u8], LineForm); 15] = [
@@ -65,10 +67,16 @@ const LINES: [(&[u8], LineForm); 15] = [
     (b"end", LineForm::End),
 ];
 
-fn shape_form(word: &[u8]) -> Result<ShapeForm, LineKind>
-    ensures { result ≡ shape_form word.now }
+// The form of a move's way, of a line of so many words: a path has six of them beside three for each leg.
+fn shape_form(count: usize, word: &[u8]) -> Result<ShapeForm, LineKind>
+    ensures { result ≡ shape_form count word.now }
 {
-    look_up(&SHAPES, LineKind::Words, word)
+    let shapes: [(&[u8], ShapeForm); 3] = [
+        (b"line", ShapeForm::Line),
+        (b"curve", ShapeForm::Curve),
+        (b"path", ShapeForm::Path(count.saturating_sub(6) / 3)),
+    ];
+    look_up(&shapes, LineKind::Words, word)
 }
 
 fn times_form(version: u8) -> LineForm
@@ -76,6 +84,8 @@ fn times_form(version: u8) -> LineForm
 {
     if version == 1 {
         LineForm::Times
+    } else if version >= 4 {
+        LineForm::Times7
     } else {
         LineForm::Times6
     }
@@ -84,7 +94,9 @@ fn times_form(version: u8) -> LineForm
 fn plan_form(version: u8) -> LineForm
     ensures { result ≡ plan_form version }
 {
-    if version >= 3 {
+    if version >= 4 {
+        LineForm::PlanWithWait
+    } else if version >= 3 {
         LineForm::PlanInWindow
     } else {
         LineForm::Plan
@@ -140,7 +152,7 @@ pub fn line_form(line: &[u8], version: u8) -> Result<LineForm, LineKind>
     } else if first == b"move".as_slice() {
         words.take();
         words.take();
-        let form = shape_form(words.take())?;
+        let form = shape_form(count(line), words.take())?;
         Ok(LineForm::Move(form))
     } else {
         plain_form(first, version)
@@ -161,25 +173,45 @@ pub fn count(line: &[u8]) -> usize
     spaces(line) + 1
 }
 
-/// Whether a line of the form may have so many words.
-pub fn has_count(form: LineForm, count: usize) -> bool
-    ensures { result ≡ has_count form count }
+// Whether a path of so many legs may have so many words.
+fn is_path(legs: usize, count: usize) -> bool
+    ensures { result ≡ ((nat_le 1 legs && nat_le legs 32) && count == 6 + 3 * legs) }
+{
+    1 <= legs && legs <= 32 && count == 6 + 3 * legs
+}
+
+/// Whether a line of the form may have so many words in that version.
+pub fn has_count(version: u8, form: LineForm, count: usize) -> bool
+    ensures { result ≡ has_count version form count }
 {
     match form {
         LineForm::Begin | LineForm::End => count == 1,
         LineForm::Version | LineForm::Lanes | LineForm::Vehicles | LineForm::Until => count == 2,
         LineForm::Policy | LineForm::Order(OrderForm::Stop) | LineForm::CancelPlan => count == 3,
         LineForm::Order(OrderForm::Switch) | LineForm::ChangePlan => count == 4,
+        LineForm::Order(OrderForm::Quiet) => version >= 4 && count == 5,
         LineForm::Event(MessageForm::Cancel | MessageForm::Done) => count == 5,
         LineForm::Times => count == 6,
         LineForm::Grid | LineForm::Times6 => count == 7,
+        LineForm::Times7 => count == 8,
         LineForm::Move(ShapeForm::Line) => count == 9,
         LineForm::Move(ShapeForm::Curve) => count == 11,
+        LineForm::Move(ShapeForm::Path(legs)) => version >= 4 && is_path(legs, count),
         LineForm::Event(MessageForm::Request) | LineForm::Plan => count == 13,
         LineForm::Event(MessageForm::RequestInWindow | MessageForm::Change)
         | LineForm::PlanInWindow => count == 14,
-        LineForm::Event(MessageForm::ChangeInWindow) => count == 15,
+        LineForm::Event(MessageForm::ChangeInWindow) | LineForm::PlanWithWait => count == 15,
         LineForm::Phase => 4 <= count && count <= 19,
         LineForm::Up | LineForm::Down => 3 <= count && count <= 66,
+    }
+}
+
+/// Whether a line of the form may have so many bytes.
+pub fn has_room(form: LineForm, size: usize) -> bool
+    ensures { result ≡ has_room form size }
+{
+    match form {
+        LineForm::Move(ShapeForm::Path(_)) => size <= 400,
+        _ => true,
     }
 }

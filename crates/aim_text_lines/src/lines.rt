@@ -6,10 +6,11 @@ ghost use Rattle.aim_text_words.specs.Faults.{value_of, name, is_name};
 ghost use Rattle.aim_text_lines.specs.Forms.{kinds, windows};
 ghost use Rattle.aim_text_lines.specs.Reading.{name_of, kind_of, is_early};
 ghost use Rattle.aim_text_words.specs.Steps.{Gives, read_in};
-ghost use Rattle.aim_text_lines.specs.Steps.{shape_in, grid_in, times_in, times6_in, move_in, policy_in, event_in, switch_in, stop_in, window_in, plan_in, change_plan_in, cancel_plan_in};
+ghost use Rattle.aim_text_lines.specs.Steps.{shape_in, grid_in, times_in, times6_in, times7_in, move_in, policy_in, event_in, switch_in, stop_in, quiet_in, window_in, wait_in, plan_in, HasRoomFor, change_plan_in, cancel_plan_in};
 
-use crate::forms::ShapeForm;
-use aim_messages::{Grid6, Line, LineKind, MoveShape, Name, Times5, Times6};
+use crate::forms::{LineForm, ShapeForm};
+use crate::lists::path;
+use aim_messages::{Grid6, Line, LineKind, MoveShape, Name, Times5, Times6, Times7};
 use aim_text_words::fields::{choice, message, number8, number32, numbers, turn, vehicle};
 use aim_text_words::forms::MessageForm;
 use aim_text_words::words::Words;
@@ -119,7 +120,7 @@ pub fn times(words: &mut Words<'_>) -> Result<Line, LineKind>
     }))
 }
 
-/// `times` of versions 2 to 4.
+/// `times` of versions 2 and 3.
 #[tactic(auto, unfolding(crate::specs::Steps::times6_in))]
 pub fn times6(words: &mut Words<'_>) -> Result<Line, LineKind>
     ensures { result ≡ times6_in words.old }
@@ -135,8 +136,26 @@ pub fn times6(words: &mut Words<'_>) -> Result<Line, LineKind>
     }))
 }
 
+/// `times` of version 4.
+#[tactic(auto, unfolding(crate::specs::Steps::times7_in))]
+pub fn times7(words: &mut Words<'_>) -> Result<Line, LineKind>
+    ensures { result ≡ times7_in words.old }
+{
+    let [horizon, longest, clearance, early, late, edge, window] = numbers::<7>(words)?;
+    Ok(Line::Times7(Times7 {
+        horizon,
+        longest,
+        clearance,
+        early,
+        late,
+        edge,
+        window,
+    }))
+}
+
 #[tactic(auto, unfolding(crate::specs::Steps::shape_in))]
 fn shape(words: &mut Words<'_>, form: ShapeForm) -> Result<MoveShape, LineKind>
+    requires { HasRoomFor (LineForm.Move form) words.old }
     ensures { result ≡ shape_in form words.old }
 {
     match form {
@@ -156,12 +175,14 @@ fn shape(words: &mut Words<'_>, form: ShapeForm) -> Result<MoveShape, LineKind>
                 m,
             })
         }
+        ShapeForm::Path(count) => path(words, count),
     }
 }
 
 /// `move`, with a way of that form.
 #[tactic(auto, unfolding(crate::specs::Steps::move_in))]
 pub fn move_line(words: &mut Words<'_>, form: ShapeForm) -> Result<Line, LineKind>
+    requires { HasRoomFor (LineForm.Move form) words.old }
     ensures { result ≡ move_in form words.old }
 {
     let lane = number8(words)?;
@@ -208,16 +229,24 @@ pub fn switch(words: &mut Words<'_>) -> Result<Line, LineKind>
     Ok(Line::SwitchTo { moment, name })
 }
 
-/// `plan`, with a window in the last place or with none.
+// How many steps a driver waits. A plan without such a number waits none.
+fn wait(words: &mut Words<'_>, waits: bool) -> Result<u32, LineKind>
+    ensures { Gives result words.new (wait_in waits words.old) }
+{
+    if waits { number32(words) } else { Ok(0) }
+}
+
+/// `plan`, with a window behind the class or with none, and a number of steps behind it or none.
 #[tactic(auto, unfolding(crate::specs::Steps::plan_in))]
-pub fn plan(words: &mut Words<'_>, windowed: bool) -> Result<Line, LineKind>
-    ensures { result ≡ plan_in windowed words.old }
+pub fn plan(words: &mut Words<'_>, windowed: bool, waits: bool) -> Result<Line, LineKind>
+    ensures { result ≡ plan_in windowed waits words.old }
 {
     let [number, first, lead, resend] = numbers::<4>(words)?;
     let lane = number8(words)?;
     let turn = turn(words)?;
     let params = vehicle(words, lane, turn, 0)?;
     let ahead = window(words, windowed)?;
+    let wait = wait(words, waits)?;
     Ok(Line::PlanFor {
         vehicle: number,
         first,
@@ -225,6 +254,7 @@ pub fn plan(words: &mut Words<'_>, windowed: bool) -> Result<Line, LineKind>
         resend,
         params,
         ahead,
+        wait,
     })
 }
 
@@ -249,6 +279,22 @@ pub fn cancel_plan(words: &mut Words<'_>) -> Result<Line, LineKind>
     Ok(Line::CancelAt {
         vehicle: number32(words)?,
         step: number32(words)?,
+    })
+}
+
+/// `operator MOMENT quiet LANE UNTIL`.
+#[tactic(auto, unfolding(crate::specs::Steps::quiet_in))]
+pub fn quiet(words: &mut Words<'_>) -> Result<Line, LineKind>
+    ensures { result ≡ quiet_in words.old }
+{
+    let moment = number32(words)?;
+    words.take();
+    let lane = number8(words)?;
+    let until = number32(words)?;
+    Ok(Line::QuietAt {
+        moment,
+        lane,
+        until,
     })
 }
 

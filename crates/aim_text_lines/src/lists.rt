@@ -4,10 +4,10 @@ ghost use Rattle.aim_text_words.specs.Faults.{word_fault};
 ghost use Rattle.aim_text_lines.specs.Forms.{fate};
 ghost use Rattle.aim_text_words.specs.Reading.{unless};
 ghost use Rattle.aim_text_lines.specs.Reading.{fate_of};
-ghost use Rattle.aim_text_lines.specs.Steps.{lanes_in, phase_in, fates_in, up_in, down_in};
+ghost use Rattle.aim_text_lines.specs.Steps.{lanes_in, phase_in, fates_in, up_in, down_in, legs_in, path_in};
 
-use aim_messages::{FateList, Line, LineKind};
-use aim_text_words::fields::number32;
+use aim_messages::{FateList, LegList, Line, LineKind, MoveShape};
+use aim_text_words::fields::{number32, numbers};
 use aim_text_words::numbers::{begins_with_digit, number};
 use aim_text_words::words::Words;
 
@@ -92,4 +92,31 @@ pub fn down(words: &mut Words<'_>) -> Result<Line, LineKind>
     let vehicle = number32(words)?;
     let fates = fates(words)?;
     Ok(Line::Down { vehicle, fates })
+}
+
+#[tactic(auto, unfolding(crate::specs::Steps::legs_in))]
+fn legs(words: &mut Words<'_>, count: usize) -> Result<LegList, LineKind>
+    requires { count ≤ 32 }
+    ensures { result ≡ legs_in [] count words.old }
+{
+    let mut legs = [(0, 0, 0); 32];
+    for i in 0..count {
+        let [x, y, m] = numbers::<3>(words)?;
+        legs[i] = (x, y, m);
+    }
+    Ok(LegList {
+        legs,
+        len: count as u8,
+    })
+}
+
+/// The way of a path of so many legs.
+#[tactic(auto, unfolding(crate::specs::Steps::path_in))]
+pub fn path(words: &mut Words<'_>, count: usize) -> Result<MoveShape, LineKind>
+    requires { count ≤ 32 }
+    ensures { result ≡ path_in count words.old }
+{
+    let [x0, y0] = numbers::<2>(words)?;
+    let legs = legs(words, count)?;
+    Ok(MoveShape::Path { x0, y0, legs })
 }

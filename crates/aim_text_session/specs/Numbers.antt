@@ -132,6 +132,7 @@ reply_numbers reply.EmergencyStop = record nothing { kind = 4 }
 reply_numbers (reply.Stale last) = record nothing { kind = 5; seq = last }
 reply_numbers (reply.Switched from) = record nothing { kind = 6; from = from }
 reply_numbers reply.Stopped = record nothing { kind = 7 }
+reply_numbers reply.Quieted = record nothing { kind = 8 }
 
 -- nobody has a tile that isn't there
 abbrev pub no_cell : CellNumbers

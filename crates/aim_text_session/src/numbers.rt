@@ -201,5 +201,9 @@ pub(crate) fn reply_numbers(reply: &Reply) -> ReplyNumbers
             kind: 7,
             ..NO_NUMBERS
         },
+        Reply::Quieted => ReplyNumbers {
+            kind: 8,
+            ..NO_NUMBERS
+        },
     }
 }

@@ -54,7 +54,8 @@ chosen_in_one_step w m h = look_up_has (λ v f. IsInOneStep f) kind.Words messag
 unfoldable pub order_key : OrderForm → List ℕ
 order_key order.Switch = codes "switch"
 order_key order.Stop = codes "stop"
+order_key order.Quiet = codes "quiet"
 
 pub order_chosen : (w : List ℕ) (o : OrderForm) → order_form w ≡ Ok o → w ≡ order_key o
 unfolding order_key
-order_chosen w o h = look_up_has (λ v f. v ≡ order_key f) kind.Words order_forms w o (refl, (refl, tt)) h
+order_chosen w o h = look_up_has (λ v f. v ≡ order_key f) kind.Words order_forms w o (refl, (refl, (refl, tt))) h

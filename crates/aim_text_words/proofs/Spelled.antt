@@ -129,6 +129,9 @@ in8 ws h = let is = number_at_place 0 255 ws h in let most = is.most in omega ar
 pub d32 : (ws : Words) → fault_at number32 ws ≡ None → decimal (value_of (first ws)) ≡ first ws
 d32 ws h = let is = number_at_place 0 4294967295 ws h in let most = is.most in decimal_value (first ws) is.number (omega arith)
 
+pub d8 : (ws : Words) → fault_at number8 ws ≡ None → decimal (value_of (first ws)) ≡ first ws
+d8 ws h = let is = number_at_place 0 255 ws h in let most = is.most in decimal_value (first ws) is.number (omega arith)
+
 -- a number above another
 pub later_back : (step : ℕ) (ws : Words) → fault_at (later_than step) ws ≡ None → (step < value_of (first ws)) × Is32 (value_of (first ws))
 later_back step ws h =

@@ -23,6 +23,7 @@ abbrev pub order_forms : List (List ℕ × OrderForm)
 order_forms =
     (codes "switch", order.Switch)
     ∷ (codes "stop", order.Stop)
+    ∷ (codes "quiet", order.Quiet)
     ∷ []
 
 abbrev pub order_form : List ℕ → Result OrderForm LineKind

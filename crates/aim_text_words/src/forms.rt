@@ -25,6 +25,7 @@ pub enum MessageForm {
 pub enum OrderForm {
     Switch,
     Stop,
+    Quiet,
 }
 
 const MESSAGES: [(&[u8], MessageForm); 4] = [
@@ -34,9 +35,10 @@ const MESSAGES: [(&[u8], MessageForm); 4] = [
     (b"done", MessageForm::Done),
 ];
 
-const ORDERS: [(&[u8], OrderForm); 2] = [
+const ORDERS: [(&[u8], OrderForm); 3] = [
     (b"switch", OrderForm::Switch),
     (b"stop", OrderForm::Stop),
+    (b"quiet", OrderForm::Quiet),
 ];
 
 /// The form of a message that begins with that word.

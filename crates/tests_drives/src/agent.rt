@@ -44,6 +44,7 @@ fn agent_of(
         first: task.asks,
         lead: 10,
         resend: 2,
+        wait: 0,
         params: Params {
             lane: task.lane,
             ..CAR

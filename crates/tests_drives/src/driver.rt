@@ -22,6 +22,7 @@ fn driver_of(rt: &impl Abort, alloc: Global) -> Driver {
         first: 5,
         lead: 10,
         resend: 3,
+        wait: 0,
         params: CAR,
         changes,
         cancel: None,

@@ -165,3 +165,27 @@ pub static NUMBERS_AND_RESERVATIONS: [Lines; 10] = [
         "3 1 6 request 3 1 straight 18 500 500 0 1000 700 car -> reject distance 3500 next 12 held none",
     ],
 ];
+
+/// Requests with windows of arrivals.
+pub static WINDOWS_OF_ARRIVALS: [Lines; 4] = [
+    // the first step of the window that is free
+    &[
+        "0 0 0 request 1 0 straight 10 500 500 0 1000 700 car -> confirm 0 10 0 0 steady 20",
+        "1 1 0 request 1 1 straight 10 500 500 0 1000 700 car 20 -> confirm 1 18 0 0 steady 28",
+    ],
+    // where none is free, the first one's cell
+    &[
+        "0 0 0 request 1 0 straight 10 500 500 0 1000 700 car -> confirm 0 10 0 0 steady 20",
+        "1 1 0 request 1 1 straight 10 500 500 0 1000 700 car 17 -> reject taken 1 2 13 0 next 5 held none",
+    ],
+    // a vehicle that accelerates has one trial at each step
+    &[
+        "0 0 0 request 1 1 straight 10 500 500 0 1000 700 car -> confirm 0 10 0 0 steady 20",
+        "1 1 0 request 1 0 straight 14 500 1000 250 1000 700 car 20 -> confirm 1 15 0 0 fast 20",
+    ],
+    // a window is as long as the layout allows
+    &[
+        "0 0 0 request 1 0 straight 10 500 500 0 1000 700 car 31 -> reject bad latest next 5 held none",
+        "1 0 5 request 2 0 straight 10 500 500 0 1000 700 car 30 -> confirm 1 10 0 0 steady 20",
+    ],
+];

@@ -5,8 +5,9 @@ ghost use Rattle.aim_messages.specs.declared.entries.TheConstants.{LATEST_MOMENT
 
 use crate::asked::{
     GRANTED_OR_TAKEN, NUMBERS_AND_RESERVATIONS, OVER_A_CURVE, TAKEN_BY_BUFFERS, TAKEN_BY_WINDOWS,
+    WINDOWS_OF_ARRIVALS,
 };
-use crate::policies::{GIVING_WAY, LIGHTS_AND_SIREN, SIREN};
+use crate::policies::{GIVING_WAY, LIGHTS_AND_SIREN, QUIET_LANES, SIREN};
 use aim_book::{Book, Full, Shapes};
 use aim_geometry::Times;
 use aim_messages::{Act, Entry, LATEST_MOMENT, Message, Order, Reply};
@@ -18,7 +19,8 @@ use std::marker::{Brand, Model};
 use std::process::Abort;
 use std::sync::ledger::{Blank, Ledger};
 use tests_samples::{
-    BEND, BUFFERED, PLAIN, SIREN_FIRST, Site, TIMES, WINDOWS, YIELDING, built, prepared,
+    BEND, BUFFERED, LIT, PLAIN, SIREN_FIRST, Site, TIMES, WAITING, WINDOWED, WINDOWS, YIELDING,
+    built, prepared,
 };
 
 /// The lines of a journal, the oldest first.
@@ -98,6 +100,9 @@ fn operate<L: Ledger>(
 {
     if let Order::Switch(policy) = order {
         assert!(rt; policy < desk.book.layout().policies());
+    }
+    if let Order::Quiet { lane, .. } = order {
+        assert!(rt; desk.book.layout().version() == 4 && (lane as u32) < desk.book.layout().lanes());
     }
     desk.book.operate(moment, order, &mut desk.steps)
 }
@@ -236,6 +241,12 @@ fn granted_or_taken(rt: HostRuntime) {
 #[test]
 fn numbers_and_reservations(rt: HostRuntime) {
     serve_all(&rt, rt.alloc(), &PLAIN, TIMES, &NUMBERS_AND_RESERVATIONS);
+}
+
+#[test]
+fn windows_and_quiet_lanes(rt: HostRuntime) {
+    serve_all(&rt, rt.alloc(), &WINDOWED, WAITING, &WINDOWS_OF_ARRIVALS);
+    serve_all(&rt, rt.alloc(), &LIT, WAITING, &QUIET_LANES);
 }
 
 #[test]

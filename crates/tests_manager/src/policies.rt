@@ -75,3 +75,31 @@ pub static GIVING_WAY: [Lines; 5] = [
         "11 0 35 done 6 9 -> ack 9",
     ],
 ];
+
+/// Lanes that the operator makes quiet.
+pub static QUIET_LANES: [Lines; 3] = [
+    // a green of a quiet lane keeps nobody off, and one of another does
+    &[
+        "0 0 0 request 1 1 straight 30 500 500 0 1000 700 car -> reject green 1 2 31 0 next 15 held none",
+        "1 operator 0 quiet 1 100 -> quieted",
+        "2 1 0 request 1 1 straight 30 500 500 0 1000 700 car -> reject green 1 2 31 0 next 15 held none",
+        "3 operator 0 quiet 0 100 -> quieted",
+        "4 2 0 request 1 1 straight 30 500 500 0 1000 700 car -> confirm 4 30 0 0 steady 40",
+    ],
+    // until it ends
+    &[
+        "0 operator 0 quiet 0 50 -> quieted",
+        "1 0 0 request 1 1 straight 44 500 500 0 1000 700 car -> reject green 1 2 50 0 next 22 held none",
+        "2 1 0 request 1 1 straight 43 500 500 0 1000 700 car -> confirm 2 43 0 0 steady 53",
+    ],
+    // quiets add up: a shorter one takes nothing back, a longer one goes on
+    &[
+        "0 operator 0 quiet 0 20 -> quieted",
+        "1 operator 5 quiet 0 50 -> quieted",
+        "2 operator 5 quiet 0 10 -> quieted",
+        "3 operator 60 quiet 0 60 -> quieted",
+        "4 0 60 request 1 1 straight 80 500 500 0 1000 700 car -> reject green 1 2 81 0 next 70 held none",
+        "5 operator 61 quiet 0 100 -> quieted",
+        "6 1 61 request 1 1 straight 80 500 500 0 1000 700 car -> confirm 6 80 0 0 steady 90",
+    ],
+];

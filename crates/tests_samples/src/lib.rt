@@ -15,7 +15,7 @@ pub use registers::{Mark, Register, Room, empty_register};
 pub use shards::NoHold;
 pub use sheets::{Row, claims, is_first, is_put, sheet_of};
 pub use sites::{
-    BEND, BUFFERED, CAR, GRID, Move, PLAIN, Phase, Policy, SIREN_FIRST, SMALL, Site, TIMES,
-    WINDOWS, YIELDING, built,
+    BEND, BUFFERED, CAR, GRID, LIT, Move, PLAIN, Phase, Policy, SIREN_FIRST, SMALL, Site, TIMES,
+    WAITING, WINDOWED, WINDOWS, YIELDING, built,
 };
 pub use sources::{Broken, Drip, Rows, sink_of, source_of};

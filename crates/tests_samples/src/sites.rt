@@ -18,6 +18,7 @@ pub type Policy = (PolicyKind, &'static [Phase]);
 
 /// What a layout is built of, but for its times. The first policy is in force at the start.
 pub struct Site {
+    pub version: u8,
     pub grid: Grid,
     pub lanes: u32,
     pub moves: &'static [Move],
@@ -58,6 +59,12 @@ pub const WINDOWS: Times = Times {
     early: 1,
     late: 3,
     edge: 4,
+    ..TIMES
+};
+
+/// Without buffers, and with windows of up to 20 steps.
+pub const WAITING: Times = Times {
+    window: 20,
     ..TIMES
 };
 
@@ -108,6 +115,7 @@ const LONGER: [Phase; 16] = [
 
 /// Lane 0 goes east, and lane 1 north. They share the tile in row 1, column 2.
 pub static PLAIN: Site = Site {
+    version: 3,
     grid: GRID,
     lanes: 2,
     moves: &[EAST, NORTH],
@@ -120,6 +128,7 @@ pub static PLAIN: Site = Site {
 
 /// Vehicles give way to emergencies first.
 pub static SIREN_FIRST: Site = Site {
+    version: 3,
     grid: GRID,
     lanes: 2,
     moves: &[EAST, NORTH],
@@ -132,6 +141,7 @@ pub static SIREN_FIRST: Site = Site {
 
 /// The first policy has lights and gives way.
 pub static YIELDING: Site = Site {
+    version: 3,
     grid: GRID,
     lanes: 2,
     moves: &[EAST, NORTH],
@@ -142,8 +152,27 @@ pub static YIELDING: Site = Site {
     ],
 };
 
+/// As the first one, in a version in which requests have windows.
+pub static WINDOWED: Site = Site {
+    version: 4,
+    grid: GRID,
+    lanes: 2,
+    moves: &[EAST, NORTH],
+    policies: &[(PolicyKind::Fcfs, &[])],
+};
+
+/// The same, where the first policy has lights.
+pub static LIT: Site = Site {
+    version: 4,
+    grid: GRID,
+    lanes: 2,
+    moves: &[EAST, NORTH],
+    policies: &[(PolicyKind::Light, &TURNS)],
+};
+
 /// Lane 0 may turn right too.
 pub static BEND: Site = Site {
+    version: 3,
     grid: GRID,
     lanes: 2,
     moves: &[EAST, NORTH, SOUTH],
@@ -156,6 +185,7 @@ pub static BEND: Site = Site {
 
 /// Lane 0 goes east, to the south, or there and back; and the last policy has sixteen phases.
 pub static SMALL: Site = Site {
+    version: 3,
     grid: GRID,
     lanes: 2,
     moves: &[EAST, SOUTH, BACK, NORTH],
@@ -220,7 +250,10 @@ fn adds_policies(builder: &mut Builder, policies: &[Policy]) -> bool {
 /// The layout of the site with these times, where all of it is taken.
 pub fn built(alloc: Global, site: &Site, times: Times) -> Option<Layout> {
     let ground = Ground::build(site.grid, times).ok()?;
-    let mut builder = Builder::new(alloc, ground, site.lanes, 3).ok()?;
+    if site.version == 0 || site.version > 4 {
+        return None;
+    }
+    let mut builder = Builder::new(alloc, ground, site.lanes, site.version).ok()?;
     if !adds_moves(&mut builder, site.moves) || !adds_policies(&mut builder, site.policies) {
         return None;
     }

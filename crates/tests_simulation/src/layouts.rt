@@ -5,8 +5,8 @@ use aim_geometry::{
     Grid, Ground, Station, TileRect, Times, columns, curve_station, is_edge, is_outside, join,
     line_station, tile_rect,
 };
-use aim_layout::{Layout, Path, PolicyKind, lane_rows};
-use aim_messages::Turn;
+use aim_layout::{Builder, Layout, LayoutFault, Path, PolicyKind, Shape, lane_rows};
+use aim_messages::{LegList, Turn};
 use std::process::Abort;
 use tests_samples::{GRID, Move, SMALL, Site, TIMES, built};
 
@@ -97,6 +97,45 @@ fn the_longest_window_ends_with_the_horizon(rt: HostRuntime) {
     }
 }
 
+// From the west border to the middle in 20 parts, and then to the north in that many, so far.
+fn bent(parts: u32, y: u32) -> Shape {
+    let mut legs = [(0, 0, 0); 32];
+    legs[0] = (2000, 1500, 20);
+    legs[1] = (2000, y, parts);
+    Shape::Path {
+        x0: 0,
+        y0: 1500,
+        legs: LegList { legs, len: 2 },
+    }
+}
+
+#[test]
+fn legs_from_border_to_border(rt: HostRuntime) {
+    let ground = Ground::build(GRID, TIMES).ok().expect(&rt, "no ground");
+    let mut builder = Builder::new(rt.alloc(), ground, 1, 4)
+        .ok()
+        .expect(&rt, "no builder");
+    let short = builder.add_move(0, Turn::Left, bent(24, 3900));
+    assert!(rt;
+        matches!(
+            short,
+            Err(LayoutFault::Border {
+                lane: 0,
+                turn: Turn::Left
+            })
+        )
+    );
+    let wide = builder.add_move(0, Turn::Left, bent(24, 4000));
+    assert!(rt; matches!(wide, Err(LayoutFault::Spacing { station: 20, .. })));
+    assert!(rt; builder.add_move(0, Turn::Left, bent(25, 4000)).is_ok());
+    assert!(rt; builder.add_policy(PolicyKind::Fcfs).is_ok());
+    let layout = builder.finish().ok().expect(&rt, "no layout");
+    let path = Path::of(&layout, 0, Turn::Left).expect(&rt, "no path");
+    assert!(rt; path.parts() == 45 && path.station(19) == (1900, 1500));
+    assert!(rt; path.station(20) == (2000, 1500) && path.station(45) == (2000, 4000));
+    drop(layout);
+}
+
 // Three lanes from each side, of which the first turns left and the third right.
 const TWELVE: [Move; 12] = [
     (0, Turn::Left, [0, 10500, 13500, 10500, 13500, 24000], 280),
@@ -125,6 +164,7 @@ const TWELVE: [Move; 12] = [
 
 // A ground of 48 by 48 tiles.
 static REALISTIC: Site = Site {
+    version: 3,
     grid: Grid {
         side: 24000,
         n: 48,

@@ -117,3 +117,36 @@ fn greens_from_the_switch_on(rt: HostRuntime) {
     drop(layout);
     drop(timeline);
 }
+
+// Steps, and the lanes whose greens count there or did so up to 20 steps before, where lane 0 is quiet from step
+// 1530 to 1539 and from 1560 to 1649, and lane 1 from 1630 to 1699.
+const COUNTED: [(u32, u16); 10] = [
+    (1519, 0),
+    (1520, 1),
+    (1549, 1),
+    (1550, 1),
+    (1579, 1),
+    (1580, 0),
+    (1619, 0),
+    (1620, 2),
+    (1649, 2),
+    (1650, 0),
+];
+
+#[test]
+fn greens_of_quiet_lanes(rt: HostRuntime) {
+    let layout = built(rt.alloc(), &SMALL, TIMES).expect(&rt, "no layout");
+    let mut timeline = Timeline::new(rt.alloc(), 8).expect(&rt, "no memory");
+    timeline.push(1500, 1);
+    timeline.quiet(0, 1530, 1535);
+    timeline.quiet(0, 1533, 1540);
+    timeline.quiet(0, 1534, 1536);
+    timeline.quiet(0, 1560, 1650);
+    timeline.quiet(1, 1630, 1700);
+    timeline.quiet(1, 1640, 1640);
+    for (step, lanes) in &COUNTED {
+        assert!(rt; timeline.claimants(&layout, *step) == *lanes);
+    }
+    drop(timeline);
+    drop(layout);
+}

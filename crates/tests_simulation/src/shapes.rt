@@ -208,6 +208,7 @@ fn requests_from_a_memo_are_those_without(rt: HostRuntime) {
 
 // Sheets have room for the crossing, but for no span of each row in each of its steps.
 static TIGHT: Site = Site {
+    version: 3,
     grid: Grid { spans: 40, ..GRID },
     lanes: 1,
     moves: &[(0, Turn::Straight, [0, 1500, 4000, 1500, 0, 0], 40)],

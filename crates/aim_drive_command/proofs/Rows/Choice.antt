@@ -100,7 +100,7 @@ each_is e f a b (suc zero) g at = subst (λ (z : Entry). IsOf z) at b
 each_is e f a b (suc (suc p)) g at = absurd at
 
 abbrev script : List Line
-script = line.Vehicles 2 ∷ line.Begin ∷ line.Until 1 ∷ line.PlanFor 0 0 10 3 (car 0 0) false ∷ line.PlanFor 1 0 10 3 (car 0 0) false ∷ line.End ∷ []
+script = line.Vehicles 2 ∷ line.Begin ∷ line.Until 1 ∷ line.PlanFor 0 0 10 3 (car 0 0) false 0 ∷ line.PlanFor 1 0 10 3 (car 0 0) false 0 ∷ line.End ∷ []
 
 -- the journal of both calls, vehicle v's first and then w's
 abbrev served : ℕ → ℕ → List Entry

@@ -26,13 +26,17 @@ abbrev planned : ℕ → ℕ → PlannedChange
 planned step lead = record { step = step; lead = lead }
 
 abbrev changing : DrivePlan
-changing = record { first = 0; lead = 10; resend = 3; params = car 0 0; changes = planned 1 40 ∷ planned 2 60 ∷ []; cancel = None; ahead = false }
+changing = record { first = 0; lead = 10; resend = 3; wait = 0; params = car 0 0; changes = planned 1 40 ∷ planned 2 60 ∷ []; cancel = None; ahead = false }
 
 abbrev log0 : List LogItem
 log0 = sent 0 1 (body.Request (car 0 10)) ∷ []
 
 pub asks_first : acts changing [] 0 ≡ Some (record { seq = 1; body = body.Request (car 0 10) })
 asks_first = refl
+
+-- a driver that waits asks for a window of arrivals, its changes too
+pub asks_to_wait : acts (record changing { wait = 7 }) [] 0 ≡ Some (record { seq = 1; body = body.Request (record (car 0 10) { latest = 17 }) })
+asks_to_wait = refl
 
 abbrev log1 : List LogItem
 log1 = log0 ++ item.Got 1 1 (granted 0 10 20) ∷ []
@@ -42,6 +46,9 @@ not_before_start = refl
 
 pub first_change : acts changing log1 1 ≡ Some (record { seq = 2; body = body.Change 0 (car 0 41) })
 first_change = refl
+
+pub change_that_waits : acts (record changing { wait = 7 }) log1 1 ≡ Some (record { seq = 2; body = body.Change 0 (record (car 0 41) { latest = 48 }) })
+change_that_waits = refl
 
 abbrev log2 : List LogItem
 log2 = log1 ++ sent 1 2 (body.Change 0 (car 0 41)) ∷ []

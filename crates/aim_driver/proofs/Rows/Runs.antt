@@ -34,7 +34,7 @@ pub lost_once_and_told_twice : follows plain (fate.Lose ∷ []) (fate.Repeat ∷
 lost_once_and_told_twice = refl
 
 abbrev second_plan : DrivePlan
-second_plan = record { first = 1; lead = 12; resend = 3; params = car 1 0; changes = []; cancel = Some 7; ahead = false }
+second_plan = record { first = 1; lead = 12; resend = 3; wait = 0; params = car 1 0; changes = []; cancel = Some 7; ahead = false }
 
 pub told_late_then_cancels : follows second_plan [] (fate.Delay 4 ∷ []) 40
     (granted 0 13 23 ∷ granted 0 13 23 ∷ reply.Ack 0 ∷ granted 6 20 30 ∷ reply.Ack 6 ∷ [])

@@ -1,6 +1,6 @@
 //! The words of messages, replies and entries.
 
-ghost use Rattle.std.specs.Prelude.{◌≡◌, ◌∷◌, ◌+◌, ◌≤◌, [], length, decimal};
+ghost use Rattle.std.specs.Prelude.{◌≡◌, ◌∷◌, ◌+◌, ◌≤◌, [], length, codes, decimal};
 ghost use Rattle.aim_messages.specs.Texts.{vehicle_words, latest_words, params_words, body_words, message_words, act_words, reason_words, held_word, reply_words, caller_word, entry_words};
 ghost use Rattle.aim_messages.specs.Writing.{added};
 
@@ -93,6 +93,15 @@ pub(crate) fn put_message(out: &mut Text, message: &Message)
     put_body(out, message.seq, &message.body);
 }
 
+fn put_quiet(out: &mut Text, lane: u8, until: u32)
+    requires { length out.old + 144 ≤ 400 }
+    ensures added { out.new ≡ added out.old (codes "quiet" ∷ decimal lane ∷ decimal until ∷ []) }
+    ensures len { length out.new ≤ length out.old + 144 }
+{
+    put_field(out, b"quiet", u32::from(lane));
+    out.number(until);
+}
+
 fn put_act(out: &mut Text, act: &Act)
     requires { length out.old + 144 ≤ 400 }
     ensures added { out.new ≡ added out.old (act_words act.now) }
@@ -102,6 +111,7 @@ fn put_act(out: &mut Text, act: &Act)
         Act::Message(message) => put_message(out, message),
         Act::Order(Order::Switch(policy)) => put_field(out, b"switch", u32::from(*policy)),
         Act::Order(Order::Stop) => out.word(b"stop"),
+        Act::Order(Order::Quiet { lane, until }) => put_quiet(out, *lane, *until),
     }
 }
 
@@ -196,6 +206,7 @@ pub(crate) fn put_reply(out: &mut Text, reply: &Reply)
         Reply::Stale { last } => put_field(out, b"stale", *last),
         Reply::Switched { from } => put_field(out, b"switched", *from),
         Reply::Stopped => out.word(b"stopped"),
+        Reply::Quieted => out.word(b"quieted"),
     }
 }
 

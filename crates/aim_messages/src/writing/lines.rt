@@ -1,15 +1,16 @@
 //! The words of script lines.
 
-ghost use Rattle.std.specs.Prelude.{◌≡◌, ◌∷◌, ◌++◌, ◌+◌, ◌*◌, ◌≤◌, ◌<◌, [], length, map, decimal, codes, if◌then◌else◌};
-ghost use Rattle.aim_messages.specs.Lines.{has_lane, name_word, kind_word, fate_word, fate_words, is_driving, lane_words, shape_words, window_words, line_words, KeepsRanges};
+ghost use Rattle.std.specs.Prelude.{◌≡◌, ◌∷◌, ◌++◌, ◌+◌, ◌*◌, ◌≤◌, ◌<◌, ℕ, [], length, map, decimal, codes, if◌then◌else◌};
+ghost use Rattle.aim_messages.specs.Lines.{has_lane, name_word, kind_word, fate_word, fate_words, is_driving, lane_words, leg_words, legs_words, shape_words, wait_words, window_words, line_words, IsMove, KeepsRanges};
 ghost use Rattle.aim_messages.specs.Texts.{turn_word, vehicle_words, message_words};
-ghost use Rattle.aim_messages.specs.Writing.{added};
+ghost use Rattle.aim_messages.specs.Writing.{added, HasRoom};
 
 use crate::messages::{Message, Params, Turn};
-use crate::script::{FateList, Grid6, Line, MoveShape, Name, Times5, Times6};
+use crate::script::{FateList, Grid6, LegList, Line, MoveShape, Name, Times5, Times6, Times7};
 use crate::writing::entries::{put_field, put_message, put_vehicle};
 use crate::writing::text::Text;
 use crate::writing::words::{kind_text, turn_text, window_text};
+use itoa::Buffer;
 
 fn put_numbers(out: &mut Text, numbers: &[u32])
     requires { length out.old + 11 * length numbers.now ≤ 400 }
@@ -83,8 +84,67 @@ fn put_times6(out: &mut Text, times: &Times6)
     );
 }
 
-fn put_shape(out: &mut Text, shape: &MoveShape)
+fn put_times7(out: &mut Text, times: &Times7)
     requires { length out.old + 83 ≤ 400 }
+    ensures { out.new ≡ added out.old (codes "times" ∷ decimal times.now.horizon ∷ decimal times.now.longest ∷ decimal times.now.clearance ∷ decimal times.now.early ∷ decimal times.now.late ∷ decimal times.now.edge ∷ decimal times.now.window ∷ []) }
+{
+    let Times7 {
+        horizon,
+        longest,
+        clearance,
+        early,
+        late,
+        edge,
+        window,
+    } = *times;
+    put_form(
+        out,
+        b"times",
+        &[horizon, longest, clearance, early, late, edge, window],
+    );
+}
+
+// Adds a number that has room, whatever the longest of its type has.
+fn put_exact(out: &mut Text, n: u32)
+    requires { length out.old + length (decimal n) ≤ 400 }
+    ensures { out.new ≡ added out.old (decimal n ∷ []) }
+{
+    let mut buffer = Buffer::new();
+    out.word(buffer.format(n).as_bytes());
+}
+
+fn put_leg(out: &mut Text, leg: (u32, u32, u32))
+    requires { length (added out.old (leg_words leg)) ≤ 401 }
+    ensures { out.new ≡ added out.old (leg_words leg) }
+{
+    put_exact(out, leg.0);
+    put_exact(out, leg.1);
+    put_exact(out, leg.2);
+}
+
+fn put_legs(out: &mut Text, legs: &LegList)
+    requires most { legs.now.len ≤ 32 }
+    requires room { length (added out.old (legs_words legs.now)) ≤ 401 }
+    ensures { out.new ≡ added out.old (legs_words legs.now) }
+{
+    for leg in &legs.legs[..usize::from(legs.len)] {
+        put_leg(out, *leg);
+    }
+}
+
+fn put_path(out: &mut Text, x0: u32, y0: u32, legs: &LegList)
+    requires start { length out.old + 27 ≤ 400 }
+    requires most { legs.now.len ≤ 32 }
+    requires room { length (added out.old (codes "path" ∷ decimal x0 ∷ decimal y0 ∷ legs_words legs.now)) ≤ 401 }
+    ensures { out.new ≡ added out.old (codes "path" ∷ decimal x0 ∷ decimal y0 ∷ legs_words legs.now) }
+{
+    put_form(out, b"path", &[x0, y0]);
+    put_legs(out, legs);
+}
+
+fn put_shape(out: &mut Text, shape: &MoveShape)
+    requires start { length out.old + 83 ≤ 400 }
+    requires path { HasRoom out.old shape.now }
     ensures added { out.new ≡ added out.old (shape_words shape.now) }
 {
     match *shape {
@@ -98,6 +158,7 @@ fn put_shape(out: &mut Text, shape: &MoveShape)
             y2,
             m,
         } => put_form(out, b"curve", &[x0, y0, x1, y1, x2, y2, m]),
+        MoveShape::Path { x0, y0, ref legs } => put_path(out, x0, y0, legs),
     }
 }
 
@@ -167,15 +228,27 @@ fn put_fates(out: &mut Text, word: &[u8], vehicle: u32, fates: &FateList)
 // Adds the window's word, which plans have from version 3 on.
 fn put_window(out: &mut Text, version: u8, ahead: bool)
     requires { length out.old + 6 ≤ 400 }
-    ensures { out.new ≡ added out.old (window_words version ahead) }
+    ensures added { out.new ≡ added out.old (window_words version ahead) }
+    ensures len { length out.new ≤ length out.old + 6 }
 {
     if version >= 3 {
         out.word(window_text(ahead));
     }
 }
 
+// Adds the number of steps that a driver waits, which plans have from version 4 on.
+fn put_wait(out: &mut Text, version: u8, wait: u32)
+    requires { length out.old + 11 ≤ 400 }
+    ensures { out.new ≡ added out.old (wait_words version wait) }
+{
+    if version >= 4 {
+        out.number(wait);
+    }
+}
+
 fn put_move(out: &mut Text, lane: u8, turn: Turn, shape: &MoveShape)
-    requires { length out.old + 101 ≤ 400 }
+    requires empty { length out.old ≡ 0 }
+    requires shape { (version : ℕ) × IsMove version lane turn shape.now }
     ensures { out.new ≡ added out.old (codes "move" ∷ decimal lane ∷ turn_word turn ∷ shape_words shape.now) }
 {
     out.word(b"move");
@@ -221,6 +294,15 @@ fn put_switch(out: &mut Text, moment: u32, name: &Name)
     put_name(out, name);
 }
 
+fn put_quiet(out: &mut Text, moment: u32, lane: u8, until: u32)
+    requires { length out.old + 41 ≤ 400 }
+    ensures { out.new ≡ added out.old (codes "operator" ∷ decimal moment ∷ codes "quiet" ∷ decimal lane ∷ decimal until ∷ []) }
+{
+    put_order(out, moment, b"quiet");
+    out.number(lane);
+    out.number(until);
+}
+
 fn put_event(out: &mut Text, vehicle: u32, moment: u32, message: &Message)
     requires { length out.old + 166 ≤ 400 }
     ensures { out.new ≡ added out.old (decimal vehicle ∷ decimal moment ∷ message_words message.now) }
@@ -231,14 +313,15 @@ fn put_event(out: &mut Text, vehicle: u32, moment: u32, message: &Message)
 }
 
 // Adds the words of a plan behind its numbers.
-fn put_planned(out: &mut Text, version: u8, params: &Params, ahead: bool)
-    requires { length out.old + 84 ≤ 400 }
-    ensures { out.new ≡ added out.old (decimal params.now.lane ∷ turn_word params.now.turn ∷ (vehicle_words params.now ++ window_words version ahead)) }
+fn put_planned(out: &mut Text, version: u8, params: &Params, ahead: bool, wait: u32)
+    requires { length out.old + 95 ≤ 400 }
+    ensures { out.new ≡ added out.old (decimal params.now.lane ∷ turn_word params.now.turn ∷ (vehicle_words params.now ++ (window_words version ahead ++ wait_words version wait))) }
 {
     out.number(params.lane);
     out.word(turn_text(params.turn));
     put_vehicle(out, params);
     put_window(out, version, ahead);
+    put_wait(out, version, wait);
 }
 
 // Adds the words of a plan, of which `steps` are its first step, its lead and its resend.
@@ -249,13 +332,14 @@ fn put_plan(
     steps: [u32; 3],
     params: &Params,
     ahead: bool,
+    wait: u32,
 )
-    requires { length out.old + 143 ≤ 400 }
-    ensures { out.new ≡ added (added out.old (codes "plan" ∷ decimal vehicle ∷ map decimal steps)) (decimal params.now.lane ∷ turn_word params.now.turn ∷ (vehicle_words params.now ++ window_words version ahead)) }
+    requires { length out.old + 154 ≤ 400 }
+    ensures { out.new ≡ added (added out.old (codes "plan" ∷ decimal vehicle ∷ map decimal steps)) (decimal params.now.lane ∷ turn_word params.now.turn ∷ (vehicle_words params.now ++ (window_words version ahead ++ wait_words version wait))) }
 {
     put_field(out, b"plan", vehicle);
     put_numbers(out, &steps);
-    put_planned(out, version, params, ahead);
+    put_planned(out, version, params, ahead, wait);
 }
 
 fn put_change(out: &mut Text, vehicle: u32, step: u32, lead: u32)
@@ -286,7 +370,16 @@ fn put_driving(out: &mut Text, version: u8, line: &Line)
             resend,
             ref params,
             ahead,
-        } => put_plan(out, version, vehicle, [first, lead, resend], params, ahead),
+            wait,
+        } => put_plan(
+            out,
+            version,
+            vehicle,
+            [first, lead, resend],
+            params,
+            ahead,
+            wait,
+        ),
         Line::ChangeAt {
             vehicle,
             step,
@@ -311,6 +404,7 @@ pub(crate) fn put_line(out: &mut Text, version: u8, line: &Line)
         Line::Grid(ref grid) => put_grid(out, grid),
         Line::Times(ref times) => put_times5(out, times),
         Line::Times6(ref times) => put_times6(out, times),
+        Line::Times7(ref times) => put_times7(out, times),
         Line::Lanes(n) => put_field(out, b"lanes", n),
         Line::Move {
             lane,
@@ -328,6 +422,11 @@ pub(crate) fn put_line(out: &mut Text, version: u8, line: &Line)
         } => put_event(out, vehicle, moment, message),
         Line::SwitchTo { moment, ref name } => put_switch(out, moment, name),
         Line::StopAt { moment } => put_order(out, moment, b"stop"),
+        Line::QuietAt {
+            moment,
+            lane,
+            until,
+        } => put_quiet(out, moment, lane, until),
         Line::Until(step) => put_field(out, b"until", step),
         Line::End => out.word(b"end"),
         _ => put_driving(out, version, line),

@@ -6,8 +6,11 @@ ghost use Rattle.aim_messages.specs.Writing.{added};
 use itoa::{Buffer, Integer};
 use std::marker::Model;
 
-/// Room for a line: no line of a script has more bytes, and no entry's text.
-pub(crate) const ROOM: usize = 400;
+// Room for a line, which has at most 400 bytes, and for the space behind its last word.
+const ROOM: usize = 401;
+
+// Room for an entry's text: it is shorter, whatever the entry.
+const ENTRY_ROOM: usize = 400;
 
 /// The words so far, each with a space behind it.
 #[derive(Drop)]
@@ -23,7 +26,7 @@ impl Model for Text {
 
     ghost view = { λ t. take t.len t.bytes };
 
-    ghost invariant = { λ t. t.len ≤ 400 };
+    ghost invariant = { λ t. t.len ≤ 401 };
 }
 
 impl Text {
@@ -44,19 +47,19 @@ impl Text {
         &self.bytes[..self.len.saturating_sub(1)]
     }
 
-    /// Puts the line at the front of an array, and says how long it is.
-    pub fn give(self, out: &mut [u8; ROOM]) -> usize
-        ensures line { take result out.new ≡ take (length self - 1) self }
-        ensures len { result ≡ length self - 1 }
+    /// Puts a line of at most 400 bytes at the front of an array, and says how long it is.
+    pub fn give(&self, out: &mut [u8; ENTRY_ROOM]) -> usize
+        ensures line { take result out.new ≡ take (length self.now - 1) self.now }
+        ensures len { result ≡ length self.now - 1 }
     {
-        let Text { bytes, len } = self;
-        *out = bytes;
-        len.saturating_sub(1)
+        let len = self.len.saturating_sub(1);
+        out[..len].copy_from_slice(&self.bytes[..len]);
+        len
     }
 
     /// Adds a word.
     pub fn word(&mut self, word: &[u8])
-        requires { length self.old + length word.now < 400 }
+        requires { length self.old + length word.now < 401 }
         ensures added { self.new ≡ added self.old (word.now ∷ []) }
         ensures len { length self.new ≡ length self.old + length word.now + 1 }
     {
@@ -66,9 +69,9 @@ impl Text {
         self.len = end + 1;
     }
 
-    /// Adds a number.
+    /// Adds a number, where there is room for the longest of its type.
     pub fn number<I: Integer>(&mut self, n: I)
-        requires { length self.old + I.MAX_STR_LEN < 400 }
+        requires { length self.old + I.MAX_STR_LEN < 401 }
         ensures added { self.new ≡ added self.old (I.text n ∷ []) }
         ensures len { length self.new ≤ length self.old + I.MAX_STR_LEN + 1 }
     {

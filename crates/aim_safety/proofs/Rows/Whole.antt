@@ -16,7 +16,7 @@ use Rattle.aim_safety.proofs.Rows.Drives.{h, first, second}
 -- both drivers of the drive keep the rules, and their logs fit its history, which is legal
 
 abbrev second_plan : DrivePlan
-second_plan = record { first = 1; lead = 12; resend = 3; params = driver.car 1 0; changes = []; cancel = Some 7; ahead = false }
+second_plan = record { first = 1; lead = 12; resend = 3; wait = 0; params = driver.car 1 0; changes = []; cancel = Some 7; ahead = false }
 
 pub the_first_keeps_the_rules : keeps first ≡ true
 the_first_keeps_the_rules = refl

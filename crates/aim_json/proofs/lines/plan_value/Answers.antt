@@ -1,3 +1,8 @@
+use Rattle.std.proofs.Common.{sym, subst}
+use Rattle.serde_json.specs.Data.{Members}
+use Rattle.aim_json.specs.Lines.{wait_members, window_members}
+use Rattle.aim_json.specs.Objects.{Holds}
+use Rattle.aim_json.proofs.Lists.{members_append}
 use Rattle.aim_json.proofs.lines.plan_value.Goals as goal
 
 pub returns : goal.returns
@@ -8,5 +13,7 @@ returns c =
     let resend = c.count-object.ensures _ lead in
     let way = c.put_way-object.ensures _ resend in
     let all = c.put_vehicle.ensures _ way in
-    let window = c.put_window.ensures _ all in
-    c.value.ensures _ window
+    let window = c.put_window-object.ensures _ all in
+    let wait = c.put_wait.ensures _ window in
+    let both = members_append (window_members c.args.version c.args.ahead) (wait_members c.args.version c.args.wait) _ in
+    c.value.ensures _ (subst (λ (ms : Members). Holds c.put_wait.result ms) (sym both) wait)

@@ -26,3 +26,11 @@ returns-in-Curve c ms holds =
     let y2 = c.count-in-Curve-6.ensures _ x2 in
     let m = c.count-in-Curve-7.ensures _ y2 in
     subst (λ (s : MoveShape). Holds c.count-in-Curve-7.result (with_members (shape_members s) ms)) (sym c.in-Curve.is) m
+
+pub returns-in-Path : goal.returns-in-Path
+returns-in-Path c ms holds =
+    let shape = c.word-object-in-Path.ensures _ holds in
+    let x0 = c.count-in-Path.ensures _ shape in
+    let y0 = c.count-in-Path-2.ensures _ x0 in
+    let legs = c.member.ensures _ _ y0 c.legs_value.ensures in
+    subst (λ (s : MoveShape). Holds c.member.result (with_members (shape_members s) ms)) (sym c.in-Path.is) legs

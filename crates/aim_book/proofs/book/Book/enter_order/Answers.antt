@@ -18,7 +18,16 @@ operate-reply-requires-clause-room g c =
     let b = c.self.inside in
     let same : length b.desk.timeline.pushed ≡ length (changes b.journal.items) = ap length c.self.invariant.managed.desk.changes in
     let few = changes_fit b.journal.items in
-    omega (arith, same, few, c.self.invariant.timeline, c.self.invariant.fits, c.len.ensures, c.if-len-self.false)
+    let quiet = c.self.invariant.managed.desk.quiets.few in (
+      omega (arith, same, few, c.self.invariant.timeline, c.self.invariant.fits, c.len.ensures, c.if-len-self.false),
+      omega (arith, quiet, c.self.invariant.timeline, c.self.invariant.fits, c.len.ensures, c.if-len-self.false),
+    )
+
+pub operate-reply-requires-clause-managed : goal.operate-reply-requires-clause-managed
+operate-reply-requires-clause-managed g c =
+    let b = c.self.inside in
+    let of : IsOfLayout b.layout b.vehicles OPERATOR (act.Order c.args.order) = subst (λ v. IsOfLayout v.layout v.vehicles OPERATOR (act.Order c.args.order)) (sym c.self.view_is) c.requires.order in
+    (b.vehicles, b.journal.items, c.self.invariant.managed, of)
 
 pub invariant_of-self : goal.invariant_of-self
 invariant_of-self g c =

@@ -84,3 +84,9 @@ loop-from-preserved g c =
 
 pub returns-clause-prepared : goal.returns-clause-prepared
 returns-clause-prepared g c = c.loop-from.invariant.asking.1.prepared
+
+pub returns-then-is_start_free-clause-before : goal.returns-then-is_start_free-clause-before
+returns-then-is_start_free-clause-before g c = λ k place tells r a b. c.loop-from.invariant.none k place tells r a (omega arith)
+
+pub returns-clause-none : goal.returns-clause-none
+returns-clause-none g c = λ k place tells r a b. (let over = c.loop-from-test.false in c.loop-from.invariant.none k place tells r a (omega arith))

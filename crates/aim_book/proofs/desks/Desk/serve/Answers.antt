@@ -48,7 +48,7 @@ returns-in_default-clause-entry g c = λ h m place. record {
       = c.answer_known-reply.ensures n c.args.moment h before c.requires.vehicle ∙ ap (λ msg. answer i h c.args.vehicle c.args.moment (act.Message msg)) c.message-in_default.ensures.message in
       let legal : IsLegal i n (h ++ e ∷ []) = IsLegal-append i n h e m.legal (record { moment = c.requires.moment; caller = ((let f = m.few in let l = c.requires.vehicle in omega arith), c.requires.vehicle) }) said in
       let old : is_fresh h e ≡ false = session_fresh c.go_on.new.self.sessions h e c.args.prepared.message before.desk.sessions (let q = before.desk.callers in let l = c.requires.vehicle in omega arith) refl ∙ ap is_fresh_look (sym (c.look.ensures ∙ ap (λ msg. look_of (slice_index_or c.go_on.new.self.sessions c.args.vehicle no_session).last msg) c.message.ensures.message)) ∙ not_fresh c.look.result c.in_default.not-Fresh in
-      managed_same i n h e c.go_on.new.self before legal old refl refl;
+      managed_same i n h e c.go_on.new.self before legal old refl refl refl;
 }
 
 pub serve_fresh-requires-clause-managed : goal.serve_fresh-requires-clause-managed

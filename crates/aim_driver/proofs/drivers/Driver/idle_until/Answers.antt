@@ -10,7 +10,7 @@ returns-clause-idle c = λ s le lt.
     let k = c.self.inside.known in
     let h = c.idle_until.ensures.idle s le lt in
     let P : DriverModel → Type 0 = λ d. (enters d.plan d.log s ≡ None) × (acts d.plan d.log s ≡ None) in
-    subst P c.self.view_is (sym (enter_is p log k s c.self.invariant) ∙ h.0, sym (act_is p log k s c.self.invariant) ∙ h.1)
+    subst P c.self.view_is (sym (enter_is p log k s c.self.invariant.0) ∙ h.0, sym (act_is p log k s c.self.invariant.0) ∙ h.1)
 
 pub returns-clause-later : goal.returns-clause-later
 returns-clause-later c =
@@ -18,4 +18,4 @@ returns-clause-later c =
     let log = c.self.inside.log.items in
     let k = c.self.inside.known in
     let P : DriverModel → Type 0 = λ d. enters d.plan d.log c.args.step ≡ None → acts d.plan d.log c.args.step ≡ None → c.args.step < c.idle_until.result in
-    subst P c.self.view_is (λ free calm. c.idle_until.ensures.later (enter_is p log k c.args.step c.self.invariant ∙ free) (act_is p log k c.args.step c.self.invariant ∙ calm))
+    subst P c.self.view_is (λ free calm. c.idle_until.ensures.later (enter_is p log k c.args.step c.self.invariant.0 ∙ free) (act_is p log k c.args.step c.self.invariant.0 ∙ calm))

@@ -31,3 +31,9 @@ returns-in-Stopped c = record {
   added = said reply_words _ _ _ _ c.in-Stopped.is c.word-in-Stopped.ensures.added;
   len = word_room _ _ 7 91 c.word-in-Stopped.ensures.len;
 }
+
+pub returns-in-Quieted : goal.returns-in-Quieted
+returns-in-Quieted c = record {
+  added = said reply_words _ _ _ _ c.in-Quieted.is c.word-in-Quieted.ensures.added;
+  len = word_room _ _ 7 91 c.word-in-Quieted.ensures.len;
+}

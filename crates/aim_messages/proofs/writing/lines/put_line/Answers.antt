@@ -1,4 +1,6 @@
-use Rattle.aim_messages.specs.Lines.{line_words}
+use Rattle.std.proofs.Common.{subst}
+use Rattle.aim_messages.specs.declared.script.Line.{Line}
+use Rattle.aim_messages.specs.Lines.{line_words, KeepsRanges}
 use Rattle.aim_messages.proofs.Words.{said}
 use Rattle.aim_messages.proofs.writing.lines.put_line.Goals as goal
 
@@ -14,8 +16,14 @@ returns-in-Times c = said (line_words c.args.version) _ _ _ _ c.in-Times.is c.pu
 pub returns-in-Times6 : goal.returns-in-Times6
 returns-in-Times6 c = said (line_words c.args.version) _ _ _ _ c.in-Times6.is c.put_times6.ensures
 
+pub returns-in-Times7 : goal.returns-in-Times7
+returns-in-Times7 c = said (line_words c.args.version) _ _ _ _ c.in-Times7.is c.put_times7.ensures
+
 pub returns-in-Lanes : goal.returns-in-Lanes
 returns-in-Lanes c = said (line_words c.args.version) _ _ _ _ c.in-Lanes.is c.put_field-in-Lanes.ensures.added
+
+pub put_move-requires-clause-shape : goal.put_move-requires-clause-shape
+put_move-requires-clause-shape c = (c.args.version, subst (λ (l : Line). KeepsRanges c.args.version l) c.in-Move.is c.requires.ranges)
 
 pub returns-in-Move : goal.returns-in-Move
 returns-in-Move c = said (line_words c.args.version) _ _ _ _ c.in-Move.is c.put_move.ensures
@@ -40,6 +48,9 @@ returns-in-SwitchTo c = said (line_words c.args.version) _ _ _ _ c.in-SwitchTo.i
 
 pub returns-in-StopAt : goal.returns-in-StopAt
 returns-in-StopAt c = said (line_words c.args.version) _ _ _ _ c.in-StopAt.is c.put_order.ensures.added
+
+pub returns-in-QuietAt : goal.returns-in-QuietAt
+returns-in-QuietAt c = said (line_words c.args.version) _ _ _ _ c.in-QuietAt.is c.put_quiet.ensures
 
 pub returns-in-Until : goal.returns-in-Until
 returns-in-Until c = said (line_words c.args.version) _ _ _ _ c.in-Until.is c.put_field-in-Until.ensures.added

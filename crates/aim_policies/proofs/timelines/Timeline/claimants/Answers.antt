@@ -1,45 +1,31 @@
-use Rattle.std.proofs.Common.{◌≡◌, ◌≤◌, ◌-◌, ◌||◌, ℕ, Bool, sym, ◌∙◌, ap, arith, slice_get}
+use Rattle.std.proofs.Common.{◌≡◌, ◌-◌, sym, ◌∙◌, ap, arith}
 use Rattle.aim_geometry.proofs.Bits.{has_bit_or}
-use Rattle.aim_layout.specs.Policies.{has_lane}
-use Rattle.aim_rules.specs.Lights.{green_lanes}
-use Rattle.aim_policies.specs.Changes.{green_in}
-use Rattle.aim_policies.proofs.Windows.{at_some, window_whole, window_part, green_since, or_last, or_next, lane_there}
+use Rattle.aim_policies.specs.Changes.{at_some, counts_in}
+use Rattle.aim_policies.proofs.GapLemmas.{counts_lit, lane_more, lanes_all, lanes_none}
+use Rattle.aim_policies.proofs.Windows.{lane_there}
 use Rattle.aim_policies.proofs.timelines.Timeline.claimants.Goals as goal
 
-pub returns-then-from-first-clause-green : goal.returns-then-from-first-clause-green
-returns-then-from-first-clause-green c = λ lane.
+pub loop-lane-init : goal.loop-lane-init
+loop-lane-init c = λ k. lanes_none k _
+
+pub heard-lanes-requires-clause-greens : goal.heard-lanes-requires-clause-greens
+heard-lanes-requires-clause-greens c = c.greens-greens.ensures.green c.loop-lane.lane
+
+pub loop-lane-preserved : goal.loop-lane-preserved
+loop-lane-preserved c = λ k.
+    lane_more c.loop-lane.lane k (λ l. at_some (counts_in c.args.layout.now c.args.self.now.pushed c.args.self.now.quiets l) c.saturating_sub-first.result c.args.step) _ _ _
+    (c.loop-lane.invariant k) (c.heard-lanes.ensures k) (has_bit_or c.loop-lane.lanes c.heard-lanes.result k)
+
+pub returns-clause-green : goal.returns-clause-green
+returns-clause-green c = λ k.
+    let i = c.args.layout.now in
+    let begin : c.saturating_sub-first.result ≡ c.args.step - i.times.clearance = let t = ap (λ t. t.clearance) (c.times.ensures.times ∙ c.ground.ensures.times) in let d = c.saturating_sub-first.ensures in omega arith in
+    c.loop-lane.invariant k
+    ∙ lanes_all i c.args.self.now.pushed c.args.self.now.quiets c.saturating_sub-first.result c.args.step c.loop-lane.lane k c.ground.ensures.valid (omega arith)
+    ∙ ap (λ first. at_some (counts_in i c.args.self.now.pushed c.args.self.now.quiets k) first c.args.step) begin
+
+pub returns-clause-there : goal.returns-clause-there
+returns-clause-there c = λ k h.
     let i = c.args.layout.now in
     let fs = c.args.self.now.pushed in
-    let from = c.policy_at-policy.result.1 in
-    let first = c.saturating_sub-first.result in
-    let last = c.windows.last in
-    let g : ℕ → Bool = λ s. has_lane (green_in i fs s) lane in
-    let h : ℕ → Bool = λ o. has_lane (green_lanes (slice_get i.policies c.policy_at-policy.result.0) o) lane in
-    let early : from ≤ first = c.if-from-first.true in
-    let some : first ≤ last = c.windows.invariant.some in
-    let latest : c.max.result ≡ first = c.max.ensures ∙ omega arith in
-    let new : has_lane c.green_between-lanes.result lane ≡ at_some h (first - from) (last - from) = rw latest at (c.green_between-lanes.ensures lane) in
-    let whole : at_some g first last ≡ at_some h (first - from) (last - from) = window_whole g h first from last early some (λ s a b. green_since i fs c.policy_at-policy.result.0 from last s lane c.policy_at-policy.ensures.policy a b) in
-    let begin : first ≡ c.args.step - i.times.clearance = let t = ap (λ t. t.clearance) (c.times.ensures.times ∙ c.ground.ensures.times) in let d = c.saturating_sub-first.ensures in omega arith in
-    or_last _ _ _ _ _ (has_bit_or c.windows.lanes c.green_between-lanes.result lane) (new ∙ sym whole) (sym (c.windows.invariant.lanes lane)) ∙ ap (λ k. at_some g k c.args.step) begin
-
-pub windows-preserved : goal.windows-preserved
-windows-preserved c = record {
-  some = let l = c.if-from-first.false in omega arith;
-  most = let l = c.windows.invariant.most in let s = c.policy_at-policy.ensures.since in omega arith;
-  lanes = λ lane.
-      let i = c.args.layout.now in
-      let fs = c.args.self.now.pushed in
-      let from = c.policy_at-policy.result.1 in
-      let first = c.saturating_sub-first.result in
-      let last = c.windows.last in
-      let g : ℕ → Bool = λ s. has_lane (green_in i fs s) lane in
-      let h : ℕ → Bool = λ o. has_lane (green_lanes (slice_get i.policies c.policy_at-policy.result.0) o) lane in
-      let latest : c.max.result ≡ from = let l = c.if-from-first.false in c.max.ensures ∙ omega arith in
-      let new : has_lane c.green_between-lanes.result lane ≡ at_some h (from - from) (last - from) = rw latest at (c.green_between-lanes.ensures lane) in
-      let part : at_some g first last ≡ (at_some h (from - from) (last - from) || at_some g first (from - 1)) = window_part g h first from last c.if-from-first.false c.policy_at-policy.ensures.since (λ s a b. green_since i fs c.policy_at-policy.result.0 from last s lane c.policy_at-policy.ensures.policy a b) in
-      or_next _ _ _ _ _ _ (c.windows.invariant.lanes lane) (has_bit_or c.windows.lanes c.green_between-lanes.result lane) (part ∙ ap (λ b. b || at_some g first (from - 1)) (sym new));
-}
-
-pub returns-then-from-first-clause-there : goal.returns-then-from-first-clause-there
-returns-then-from-first-clause-there c = λ lane h. lane_there c.args.layout.now c.args.self.now.pushed _ _ lane c.ground.ensures.valid (sym (returns-then-from-first-clause-green c lane) ∙ h)
+    lane_there i fs _ _ k c.ground.ensures.valid (counts_lit i fs c.args.self.now.quiets k _ _ (sym (returns-clause-green c k) ∙ h))

@@ -1,16 +1,8 @@
-use Rattle.std.proofs.Common.{◌≡◌, ℕ, ◌≤◌, ◌||◌}
+use Rattle.std.proofs.Common.{◌≡◌, ℕ, ◌&&◌, nat_lt}
 use Rattle.aim_layout.specs.Policies.{has_lane}
-use Rattle.aim_policies.specs.Changes.{green_in}
-use Rattle.aim_policies.proofs.Windows.{at_some}
+use Rattle.aim_policies.specs.Changes.{at_some, counts_in}
 use Rattle.aim_policies.proofs.timelines.Timeline.claimants.Given as goal
 
-abbrev pub invariant-windows : goal.invariant-windows
-invariant-windows l = record {
-  some : l.first ≤ l.last;
-  most : l.last ≤ l.step;
-  lanes : (lane : ℕ) → at_some (λ s. has_lane (green_in l.layout l.self.pushed s) lane) l.first l.step
-      ≡ (has_lane l.lanes lane || at_some (λ s. has_lane (green_in l.layout l.self.pushed s) lane) l.first l.last);
-}
-
-abbrev pub decreases-windows : goal.decreases-windows
-decreases-windows l = l.last
+abbrev pub invariant-loop-lane : goal.invariant-loop-lane
+invariant-loop-lane l =
+    (k : ℕ) → has_lane l.lanes k ≡ (nat_lt k l.lane && at_some (counts_in l.layout l.self.pushed l.self.quiets k) l.first l.step)

@@ -10,4 +10,6 @@ invariant_of-self c =
     let order = rw (← c.self.view_is) at c.requires.order in (
       omega (arith, c.self.invariant.0, c.push_reserved.ensures.capacity),
       rw c.push_reserved.ensures.items (IsNonDecreasingBy-push (λ (c : Change). c.from) c.self.inside.changes.items made c.self.invariant.1 (λ d some. last_from c.self.inside.changes.items c.args.from d some order)),
+      c.self.invariant.2,
+      c.self.invariant.3,
     )

@@ -12,9 +12,9 @@ returns-then-has_lights-clause-least g c =
     let d = c.args.self.now in
     let own = spans_in (row_of d.rows.items c.args.vehicle) in
     let spans = c.args.sheet.now.spans in
-    least_both i c.args.timeline.now.pushed d.table own spans c.args.lane c.least.result
-    (c.least.ensures (λ e. in_spans spans e && is_green i c.args.timeline.now.pushed c.args.lane e) (is_taken d.table spans own)
-    (least_of (λ e. in_spans spans e && is_green i c.args.timeline.now.pushed c.args.lane e) c.first_green.result c.first_green.ensures.found c.first_green.ensures.none)
+    least_both i c.args.timeline.now.pushed c.args.timeline.now.quiets d.table own spans c.args.lane c.least.result
+    (c.least.ensures (λ e. in_spans spans e && is_green i c.args.timeline.now.pushed c.args.timeline.now.quiets c.args.lane e) (is_taken d.table spans own)
+    (least_of (λ e. in_spans spans e && is_green i c.args.timeline.now.pushed c.args.timeline.now.quiets c.args.lane e) c.first_green.result c.first_green.ensures.found c.first_green.ensures.none)
     (least_of (is_taken d.table spans own) c.first_taken-taken.result c.first_taken-taken.ensures.found c.first_taken-taken.ensures.none))
 
 pub returns-else-has_lights-clause-least : goal.returns-else-has_lights-clause-least
@@ -23,5 +23,5 @@ returns-else-has_lights-clause-least g c =
     let d = c.args.self.now in
     let own = spans_in (row_of d.rows.items c.args.vehicle) in
     let spans = c.args.sheet.now.spans in
-    least_dark i c.args.timeline.now.pushed d.table own spans c.args.lane c.first_taken-taken.result (sym c.requires.lights ∙ c.if-has_lights.false)
+    least_dark i c.args.timeline.now.pushed c.args.timeline.now.quiets d.table own spans c.args.lane c.first_taken-taken.result (sym c.requires.lights ∙ c.if-has_lights.false)
     (least_of (is_taken d.table spans own) c.first_taken-taken.result c.first_taken-taken.ensures.found c.first_taken-taken.ensures.none)
