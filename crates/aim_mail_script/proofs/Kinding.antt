@@ -55,11 +55,19 @@ stop_nowhere (place.Lanes s) moment = refl
 stop_nowhere (place.Moves b) moment = refl
 stop_nowhere (place.Policies b names) moment = refl
 
+quiet_nowhere : (p : Place) (moment lane until : ℕ) → belongs (part_of p) (line.QuietAt moment lane until) ≡ false
+quiet_nowhere place.Version moment lane until = refl
+quiet_nowhere place.Grid moment lane until = refl
+quiet_nowhere (place.Times g) moment lane until = refl
+quiet_nowhere (place.Lanes s) moment lane until = refl
+quiet_nowhere (place.Moves b) moment lane until = refl
+quiet_nowhere (place.Policies b names) moment lane until = refl
+
 -- no order stands in a header
 order_nowhere : (before : List Line) (l : Line) (p : Place) → is_order before l ≡ true → belongs (part_of p) l ≡ false
 order_nowhere before (line.SwitchTo moment name) p is = switch_nowhere p moment name
 order_nowhere before (line.StopAt moment) p is = stop_nowhere p moment
-order_nowhere before (line.QuietAt moment lane until) p is = stop_nowhere p moment
+order_nowhere before (line.QuietAt moment lane until) p is = quiet_nowhere p moment lane until
 order_nowhere before l p is = absurd (cc)
 
 -- the kind of a line of the header

@@ -20,6 +20,9 @@ lanes = codes "aim 1\ngrid 4000 4 100 0 450 4096\ntimes 1500 25 20 0 0\nlanes 1\
 abbrev small : List ℕ
 small = codes "aim 1\ngrid 4000 4 100 0 450 4096\ntimes 1500 25 20 0 0\nlanes 1\nmove 0 straight line 0 1500 4000 1500 40\npolicy plain fcfs\npolicy lights light\nphase 20 80 0\nvehicles 3\nbegin\n"
 
+abbrev small_of_version_4 : List ℕ
+small_of_version_4 = codes "aim 4\ngrid 4000 4 100 0 450 4096\ntimes 1500 25 20 0 0 0 300\nlanes 1\nmove 0 straight line 0 1500 4000 1500 40\npolicy plain fcfs\npolicy lights light\nphase 20 80 0\nvehicles 3\nbegin\n"
+
 abbrev decision_of : List ℕ → Decision
 decision_of bytes = let v = event_verdict bytes in v.decision
 
@@ -46,6 +49,18 @@ a_switch_to_no_policy_past_the_last_moment = refl
 pub an_order_that_does_not_read : decision_of (small ++ codes "operator 0 halt\nend\n") ≡ decision.Bad 11 (why.Spelling read.Words)
 unfolding digits outcomes_from layout_of
 an_order_that_does_not_read = refl
+
+pub a_quiet_lane : decision_of (small_of_version_4 ++ codes "operator 0 quiet 0 40\nend\n") ≡ decision.Bad 11 why.Order
+unfolding digits outcomes_from layout_of
+a_quiet_lane = refl
+
+pub a_quiet_lane_before_version_4 : decision_of (small ++ codes "operator 0 quiet 0 40\nend\n") ≡ decision.Bad 11 (why.Spelling read.Words)
+unfolding digits outcomes_from layout_of
+a_quiet_lane_before_version_4 = refl
+
+pub a_request_with_a_window : decision_of (small_of_version_4 ++ codes "0 0 request 1 0 straight 10 500 500 0 1000 700 car 14\nend\n") ≡ decision.Whole 1
+unfolding digits outcomes_from layout_of
+a_request_with_a_window = refl
 
 pub an_order_before_the_version : decision_of (codes "operator 0 stop\n") ≡ decision.Bad 1 why.Order
 unfolding digits outcomes_from layout_of

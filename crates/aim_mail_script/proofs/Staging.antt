@@ -1,10 +1,8 @@
 -- What a line comes to at the stage where it belongs.
-use Rattle.std.proofs.Common.{◌≡◌, ◌⊎◌, inl, inr, ℕ, zero, suc, ◌+◌, ◌*◌, ◌<◌, ◌≤◌, Bool, true, false, nat_lt, nat_le, List, [], ◌∷◌, ◌++◌, length, filter_map, take, Option, Some, None, Result, Ok, Err, refl, sym, ap, ◌∙◌, subst, arith, length-append, append-nil, slice_get}
+use Rattle.std.proofs.Common.{◌≡◌, ◌⊎◌, inl, inr, ℕ, zero, suc, ◌+◌, ◌*◌, ◌<◌, ◌≤◌, Bool, true, false, nat_lt, nat_le, List, [], ◌∷◌, ◌++◌, length, filter_map, Option, Some, None, Result, Ok, Err, refl, sym, ap, ◌∙◌, subst, arith, length-append, append-nil, slice_get}
 use Rattle.std.specs.Prelude.{if◌then◌else◌}
 use Rattle.std.specs.Option.{unwrap_or}
 use Rattle.std.proofs.lemmas.Bool.{leb-false, ltb-false}
-use Rattle.std.proofs.lemmas.List.{take-append-le}
-use Rattle.std.proofs.Math.Seq.{take-append_seam}
 use Rattle.aim_messages.specs.declared.messages.Message.{Message}
 use Rattle.aim_messages.specs.declared.script.Line.{Line}
 use Rattle.aim_messages.specs.declared.script.Line.TheVariants as line
@@ -39,7 +37,7 @@ use Rattle.aim_mail_script.specs.declared.stages.Stage.{Stage}
 use Rattle.aim_mail_script.specs.declared.stages.Stage.TheVariants as stage
 use Rattle.aim_mail_script.specs.Said.{event_in, events_of}
 use Rattle.aim_mail_script.specs.Kinds.{kind_of_fault, limit_of}
-use Rattle.aim_mail_script.specs.Fits.{FitsEvent, IsFit}
+use Rattle.aim_mail_script.specs.Fits.{FitsEvent}
 use Rattle.aim_mail_script.specs.Scripts.{AreEvents}
 use Rattle.aim_mail_script.specs.Stages.{GoesTo, IsDraft, Stands, Takes, Judged, Ends, event_kind, version_at}
 use Rattle.aim_script.specs.Spellings.{of_words}

@@ -1,4 +1,4 @@
-use Rattle.std.proofs.Common.{Some, Err, arith, sym, ap, refl, subst}
+use Rattle.std.proofs.Common.{refl}
 use Rattle.aim_mail_script.proofs.Telling.{never_read, refused_told, whole_told}
 use Rattle.aim_mail_script.proofs.reading.read_events.Goals as goal
 
