@@ -1,5 +1,5 @@
 -- How a session goes on with one more line, and how it ends.
-use Rattle.std.proofs.Common.{◌≡◌, ◌⊎◌, inl, inr, ℕ, ◌+◌, ◌<◌, ◌≤◌, Bool, true, false, true≢false, nat_lt, List, [], ◌∷◌, ◌++◌, length, take, Option, Some, None, IfSome, Result, Ok, Err, refl, sym, ap, ◌∙◌, subst, arith, append_assoc, append-nil}
+use Rattle.std.proofs.Common.{◌≡◌, ◌⊎◌, inl, inr, ℕ, ◌+◌, ◌<◌, ◌≤◌, Bool, true, false, true≢false, nat_lt, List, [], ◌∷◌, ◌++◌, length, take, Option, Some, None, IfSome, Ok, Err, refl, sym, ap, ◌∙◌, subst, arith, append_assoc, append-nil}
 use Rattle.std.proofs.KnownBytes.{Appends-kept, Appends-nil, Appends-trans, Consumes-trans, prepend_known-nil}
 use Rattle.std.proofs.lemmas.Bool.{cases_Bool, ltb-true, ltb-false, lt-ltb, ne_eqb}
 use Rattle.std.proofs.lemmas.List.{length-append, length-take, take_all}
@@ -30,9 +30,10 @@ use Rattle.aim_line_session.specs.Sessions.{journal_so_far, orders_in}
 use Rattle.aim_session_command.proofs.LineLemmas.{rose_behind}
 use Rattle.aim_session_command.specs.declared.sessions.Stop.{Stop}
 use Rattle.aim_session_command.specs.declared.sessions.Stop.TheVariants as stop
-use Rattle.aim_session_command.specs.Answered.{AreAnswered, IsAnswer, MayLackRoom, judged_by}
+use Rattle.aim_session_command.specs.Answered.{AreAnswered, IsAnswer, MayLackRoom}
+use Rattle.aim_spelled_session.specs.Spelled.{ComesIn, judged_by}
 use Rattle.aim_session_command.specs.Commands.{LastNeeded, RunsOut, StopsBehind, WritesFront}
-use Rattle.aim_session_command.specs.Held.{ComesIn, Ended, Responded, Responds, Runs, outcome_text}
+use Rattle.aim_session_command.specs.Held.{Ended, Responded, Responds, Runs, outcome_text}
 use Rattle.aim_session_command.specs.Reading.{NeedsRead, TakesLine, TakesPart}
 
 -- ---- lines
@@ -182,12 +183,6 @@ responds_lacking w number taken bytes old new o held now fits few st going some 
 pub responds_out : (w : Spelled) (number : ℕ) (taken : List Line) (bytes : List ℕ) (old new : Standing) (held : Option (List ℕ)) → ComesIn w taken bytes old new outcome.NoMemory → Responds w number taken bytes held held new (Err stop.NoMemory)
 responds_out w number taken bytes old new held (inl comes) = record { part = inl (Appends-nil held); nothing = λ none. (comes.0, Appends-nil held) }
 responds_out w number taken bytes old new held (inr (none, takes, same)) = record { part = inl (Appends-nil held); nothing = λ never. absurd (true≢false (sym takes ∙ never)) }
-
--- what was read of the bytes was taken, or what was wrong with them
-pub comes_read : (w : Spelled) (taken : List Line) (bytes : List ℕ) (version : ℕ) (read : Result Line Kind) (old new : Standing) (o : LineOutcome) → version_after taken ≡ version → reads_short w.reads version bytes ≡ read → ComesBy taken (of_read taken read) old new o
-    → ComesIn w taken bytes old new o
-comes_read w taken bytes version read old new o is same comes =
-    inl (subst (λ (j : Judgement Line Kind Limit). ComesBy taken j old new o) (sym (ap (λ (n : ℕ). of_read taken (reads_short w.reads n bytes)) is ∙ ap (of_read taken) same)) comes)
 
 -- ---- between two lines
 

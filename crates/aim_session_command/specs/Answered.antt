@@ -15,16 +15,11 @@ use Rattle.aim_script.specs.declared.decisions.Limit.{Limit}
 use Rattle.aim_script.specs.declared.decisions.Limit.TheVariants as limit
 use Rattle.aim_script.specs.Decided.{printed}
 use Rattle.aim_script.specs.Order.{is_end}
-use Rattle.aim_script.specs.Said.{last_of, version_after}
+use Rattle.aim_script.specs.Said.{last_of}
 use Rattle.aim_script.specs.Spellings.{Spelled}
-use Rattle.aim_script.specs.Verdicts.{of_read}
-use Rattle.aim_text_session.specs.Sessions.{reads_short}
+use Rattle.aim_spelled_session.specs.Spelled.{judged_by}
 use Rattle.aim_line_session.specs.declared.progress.Answered.{Answered}
 use Rattle.aim_line_session.specs.Sessions.{Makes, journal_so_far, orders_in}
-
--- what these bytes come to behind the lines that were taken
-abbrev pub judged_by : Spelled → List Line → List ℕ → Judgement Line Kind Limit
-judged_by w taken bytes = of_read taken (reads_short w.reads (version_after taken) bytes)
 
 -- the line of an entry that was made, if one was
 abbrev pub made_line : Spelled → Option Answered → List ℕ

@@ -1,6 +1,6 @@
 -- What is known between two lines of a session.
 -- No public clause cites it: only contracts of private functions.
-use Rattle.std.specs.Prelude.{◌≡◌, ◌⊎◌, ◌≤◌, ◌+◌, ℕ, Bool, true, false, List, [], length, Option, IfSome, Result, Ok, Err, IfOk}
+use Rattle.std.specs.Prelude.{◌≡◌, ◌⊎◌, ◌≤◌, ◌+◌, ℕ, Bool, false, List, [], length, Option, IfSome, Result, Ok, Err, IfOk}
 use Rattle.std.specs.Io.KnownBytes.{Appends}
 use Rattle.aim_io.specs.Causes.{Rose}
 use Rattle.aim_io.specs.Known.{AppendsFront}
@@ -14,10 +14,11 @@ use Rattle.aim_script.specs.Said.{last_of}
 use Rattle.aim_script.specs.Spellings.{Spelled}
 use Rattle.aim_text_session.specs.declared.outcomes.LineOutcome.{LineOutcome}
 use Rattle.aim_text_session.specs.declared.outcomes.LineOutcome.TheVariants as outcome
-use Rattle.aim_text_session.specs.Sessions.{ComesBy, Standing, Stands}
+use Rattle.aim_text_session.specs.Sessions.{Standing, Stands}
 use Rattle.aim_session_command.specs.declared.sessions.Stop.{Stop}
 use Rattle.aim_session_command.specs.declared.sessions.Stop.TheVariants as stop
-use Rattle.aim_session_command.specs.Answered.{IsAnswer, IsBegun, IsLast, judged_by}
+use Rattle.aim_session_command.specs.Answered.{IsAnswer, IsBegun, IsLast}
+use Rattle.aim_spelled_session.specs.Spelled.{judged_by}
 use Rattle.aim_line_session.specs.Sessions.{journal_so_far}
 use Rattle.aim_session_command.specs.Commands.{RunsOut, StopsBehind, WritesFront}
 
@@ -38,10 +39,6 @@ pub record Responded (w : Spelled) (number : ℕ) (taken : List Line) (bytes : L
   pub answer : IsAnswer w number taken (judged_by w taken bytes) after text
   pub stands : Stands after new
   pub few : length after ≤ length taken + 1
-
--- what the bytes come to behind the lines that were taken; where reading takes memory, that may run out
-abbrev pub ComesIn : Spelled → List Line → List ℕ → Standing → Standing → LineOutcome → Type 0
-ComesIn w taken bytes old new o = ComesBy taken (judged_by w taken bytes) old new o ⊎ ((o ≡ outcome.NoMemory) × (w.takes_memory ≡ true) × (new ≡ old))
 
 -- no memory is there: the answer is written to a front, or nothing is, and no entry was made where the spelling takes none
 pub record Lacks (w : Spelled) (number : ℕ) (taken : List Line) (bytes : List ℕ) (old now : Option (List ℕ)) (new : Standing) : Type 0 where

@@ -1,33 +1,27 @@
 //! A session: from lines to answers.
 
-ghost use Rattle.std.specs.Prelude.{◌≡◌, ◌⊎◌, ◌<◌, ◌≤◌, List, [], true, false, length, Ok, Err, IfOk, OnOk};
+ghost use Rattle.std.specs.Prelude.{◌≡◌, ◌⊎◌, ◌<◌, ◌≤◌, List, [], false, length, Err, OnOk};
 ghost use Rattle.std.specs.Io.KnownBytes.{Keeps};
 ghost use Rattle.aim_io.specs.Causes.{HasCause, Rose};
 ghost use Rattle.aim_io.specs.Lines.{HasNoEnd};
 ghost use Rattle.aim_messages.specs.declared.script.Line.{Line};
-ghost use Rattle.aim_script.specs.declared.decisions.Kind.{Kind as FaultKind};
 ghost use Rattle.aim_script.specs.Decided.{status_of};
 ghost use Rattle.aim_script.specs.Order.{is_end};
 ghost use Rattle.aim_script.specs.Said.{last_of};
-ghost use Rattle.aim_script.specs.Headers.{HasName};
-ghost use Rattle.aim_script.specs.Versions.{version_number};
 ghost use Rattle.aim_replay_command.specs.Written.{Puts};
-ghost use Rattle.aim_text_session.specs.Sessions.{InHeader, Stands, reads_short};
+ghost use Rattle.aim_text_session.specs.Sessions.{InHeader, Stands};
 ghost use Rattle.aim_session_command.specs.Commands.{HoldsSession, LastNeeded};
-ghost use Rattle.aim_session_command.specs.Held.{ComesIn, Responds, Runs, outcome_text};
+ghost use Rattle.aim_session_command.specs.Held.{Responds, Runs, outcome_text};
 
 use crate::ahead::Ahead;
 use crate::lines::{Given, Kept, Trouble, next_line};
 use aim_io::{Failed, Sink, Source};
 use aim_line_session::Answered;
-use aim_messages::Line;
-use aim_replay_command::{Spelling, Unread, Unwritten};
-use aim_script::{Decision, Kind, Limit, ScriptVersion};
+use aim_replay_command::{Spelling, Unwritten};
+use aim_script::{Decision, Kind, Limit};
+use aim_spelled_session::take_line;
 use aim_text_session::{LineOutcome, TextSession};
 use std::alloc::Global;
-
-// The most bytes of a line.
-const MOST_BYTES: usize = 400;
 
 /// Why a session stops before its text is whole.
 enum Stop {
@@ -58,34 +52,6 @@ fn put_outcome<P: Spelling, K: Sink>(
         LineOutcome::Full => Decision::Limit(Limit::Orders),
     };
     P::put_last(alloc, sink, decision)
-}
-
-// Reads a line, without its byte 10, in a version.
-fn read_short<P: Spelling>(
-    alloc: Global,
-    line: &[u8],
-    version: ScriptVersion,
-) -> Result<Line, Unread>
-    ensures line { IfOk result (λ l. reads_short P.spelled.reads (version_number version) line.now ≡ Ok l) }
-    ensures name { IfOk result HasName }
-    ensures bad { (kind : FaultKind) → result ≡ Err (Unread.Bad kind) → reads_short P.spelled.reads (version_number version) line.now ≡ Err kind }
-    ensures memory { result ≡ Err Unread.NoMemory → P.spelled.takes_memory ≡ true }
-{
-    if line.len() > MOST_BYTES {
-        return Err(Unread::Bad(Kind::Long));
-    }
-    P::read(alloc, line, version)
-}
-
-// Reads and takes a line.
-fn take_line<P: Spelling>(alloc: Global, session: &mut TextSession, line: &[u8]) -> LineOutcome
-    ensures { (taken : List Line) → Stands taken session.old → ComesIn P.spelled taken line.now session.old session.new result }
-{
-    match read_short::<P>(alloc, line, session.version()) {
-        Ok(line) => session.take_read(Ok(line)),
-        Err(Unread::Bad(kind)) => session.take_read(Err(kind)),
-        Err(Unread::NoMemory) => LineOutcome::NoMemory,
-    }
 }
 
 // Takes a line, answers it, and says whether it ended the session.

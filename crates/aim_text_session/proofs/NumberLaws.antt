@@ -10,7 +10,7 @@ use Rattle.aim_script.specs.Decided.{kind_text, limit_text}
 use Rattle.aim_text_session.specs.Numbers.{fault_number, limit_number}
 use Rattle.aim_text_session.specs.Words.{word_of}
 
-pub fault_words : (k : Kind) → fault_number k ≤ 19 → word_of (fault_number k) ≡ kind_text k
+pub fault_words : (k : Kind) → fault_number k ≤ 21 → word_of (fault_number k) ≡ kind_text k
 fault_words kind.Long few = refl
 fault_words (kind.Spelling read.Words) few = refl
 fault_words (kind.Spelling read.Number) few = refl
@@ -29,11 +29,11 @@ fault_words kind.Phase few = refl
 fault_words kind.Vehicle few = refl
 fault_words kind.Moment few = refl
 fault_words kind.End few = absurd (omega (arith, few))
-fault_words kind.Json few = absurd (omega (arith, few))
-fault_words kind.Form few = absurd (omega (arith, few))
+fault_words kind.Json few = refl
+fault_words kind.Form few = refl
 fault_words kind.Driver few = absurd (omega (arith, few))
 
-pub limit_words : (l : Limit) → limit_number l ≤ 19 → word_of (limit_number l) ≡ limit_text l
+pub limit_words : (l : Limit) → limit_number l ≤ 21 → word_of (limit_number l) ≡ limit_text l
 limit_words limit.Vehicles few = refl
 limit_words limit.Sheets few = refl
 limit_words limit.Bytes few = absurd (omega (arith, few))
@@ -42,7 +42,7 @@ limit_words limit.Orders few = absurd (omega (arith, few))
 
 -- what has the number
 abbrev faults : List (Option Kind)
-faults = None ∷ Some kind.Long ∷ Some (kind.Spelling read.Words) ∷ Some (kind.Spelling read.Number) ∷ Some (kind.Spelling read.Range) ∷ Some (kind.Spelling read.Unknown) ∷ Some kind.Order ∷ Some kind.Version ∷ Some kind.Grid ∷ Some kind.Buffers ∷ Some kind.Times ∷ Some kind.Lane ∷ Some kind.Move ∷ Some kind.Spacing ∷ Some kind.Policy ∷ Some kind.Phase ∷ Some kind.Vehicle ∷ Some kind.Moment ∷ None ∷ None ∷ Some kind.End ∷ Some kind.Json ∷ Some kind.Form ∷ Some kind.Driver ∷ None ∷ None ∷ None ∷ []
+faults = None ∷ Some kind.Long ∷ Some (kind.Spelling read.Words) ∷ Some (kind.Spelling read.Number) ∷ Some (kind.Spelling read.Range) ∷ Some (kind.Spelling read.Unknown) ∷ Some kind.Order ∷ Some kind.Version ∷ Some kind.Grid ∷ Some kind.Buffers ∷ Some kind.Times ∷ Some kind.Lane ∷ Some kind.Move ∷ Some kind.Spacing ∷ Some kind.Policy ∷ Some kind.Phase ∷ Some kind.Vehicle ∷ Some kind.Moment ∷ None ∷ None ∷ Some kind.Json ∷ Some kind.Form ∷ Some kind.End ∷ Some kind.Driver ∷ None ∷ None ∷ None ∷ []
 
 abbrev limits : List (Option Limit)
 limits = None ∷ None ∷ None ∷ None ∷ None ∷ None ∷ None ∷ None ∷ None ∷ None ∷ None ∷ None ∷ None ∷ None ∷ None ∷ None ∷ None ∷ None ∷ Some limit.Vehicles ∷ Some limit.Sheets ∷ None ∷ None ∷ None ∷ None ∷ Some limit.Bytes ∷ Some limit.Lines ∷ Some limit.Orders ∷ []

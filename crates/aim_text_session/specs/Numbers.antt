@@ -26,7 +26,7 @@ use Rattle.aim_text_session.specs.declared.outcomes.LineOutcome.{LineOutcome}
 use Rattle.aim_text_session.specs.declared.outcomes.LineOutcome.TheVariants as outcome
 use Rattle.aim_text_session.specs.Sessions.{Comes, InBody, InHeader, Standing, Stands}
 
--- the number of a fault, from 1 on; those from 20 on are of no line of a session
+-- the number of a fault, from 1 on; those from 22 on are of no line of a session
 abbrev pub fault_number : Kind → ℕ
 fault_number kind.Long = 1
 fault_number (kind.Spelling read.Words) = 2
@@ -45,9 +45,9 @@ fault_number kind.Policy = 14
 fault_number kind.Phase = 15
 fault_number kind.Vehicle = 16
 fault_number kind.Moment = 17
-fault_number kind.End = 20
-fault_number kind.Json = 21
-fault_number kind.Form = 22
+fault_number kind.Json = 20
+fault_number kind.Form = 21
+fault_number kind.End = 22
 fault_number kind.Driver = 23
 
 -- the number of a limit, which no fault has

@@ -25,6 +25,8 @@ words =
     ∷ codes "moment"
     ∷ codes "vehicles"
     ∷ codes "sheets"
+    ∷ codes "json"
+    ∷ codes "form"
     ∷ []
 
 -- the word of a number, and none for another

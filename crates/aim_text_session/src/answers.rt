@@ -107,7 +107,7 @@ fn made(answered: Answered) -> Answer
 }
 
 /// What a line came to, as numbers.
-pub(crate) fn answer_of(outcome: LineOutcome) -> Answer
+pub fn answer_of(outcome: LineOutcome) -> Answer
     ensures { Tells outcome result }
 {
     match outcome {

@@ -11,7 +11,7 @@ mod reading;
 mod sessions;
 mod words;
 
-pub use answers::{Answer, ReplyNumbers};
+pub use answers::{Answer, ReplyNumbers, answer_of};
 pub use cells::CellNumbers;
 pub use outcomes::LineOutcome;
 pub use sessions::{RowMasks, TextSession};

@@ -50,9 +50,9 @@ pub(crate) fn fault_number(kind: Kind) -> u32
         Kind::Phase => 15,
         Kind::Vehicle => 16,
         Kind::Moment => 17,
-        Kind::End => 20,
-        Kind::Json => 21,
-        Kind::Form => 22,
+        Kind::Json => 20,
+        Kind::Form => 21,
+        Kind::End => 22,
         Kind::Driver => 23,
     }
 }

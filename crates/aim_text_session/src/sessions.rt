@@ -67,6 +67,11 @@ impl TextSession {
         }
     }
 
+    /// The allocator that it takes memory from.
+    pub fn alloc(&self) -> Global {
+        self.alloc
+    }
+
     /// The version in which the next line is read.
     pub fn version(&self) -> ScriptVersion
         ensures { (before : List Line) → Stands before self.now → version_after before ≡ version_number result }

@@ -38,6 +38,8 @@ fn word_of(number: u32) -> &'static [u8]
         17 => b"moment",
         18 => b"vehicles",
         19 => b"sheets",
+        20 => b"json",
+        21 => b"form",
         _ => b"",
     }
 }

@@ -1,7 +1,7 @@
 use Rattle.std.proofs.Common.{Ok, Err, ap}
 use Rattle.aim_script.specs.Versions.{version_number}
-use Rattle.aim_session_command.proofs.HeldLemmas.{comes_read}
-use Rattle.aim_session_command.proofs.sessions.take_line.Goals as goal
+use Rattle.aim_spelled_session.proofs.ReadLemmas.{comes_read}
+use Rattle.aim_spelled_session.proofs.sessions.take_line.Goals as goal
 
 pub returns-in-Ok : goal.returns-in-Ok
 returns-in-Ok g c taken st =
