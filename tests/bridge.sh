@@ -1,7 +1,7 @@
 #!/usr/bin/env bash
-# Tests the bridge to SUMO: its parts, then a minute of SUMO's traffic under each policy, on nets of one's own, and as
-# experiments. Installs what it needs from Debian's packages where that isn't there and is allowed; says what wasn't
-# tested where it can't be had.
+# Tests the bridge to SUMO: its parts, then a minute of SUMO's traffic under each policy, on nets of one's own, as
+# experiments, and by the rules of version 4 with the plain manager of tests/plain. Installs what it needs from Debian's
+# packages where that isn't there and is allowed; says what wasn't tested where it can't be had.
 set -uo pipefail
 cd "$(dirname "${BASH_SOURCE[0]}")/.." || exit 1
 source tests/installing.sh
@@ -49,13 +49,13 @@ cd bridges/sumo || exit 1
 told=$(mktemp -d)
 trap 'kill $(jobs -p) 2> /dev/null || true; rm -rf "$told"' EXIT
 declare -A runs
-for part in discover tests.traffic tests.networks; do
+for part in discover tests.traffic tests.networks tests.windows; do
   if [ "$part" = discover ]; then words=(); else words=("$part"); fi
   "$python" -m unittest "${words[@]}" > "$told/$part" 2>&1 &
   runs[$part]=$!
 done
 status=0
-for part in discover tests.traffic tests.networks; do
+for part in discover tests.traffic tests.networks tests.windows; do
   wait "${runs[$part]}" || status=1
   cat "$told/$part"
 done

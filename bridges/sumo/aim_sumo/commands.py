@@ -9,7 +9,7 @@ import sys
 import zlib
 from dataclasses import replace
 
-from . import advice, controls, experiment, importing, net, report, words
+from . import advice, controls, experiment, importing, net, report, versions, words
 from .faults import BadWord, Trouble
 from .fit import Fits
 from .manager import replays, scripts_of, words_of
@@ -81,6 +81,7 @@ def _add_net(parser):
     add("--routes", type=lambda text: text.split(","), default=[], help="of a SUMO net: its files of routes")
     add("--additional", type=lambda text: text.split(","), default=[], help="of a SUMO net: more files, say of types")
     add("--sumo", type=words.options, default="", help="of a SUMO net: further options for SUMO, in one word")
+    _add_version(add, "of a SUMO net: the rules of its layouts")
     parser.set_defaults(command=_net)
 
 
@@ -108,7 +109,14 @@ def _add_run(parser):
     add("--sigma", type=words.share, default=0.0, help="SUMO's imperfection of drivers (0)")
     add("--headway", type=words.positive, default=1.0, help="seconds that all vehicles keep, under each control (1)")
     add("--gap", type=words.natural, default=2.5, help="metres between standing vehicles (2.5)")
-    add("--ask", type=words.positive, default=50.0, help="metres before the line from which a vehicle asks (50)")
+    _add_version(add, "the manager's rules")
+    add("--ask", type=words.positive, help=f"metres before the line from which a vehicle asks ({_usually('ask')})")
+    add("--window", type=words.natural,
+        help=f"seconds past its earliest arrival that a vehicle's window has at most ({_usually('window')})")
+    add("--slack", type=words.natural,
+        help=f"seconds of its window for which a vehicle comes slower ({_usually('slack')})")
+    add("--detect", type=words.natural,
+        help=f"metres before the line from which detectors see people come, 0 for none ({_usually('detect')})")
     add("--hold", type=words.number(0.5, 30.0), default=2.0,
         help="metres before the line where one without a reservation stands (2)")
     add("--error", type=words.natural, default=0.0, help="error of a vehicle's speed, standard deviation in m/s")
@@ -124,6 +132,17 @@ def _add_run(parser):
     add("--results", help="add each result to this file, one a line")
     add("--label", default="", help="a name for the results")
     parser.set_defaults(command=_run)
+
+
+def _add_version(add, of_what: str) -> None:
+    """Adds the option that tells the version."""
+    add("--version", type=int, choices=tuple(versions.USUALLY), default=None,
+        help=f"{of_what}: {versions.WINDOWS} with windows, {versions.OLD} without ({versions.USUAL})")
+
+
+def _usually(what: str) -> str:
+    """What is usual in each version, in words."""
+    return ", ".join(f"{getattr(manners, what):g} in {number}" for number, manners in versions.USUALLY.items())
 
 
 def _add_experiment(parser):
@@ -206,8 +225,8 @@ def _run(options):
 
 def _options(options, known, mix, control, flow, seed):
     """What one run is made with."""
-    same = ("seconds", "policy", "stop", "human", "emergency", "sides", "sigma", "headway", "gap", "ask", "hold",
-            "error", "lost", "late", "repeated", "widen", "swing", "blind", "unmapped")
+    same = ("version", "seconds", "policy", "stop", "human", "emergency", "sides", "sigma", "headway", "gap", "ask",
+            "window", "slack", "detect", "hold", "error", "lost", "late", "repeated", "widen", "swing", "blind", "unmapped")
     turns = {"turns": options.turns} if options.turns else {}
     return Options(
         control, flow, seed, **{key: getattr(options, key) for key in same}, **turns, mix=mix,

@@ -18,17 +18,39 @@ PIECES = 64
 
 
 def shape_of(move):
-    """The places of the move's path in metres: two for a line, PIECES + 1 for a curve."""
+    """The places of the move's path in metres: the ends of a line or of legs, PIECES + 1 for a curve."""
     points = [(x / 1000, y / 1000) for x, y in move.points]
-    if len(points) == 2:
+    if len(points) == 2 or move.legs:
         return points
     return [_bezier(points, piece / PIECES) for piece in range(PIECES + 1)]
 
 
-def _cut(line):
-    """The places of a line of two points, cut into as many pieces as a curve."""
-    (x0, y0), (x1, y1) = line
-    return [(x0 + (x1 - x0) * piece / PIECES, y0 + (y1 - y0) * piece / PIECES) for piece in range(PIECES + 1)]
+def _pieces(move, spacing: int, is_fine: bool) -> tuple[list, list]:
+    """The places of the move's path, and the counted metres up to each; where it is to be fine, of short pieces.
+
+    A curve is fine as it is; a line is cut into as many pieces, and a leg into one a station.
+    """
+    places = shape_of(move)
+    if not move.legs and len(places) > 2:
+        parts = [move.parts / PIECES] * PIECES
+    else:
+        parts = list(move.legs) or [move.parts]
+        if is_fine:
+            cuts = list(move.legs) or [PIECES]
+            ends = list(zip(places, places[1:]))
+            places = [place for (here, there), count in zip(ends, cuts) for place in _cut(here, there, count)[:-1]]
+            places.append(ends[-1][1])
+            parts = [whole / count for whole, count in zip(parts, cuts) for _ in range(count)]
+    marks = [0.0]
+    for part in parts:
+        marks.append(marks[-1] + part * spacing / 1000)
+    return places, marks
+
+
+def _cut(here, there, count: int) -> list:
+    """The places that cut a line into so many pieces, and its ends."""
+    (x0, y0), (x1, y1) = here, there
+    return [(x0 + (x1 - x0) * piece / count, y0 + (y1 - y0) * piece / count) for piece in range(count + 1)]
 
 
 def _bezier(points, share):
@@ -44,14 +66,17 @@ def _bezier(points, share):
 class Track:
     """The lane on which a vehicle goes before the box, in it and behind it: a chain of places, 0 at the line.
 
-    `length` is how long the simulator says that the part in the box is; its shape is scaled to that.
+    `length` is how long the simulator says that the part in the box is; its shape is scaled to that. The first `lead`
+    metres of it and the last `tail` ones are of the lanes in and out, and are as long as their shapes are.
     """
 
-    def __init__(self, before, inside, after, length=None):
-        self.inside = _arcs(inside)
-        self.arc = length or self.inside[-1]
-        scale = self.arc / self.inside[-1]
-        self.inside = [arc * scale for arc in self.inside]
+    def __init__(self, before, inside, after, length=None, lead=0.0, tail=0.0):
+        arcs = _arcs(inside)
+        self.arc = length or arcs[-1]
+        scale = (self.arc - lead - tail) / (arcs[-1] - lead - tail)
+        last = arcs[-1] - tail
+        self.inside = [arc if arc <= lead else lead + (min(arc, last) - lead) * scale + max(0.0, arc - last)
+                       for arc in arcs]
         self.shape = list(inside)
         back = [-arc for arc in _arcs(before[::-1])][:0:-1]
         self._places = [*back, *self.inside, *(self.arc + arc for arc in _arcs(after)[1:])]
@@ -114,10 +139,10 @@ class Way:
 
     def __init__(self, move, spacing, vehicle_length, is_mapped=True, track=None):
         self.counted = move.parts * spacing / 1000
-        shape = shape_of(move)
+        shape, self._marks = _pieces(move, spacing, track is not None)
         self.track = track or track_of(move)
         self.deviation = 0.0
-        self._arcs = _arcs(shape) if track is None else self._along(shape if len(shape) > 2 else _cut(shape))
+        self._arcs = _arcs(shape) if track is None else self._along(shape)
         self.arc = self._arcs[-1]
         self._pieces = len(self._arcs) - 1
         self.is_mapped = is_mapped
@@ -137,7 +162,7 @@ class Way:
 
     def _slope(self, piece):
         """True metres per counted metre in a piece."""
-        return (self._arcs[piece + 1] - self._arcs[piece]) * self._pieces / self.counted
+        return (self._arcs[piece + 1] - self._arcs[piece]) / (self._marks[piece + 1] - self._marks[piece])
 
     def to_arc(self, distance):
         """The arc length at which a front stands that the manager counts at `distance`."""
@@ -145,9 +170,8 @@ class Way:
             return distance
         if distance >= self.counted:
             return self.arc + (distance - self.counted) * self.exit_ratio
-        place = distance / self.counted * self._pieces
-        piece = min(int(place), self._pieces - 1)
-        return self._arcs[piece] + (self._arcs[piece + 1] - self._arcs[piece]) * (place - piece)
+        piece = min(bisect.bisect_right(self._marks, distance), self._pieces) - 1
+        return self._arcs[piece] + (distance - self._marks[piece]) * self._slope(piece)
 
     def to_counted(self, arc):
         """The distance that the manager counts where a front stands at that arc length."""
@@ -156,8 +180,7 @@ class Way:
         if arc >= self.arc:
             return self.counted + (arc - self.arc) / self.exit_ratio
         piece = bisect.bisect_right(self._arcs, arc) - 1
-        share = (arc - self._arcs[piece]) / (self._arcs[piece + 1] - self._arcs[piece])
-        return (piece + share) / self._pieces * self.counted
+        return self._marks[piece] + (arc - self._arcs[piece]) / self._slope(piece)
 
     def _declared(self, vehicle_length):
         """The most counted metres that a vehicle covers anywhere on its way, in whole millimetres."""

@@ -11,6 +11,7 @@ from .judge import Judge
 from .junction import JunctionRun
 from .mail import Faults
 from .vehicles import Vehicle
+from .versions import USUAL, USUALLY, Manners
 
 SEEN_BEFORE = 30.0
 """Metres before a vehicle may ask from which on it keeps its lane, in a net that somebody else made."""
@@ -20,14 +21,14 @@ SEEN_BEFORE = 30.0
 class Settings:
     """How a run is driven; seconds, metres and metres a second.
 
-    `policy` is the one in force first, the head's first where it is None. `is_made` says that the net was made of a
-    head, and `shows_lights` that people are shown the manager's greens.
+    `policy` is the one in force first, the head's first where it is None. `manners` are how vehicles ask. `is_made`
+    says that the net was made of a head, and `shows_lights` that people are shown the manager's greens.
     """
 
     policy: str = None
     seed: int = 1
     end: float = 1500.0
-    ask: float = 50.0
+    manners: Manners = USUALLY[USUAL]
     hold: float = 2.0
     slow_down: float = 0.8
     slowest_wish: float = 5.0
@@ -147,7 +148,7 @@ class Bridge:
             for link in run.junction.links.values():
                 links.setdefault(link.entry_name, []).append(link)
             for entry, choices in links.items():
-                near = choices[0].entry_length - self.settings.ask - SEEN_BEFORE
+                near = choices[0].entry_length - self.settings.manners.ask - SEEN_BEFORE
                 for name in reversed(lane(entry)):
                     if place(name) < near:
                         break

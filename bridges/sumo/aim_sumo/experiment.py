@@ -21,7 +21,7 @@ PROGRAM = pathlib.Path(__file__).resolve().parents[1] / "aim-sumo"
 LISTS = {"layouts": "layout", "controls": "control", "flows": "flow", "seeds": "seed"}
 OF_PART = ("name", "columns", "figure", "variant", "label")
 OF_LAYOUT = ("source", "replace", "step", "approach", "exit", "speed", "hold", "junction", "routes", "additional",
-             "sumo", "types", "mix")
+             "sumo", "types", "mix", "version")
 
 
 FILES = ("routes", "additional", "types")

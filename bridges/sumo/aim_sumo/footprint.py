@@ -20,18 +20,23 @@ TOUCH = 1.0
 
 def stations(move):
     """The stations of a move's path, as the manager computes them: whole numbers, rounded down; an array of x and y."""
-    count = move.parts
-    j = numpy.arange(count + 1, dtype=object)
     columns = []
     for axis in (0, 1):
         values = [point[axis] for point in move.points]
-        if len(values) == 2:
-            column = [values[0] + (k * (values[1] - values[0])) // count for k in j]
-        else:
-            column = [((count - k) ** 2 * values[0] + 2 * k * (count - k) * values[1] + k * k * values[2])
-                      // count ** 2 for k in j]
+        if len(values) == 3 and not move.legs:
+            columns.append(_on_curve(values, move.parts))
+            continue
+        column = values[:1]
+        for here, there, count in zip(values, values[1:], move.legs or (move.parts,)):
+            column += [here + (k * (there - here)) // count for k in range(1, count + 1)]
         columns.append(column)
     return numpy.array(columns, dtype=numpy.int64).T
+
+
+def _on_curve(values: list, count: int) -> list:
+    """One coordinate of each station of a curve."""
+    return [((count - k) ** 2 * values[0] + 2 * k * (count - k) * values[1] + k * k * values[2]) // count ** 2
+            for k in range(count + 1)]
 
 
 def half_side(layout, width):

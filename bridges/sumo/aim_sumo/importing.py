@@ -10,7 +10,7 @@ import shutil
 import xml.etree.ElementTree as ET
 from dataclasses import dataclass, replace
 
-from . import interrupts, reading
+from . import interrupts, legs, reading, versions
 from .advice import needs, rounded
 from .curve import Track
 from .faults import BadHead, BadWord
@@ -25,6 +25,10 @@ TILE, MOST_TILES, MOST_LANES = 500, 64, 16
 NEAR_ENOUGH = 0.5
 """Metres up to which a path may be from the net's lane."""
 AS_A_LINE = 0.05
+MARGINS = (0.0, 1.0, 2.0, 3.0, 5.0, 8.0)
+"""Metres by which the ground may be wider than the paths of legs in the box take, on each side."""
+LONGEST_WINDOW = 20.0
+"""Seconds of the longest window of a layout of version 4."""
 BETWEEN = 50.0
 """Metres that a road between two managed junctions must have."""
 TURNS = ("left", "straight", "right")
@@ -38,7 +42,11 @@ CLASSES = {
 
 @dataclass(frozen=True)
 class Found:
-    """A connection and the path that was found for it: two points or three, how far it is off, or why there is none."""
+    """A connection and the path that was found for it: its points, how far it is off, or why there is none.
+
+    By old rules these are two points or three. By those of version 4 the path has legs, which follow the points; where
+    its lanes lie on the ground is only known when all paths are.
+    """
 
     path: object
     points: tuple = ()
@@ -142,7 +150,8 @@ def _configuration(path):
 
 def _junction(net, name, options, types):
     """The junction with its layout, and the lines that tell of it."""
-    found = [_found(path) for path in reading.paths_of(net, name)]
+    has_legs = versions.spoken(options.version, ()) >= versions.WINDOWS
+    found = [(_followed if has_legs else _found)(path) for path in reading.paths_of(net, name)]
     kept = [each for each in found if not each.why_not]
     refused = [each for each in found if each.why_not]
     car = next(each for each in types if each.name == "passenger")
@@ -150,8 +159,9 @@ def _junction(net, name, options, types):
         whys = [f"{each.path.name}: {each.why_not}" for each in refused[:3]] or ["no lane leads through it"]
         raise BadHead(f"{name} has no path that can be driven: {'; '.join(whys)}")
     while True:
-        junction, sources = _built(name, kept, options.step)
-        junction, over = _roomy(junction, sources, car, types, options)
+        built = _built(name, kept, options, has_legs)
+        sources = built.sources
+        junction, over = _roomy(built, car, types)
         if not over:
             break
         refused += [replace(sources[move], why_not=why) for move, why in over.items()]
@@ -161,9 +171,11 @@ def _junction(net, name, options, types):
              f"{layout.tiles} by {layout.tiles} tiles, STATIC {layout.fixed} mm, SPANS {layout.spans}"]
     for move in layout.moves:
         source = sources[move.name]
-        kind = "a line" if len(move.points) == 2 else "a curve"
+        kind = f"{len(move.legs)} legs" if move.legs else "a line" if len(move.points) == 2 else "a curve"
+        link = junction.links[move.name]
+        lead = f", from {link.lead:.1f} m before the line of the net" if link.lead >= 0.05 else ""
         lines.append(
-            f"  {move.name} is {source.path.name}: {kind}, {source.deviation:.2f} m from the net's lane at most")
+            f"  {move.name} is {source.path.name}: {kind}, {link.deviation:.2f} m from the net's lane at most{lead}")
     lines += [f"  NOT DRIVEN: {each.path.name}: {each.why_not}" for each in refused]
     fits = Fits(junction, widest=max(each.width for each in types))
     for move in layout.moves:
@@ -176,13 +188,24 @@ def _junction(net, name, options, types):
     return junction, lines
 
 
+def _followed(path) -> Found:
+    """The path that follows a connection's lanes by legs."""
+    why_not = _no_path(path)
+    return Found(path, why_not=why_not) if why_not else Found(path, tuple(path.inside))
+
+
+def _no_path(path) -> str:
+    """Why no path of any kind follows a connection; nothing where one may."""
+    if path.direction == "t":
+        return "it is a U-turn, which no path of a layout follows"
+    return "it begins where it ends" if math.dist(path.inside[0], path.inside[-1]) < 1.0 else ""
+
+
 def _found(path):
     """The path that is nearest to a connection's lanes: a line, or a curve of three points."""
-    if path.direction == "t":
-        return Found(path, why_not="it is a U-turn, which no path of a layout follows")
+    if _no_path(path):
+        return Found(path, why_not=_no_path(path))
     ends = path.inside[0], path.inside[-1]
-    if math.dist(*ends) < 1.0:
-        return Found(path, why_not="it begins where it ends")
     tries = [ends, *((ends[0], middle, ends[1]) for middle in _middles(path))]
     best = min(((_deviation(points, path), points) for points in tries), key=lambda item: item[0])
     straight = _deviation(ends, path)
@@ -237,28 +260,94 @@ def _apart(points, shape):
     return max(track.nearest(point, 0.0)[1] for point in points)
 
 
-def _built(name, kept, step):
-    """The junction of the paths that are driven, and where each move comes from."""
+@dataclass(frozen=True)
+class _Frame:
+    """What all moves of a junction have in common: its name, its ground, how many lanes lead in, and the options.
+
+    The ground's corner lies at `origin` in the net; its side is in millimetres.
+    """
+
+    name: str
+    origin: tuple[float, float]
+    side: int
+    tiles: int
+    lanes: int
+    options: object
+    has_legs: bool
+
+
+@dataclass(frozen=True)
+class _Built:
+    """The moves of a junction: where each comes from, how it lies in the net, and why some can't be driven."""
+
+    frame: _Frame
+    moves: list
+    sources: dict
+    links: dict
+    over: dict
+
+    def junction(self, static: int, spans: int) -> Junction:
+        """The junction with a static buffer and spans."""
+        return _with_layout(self.frame, self.moves, self.links, static, spans)
+
+
+def _built(name, kept, options, has_legs):
+    """The moves of the paths that are driven; those of legs on the least ground that the most lanes leave well."""
     lanes = sorted({(each.path.entry.getEdge().getID(), each.path.entry.getIndex()) for each in kept})
     if not lanes:
         raise BadHead(f"{name} has no path on which the body of a car stays off other lanes")
     if len(lanes) > MOST_LANES:
         raise BadHead(f"{name} has {len(lanes)} lanes that lead into it; a layout has {MOST_LANES} at most")
-    points = [point for each in kept for point in each.points]
-    origin = (min(x for x, _ in points), min(y for _, y in points))
-    extent = max(max(x for x, _ in points) - origin[0], max(y for _, y in points) - origin[1]) * 1000
-    tiles = min(MOST_TILES, math.ceil(extent / TILE))
-    side = math.ceil(extent / tiles) * tiles
-    sources, moves = {}, []
+    tries = [_on_frame(_frame(name, kept, len(lanes), options, margin), kept, lanes)
+             for margin in (MARGINS if has_legs else (None,))]
+    return min(tries, key=lambda built: len(built.over))
+
+
+def _on_frame(frame: _Frame, kept: list[Found], lanes: list) -> _Built:
+    """The moves of paths on a ground."""
+    built = _Built(frame, [], {}, {}, {})
     for number, lane in enumerate(lanes):
         of_lane = [each for each in kept if each.path.ends[:2] == lane]
         for turn, each in _turns(of_lane):
-            corners = tuple((min(side, round((x - origin[0]) * 1000)), min(side, round((y - origin[1]) * 1000)))
-                            for x, y in each.points)
-            move = Move(number, turn, corners, _parts(corners))
-            moves.append(move)
-            sources[move.name] = each
-    return _with_layout(name, origin, side, tiles, len(lanes), moves, sources, STATIC, 8192, step), sources
+            move, link, is_flat = (_with_legs if frame.has_legs else _as_curve)(number, turn, each, frame)
+            built.moves.append(move)
+            built.sources[move.name], built.links[move.name] = each, link
+            if is_flat:
+                built.over[move.name] = "a lane of it doesn't leave the ground, or too flatly"
+    return built
+
+
+def _frame(name: str, kept: list[Found], lanes: int, options, margin: float | None) -> _Frame:
+    """The ground round all paths; round those of legs, which go on to its border, it lies evenly, with a margin."""
+    points = [point for each in kept for point in each.points]
+    low = [min(point[axis] for point in points) for axis in (0, 1)]
+    extents = [max(point[axis] for point in points) - low[axis] for axis in (0, 1)]
+    extent = (max(extents) + 2 * (margin or 0.0)) * 1000
+    tiles = min(MOST_TILES, math.ceil(extent / TILE))
+    side = math.ceil(extent / tiles) * tiles
+    if margin is not None:
+        low = [begin - (side / 1000 - size) / 2 for begin, size in zip(low, extents)]
+    return _Frame(name, tuple(low), side, tiles, lanes, options, margin is not None)
+
+
+def _as_curve(number: int, turn: str, each: Found, frame: _Frame) -> tuple[Move, Link, bool]:
+    """The move of a line or a curve, how it lies in the net, and that nothing is wrong with that."""
+    corners = tuple(
+        tuple(min(frame.side, round((value - begin) * 1000)) for value, begin in zip(point, frame.origin))
+        for point in each.points)
+    move = Move(number, turn, corners, _parts(corners))
+    before, after = reading.ends_of(each.path)
+    shapes = (reading.moved(shape, frame.origin) for shape in (before, each.path.inside, after))
+    return move, _link(move, each.path, legs.Laid(*shapes, 0.0, 0.0, False), each.deviation), False
+
+
+def _with_legs(number: int, turn: str, each: Found, frame: _Frame) -> tuple[Move, Link, bool]:
+    """The move of legs from border to border, how it lies in the net, and whether its lanes leave the ground flatly."""
+    before, after = reading.ends_of(each.path)
+    shapes = (reading.moved(shape, frame.origin) for shape in (before, each.path.inside, after))
+    laid = legs.laid(*shapes, frame.side / 1000)
+    found = legs.along(number, turn, laid.inside, SPACING)
+    return found.move, _link(found.move, each.path, laid, found.deviation), laid.is_flat
 
 
 def _turns(of_lane):
@@ -290,52 +379,50 @@ def _parts(corners):
     return max(1, -(-steepest // (SPACING - 1)))
 
 
-def _with_layout(name, origin, side, tiles, lanes, moves, sources, static, spans, step):
+def _with_layout(frame: _Frame, moves: list[Move], links: dict[str, Link], static: int, spans: int) -> Junction:
     """The junction with the layout of some moves."""
+    step = frame.options.step
+
     def steps(seconds, most):
         return max(1, min(most, round(seconds / step)))
-    text = [
-        "aim 3", f"grid {side} {tiles} {SPACING} {static} {HALF} {spans}",
-        f"times {steps(60, 8192)} {steps(2, 65536)} {steps(6, 1024)} {steps(0.04, 1024)} {steps(0.04, 1024)} "
-        f"{steps(0.1, 1024)}", f"lanes {lanes}"]
-    for move in moves:
-        kind = "line" if len(move.points) == 2 else "curve"
-        numbers = " ".join(f"{x} {y}" for x, y in move.points)
-        text.append(f"move {move.lane} {move.turn} {kind} {numbers} {move.parts}")
+    horizon = steps(60, 8192)
+    times = [horizon, steps(2, 65536), steps(6, 1024), steps(0.04, 1024), steps(0.04, 1024), steps(0.1, 1024)]
+    times += [min(horizon, steps(LONGEST_WINDOW, 8192))] * frame.has_legs
+    text = [f"aim {versions.WINDOWS if frame.has_legs else versions.OLD}",
+            f"grid {frame.side} {frame.tiles} {SPACING} {static} {HALF} {spans}",
+            f"times {' '.join(map(str, times))}", f"lanes {frame.lanes}", *(move.line for move in moves)]
     text += [line for policy in (Policy("plain", "fcfs"), Policy("siren", "emerg")) for line in policy.lines]
-    layout = read_head("\n".join(text))
-    links = {move.name: _link(move, sources[move.name].path, origin, sources[move.name].deviation) for move in moves}
-    return Junction(name, layout, links, origin, None)
+    return Junction(frame.name, read_head("\n".join(text)), links, frame.origin, None)
 
 
-def _link(move, path, origin, deviation):
+def _link(move: Move, path, laid: legs.Laid, deviation: float) -> Link:
     """How a move lies in the net."""
-    before, after = reading.ends_of(path)
     return Link(
-        move.name, *path.ends, path.entry.getLength(), path.via, path.length, path.speed, path.entry.getSpeed(),
-        path.exit.getSpeed(), path.light, reading.moved(before, origin), reading.moved(path.inside, origin),
-        reading.moved(after, origin), deviation)
+        move.name, *path.ends, path.entry.getLength() - laid.lead,
+        {name: offset + laid.lead for name, offset in path.via.items()}, path.length + laid.lead + laid.tail, path.speed,
+        path.entry.getSpeed(), path.exit.getSpeed(), path.light, laid.before, laid.inside, laid.after, deviation,
+        laid.lead, laid.tail)
 
 
-def _roomy(junction, sources, car, types, options):
+def _roomy(built, car, types):
     """The junction with a static buffer and spans that its vehicles need; the moves that no car can be driven on."""
-    layout = junction.layout
-    fits = Fits(junction, widest=max(each.width for each in types))
-    over, static = {}, STATIC
-    for move in layout.moves:
+    frame, options = built.frame, built.frame.options
+    junction = built.junction(STATIC, 8192)
+    widest = max(each.width for each in types)
+    fits = Fits(junction, widest=widest)
+    over, static = dict(built.over), STATIC
+    for move in built.moves:
         fit = fits.of(move, car)
         if fit.swings_over or not fit.cover.half < 1e9:
             lanes = ", ".join(fit.swings_over) or "ground that isn't its own"
-            over[move.name] = f"the body of a car comes over {lanes}"
+            over.setdefault(move.name, f"the body of a car comes over {lanes}")
         else:
             static = max(static, -(-fit.cover.static(fit.own_width) // 10) * 10)
     if over:
         return junction, over
-    args = (junction.id, junction.origin, layout.side, layout.tiles, layout.lanes, layout.moves, sources, static)
-    junction = _with_layout(*args, 131_072, options.step)
-    fits = Fits(junction, widest=max(each.width for each in types))
+    fits = Fits(built.junction(static, 131_072), widest=widest)
     spans = rounded(max(needs(fits, options.step, types, options.hold))[0])
-    return _with_layout(*args, min(131_072, max(2048, spans)), options.step), {}
+    return built.junction(static, min(131_072, max(2048, spans))), {}
 
 
 def _check_roads(junctions):

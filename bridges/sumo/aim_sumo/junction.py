@@ -5,6 +5,7 @@ from collections import Counter
 
 from . import simulator
 from .car import Car, State
+from .detectors import Detectors
 from .driver import Driver
 from .faults import BadWord
 from .gaps import Gaps
@@ -38,9 +39,10 @@ class JunctionRun:
         self._fits = fits
         lateness = settings.faults.longest if settings.faults.late > 0 else 0
         self._gaps = Gaps(step)
-        self._proposer = Proposer(self._layout, self._gaps, step, lateness)
+        self._proposer = Proposer(self._layout, self._gaps, step, lateness, settings.manners)
         self._mail = Mail(manager, settings.faults, settings.seed)
         self._signals = Signals(self._layout, settings.policy or self._layout.policies[0].name)
+        self._detectors = Detectors(junction, self._signals, settings.manners.detect, step)
         self._lanes = {lane: [] for lane in range(self._layout.lanes)}
         self._exits = {}
         self._closing = []
@@ -72,6 +74,7 @@ class JunctionRun:
         self.now = now
         self._mail.deliver(now)
         self._serve_orders()
+        self._tell_quiet()
         self._show_signals()
         for lane in self._lanes.values():
             for car in list(lane):
@@ -148,6 +151,19 @@ class JunctionRun:
             if reply.kind == "switched":
                 self._signals.switch(reply.start, words.split(" ")[1])
 
+    def _tell_quiet(self):
+        """Lets the detectors tell the manager on which lanes no person can come to the line for a while."""
+        if not self._detectors.are_due(self.now):
+            return
+        people = {lane: [car for car in cars if car.state is State.HUMAN and car.entered is None]
+                  for lane, cars in self._lanes.items()}
+        for car in (car for cars in people.values() for car in cars):
+            self._sense(car)
+        places = {lane: [car.place for car in cars] for lane, cars in people.items()}
+        for words in self._detectors.orders(self.now, places):
+            self.manager.ask(f"operator {self.now} {words}")
+            self.counts["quiet orders"] += 1
+
     def _show_signals(self):
         """Shows the manager's greens to those who drive by them."""
         if self.junction.light is None or not self.settings.shows_lights:
@@ -189,7 +205,7 @@ class JunctionRun:
             car.place = car.plan.at(self.now)
             self._sumo.vehicle.setSpeed(car.id, car.plan.speed_at(self.now))
             return True
-        far = car.place < -self.settings.ask - 5 or car.state is State.OUT
+        far = car.place < -self.settings.manners.ask - 5 or car.state is State.OUT
         return far and not car.driver.is_waiting
 
     def _sense(self, car):
@@ -201,7 +217,7 @@ class JunctionRun:
         if lane in link.via:
             car.place = link.via[lane] + place
         elif lane.startswith(link.exit + "_"):
-            car.place = place + car.way.arc
+            car.place = place + car.way.arc - link.tail
         elif lane.startswith(link.entry + "_"):
             car.place = place - link.entry_length
         elif car.state is State.OUT or car.place > car.way.arc:
@@ -215,6 +231,8 @@ class JunctionRun:
             car.entered = self.now
             if car.move.lane not in self._signals.green_lanes(self.now - 1):
                 self.counts["humans on red"] += 1
+            if self._detectors.is_quiet(car.move.lane, self.now - 1):
+                self.counts["humans in a quiet time"] += 1
         if car.entered and car.place - car.vehicle.length > car.way.arc and car.plan is None:
             car.plan = False
             if not self._signals.is_claimed(car.move.lane, self.now):
@@ -226,7 +244,7 @@ class JunctionRun:
         if car.place > 0:
             self._stray(car)
             return
-        if -car.place > self.settings.ask:
+        if -car.place > self.settings.manners.ask:
             return
         if driver.may_ask and self.now >= car.next and (car.leader is None or car.leader.is_across):
             if self.numbers.lend(driver):
@@ -270,20 +288,21 @@ class JunctionRun:
         if not self._proposer.may_ask(car, proposal):
             car.next = self.now + 2
             return
-        if proposal.reach > car.refused_at:
+        if self._proposer.has_care and proposal.reach > car.refused_at:
             car.next = self.now + self._steps(0.2)
             proposal = None if self.settings.is_blind else self._proposer.unlocking(car, self.now)
             self.counts["unlocking requests"] += proposal is not None
         if proposal is not None:
             car.proposal = proposal
-            car.driver.request(self.now, self._words(car, proposal.plan), self._proposer.until(car, proposal.plan))
+            car.driver.request(self.now, self._words(car, proposal), self._proposer.until(car, proposal.plan))
 
-    def _words(self, car, plan):
-        """The fields of a request for a plan, behind its number."""
-        kind = "emergency" if car.kind == "emergency" else "car"
+    def _words(self, car, proposal):
+        """The fields of a request for a proposal, behind its number; the last one where a later arrival will do too."""
+        kind, plan = "emergency" if car.kind == "emergency" else "car", proposal.plan
+        latest = self._proposer.latest(proposal)
         return (
             f"{car.move.lane} {car.move.turn} {plan.start} {plan.speed} {car.crossing.greatest} {plan.accel} "
-            f"{car.way.declared} {car.crossing.width} {kind}"
+            f"{car.way.declared} {car.crossing.width} {kind}{f' {latest}' * (latest > plan.start)}"
         )
 
     def _drive_bound(self, car):
@@ -338,7 +357,7 @@ class JunctionRun:
             self.counts["changes"] += 1
             car.proposal = proposal
             until = self._proposer.until(car, proposal.plan)
-            car.driver.change(self.now, self._words(car, proposal.plan), until)
+            car.driver.change(self.now, self._words(car, proposal), until)
         else:
             self.counts["cancels"] += 1
             car.driver.cancel(self.now)
@@ -407,7 +426,9 @@ class JunctionRun:
         car.refused_at = math.inf
         plan = car.proposal.plan if car.proposal.is_real else None
         is_late = plan is None or plan.begun != self.now
-        if plan is not None and (is_late or grant.is_fast != (plan.accel > 0)):
+        is_other = plan is not None and (grant.start != plan.start or grant.is_fast != (plan.accel > 0))
+        self.counts["granted later"] += plan is not None and grant.start > plan.start
+        if plan is not None and (is_late or is_other):
             accel = plan.accel if grant.is_fast else 0
             plan = self._proposer.at(car, grant.start, plan.speed, accel, self._others(car), self.now)
         if plan is not None and self._is_too_slow(car, plan, grant):

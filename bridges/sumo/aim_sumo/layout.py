@@ -4,24 +4,44 @@ Lengths are millimetres and times are steps, as in the script. The manager judge
 read, so that SUMO's net and the vehicles' plans can be made of it.
 """
 
-from dataclasses import dataclass, field
+from dataclasses import dataclass, field, replace
 
 from .faults import BadHead
+from .versions import WINDOWS
+
+MOST_LEGS = 32
+TIMES = {1: 5, 2: 6, 3: 6, 4: 7}
+"""How many numbers the line `times` has in each version."""
 
 
 @dataclass(frozen=True)
 class Move:
-    """A path through the box: a line of two points, or a curve of three, cut into `parts`."""
+    """A path through the box: a line of two points or a curve of three, cut into `parts`.
+
+    Or it is a row of straight legs, of which `legs` tells into how many parts each is cut.
+    """
 
     lane: int
     turn: str
     points: tuple
     parts: int
+    legs: tuple = ()
 
     @property
     def name(self):
         """The name of the move in SUMO's files."""
         return f"{self.lane}.{self.turn}"
+
+    @property
+    def line(self) -> str:
+        """The move's line of a script."""
+        if self.legs:
+            (x0, y0), *ends = self.points
+            shape = f"path {x0} {y0} " + " ".join(f"{x} {y} {parts}" for (x, y), parts in zip(ends, self.legs))
+        else:
+            kind = "line" if len(self.points) == 2 else "curve"
+            shape = f"{kind} {' '.join(f'{x} {y}' for x, y in self.points)} {self.parts}"
+        return f"move {self.lane} {self.turn} {shape}"
 
 
 @dataclass(frozen=True)
@@ -57,6 +77,7 @@ class Layout:
     """All that a head says."""
 
     ground: list = field(default_factory=list)
+    version: int = 1
     side: int = 0
     tiles: int = 0
     spacing: int = 0
@@ -69,6 +90,7 @@ class Layout:
     early: int = 0
     late: int = 0
     edge: int = 0
+    window: int = 0
     lanes: int = 0
     moves: list = field(default_factory=list)
     policies: list = field(default_factory=list)
@@ -91,6 +113,35 @@ class Layout:
             chosen = self.policy(first)
             order = [chosen, *(policy for policy in self.policies if policy is not chosen)]
         return [*self.ground, *(line for policy in order for line in policy.lines)]
+
+    def in_version(self, version: int, window: int) -> "Layout":
+        """The layout as the rules of a version have it: itself, or with other lines `aim` and `times`.
+
+        `window` is the longest window that one of version 4 has where the head says none.
+        """
+        if (self.version >= WINDOWS) == (version >= WINDOWS):
+            return self
+        if version < WINDOWS:
+            self._refuse_legs(version)
+        made = replace(self, version=version, window=min(window, self.horizon) if version >= WINDOWS else 0)
+        made.ground = [made._line(line) for line in self.ground]
+        return made
+
+    def _line(self, line: str) -> str:
+        """A line of the head, made anew where it tells the version or the times."""
+        if line.startswith("aim "):
+            return f"aim {self.version}"
+        if line.startswith("times "):
+            times = [self.horizon, self.longest, self.clearance, self.early, self.late, self.edge]
+            return " ".join(["times", *map(str, times), *([str(self.window)] if self.version >= WINDOWS else [])])
+        return line
+
+    def _refuse_legs(self, version: int) -> None:
+        """Refuses a path of legs, which old versions don't have."""
+        for move in self.moves:
+            if move.legs:
+                raise BadHead(f"the path of {move.name} is one of legs, which version {version} doesn't have; "
+                              f"take --version {WINDOWS}")
 
 
 def read_head(text):
@@ -122,8 +173,11 @@ def _take(layout, words):
     if keyword == "grid":
         layout.side, layout.tiles, layout.spacing, layout.fixed, layout.half, layout.spans = map(int, rest)
     elif keyword == "times":
-        layout.horizon, layout.longest, layout.clearance, *windows, layout.edge = map(int, rest)
-        layout.early, layout.late = windows[0], windows[-1]
+        if len(rest) != TIMES[layout.version]:
+            raise ValueError(keyword)
+        *times, layout.window = map(int, rest if layout.version >= WINDOWS else [*rest, 0])
+        layout.horizon, layout.longest, layout.clearance, *buffers, layout.edge = times
+        layout.early, layout.late = buffers[0], buffers[-1]
     elif keyword == "lanes":
         layout.lanes = int(rest[0])
     elif keyword == "move":
@@ -133,7 +187,11 @@ def _take(layout, words):
     elif keyword == "phase":
         red, green, *lanes = map(int, rest)
         layout.policies[-1].phases.append(Phase(red, green, tuple(lanes)))
-    elif keyword != "aim":
+    elif keyword == "aim":
+        layout.version = int(rest[0])
+        if layout.version not in TIMES:
+            raise ValueError(keyword)
+    else:
         raise ValueError(keyword)
 
 
@@ -141,7 +199,19 @@ def _move(words):
     """The move of the words behind `move`."""
     lane, turn, shape, *numbers = words
     values = list(map(int, numbers))
+    if shape == "path":
+        return _path(int(lane), turn, values)
     if len(values) != {"line": 5, "curve": 7}[shape]:
         raise ValueError(shape)
     points = tuple(zip(values[:-1:2], values[1:-1:2]))
     return Move(int(lane), turn, points, values[-1])
+
+
+def _path(lane: int, turn: str, values: list) -> Move:
+    """The move of legs of these numbers: where it begins, and of each leg where it ends and its parts."""
+    legs = [tuple(values[place:place + 3]) for place in range(2, len(values), 3)]
+    if not 1 <= len(legs) <= MOST_LEGS or len(legs[-1]) != 3 or min(parts for _, _, parts in legs) < 1:
+        raise ValueError("path")
+    points = (tuple(values[:2]), *((x, y) for x, y, _ in legs))
+    parts = tuple(parts for _, _, parts in legs)
+    return Move(lane, turn, points, sum(parts), parts)

@@ -1,5 +1,7 @@
 """Which lanes a manager's policies give green, and what a signal shows to people who drive by it."""
 
+import math
+
 
 class Signals:
     """The policies in force over time, as the manager's answers to switches tell them."""
@@ -31,6 +33,29 @@ class Signals:
                 return phase.lanes
             offset -= phase.green
         return ()
+
+    def green_between(self, first: int, last: int) -> set[int]:
+        """The lanes that are green at a step from `first` on and before `last`."""
+        found: set[int] = set()
+        step = first
+        while step < last:
+            lanes, end = self._stretch(step)
+            found.update(lanes)
+            step = end
+        return found
+
+    def _stretch(self, step: int) -> tuple[tuple, float]:
+        """The lanes that are green at a step, and a later step up to which the same ones are."""
+        policy, start = self.policy_at(step)
+        ends = [begin for begin, _ in self._changes if begin > step]
+        if policy.has_lights:
+            offset = (step - start) % sum(phase.red + phase.green for phase in policy.phases)
+            for phase in policy.phases:
+                for length in (phase.red, phase.green):
+                    if 0 <= offset < length:
+                        ends.append(step + length - offset)
+                    offset -= length
+        return self.green_lanes(step), min(ends, default=math.inf)
 
     def shown(self, step, yellow):
         """What each lane is shown: its green, of which the last `yellow` steps are yellow, else red."""

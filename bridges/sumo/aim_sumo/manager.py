@@ -52,7 +52,7 @@ def read_reply(text):
         return Reply(kind, last=int(words[1]))
     if kind == "switched":
         return Reply(kind, start=int(words[1]))
-    if kind in ("emergency-stop", "stopped"):
+    if kind in ("emergency-stop", "stopped", "quieted"):
         return Reply(kind)
     raise ManagerFailed(f"an answer that isn't known: {text!r}")
 

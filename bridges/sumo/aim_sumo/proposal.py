@@ -5,8 +5,11 @@ from dataclasses import dataclass
 
 from .car import State
 from .planner import STANDING, Approach, Plan, accel_of
+from .versions import OLD, USUALLY
 
 TRIES = 60
+SHARES = (1.0, 0.85, 0.7, 0.55, 0.4)
+"""Of the greatest speed that it can have at the line a vehicle takes the first of these shares that has enough slack."""
 STILL = 0.005
 """Metres a second below which a vehicle has come to rest."""
 MOST_CROSSING_STEPS = 2040
@@ -14,10 +17,14 @@ MOST_CROSSING_STEPS = 2040
 
 @dataclass(frozen=True)
 class Proposal:
-    """A plan to ask for; one that isn't real can't be driven, and is given back as soon as it is granted."""
+    """A plan to ask for; one that isn't real can't be driven, and is given back as soon as it is granted.
+
+    `latest` is the last step at which the vehicle can be at the line with the plan's speed.
+    """
 
     plan: object
     is_real: bool = True
+    latest: int = 0
 
     @property
     def steps(self):
@@ -32,12 +39,15 @@ class Proposal:
 class Proposer:
     """Makes proposals for vehicles; `lateness` is by how many steps a message may come too late to the manager."""
 
-    def __init__(self, layout, gaps, step, lateness=0):
+    def __init__(self, layout, gaps, step, lateness=0, manners=USUALLY[OLD]):
         self._layout = layout
         self._gaps = gaps
         self._floors = {}
         self._step = step
         self._lateness = lateness
+        self.has_care = manners.has_care
+        self._slack = manners.slack / step
+        self._window = min(round(manners.window / step), layout.window)
 
     def _accel(self, car, speed):
         """The acceleration that a vehicle asks for with a speed."""
@@ -59,11 +69,15 @@ class Proposer:
 
     def may_ask(self, car, proposal):
         """True where a refusal of the proposal, however late it is served, can't keep the vehicle from asking again."""
+        if not self.has_care:
+            return True
         is_sure = proposal.reach - self._lateness * proposal.plan.speed >= self.floor(car)
         return is_sure or (self.is_standing(car) and car.refused_at < math.inf)
 
     def until(self, car, plan):
-        """The last step at which a request for a plan may be sent, for that reason."""
+        """The last step at which a request for a plan may be sent, for that reason or since it would come too late."""
+        if not self.has_care:
+            return plan.start - self._layout.edge - 1
         return plan.start - math.ceil(self.floor(car) / plan.speed) - self._lateness
 
     def is_standing(self, car):
@@ -77,7 +91,28 @@ class Proposer:
         speed = self._entry_speed(car)
         if speed < self._least_speed(car):
             return None
-        return self._earliest(car, speed, others, now)
+        if self._slack <= 0:
+            return self._earliest(car, speed, others, now)
+        return self._with_slack(car, speed, others, now)
+
+    def _with_slack(self, car, speed, others, now):
+        """The fastest proposal that leaves the wanted slack up to its latest arrival, else the one with the most."""
+        best, most = None, -1
+        for share in SHARES:
+            slower = math.floor(speed * share)
+            if slower < self._least_speed(car):
+                break
+            proposal = self._earliest(car, slower, others, now)
+            slack = proposal.latest - proposal.plan.start if proposal else -1
+            if slack >= self._slack:
+                return proposal
+            if slack > most:
+                best, most = proposal, slack
+        return best
+
+    def latest(self, proposal: Proposal) -> int:
+        """The last step of the window that is asked for."""
+        return max(proposal.plan.start, min(proposal.latest, proposal.plan.start + self._window))
 
     def unlocking(self, car, now):
         """A proposal that isn't real, from below the reach at which the vehicle was refused; None where it needs none.
@@ -144,7 +179,7 @@ class Proposer:
         if not approach.is_possible:
             return None
         steps = max(math.ceil(approach.soonest / self._step - 1e-6), self._layout.edge + 1)
-        if self._lateness > 0 or car.speed < STANDING:
+        if self.has_care and (self._lateness > 0 or car.speed < STANDING):
             sure = math.ceil(self.floor(car) / speed) + self._lateness
             steps = max(steps, math.floor(min(sure, car.refused_at / speed)))
         leader = car.leader
@@ -158,5 +193,5 @@ class Proposer:
                 return None
             plan = self._plan(car, motion, steps + attempt * stride, speed, accel, now)
             if self._gaps.keeps_room(car, plan, others, now):
-                return Proposal(plan)
+                return Proposal(plan, latest=now + math.floor(approach.latest / self._step))
         return None

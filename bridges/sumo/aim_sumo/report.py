@@ -70,11 +70,11 @@ COLUMNS = {
     "wall": Column("wall s", ".0f"),
     **{key: Column(key, ".0f", True, "counts") for key in (
         "changes", "cancels", "unlocking requests", "steps astray in the box", "humans on red",
-        "humans beyond the clearance", "no number free",
+        "humans beyond the clearance", "no number free", "granted later", "quiet orders", "humans in a quiet time",
     )},
     **{key: Column(key, ".0f", False, "answers") for key in (
         "confirm fast", "confirm steady", "reject taken", "reject green", "reject emergency", "reject distance",
-        "reject bad", "reject holds", "ack",
+        "reject bad", "reject holds", "reject late", "reject far", "ack",
     )},
 }
 USUAL = "demand,through,left,delay,p95,stops,messages,misses,by_sumo,by_rectangles,teleports"

@@ -13,13 +13,14 @@ import zlib
 from collections import Counter
 from dataclasses import dataclass, field, replace
 
-from . import controls, demand, interrupts, metrics, rules
+from . import controls, demand, interrupts, metrics, rules, versions
 from .drive import Bridge, Settings
 from .faults import BadWord
 from .fit import Fits, refusals
 from .mail import Faults
 from .manager import Manager, replays
 from .numbers import most_vehicles
+from .site import Site
 
 MOST_NUMBERS = 65_536
 AFTER = 900.0
@@ -31,11 +32,13 @@ class Options:
     """What a run of one control is made with; times are seconds, lengths metres, shares of 1.
 
     `types` is a mark of the types of the mix that a user changed or added, which only the name of the folder tells.
+    `version`, `ask`, `window`, `slack` and `detect` are None where nobody says them: `versions` has what is usual.
     """
 
     control: str
     flow: float = None
     seed: int = 1
+    version: int = None
     seconds: float = 600.0
     end: float = None
     policy: str = None
@@ -50,7 +53,10 @@ class Options:
     sigma: float = 0.0
     headway: float = 1.0
     gap: float = 2.5
-    ask: float = 50.0
+    ask: float = None
+    window: float = None
+    slack: float = None
+    detect: float = None
     hold: float = 2.0
     error: float = 0.0
     lost: float = 0.0
@@ -67,6 +73,13 @@ class Options:
     def until(self):
         """When the run ends, though vehicles may be on their way."""
         return self.end if self.end is not None else self.seconds + AFTER
+
+    def manners(self, version: int, is_lit: bool) -> versions.Manners:
+        """How vehicles ask by a version; there are detectors for people only where these drive by lights."""
+        if version < versions.WINDOWS and (self.window or self.detect):
+            raise BadWord(f"--window and --detect go with version {versions.WINDOWS}, and this run is by {version}")
+        said = versions.manners(version, ask=self.ask, window=self.window, slack=self.slack, detect=self.detect)
+        return said if is_lit else replace(said, detect=0.0)
 
     @property
     def name(self):
@@ -250,7 +263,9 @@ class _Run:
 
     def _by_managers(self, extra):
         options, runner = self._options, self._runner
-        settings = _settings(options, self._site, runner.with_window)
+        version, manners = _spoken(self._site, options)
+        self._site = self._site.in_version(version, round(manners.window / self._site.step))
+        settings = _settings(options, self._site, manners, runner.with_window)
         managers = self._managers(settings)
         bridge = Bridge(self._site, settings, managers, runner.fits(options), self._files, self._arrivals, extra)
         try:
@@ -262,7 +277,7 @@ class _Run:
             raise
         finally:
             progress("")
-        result = {**self._summary(), **_told(bridge, managers)}
+        result = {"version": version, **self._summary(), **_told(bridge, managers)}
         if result["left"]:
             result["left_why"] = _why_left(bridge)
         result["replays"] = replays(runner.command, self._folder)
@@ -361,7 +376,13 @@ def _own_demand(site, options):
     return words
 
 
-def _settings(options, site, with_window):
+def _spoken(site: Site, options: Options) -> tuple[int, versions.Manners]:
+    """The version that a run's managers speak, and how vehicles ask."""
+    version = versions.spoken(options.version, (junction.layout.version for junction in site.junctions))
+    return version, options.manners(version, site.is_made and options.human > 0)
+
+
+def _settings(options, site, manners, with_window):
     orders = []
     for order in options.switch:
         seconds, _, name = order.partition("=")
@@ -373,7 +394,7 @@ def _settings(options, site, with_window):
         for junction in site.junctions:
             junction.layout.policy(options.policy)
     return Settings(
-        policy=options.policy, seed=options.seed, end=options.until, ask=options.ask, hold=options.hold,
+        policy=options.policy, seed=options.seed, end=options.until, manners=manners, hold=options.hold,
         error=options.error,
         faults=Faults(options.lost, options.late, options.repeated, round(1.0 / site.step)),
         orders=tuple(orders), is_blind=options.blind, is_mapped=not options.unmapped, with_window=with_window,

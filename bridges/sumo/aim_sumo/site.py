@@ -7,11 +7,12 @@ is `origin`.
 import json
 import math
 import pathlib
-from dataclasses import asdict, dataclass, field
+from dataclasses import asdict, dataclass, field, replace
 
 from .curve import Track
 from .faults import BadHead
-from .layout import read_head
+from .layout import Layout, read_head
+from .versions import OLD, WINDOWS
 
 CONTROLS = ("aim", "actuated", "static", "priority")
 """The controls of a site that was made of a head; the last is left out where SUMO's vehicles collide under it."""
@@ -21,7 +22,11 @@ OWN_CONTROLS = ("aim", "own")
 
 @dataclass(frozen=True)
 class Link:
-    """A move in the net: its lanes in and out, the lanes by which it leads through the box, and its light."""
+    """A move in the net: its lanes in and out, the lanes by which it leads through the box, and its light.
+
+    `entry_length` is the place of its line on the lane in. `lead` and `tail` are how many metres of the lanes in and out
+    belong to its path: the line is so far before the net's own, and so much of the lane out is on the ground.
+    """
 
     move: str
     entry: str
@@ -39,10 +44,12 @@ class Link:
     inside: list
     after: list
     deviation: float = 0.0
+    lead: float = 0.0
+    tail: float = 0.0
 
     @property
     def track(self):
-        return Track(self.before, self.inside, self.after, self.length)
+        return Track(self.before, self.inside, self.after, self.length, self.lead, self.tail)
 
     @property
     def entry_name(self):
@@ -99,9 +106,27 @@ class Site:
         """The links of a site of one junction."""
         return self.junctions[0].links
 
+    def in_version(self, version: int, window: int) -> "Site":
+        """The site with its layouts as the rules of a version have them."""
+        junctions = [replace(each, layout=each.layout.in_version(version, window)) for each in self.junctions]
+        if version >= WINDOWS:
+            for junction in junctions:
+                _refuse_inner_ends(junction.id, junction.layout)
+        return replace(self, junctions=junctions)
+
     def net(self, control):
         """The file of the net of a control."""
         return self.folder / (f"{control}.net.xml" if self.is_made else self.settings["net"])
+
+
+def _refuse_inner_ends(name: str, layout: Layout) -> None:
+    """Refuses a layout one of whose paths begins or ends inside the ground, as the manager does from version 4 on."""
+    for move in layout.moves:
+        for x, y in (move.points[0], move.points[-1]):
+            if 0 not in (x, y) and layout.side not in (x, y):
+                raise BadHead(f"the path of {move.name} of {name} begins or ends inside the ground, which version "
+                              f"{WINDOWS} doesn't take; make the folder anew by aim-sumo net --version {WINDOWS}, or "
+                              f"take --version {OLD}")
 
 
 def write_site(site):

@@ -5,7 +5,6 @@
 
 import contextlib
 import io
-import random
 import shutil
 import subprocess
 import unittest
@@ -15,43 +14,13 @@ from aim_sumo.manager import words_of
 from aim_sumo.site import open_site
 
 from . import outside
-from .minutes import Minutes
+from .minutes import OWN_NETS, Minutes
 from .places import HERE, MANAGER
 
 
 class Networks(Minutes):
-    def own_net(self, words, junctions):
-        """A net by netgenerate, with layouts of its junctions and routes on their paths; gives the folder."""
-        folder = self.folder / f"own-{len(junctions)}-{words[0][2:]}"
-        net = self.folder / f"{folder.name}.net.xml"
-        made = subprocess.run(["netgenerate", *words, "--no-turnarounds", "true", "-o", str(net)],
-                              capture_output=True, text=True, check=False)
-        self.assertEqual(made.returncode, 0, made.stderr)
-        named = [word for junction in junctions for word in ("--junction", junction)]
-        self.assertEqual(self.command("net", str(net), str(folder), *named), 0)
-        chance = random.Random(7)
-        links = [link for each in open_site(folder).junctions for link in each.links.values()]
-        pairs = sorted({(link.entry, link.exit) for link in links})
-        lines = ['<routes><vType id="car" sigma="0.5"/><vType id="truck" vClass="truck" sigma="0.5"/>']
-        for number in range(40):
-            begin, end = chance.choice(pairs)
-            kind = chance.choice(("car", "car", "car", "truck"))
-            lines.append(f'<trip id="v{number}" type="{kind}" depart="{number * 1.5}" from="{begin}" to="{end}" '
-                         'departLane="best" departSpeed="max"/>')
-        routes = folder / "demand.rou.xml"
-        routes.write_text("\n".join([*lines, "</routes>"]), encoding="ascii")
-        self.assertEqual(self.command("net", str(net), str(folder), *named, "--routes", str(routes)), 0)
-        return folder
-
     def test_nets_of_one_s_own(self):
-        for name, words, junctions in (
-            ("a cross of two lanes each way",
-             ("--grid", "--grid.number", "1", "--grid.attach-length", "150", "-L", "2"), ("A0",)),
-            ("two junctions, a manager each",
-             ("--grid", "--grid.number", "2", "--grid.length", "150", "--grid.attach-length", "150", "-L", "1"),
-             ("A0", "B0")),
-            ("a crossing at odd angles", ("--rand", "--rand.iterations", "12", "--seed", "1", "-L", "2"), ("1",)),
-        ):
+        for name, words, junctions in OWN_NETS:
             folder = self.own_net(words, junctions)
             trajectories = self.folder / "trajectories.xml"
             result = self.traffic(folder.name, "--swing", "--sumo", f"--fcd-output {trajectories}", "--end", "600")

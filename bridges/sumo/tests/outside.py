@@ -60,8 +60,11 @@ def windows(folder):
     return found
 
 
-def judge(folder, trajectories, types=(), step=0.02, inside=":"):
-    """Looks at a whole run; `inside` begins the names of lanes in managed boxes."""
+def judge(folder, trajectories, types=(), step=0.02, inside=":", lines=None):
+    """Looks at a whole run; `inside` begins the names of lanes in managed boxes.
+
+    `lines` are the places on lanes, by their names, from where on a front counts as in the box before that.
+    """
     folder = pathlib.Path(folder)
     size = sizes([folder / "run.routes"] if not types else types)
     verdict = Verdict()
@@ -74,7 +77,8 @@ def judge(folder, trajectories, types=(), step=0.02, inside=":"):
         for vehicle in element:
             name, lane = vehicle.get("id"), vehicle.get("lane")
             seen.add(name)
-            if lane.startswith(inside) and name not in verdict.entered:
+            is_in = lane.startswith(inside) or float(vehicle.get("pos")) > (lines or {}).get(lane, math.inf)
+            if is_in and name not in verdict.entered:
                 verdict.entered[name] = now
             bodies.append((name, *(float(vehicle.get(key)) for key in ("x", "y", "angle")), *size[vehicle.get("type")]))
         verdict.overlaps |= _overlaps(bodies)

@@ -2,11 +2,15 @@
 
 import os
 import pathlib
+import shlex
 import shutil
+import sys
 
 HERE = pathlib.Path(__file__).resolve().parent
 EXAMPLES = HERE.parent / "examples"
 MANAGER = os.environ.get("AIM_MANAGER", str(HERE.parents[2] / "aim"))
+PLAIN = shlex.join([sys.executable, str(HERE.parents[2] / "tests" / "plain")])
+"""A manager in plain Python, which knows versions 1 to 4."""
 
 
 def head(name):

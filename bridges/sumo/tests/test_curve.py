@@ -1,7 +1,7 @@
 import math
 import unittest
 
-from aim_sumo.curve import PIECES, Way, shape_of
+from aim_sumo.curve import PIECES, Track, Way, shape_of
 from aim_sumo.layout import Move, read_head
 
 from .places import head
@@ -9,6 +9,8 @@ from .places import head
 LEFT = Move(0, "left", ((0, 10500), (13500, 10500), (13500, 24000)), 280)
 RIGHT = Move(2, "right", ((0, 4500), (4500, 4500), (4500, 0)), 95)
 LINE = Move(1, "straight", ((0, 7500), (24000, 7500)), 240)
+LEGS = Move(3, "left", ((0, 0), (3000, 0), (3000, 4000)), 80, (30, 50))
+"""Two legs: the first is counted as long as it is, the second 5 m for 4."""
 
 
 class Ways(unittest.TestCase):
@@ -32,8 +34,24 @@ class Ways(unittest.TestCase):
                 self.assertAlmostEqual(way.to_arc(place), place)
                 self.assertAlmostEqual(way.to_counted(place), place)
 
+    def test_places_along_legs(self):
+        for track in (None, Track([(-9.0, 0.0), (0.0, 0.0)], [(0.0, 0.0), (3.0, 0.0), (3.0, 4.0)], [(3.0, 4.0), (3.0, 9.0)])):
+            way = Way(LEGS, 100, 4.5, track=track)
+            for counted, arc in ((-2.0, -2.0), (1.0, 1.0), (3.0, 3.0), (5.5, 5.0), (8.0, 7.0), (9.0, 7.8)):
+                with self.subTest(counted=counted, track=track):
+                    self.assertAlmostEqual(way.to_arc(counted), arc)
+                    self.assertAlmostEqual(way.to_counted(arc), counted)
+            self.assertAlmostEqual(way.deviation, 0.0)
+            for ratio, true in ((way.entry_ratio, 1.0), (way.exit_ratio, 0.8), (way.greatest_ratio, 1.0)):
+                self.assertAlmostEqual(ratio, true)
+            self.assertEqual(way.declared, 5625)
+
+    def test_legs_beside_the_track_tell_how_far(self):
+        track = Track([(-9.0, 0.5), (0.0, 0.5)], [(0.0, 0.5), (2.5, 0.5), (2.5, 4.0)], [(2.5, 4.0), (2.5, 9.0)])
+        self.assertAlmostEqual(Way(LEGS, 100, 4.5, track=track).deviation, 0.5 * 2**0.5, delta=0.01)
+
     def test_there_and_back(self):
-        for move in (LEFT, RIGHT, LINE):
+        for move in (LEFT, RIGHT, LINE, LEGS):
             way = Way(move, 100, 4.5)
             for tenth in range(-50, 350):
                 with self.subTest(move=move.name, tenth=tenth):

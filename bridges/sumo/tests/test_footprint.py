@@ -43,6 +43,9 @@ class Reserved(unittest.TestCase):
         self.assertEqual([tuple(place) for place in stations(line)], [(10, 0), (6, 2), (3, 4), (0, 7)])
         curve = Move(0, "left", ((0, 0), (3, 0), (3, 3)), 2)
         self.assertEqual([tuple(place) for place in stations(curve)], [(0, 0), (2, 0), (3, 3)])
+        legs = Move(0, "left", ((10, 0), (0, 7), (0, 10)), 5, (3, 2))
+        self.assertEqual([tuple(place) for place in stations(legs)],
+                         [(10, 0), (6, 2), (3, 4), (0, 7), (0, 8), (0, 10)])
 
     def test_spans_are_those_of_the_definition(self):
         for name, length, width, speed in (
@@ -53,6 +56,8 @@ class Reserved(unittest.TestCase):
             with self.subTest(name):
                 self.assertEqual(Spans(LAYOUT, move, length, width).needed(speed),
                                  by_hand(LAYOUT, move, length, width, speed))
+        legs = Move(0, "left", ((0, 10500), (9500, 12500), (13500, 24000)), 220, (98, 122))
+        self.assertEqual(Spans(LAYOUT, legs, 4700, 1800).needed(150), by_hand(LAYOUT, legs, 4700, 1800, 150))
 
     def test_the_least_speed_is_the_first_that_fits(self):
         for name in ("0.left", "4.straight"):
