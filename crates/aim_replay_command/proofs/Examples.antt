@@ -140,9 +140,9 @@ pub a_stop_and_a_switch : replayed (codes "operator 5 switch lights\noperator 6 
 unfolding digits outcomes_from layout_of
 a_stop_and_a_switch = refl
 
-pub version_four : replay_text None (codes "aim 4\n") ≡ codes "bad line 1 version\n"
+pub version_five : replay_text None (codes "aim 5\n") ≡ codes "bad line 1 version\n"
 unfolding digits outcomes_from layout_of
-version_four = refl
+version_five = refl
 
 pub version_nought : replay_text None (codes "aim 0\n") ≡ codes "bad line 1 version\n"
 unfolding digits outcomes_from layout_of

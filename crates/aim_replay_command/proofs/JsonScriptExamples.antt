@@ -25,7 +25,7 @@ pub nothing : text_by by_json None (codes "") ≡ codes "{\"bad\":1,\"kind\":\"e
 unfolding digits outcomes_from layout_of serde_json_on_literals is_utf8 chars all_lanes
 nothing = refl
 
-pub another_version : text_by by_json None (codes "{\"form\":\"aim\",\"n\":4}\n") ≡ codes "{\"bad\":1,\"kind\":\"version\"}\n"
+pub another_version : text_by by_json None (codes "{\"form\":\"aim\",\"n\":5}\n") ≡ codes "{\"bad\":1,\"kind\":\"version\"}\n"
 unfolding digits outcomes_from layout_of serde_json_on_literals is_utf8 chars all_lanes
 another_version = refl
 

@@ -41,6 +41,7 @@ fn kind_text(kind: Kind) -> &'static str
         Kind::Lane => "lane",
         Kind::Move => "move",
         Kind::Spacing => "spacing",
+        Kind::Border => "border",
         Kind::Policy => "policy",
         Kind::Phase => "phase",
         Kind::Vehicle => "vehicle",

@@ -183,10 +183,10 @@ first_heard l heard = absurd (none_some heard.kind)
     none_some e = cc
 
 -- whose number is that of a version
-pub version_known : (n : ℕ) → IsHeard [] (line.Version n) → is_outside n 3 ≡ false
-version_known n heard = go (is_outside n 3) refl
+pub version_known : (n : ℕ) → IsHeard [] (line.Version n) → is_outside n 4 ≡ false
+version_known n heard = go (is_outside n 4) refl
   where
-    go : (b : Bool) → is_outside n 3 ≡ b → b ≡ false
+    go : (b : Bool) → is_outside n 4 ≡ b → b ≡ false
     go false is = refl
     go true is = absurd (cc (rw is at heard.kind))
 

@@ -10,7 +10,7 @@ use Rattle.aim_script.specs.Decided.{kind_text, limit_text}
 use Rattle.aim_text_session.specs.Numbers.{fault_number, limit_number}
 use Rattle.aim_text_session.specs.Words.{word_of}
 
-pub fault_words : (k : Kind) → fault_number k ≤ 21 → word_of (fault_number k) ≡ kind_text k
+pub fault_words : (k : Kind) → fault_number k ≤ 22 → word_of (fault_number k) ≡ kind_text k
 fault_words kind.Long few = refl
 fault_words (kind.Spelling read.Words) few = refl
 fault_words (kind.Spelling read.Number) few = refl
@@ -24,6 +24,7 @@ fault_words kind.Times few = refl
 fault_words kind.Lane few = refl
 fault_words kind.Move few = refl
 fault_words kind.Spacing few = refl
+fault_words kind.Border few = refl
 fault_words kind.Policy few = refl
 fault_words kind.Phase few = refl
 fault_words kind.Vehicle few = refl
@@ -33,7 +34,7 @@ fault_words kind.Json few = refl
 fault_words kind.Form few = refl
 fault_words kind.Driver few = absurd (omega (arith, few))
 
-pub limit_words : (l : Limit) → limit_number l ≤ 21 → word_of (limit_number l) ≡ limit_text l
+pub limit_words : (l : Limit) → limit_number l ≤ 22 → word_of (limit_number l) ≡ limit_text l
 limit_words limit.Vehicles few = refl
 limit_words limit.Sheets few = refl
 limit_words limit.Bytes few = absurd (omega (arith, few))
@@ -42,10 +43,10 @@ limit_words limit.Orders few = absurd (omega (arith, few))
 
 -- what has the number
 abbrev faults : List (Option Kind)
-faults = None ∷ Some kind.Long ∷ Some (kind.Spelling read.Words) ∷ Some (kind.Spelling read.Number) ∷ Some (kind.Spelling read.Range) ∷ Some (kind.Spelling read.Unknown) ∷ Some kind.Order ∷ Some kind.Version ∷ Some kind.Grid ∷ Some kind.Buffers ∷ Some kind.Times ∷ Some kind.Lane ∷ Some kind.Move ∷ Some kind.Spacing ∷ Some kind.Policy ∷ Some kind.Phase ∷ Some kind.Vehicle ∷ Some kind.Moment ∷ None ∷ None ∷ Some kind.Json ∷ Some kind.Form ∷ Some kind.End ∷ Some kind.Driver ∷ None ∷ None ∷ None ∷ []
+faults = None ∷ Some kind.Long ∷ Some (kind.Spelling read.Words) ∷ Some (kind.Spelling read.Number) ∷ Some (kind.Spelling read.Range) ∷ Some (kind.Spelling read.Unknown) ∷ Some kind.Order ∷ Some kind.Version ∷ Some kind.Grid ∷ Some kind.Buffers ∷ Some kind.Times ∷ Some kind.Lane ∷ Some kind.Move ∷ Some kind.Spacing ∷ Some kind.Policy ∷ Some kind.Phase ∷ Some kind.Vehicle ∷ Some kind.Moment ∷ None ∷ None ∷ Some kind.Border ∷ Some kind.Json ∷ Some kind.Form ∷ Some kind.End ∷ Some kind.Driver ∷ None ∷ None ∷ None ∷ []
 
 abbrev limits : List (Option Limit)
-limits = None ∷ None ∷ None ∷ None ∷ None ∷ None ∷ None ∷ None ∷ None ∷ None ∷ None ∷ None ∷ None ∷ None ∷ None ∷ None ∷ None ∷ None ∷ Some limit.Vehicles ∷ Some limit.Sheets ∷ None ∷ None ∷ None ∷ None ∷ Some limit.Bytes ∷ Some limit.Lines ∷ Some limit.Orders ∷ []
+limits = None ∷ None ∷ None ∷ None ∷ None ∷ None ∷ None ∷ None ∷ None ∷ None ∷ None ∷ None ∷ None ∷ None ∷ None ∷ None ∷ None ∷ None ∷ Some limit.Vehicles ∷ Some limit.Sheets ∷ None ∷ None ∷ None ∷ None ∷ None ∷ Some limit.Bytes ∷ Some limit.Lines ∷ Some limit.Orders ∷ []
 
 fault_of : (k : Kind) → slice_index_or faults (fault_number k) None ≡ Some k
 fault_of kind.Long = refl
@@ -61,6 +62,7 @@ fault_of kind.Times = refl
 fault_of kind.Lane = refl
 fault_of kind.Move = refl
 fault_of kind.Spacing = refl
+fault_of kind.Border = refl
 fault_of kind.Policy = refl
 fault_of kind.Phase = refl
 fault_of kind.Vehicle = refl
@@ -91,6 +93,7 @@ no_limit kind.Times = refl
 no_limit kind.Lane = refl
 no_limit kind.Move = refl
 no_limit kind.Spacing = refl
+no_limit kind.Border = refl
 no_limit kind.Policy = refl
 no_limit kind.Phase = refl
 no_limit kind.Vehicle = refl

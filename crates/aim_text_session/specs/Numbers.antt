@@ -26,7 +26,7 @@ use Rattle.aim_text_session.specs.declared.outcomes.LineOutcome.{LineOutcome}
 use Rattle.aim_text_session.specs.declared.outcomes.LineOutcome.TheVariants as outcome
 use Rattle.aim_text_session.specs.Sessions.{Comes, InBody, InHeader, Standing, Stands}
 
--- the number of a fault, from 1 on; those from 22 on are of no line of a session
+-- the number of a fault, from 1 on; those from 23 on are of no line of a session
 abbrev pub fault_number : Kind → ℕ
 fault_number kind.Long = 1
 fault_number (kind.Spelling read.Words) = 2
@@ -45,18 +45,19 @@ fault_number kind.Policy = 14
 fault_number kind.Phase = 15
 fault_number kind.Vehicle = 16
 fault_number kind.Moment = 17
-fault_number kind.Json = 20
-fault_number kind.Form = 21
-fault_number kind.End = 22
-fault_number kind.Driver = 23
+fault_number kind.Border = 20
+fault_number kind.Json = 21
+fault_number kind.Form = 22
+fault_number kind.End = 23
+fault_number kind.Driver = 24
 
 -- the number of a limit, which no fault has
 abbrev pub limit_number : Limit → ℕ
 limit_number limit.Vehicles = 18
 limit_number limit.Sheets = 19
-limit_number limit.Bytes = 24
-limit_number limit.Lines = 25
-limit_number limit.Orders = 26
+limit_number limit.Bytes = 25
+limit_number limit.Lines = 26
+limit_number limit.Orders = 27
 
 abbrev pub field_number : Field → ℕ
 field_number field.Lane = 0

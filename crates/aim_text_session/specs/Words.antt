@@ -25,6 +25,7 @@ words =
     ∷ codes "moment"
     ∷ codes "vehicles"
     ∷ codes "sheets"
+    ∷ codes "border"
     ∷ codes "json"
     ∷ codes "form"
     ∷ []

@@ -14,7 +14,7 @@ use aim_messages::entry_text;
 pub struct ReplyNumbers {
     /// That of the reason, where it has one.
     pub number: u64,
-    /// 1 to 7, in the order of the replies' variants.
+    /// 1 to 8, in the order of the replies' variants.
     pub kind: u32,
     /// The reservation's id.
     pub id: u32,

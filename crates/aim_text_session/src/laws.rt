@@ -10,8 +10,8 @@ ghost use Rattle.aim_text_session.specs.Words.{word_of};
 /// The word of a fault's number is the one that a replay prints of the fault, and so it is of a limit, for all that a line of a
 /// session can have.
 pub fn fault_words_are_those_of_scripts()
-    ensures fault { (k : Kind) → fault_number k ≤ 21 → word_of (fault_number k) ≡ kind_text k }
-    ensures limit { (l : Limit) → limit_number l ≤ 21 → word_of (limit_number l) ≡ limit_text l }
+    ensures fault { (k : Kind) → fault_number k ≤ 22 → word_of (fault_number k) ≡ kind_text k }
+    ensures limit { (l : Limit) → limit_number l ≤ 22 → word_of (limit_number l) ≡ limit_text l }
 {}
 
 /// No two faults, no two limits, and no fault and limit have one number.

@@ -50,10 +50,11 @@ pub(crate) fn fault_number(kind: Kind) -> u32
         Kind::Phase => 15,
         Kind::Vehicle => 16,
         Kind::Moment => 17,
-        Kind::Json => 20,
-        Kind::Form => 21,
-        Kind::End => 22,
-        Kind::Driver => 23,
+        Kind::Border => 20,
+        Kind::Json => 21,
+        Kind::Form => 22,
+        Kind::End => 23,
+        Kind::Driver => 24,
     }
 }
 
@@ -64,9 +65,9 @@ pub(crate) fn limit_number(limit: Limit) -> u32
     match limit {
         Limit::Vehicles => 18,
         Limit::Sheets => 19,
-        Limit::Bytes => 24,
-        Limit::Lines => 25,
-        Limit::Orders => 26,
+        Limit::Bytes => 25,
+        Limit::Lines => 26,
+        Limit::Orders => 27,
     }
 }
 

@@ -38,8 +38,9 @@ fn word_of(number: u32) -> &'static [u8]
         17 => b"moment",
         18 => b"vehicles",
         19 => b"sheets",
-        20 => b"json",
-        21 => b"form",
+        20 => b"border",
+        21 => b"json",
+        22 => b"form",
         _ => b"",
     }
 }
