@@ -1,5 +1,6 @@
 pub mod Examples
 pub mod MoreExamples
+pub mod WindowExamples
 pub mod ScriptExamples
 pub mod TextLemmas
 pub mod LineLemmas
