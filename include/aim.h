@@ -62,7 +62,8 @@ enum aim_fault {
     AIM_FAULT_VEHICLE = 16,
     AIM_FAULT_MOMENT = 17,
     AIM_LIMIT_VEHICLES = 18,
-    AIM_LIMIT_SHEETS = 19
+    AIM_LIMIT_SHEETS = 19,
+    AIM_FAULT_BORDER = 20
 };
 
 /* Which reply an entry has. */
@@ -73,7 +74,8 @@ enum aim_reply_kind {
     AIM_EMERGENCY_STOP = 4,
     AIM_STALE = 5,          /* seq */
     AIM_SWITCHED = 6,       /* from */
-    AIM_STOPPED = 7
+    AIM_STOPPED = 7,
+    AIM_QUIETED = 8
 };
 
 /* Why a request is refused, and what `number` is then (docs/ANSWERS.md). */
@@ -104,7 +106,7 @@ enum aim_field {
     AIM_FIELD_WIDTH = 7,
     AIM_FIELD_STEPS = 8,
     AIM_FIELD_SPANS = 9,
-    AIM_FIELD_LATEST = 10 /* of no version that a session reads today */
+    AIM_FIELD_LATEST = 10 /* of version 4 alone */
 };
 
 /* Where a session stands. */

@@ -39,12 +39,35 @@ class Curve:
 
 
 @dataclass(frozen=True)
+class Leg:
+    """A straight leg of a path to (x, y), in `parts` parts of the ground's spacing. Millimetres."""
+
+    x: int
+    y: int
+    parts: int
+
+
+@dataclass(frozen=True)
+class Path:
+    """A path from (x0, y0) along 1 to 32 straight legs, in version 4. Millimetres."""
+
+    x0: int
+    y0: int
+    legs: Sequence[Leg]
+
+    def words(self) -> str:
+        """As a script spells it."""
+        legs = " ".join(f"{leg.x} {leg.y} {leg.parts}" for leg in self.legs)
+        return f"path {self.x0} {self.y0} {legs}"
+
+
+@dataclass(frozen=True)
 class Move:
     """The way that vehicles take from a lane: `turn` is `left`, `straight` or `right`."""
 
     lane: int
     turn: str
-    path: Union[Line, Curve]
+    path: Union[Line, Curve, Path]
 
 
 @dataclass(frozen=True)
@@ -98,13 +121,22 @@ class Layout:
     """Steps after its start that a vehicle may enter, too."""
     edge: int = 0
     """Steps for which tiles at the border are reserved, before and behind."""
+    version: int = 3
+    """The version of scripts: 3, or 4, which has windows of arrivals, quiet lanes and paths of legs, and wants each
+    path to lead from border to border."""
+    window: int = 0
+    """Steps that the latest arrival of a request may lie behind its earliest, in version 4; 0 in version 3."""
 
     def lines(self) -> list[str]:
-        """The head of a script of version 3, up to the line of the vehicles."""
+        """The head of a script of its version, up to the line of the vehicles. ValueError where that isn't 3 or 4, or
+        where it is 3 and there is a window."""
+        if self.version not in (3, 4) or (self.version == 3 and self.window):
+            raise ValueError(f"no layout of version {self.version} with a window of {self.window}")
+        window = f" {self.window}" if self.version == 4 else ""
         head = [
-            "aim 3",
+            f"aim {self.version}",
             f"grid {self.side} {self.rows} {self.spacing} {self.static_buffer} {self.half} {self.spans}",
-            f"times {self.horizon} {self.longest} {self.clearance} {self.early} {self.late} {self.edge}",
+            f"times {self.horizon} {self.longest} {self.clearance} {self.early} {self.late} {self.edge}{window}",
             f"lanes {self.lanes}",
         ]
         head += [f"move {move.lane} {move.turn} {move.path.words()}" for move in self.moves]

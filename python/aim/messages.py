@@ -3,7 +3,7 @@
 from __future__ import annotations
 
 from dataclasses import dataclass
-from typing import Union
+from typing import Optional, Union
 
 
 @dataclass(frozen=True)
@@ -28,12 +28,16 @@ class Crossing:
     """Millimetres."""
     emergency: bool = False
     """An emergency vehicle, as an ambulance."""
+    latest: Optional[int] = None
+    """The last step in which its front may be at the stop line, above `arrive`, in version 4; None where it is
+    `arrive`."""
 
     def words(self) -> str:
         """As a script spells it."""
         kind = "emergency" if self.emergency else "car"
+        latest = "" if self.latest is None else f" {self.latest}"
         return (f"{self.lane} {self.turn} {self.arrive} {self.speed} {self.max_speed} {self.accel} {self.length} "
-                f"{self.width} {kind}")
+                f"{self.width} {kind}{latest}")
 
 
 @dataclass(frozen=True)
@@ -105,17 +109,32 @@ class Stop:
         return "stop"
 
 
+@dataclass(frozen=True)
+class Quiet:
+    """The operator says that nobody enters from that lane by its green before the step `until`, in version 4: its
+    greens keep nobody off until then."""
+
+    lane: int
+    """The lane, from 0."""
+    until: int
+    """The step from which its greens count again."""
+
+    def words(self) -> str:
+        """As a script spells it."""
+        return f"quiet {self.lane} {self.until}"
+
+
 Message = Union[Request, Change, Cancel, Done]
 """What a vehicle says."""
 
-Order = Union[Switch, Stop]
+Order = Union[Switch, Stop, Quiet]
 """What the operator says."""
 
 
 def _crossing(words: list[str]) -> Crossing:
-    lane, turn, arrive, speed, max_speed, accel, length, width, kind = words
+    lane, turn, arrive, speed, max_speed, accel, length, width, kind, *latest = words
     return Crossing(int(lane), turn, int(arrive), int(speed), int(max_speed), int(accel), int(length), int(width),
-                    kind == "emergency")
+                    kind == "emergency", *map(int, latest))
 
 
 def read_act(words: list[str]) -> Union[Message, Order]:
@@ -133,4 +152,6 @@ def read_act(words: list[str]) -> Union[Message, Order]:
         return Switch(int(words[1]))
     if kind == "stop":
         return Stop()
+    if kind == "quiet":
+        return Quiet(int(words[1]), int(words[2]))
     raise ValueError(f"no message and no order: {' '.join(words)}")

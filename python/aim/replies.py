@@ -70,7 +70,12 @@ class Stopped:
     """The stop is in force."""
 
 
-Reply = Union[Confirm, Reject, Ack, EmergencyStop, Stale, Switched, Stopped]
+@dataclass(frozen=True)
+class Quieted:
+    """The lane is quiet."""
+
+
+Reply = Union[Confirm, Reject, Ack, EmergencyStop, Stale, Switched, Stopped, Quieted]
 """An answer."""
 
 
@@ -98,4 +103,6 @@ def read_reply(words: list[str]) -> Reply:
         return Switched(int(words[1]))
     if kind == "stopped":
         return Stopped()
+    if kind == "quieted":
+        return Quieted()
     raise ValueError(f"no reply: {' '.join(words)}")

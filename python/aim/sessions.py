@@ -11,7 +11,7 @@ from . import library as _c
 from .errors import Ended, Fault, Full, Limit, NoMemory
 from .journals import Entry, read_entry
 from .layouts import Layout
-from .messages import Message, Stop, Switch
+from .messages import Message, Quiet, Stop, Switch
 
 
 class Stage(enum.IntEnum):
@@ -131,6 +131,10 @@ class Session:
     def stop(self, moment: int) -> Entry:
         """The operator stops all."""
         return self.take(f"operator {moment} {Stop().words()}")
+
+    def quiet(self, moment: int, lane: int, until: int) -> Entry:
+        """The operator says that nobody enters from that lane by its green before the step `until`, in version 4."""
+        return self.take(f"operator {moment} {Quiet(lane, until).words()}")
 
     def end(self) -> None:
         """Takes `end`: no further line is taken."""

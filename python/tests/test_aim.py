@@ -1,6 +1,7 @@
 """The package over the built library, which AIM_LIBRARY names; beside `aim replay` where AIM names the program."""
 
 import ctypes
+import dataclasses
 import os
 import pathlib
 import subprocess
@@ -19,6 +20,12 @@ LAYOUT = aim.Layout(
     moves=[aim.Move(0, "straight", aim.Line(0, 1500, 4000, 1500, 40)),
            aim.Move(1, "straight", aim.Line(2500, 0, 2500, 4000, 40))],
     policies=[aim.Policy("plain"), aim.Policy("lights", "light", [aim.Phase(20, 80, [0]), aim.Phase(20, 80, [1])])])
+
+# The same by version 4, with a path of legs and lights from the start.
+FOUR = dataclasses.replace(
+    LAYOUT, version=4, window=60, policies=LAYOUT.policies[::-1],
+    moves=[aim.Move(0, "straight", aim.Path(0, 1500, [aim.Leg(2000, 1500, 20), aim.Leg(4000, 1500, 20)])),
+           LAYOUT.moves[1]])
 
 
 def crossing(lane, arrive, **more):
@@ -48,6 +55,30 @@ class Sessions(unittest.TestCase):
             self.assertEqual(session.stop(31).reply, aim.Stopped())
             self.assertEqual(session.say(2, 32, aim.Request(1, crossing(0, 90))).reply, aim.EmergencyStop())
             self.assertEqual(session.entries, 9)
+
+    def test_windows_and_quiet_lanes(self):
+        with aim.Session(FOUR, 8) as session:
+            late = session.say(0, 0, aim.Request(1, crossing(1, 30, latest=91)))
+            self.assertEqual(late.reply, aim.Reject("bad", ("latest",), 15, None))
+            self.assertEqual(session.say(1, 0, aim.Request(1, crossing(1, 30))).reply.reason, "green")
+            entry = session.quiet(0, 0, 100)
+            self.assertEqual((entry.caller, entry.act, entry.reply), (None, aim.Quiet(0, 100), aim.Quieted()))
+            self.assertEqual(session.say(2, 0, aim.Request(1, crossing(1, 30))).reply, aim.Confirm(3, 30, 0, 0, False, 40))
+            message = aim.Request(1, crossing(0, 30, latest=90))
+            entry = session.say(3, 0, message)
+            self.assertEqual((entry.act, entry.reply), (message, aim.Confirm(4, 34, 0, 0, False, 44)))
+            for line, kind in ((f"4 0 {aim.Request(1, crossing(0, 30, latest=30)).words()}", "range"),
+                               ("operator 0 quiet 2 100", "lane"), ("operator 0 quiet 256 100", "range")):
+                with self.assertRaises(aim.Fault) as caught:
+                    session.take(line)
+                self.assertEqual(caught.exception.kind, kind)
+
+    def test_a_path_that_begins_inside(self):
+        for move, kind in ((aim.Move(0, "left", aim.Line(100, 1500, 4000, 1500, 40)), "border"),
+                           (aim.Move(0, "left", aim.Path(0, 1500, [aim.Leg(4000, 1500, 0)])), "move")):
+            with self.assertRaises(aim.Fault) as caught:
+                aim.Session(dataclasses.replace(FOUR, moves=[move]), 8)
+            self.assertEqual(caught.exception.kind, kind)
 
     def test_an_entry_says_who_and_when(self):
         with opened() as session:
@@ -186,6 +217,12 @@ class Texts(unittest.TestCase):
         self.assertEqual(LAYOUT.lines()[-2:], ["phase 20 80 0", "phase 20 80 1"])
         bent = aim.Move(0, "left", aim.Curve(0, 1, 2, 3, 4, 5, 6))
         self.assertIn("move 0 left curve 0 1 2 3 4 5 6", aim.Layout(4000, 4, 1, [bent]).lines())
+        self.assertEqual(FOUR.lines()[:5], [
+            "aim 4", "grid 4000 4 100 0 450 4096", "times 1500 25 20 0 0 0 60", "lanes 2",
+            "move 0 straight path 0 1500 2000 1500 20 4000 1500 20"])
+        for version, window in ((2, 0), (5, 0), (3, 1)):
+            with self.assertRaises(ValueError):
+                dataclasses.replace(LAYOUT, version=version, window=window).lines()
 
     def test_what_is_no_entry(self):
         for text in ("", "end 3", "0 0 0 -> ack 1", "0 0 0 wave 1 -> ack 1", "0 0 0 done 1 0 -> wave"):

@@ -180,6 +180,36 @@ static void answers_of_a_body(void) {
     ended(session);
 }
 
+/* Windows, quiet lanes and paths of legs. */
+static void answers_of_version_four(void) {
+    static const char *const head[] = {
+        "aim 4", "grid 4000 4 100 0 450 4096", "times 1500 25 20 0 0 0 60", "lanes 2",
+        "move 0 straight path 0 1500 2000 1500 20 4000 1500 20", "move 1 straight line 2500 0 2500 4000 40",
+        "policy lights light", "phase 20 80 0", "phase 20 80 1", "policy plain fcfs", "vehicles 8", "begin",
+    };
+    aim_session *session = made();
+    for (int i = 0; i < (int)(sizeof head / sizeof *head); i++) {
+        if (i == 2) is_fault(session, "times 1500 25 20 0 0 0", AIM_FAULT_WORDS, "words");
+        if (i == 4) is_fault(session, "move 0 straight line 100 1500 4000 1500 40", AIM_FAULT_BORDER, "border");
+        CHECK(aim_session_take_text(session, head[i]).outcome == AIM_TAKEN);
+    }
+    is_fault(session, "operator 0 quiet 2 100", AIM_FAULT_LANE, "lane");
+    is_fault(session, "0 0 request 1 1 straight 30 500 500 0 1000 700 car 30", AIM_FAULT_RANGE, "range");
+    aim_answer a = aim_session_take_text(session, "0 0 request 1 1 straight 30 500 500 0 1000 700 car 91");
+    CHECK(a.outcome == AIM_ENTRY && a.reply.kind == AIM_REJECT && a.reply.reason == AIM_BAD && a.reply.number == AIM_FIELD_LATEST);
+    a = aim_session_take_text(session, "1 0 request 1 1 straight 30 500 500 0 1000 700 car");
+    CHECK(a.reply.kind == AIM_REJECT && a.reply.reason == AIM_GREEN && a.reply.number == 0);
+    a = aim_session_take_text(session, "operator 0 quiet 0 100");
+    CHECK(a.outcome == AIM_ENTRY && a.position == 2 && a.caller == AIM_OPERATOR && a.reply.kind == AIM_QUIETED);
+    CHECK(strcmp(a.text, "2 operator 0 quiet 0 100 -> quieted") == 0);
+    CHECK(is_cell(aim_session_cell(session, 1, 1, 30), 1, 0, 0, 0, 0, 0));
+    a = aim_session_take_text(session, "2 0 request 1 1 straight 30 500 500 0 1000 700 car");
+    CHECK(a.reply.kind == AIM_CONFIRM && a.reply.id == 3 && a.reply.start == 30);
+    a = aim_session_take_text(session, "3 0 request 1 0 straight 30 500 500 0 1000 700 car 90");
+    CHECK(a.reply.kind == AIM_CONFIRM && a.reply.id == 4 && a.reply.start == 34);
+    ended(session);
+}
+
 /* The allocations are refused from a number on, and then no more: the session goes on as if nothing had been. So it is for
    each number, or for each of them that is a multiple of a stride. */
 static void memory_that_is_refused(long stride) {
@@ -232,10 +262,11 @@ static void many_calls(long calls) {
 
 int main(int count, char **words) {
     CHECK(aim_version() == AIM_VERSION && aim_session_size() > 0);
-    CHECK(aim_fault_text(0).length == 0 && aim_fault_text(20).length == 0 && aim_fault_text(UINT32_MAX).text[0] == 0);
+    CHECK(aim_fault_text(0).length == 0 && aim_fault_text(23).length == 0 && aim_fault_text(UINT32_MAX).text[0] == 0);
     faults_of_a_header();
     answers_of_a_body();
     cells_of_a_body();
+    answers_of_version_four();
     memory_that_is_refused(count > 2 ? atol(words[2]) : 1);
     many_calls(count > 1 ? atol(words[1]) : 1000000);
     printf("%d checks failed\n", fails);
