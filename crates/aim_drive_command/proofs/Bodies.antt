@@ -8,6 +8,7 @@ use Rattle.aim_messages.specs.declared.script.Line.{Line}
 use Rattle.aim_messages.specs.declared.script.Line.TheVariants as line
 use Rattle.aim_geometry.specs.Bounded.{find_map, is_outside}
 use Rattle.aim_script.specs.declared.settings.Setting.{Setting}
+use Rattle.aim_script.specs.Kinds.{is_of_later}
 use Rattle.aim_script.specs.Order.{is_end}
 use Rattle.aim_script.specs.Said.{last_of, vehicles_of}
 use Rattle.aim_script.proofs.AppendLemmas.{find_map-one, last_of_more}
@@ -27,8 +28,9 @@ one_more : (before : List Line) (l : Line) (s : Setting) → IsWhole before s �
 one_more before l s w kind limit = record { drive = drive_more before l w.drive kind limit; opened = opened_more before l s w.opened kind }
 
 -- the kind of a line that may stand there
-kind_there : (before : List Line) (l : Line) (s : Setting) → IsWhole before s → belongs (place_after (last_of before)) (last_of before) l ≡ true → lacks_plan before l ≡ false → kind_of_fault before l ≡ fault_in_order before l
-kind_there before l s w there lacks = in_order before l w.opened.place (rw (there, lacks) refl)
+kind_there : (before : List Line) (l : Line) (s : Setting) → IsWhole before s → belongs (place_after (last_of before)) (last_of before) l ≡ true → lacks_plan before l ≡ false → is_of_later before l ≡ false
+    → kind_of_fault before l ≡ fault_in_order before l
+kind_there before l s w there lacks later = in_order before l w.opened.place (rw (there, lacks, later) refl)
 
 -- lines of a body, in which no vehicle from that one on has a plan
 record IsBody (before : List Line) (s : Setting) (until vehicle : ℕ) : Type 0 where
@@ -38,7 +40,7 @@ record IsBody (before : List Line) (s : Setting) (until vehicle : ℕ) : Type 0 
   fresh : (v : ℕ) → vehicle ≤ v → is_planned v before ≡ false
 
 -- the numbers of a plan are within their bounds
-fine_plan : (until vehicle b : ℕ) → 33 * vehicle < until → is_bad_plan until (33 * vehicle) (100 + b % 100) 50 ≡ false
+fine_plan : (until vehicle b : ℕ) → 33 * vehicle < until → is_bad_plan until (33 * vehicle) (100 + b % 100) 50 0 ≡ false
 fine_plan until vehicle b early =
     let first : nat_le until (33 * vehicle) ≡ false = grind (arith, nat_tests) in
     let some : (100 + b % 100 == 0) ≡ false = grind (arith, nat_tests) in
@@ -49,7 +51,7 @@ plan_kind : (before : List Line) (s : Setting) (until vehicle : ℕ) (g : Lcg) �
 plan_kind before s until vehicle g b within early =
     let declared : vehicles_of before ≡ s.vehicles = b.whole.opened.declared in
     let there : nat_le (vehicles_of before) vehicle ≡ false = grind (arith, nat_tests) in
-    kind_there before (drawn vehicle g) s b.whole (rw b.place refl) refl ∙ rw (there, b.fresh vehicle (omega arith), b.ends, fine_plan until vehicle _ early) refl
+    kind_there before (drawn vehicle g) s b.whole (rw b.place refl) refl refl ∙ rw (there, b.fresh vehicle (omega arith), b.ends, fine_plan until vehicle _ early) refl
 
 or_none : {X : Type 0} (o : Option X) → option_or o None ≡ o
 or_none None = refl
@@ -86,10 +88,10 @@ plans_stand (suc count) vehicle g before s until b many early =
     (plans_stand count (vehicle + 1) (after_plan g) (before ++ l ∷ []) s until next (omega (arith, many)) (omega (arith, early)))
 
 ended : (before : List Line) (s : Setting) → IsEnding before s → IsWhole (before ++ line.End ∷ []) s
-ended before s e = one_more before line.End s e.whole (kind_there before line.End s e.whole (rw e.place refl) refl) refl
+ended before s e = one_more before line.End s e.whole (kind_there before line.End s e.whole (rw e.place refl) refl refl) refl
 
 begun : (before : List Line) (s : Setting) → IsWhole before s → place_after (last_of before) ≡ place.ToBegin → IsWhole (before ++ line.Begin ∷ []) s
-begun before s w at = one_more before line.Begin s w (kind_there before line.Begin s w (rw at refl) refl) refl
+begun before s w at = one_more before line.Begin s w (kind_there before line.Begin s w (rw at refl) refl refl) refl
 
 timed : (before : List Line) (s : Setting) (until : ℕ) → IsWhole before s → place_after (last_of before) ≡ place.ToUntil → 0 < until → until ≤ 65536 → IsWhole (before ++ line.Until until ∷ []) s
 timed before s until w at some few =
@@ -97,7 +99,7 @@ timed before s until w at some few =
     let a : (until == 0) ≡ false = grind (arith, nat_tests) in
     let b : nat_lt 65536 until ≡ false = grind (arith, nat_tests) in
     rw (a, b) refl) in
-    one_more before (line.Until until) s w (kind_there before (line.Until until) s w (rw at refl) refl ∙ rw inside refl) refl
+    one_more before (line.Until until) s w (kind_there before (line.Until until) s w (rw at refl) refl refl ∙ rw inside refl) refl
 
 -- the first lines of a body
 abbrev opening : ℕ → List Line

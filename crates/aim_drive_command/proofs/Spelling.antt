@@ -73,7 +73,7 @@ plan_spelled vehicle g few = made _ _ _
     made : (a b c : ℕ) → IsSpelled (line.PlanFor vehicle (33 * vehicle) (100 + b % 100) 50 (record { lane = a % 12; turn = turn_of (a % 12); arrive = 0; latest = 0; speed = 200 + c % 61; max_speed = 300; accel = 2; length = 4500; width = 1900; emergency = false }) false 0)
     made a b c =
         let l = line.PlanFor vehicle (33 * vehicle) (100 + b % 100) 50 (record { lane = a % 12; turn = turn_of (a % 12); arrive = 0; latest = 0; speed = 200 + c % 61; max_speed = 300; accel = 2; length = 4500; width = 1900; emergency = false }) false 0 in
-        let is : IsLine l = (omega arith, omega arith, omega arith, omega arith, record { lane = omega arith; arrive = omega arith; latest = omega arith; speed = omega arith; max_speed = omega arith; accel = omega arith; len = omega arith; width = omega arith }) in
+        let is : IsLine l = (omega arith, omega arith, omega arith, omega arith, record { lane = omega arith; arrive = omega arith; latest = omega arith; speed = omega arith; max_speed = omega arith; accel = omega arith; len = omega arith; width = omega arith }, omega arith) in
         let keeps : KeepsRanges 1 l = (refl, refl, λ h. absurd (cc), λ h. absurd (omega (arith, h))) in
         let short = spaced_short (line_words 1 l) (
           lit≤ tt,

@@ -20,6 +20,7 @@ use Rattle.aim_drive_command.proofs.Stations.{IsWay, west_left, west_straight, w
 
 -- nothing was added to the lanes from that one on, and no policy
 record IsFree (k : ℕ) (i : Intersection) : Type 0 where
+  version : i.version ≡ 1
   count : length i.lanes ≡ 12
   grid : i.grid ≡ grid_of ground_numbers
   none : i.policies ≡ []
@@ -31,7 +32,7 @@ no_path Straight = refl
 no_path Right = refl
 
 all_free : IsFree 0 (bare site 12 1)
-all_free = record { count = refl; grid = refl; none = refl; free = λ lane turn le. at turn (slice_get (replicate 12 no_paths) lane) (λ l e. replicate_all 12 lane no_paths l e) }
+all_free = record { version = refl; count = refl; grid = refl; none = refl; free = λ lane turn le. at turn (slice_get (replicate 12 no_paths) lane) (λ l e. replicate_all 12 lane no_paths l e) }
   where
     at : (turn : Turn) (o : Option Lane) → ((l : Lane) → o ≡ Some l → l ≡ no_paths) → option_and_then (λ l. path_of l turn) o ≡ None
     at turn None all = refl
@@ -39,6 +40,7 @@ all_free = record { count = refl; grid = refl; none = refl; free = λ lane turn 
 
 free_next : (k : ℕ) (i : Intersection) (turn : Turn) (s : Shape) → IsFree k i → IsFree (k + 1) (with_move i k turn s)
 free_next k i turn s f = record {
+  version = f.version;
   count = length-set i.lanes k _ ∙ f.count;
   grid = f.grid;
   none = f.none;
@@ -52,7 +54,8 @@ move_free k i turn s f lt w =
     let none : path i k turn ≡ None = f.free k turn (omega arith) in
     let fine : is_bad_shape i.grid.side s ≡ false = rw f.grid w.fine in
     let near : wide_step i.grid.spacing (stations_of s) ≡ None = rw f.grid w.near in
-    rw (there, none, f.none, fine, near) refl
+    let first : nat_le 4 i.version ≡ false = rw f.version refl in
+    rw (there, none, f.none, fine, near, first) refl
 
 -- ways for the lanes from that one on
 abbrev AreWays : ℕ → List Added → Type 0

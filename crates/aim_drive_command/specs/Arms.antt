@@ -1,8 +1,9 @@
 -- The layout of generated traffic: a ground with four arms, each of three lanes.
-use Rattle.std.specs.Prelude.{ℕ, ◌+◌, ◌-◌, List, [], ◌∷◌, ◌++◌, replicate, codes}
+use Rattle.std.specs.Prelude.{ℕ, ◌+◌, ◌-◌, List, [], ◌∷◌, ◌++◌, map, replicate, take, codes}
 use Rattle.aim_messages.specs.declared.messages.Turn.TheVariants.{Left, Straight, Right}
 use Rattle.aim_messages.specs.declared.script.Grid6.{Grid6}
 use Rattle.aim_messages.specs.declared.script.Times5.{Times5}
+use Rattle.aim_messages.specs.declared.script.LegList.{LegList}
 use Rattle.aim_messages.specs.declared.script.MoveShape.{MoveShape}
 use Rattle.aim_messages.specs.declared.script.MoveShape.TheVariants as shape
 use Rattle.aim_messages.specs.declared.script.Name.{Name}
@@ -15,10 +16,15 @@ ground_numbers = record { side = 24000; n = 48; spacing = 100; fixed = 250; half
 abbrev pub time_numbers : Times5
 time_numbers = record { horizon = 3000; longest = 100; clearance = 100; internal = 2; edge = 5 }
 
+-- legs, turned as ways are
+abbrev pub turned_legs : LegList → LegList
+turned_legs ls = record { legs = map (λ (l : ℕ × ℕ × ℕ). (24000 - l.1, l.0, l.2)) (take ls.len ls.legs) ++ replicate (32 - ls.len) (0, 0, 0); len = ls.len }
+
 -- the way, turned with the whole ground by a right angle, from an arm to the next one against the clock
 abbrev pub turned : MoveShape → MoveShape
 turned (shape.Line x0 y0 x1 y1 m) = shape.Line (24000 - y0) x0 (24000 - y1) x1 m
 turned (shape.Curve x0 y0 x1 y1 x2 y2 m) = shape.Curve (24000 - y0) x0 (24000 - y1) x1 (24000 - y2) x2 m
+turned (shape.Path x0 y0 legs) = shape.Path (24000 - y0) x0 (turned_legs legs)
 
 -- the ways from the west
 abbrev pub to_the_left : MoveShape

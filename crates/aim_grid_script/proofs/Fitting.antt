@@ -33,11 +33,12 @@ leg_fits vehicles crossings legs leg none bare =
     let told = none_of (nat_le vehicles leg.vehicle) (is_no_route crossings legs leg.vehicle leg.crossing leg.plan) none in
     let route = or_parts (nat_le crossings leg.crossing) (has_leg leg.vehicle leg.crossing legs || is_bad_plan leg.plan) told.1 in
     let plan = or_parts (has_leg leg.vehicle leg.crossing legs) (is_bad_plan leg.plan) route.1 in
-    let numbers = or_parts (is_outside leg.plan.first 65536) (is_outside leg.plan.lead 65536 || is_outside leg.plan.resend 255) plan.1 in
-    let others = or_parts (is_outside leg.plan.lead 65536) (is_outside leg.plan.resend 255) numbers.1 in
+    let numbers = or_parts (is_outside leg.plan.first 65536) (is_outside leg.plan.lead 65536 || (is_outside leg.plan.resend 255 || nat_lt 65536 leg.plan.wait)) plan.1 in
+    let others = or_parts (is_outside leg.plan.lead 65536) (is_outside leg.plan.resend 255 || nat_lt 65536 leg.plan.wait) numbers.1 in
+    let last = or_parts (is_outside leg.plan.resend 255) (nat_lt 65536 leg.plan.wait) others.1 in
     let first = bounds_of leg.plan.first 65536 numbers.0 in
     let lead = bounds_of leg.plan.lead 65536 others.0 in
-    let resend = bounds_of leg.plan.resend 255 others.1 in record {
+    let resend = bounds_of leg.plan.resend 255 last.0 in record {
       vehicle = leb-false vehicles leg.vehicle told.0;
       crossing = leb-false crossings leg.crossing route.0;
       some_first = first.0;
@@ -46,6 +47,7 @@ leg_fits vehicles crossings legs leg none bare =
       short_lead = lead.1;
       some_resend = resend.0;
       short_resend = resend.1;
+      short_wait = ltb-false 65536 leg.plan.wait last.1;
       bare = bare;
     }
 

@@ -46,6 +46,7 @@ plan_from first = record {
   first = first;
   lead = 10;
   resend = 3;
+  wait = 0;
   params = record { lane = 0; turn = turn.Straight; arrive = 0; latest = 0; speed = 500; max_speed = 500; accel = 0; length = 1000; width = 700; emergency = false };
   changes = [];
   cancel = None;
@@ -107,6 +108,18 @@ a_lead_past_the_greatest = refl
 pub a_resend_past_the_greatest : decision_of (one ++ codes "leg 0 0 1 10 256 0 straight 500 500 0 1000 700 car\n") ≡ decision.Bad 10 kind.Route
 unfolding digits outcomes_from layout_of
 a_resend_past_the_greatest = refl
+
+-- a crossing of version 4, up to its legs
+abbrev late : List ℕ
+late = codes "crossings 1\naim 4\ngrid 4000 4 100 0 450 4096\ntimes 1500 25 20 0 0 0 20\nlanes 1\npolicy plain fcfs\nvehicles 2\nbegin\nuntil 60\n"
+
+pub the_longest_wait : decision_of (late ++ codes "leg 0 0 1 10 3 0 straight 500 500 0 1000 700 car 65536\nleg 1 0 1 10 3 0 straight 500 500 0 1000 700 car 65537\n") ≡ decision.Bad 11 kind.Route
+unfolding digits outcomes_from layout_of
+the_longest_wait = refl
+
+pub no_quiet_lane : decision_of (late ++ codes "operator 0 quiet 0 9\n") ≡ decision.Bad 10 (kind.Plain why.Order)
+unfolding digits outcomes_from layout_of
+no_quiet_lane = refl
 
 pub nine_crossings : decision_of (codes "crossings 9\n") ≡ decision.Bad 1 kind.Crossing
 unfolding digits outcomes_from

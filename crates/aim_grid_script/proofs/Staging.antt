@@ -525,6 +525,7 @@ right_version : (v : ScriptVersion) → header_kind [] (plain.Version (version_n
 right_version version.One = refl
 right_version version.Two = refl
 right_version version.Three = refl
+right_version version.Four = refl
 
 same_version : (block : List Line) (n : ℕ) → next_kind block n ≡ None → n ≡ version_after block
 same_version block n none = go (may_end block) refl (n == version_after block) refl
@@ -546,7 +547,7 @@ next_begun before b n i (header_refusal.Bad k) a ends begins =
 -- a line that was read, in the version of the stage
 pub was_read : (bytes : List ℕ) (n : ℕ) (l : GridLine) → Ok l ≡ grid_line_at n bytes → WasRead l
 was_read bytes n (line.Crossings c) is = tt
-was_read bytes n (line.Leg v c p) is = (grid_was_spelled n bytes (line.Leg v c p) (sym is)).1
+was_read bytes n (line.Leg v c p) is = (grid_was_spelled n bytes (line.Leg v c p) (sym is)).1.0
 was_read bytes n (line.Plain l) is = named n l (grid_was_spelled n bytes (line.Plain l) (sym is)).1
   where
     named : (n : ℕ) (l : Line) → KeepsRanges n l → HasName l

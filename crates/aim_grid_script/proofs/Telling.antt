@@ -1,9 +1,8 @@
 -- What is told of a script that was read.
-use Rattle.std.proofs.Common.{◌≡◌, ℕ, Bool, true, false, List, Option, Some, None, Result, Err, IfSome, ap, refl}
+use Rattle.std.proofs.Common.{◌≡◌, ℕ, true, List, Option, Some, None, Result, Err, IfSome, ap, refl}
 use Rattle.aim_script_reading.specs.declared.decisions.Refused.{Refused}
 use Rattle.aim_script_reading.specs.declared.decisions.Refused.TheVariants as refused
-use Rattle.aim_script_reading.specs.declared.decisions.Why.TheVariants as reason
-use Rattle.aim_script_reading.specs.Verdicts.{Verdict as VerdictBy, number_after, verdict}
+use Rattle.aim_script_reading.specs.Verdicts.{Verdict as VerdictBy, verdict}
 use Rattle.aim_script.specs.declared.decisions.Limit.{Limit}
 use Rattle.aim_grid_script.specs.declared.lines.GridLine.{GridLine}
 use Rattle.aim_grid_script.specs.declared.decisions.GridDecision.TheVariants as decision

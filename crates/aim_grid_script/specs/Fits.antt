@@ -18,6 +18,7 @@ pub record FitsLeg (vehicles crossings : ℕ) (leg : PlannedLeg) : Type 0 where
   pub short_lead : leg.plan.lead ≤ 65536
   pub some_resend : 1 ≤ leg.plan.resend
   pub short_resend : leg.plan.resend ≤ 255
+  pub short_wait : leg.plan.wait ≤ 65536
   pub bare : IsBare leg.plan
 
 -- they are not of one vehicle at one crossing

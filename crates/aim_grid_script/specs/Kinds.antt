@@ -1,5 +1,5 @@
 -- Why a line that reads may not stand where it stands in a script of several crossings, and the limits on a script.
-use Rattle.std.specs.Prelude.{ℕ, ◌+◌, ◌==◌, ◌||◌, Bool, nat_le, List, [], ◌∷◌, length, Option, Some, None, option_map, is_some, if◌then◌else◌}
+use Rattle.std.specs.Prelude.{ℕ, ◌+◌, ◌==◌, ◌||◌, Bool, nat_le, nat_lt, List, [], ◌∷◌, length, Option, Some, None, option_map, is_some, if◌then◌else◌}
 use Rattle.aim_messages.specs.declared.script.Line.{Line}
 use Rattle.aim_messages.specs.declared.script.Line.TheVariants as plain
 use Rattle.aim_driver.specs.declared.plans.DrivePlan.{DrivePlan}
@@ -49,7 +49,7 @@ block_kind count p l = header_kind p.block l
 
 -- whether the numbers of a leg's plan are out of their bounds
 abbrev pub is_bad_plan : DrivePlan → Bool
-is_bad_plan p = is_outside p.first 65536 || (is_outside p.lead 65536 || is_outside p.resend 255)
+is_bad_plan p = is_outside p.first 65536 || (is_outside p.lead 65536 || (is_outside p.resend 255 || nat_lt 65536 p.wait))
 
 -- whether the crossing is none of so many, the vehicle has one of the legs there, or its plan is bad
 abbrev pub is_no_route : ℕ → List PlannedLeg → ℕ → ℕ → DrivePlan → Bool

@@ -1,11 +1,12 @@
 -- Reading word by word. Only contracts of private functions cite it.
-use Rattle.std.specs.Prelude.{ℕ, List, false, [], None, Result, Ok, get_or}
+use Rattle.std.specs.Prelude.{ℕ, Bool, List, false, [], None, Result, Ok, get_or}
 use Rattle.aim_messages.specs.Texts.{Words}
 use Rattle.aim_messages.specs.declared.messages.Params.{Params}
 use Rattle.aim_messages.specs.declared.script.LineKind.{LineKind}
 use Rattle.aim_text_words.specs.Faults.{number8, turns, value_of}
 use Rattle.aim_text_words.specs.Reading.{turn_of}
 use Rattle.aim_text_words.specs.Steps.{◌>>=◌, Read, number_in, numbers_in, read_in, vehicle_in}
+use Rattle.aim_text_lines.specs.Steps.{wait_in}
 use Rattle.aim_grid_script.specs.declared.lines.GridLine.{GridLine}
 use Rattle.aim_grid_script.specs.declared.lines.GridLine.TheVariants as line
 
@@ -21,12 +22,13 @@ params_in words = do
   turn ← read_in turns turn_of lane.1
   vehicle_in lane.0 turn.0 0 turn.1
 
--- the leg of the numbers V, CROSSING, FIRST, LEAD and RESEND
-abbrev pub leg_of : List ℕ → Params → GridLine
-leg_of ns params = line.Leg (get_or ns 0 0) (get_or ns 1 0) (record { first = get_or ns 2 0; lead = get_or ns 3 0; resend = get_or ns 4 0; params = params; changes = []; cancel = None; ahead = false })
+-- the leg of the numbers V, CROSSING, FIRST, LEAD and RESEND, and WAIT
+abbrev pub leg_of : List ℕ → Params → ℕ → GridLine
+leg_of ns params wait = line.Leg (get_or ns 0 0) (get_or ns 1 0) (record { first = get_or ns 2 0; lead = get_or ns 3 0; resend = get_or ns 4 0; wait = wait; params = params; changes = []; cancel = None; ahead = false })
 
-unfoldable pub leg_in : Words → Result GridLine LineKind
-leg_in words = do
+unfoldable pub leg_in : Bool → Words → Result GridLine LineKind
+leg_in waits words = do
   n ← numbers_in [] 5 words
   params ← params_in n.1
-  Ok (leg_of n.0 params.0)
+  wait ← wait_in waits params.1
+  Ok (leg_of n.0 params.0 wait.0)

@@ -11,7 +11,7 @@ use aim_geometry::is_outside;
 use aim_layout::Layout;
 use aim_script::Limit;
 
-/// The greatest step at which drives end, and the greatest first step and lead of a plan.
+/// The greatest step at which drives end, and the greatest first step, lead and wait of a plan.
 pub(crate) const LAST_STEP: u32 = 65_536;
 
 // How many vehicles there may be.
@@ -65,5 +65,6 @@ pub(crate) fn is_bad_plan(plan: &DrivePlan) -> bool
     ensures { result ≡ is_bad_plan plan.now }
 {
     is_outside(plan.first, LAST_STEP)
-        || (is_outside(plan.lead, LAST_STEP) || is_outside(plan.resend, 255))
+        || (is_outside(plan.lead, LAST_STEP)
+            || (is_outside(plan.resend, 255) || plan.wait > LAST_STEP))
 }

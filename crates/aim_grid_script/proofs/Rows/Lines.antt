@@ -12,6 +12,7 @@ plan = record {
   first = 5;
   lead = 10;
   resend = 3;
+  wait = 0;
   params = record { lane = 0; turn = Straight; arrive = 0; latest = 0; speed = 500; max_speed = 501; accel = 2; length = 1000; width = 700; emergency = false };
   changes = [];
   cancel = None;
@@ -20,6 +21,16 @@ plan = record {
 
 pub leg : grid_line_at 3 (codes "leg 0 1 5 10 3 0 straight 500 501 2 1000 700 car") ≡ Ok (line.Leg 0 1 plan)
 leg = refl
+
+pub waiting : grid_line_at 4 (codes "leg 0 1 5 10 3 0 straight 500 501 2 1000 700 car 4") ≡ Ok (line.Leg 0 1 (record plan { wait = 4 }))
+waiting = refl
+
+-- in version 4 each leg has one, and before it none
+pub without : grid_line_at 4 (codes "leg 0 1 5 10 3 0 straight 500 501 2 1000 700 car") ≡ Err kind.Words
+without = refl
+
+pub too_early : grid_line_at 3 (codes "leg 0 1 5 10 3 0 straight 500 501 2 1000 700 car 4") ≡ Err kind.Words
+too_early = refl
 
 pub crossings : grid_line_at 1 (codes "crossings 2") ≡ Ok (line.Crossings 2)
 crossings = refl
