@@ -79,6 +79,7 @@ def check_judged(page):
     some, own = random.Random(62), heads()
     texts = [head + BODY for head in own] + [changed(some, some.choice(own)) + BODY for _ in range(700)]
     texts += [head + BODY for head in at_the_least(own[0]) + at_the_least(own[-1])]
+    texts += [head + re.search("^policy .*$", head, re.M).group(0) + "\n" + BODY for head in own]
     grid = (runs.EXAMPLES / "route.aim").read_text()
     grids = [changed(some, grid[: grid.index("vehicles ")]) for _ in range(200)]
     texts += [head + GRID_BODY for head in grids if head.startswith("crossings ")]
