@@ -18,11 +18,15 @@ REASONS = {"holds": ("id",), "no-reservation": (), "begun": ("step",), "too-soon
            "late": ("now",), "far": ("reach",), "distance": ("d",), "emergency": ("lane",),
            "green": ("row", "col", "step", "lane"), "taken": ("row", "col", "step", "by"), "reused": ("seq",)}
 REPLIES = {"confirm": ("id", "start", "early", "late", "trial", "last"), "ack": ("id",), "emergency-stop": (),
-           "stale": ("last",), "switched": ("from",), "stopped": ()}
+           "stale": ("last",), "switched": ("from",), "stopped": (), "quieted": ()}
+ORDERS = {"switch": ("moment", "name"), "stop": ("moment",), "quiet": ("moment", "lane", "until")}
+ACTS = {"switch": ("policy",), "stop": (), "quiet": ("lane", "until")}
 SHAPES = {"line": ("x0", "y0", "x1", "y1", "m"), "curve": ("x0", "y0", "x1", "y1", "x2", "y2", "m")}
 TIMES = {5: ("horizon", "longest", "clearance", "internal", "edge"),
-         6: ("horizon", "longest", "clearance", "early", "late", "edge")}
+         6: ("horizon", "longest", "clearance", "early", "late", "edge"),
+         7: ("horizon", "longest", "clearance", "early", "late", "edge", "window")}
 PLAN = ("v", "first", "lead", "resend", "lane", "turn") + VEHICLE
+PLANS = {13: PLAN, 14: PLAN + ("window",), 15: PLAN + ("window", "wait")}
 FORMS = {"aim": ("n",), "grid": ("side", "n", "spacing", "static", "half", "spans"), "lanes": ("n",),
          "policy": ("name", "kind"), "vehicles": ("n",), "begin": (), "until": ("step",),
          "change": ("v", "step", "lead"), "cancel": ("v", "step"), "end": ()}
@@ -39,11 +43,11 @@ def number(word):
     return int(word)
 
 
-def members(names, words):
-    """The members of these names, of as many words."""
+def members(names, words, texts=TEXTS):
+    """The members of these names, of as many words. Those that `texts` names are texts, and the others numbers."""
     if len(names) != len(words):
         raise Refused(f"{len(words)} words for {len(names)} members")
-    return {name: word if name in TEXTS else number(word) for name, word in zip(names, words)}
+    return {name: word if name in texts else number(word) for name, word in zip(names, words)}
 
 
 def of_kind(table, words):
@@ -52,29 +56,44 @@ def of_kind(table, words):
     return {"kind": words[0], **members(table[words[0]], words[1:])}
 
 
+def message_value(words):
+    """The value of a message. A request and a change may have a word more, the latest arrival."""
+    names = MESSAGES.get(words[0] if words else None, ())
+    if "arrive" in names and len(words) == len(names) + 2:
+        return {**of_kind(MESSAGES, words[:-1]), "latest": number(words[-1])}
+    return of_kind(MESSAGES, words)
+
+
+def move_value(words):
+    """The value of a move. A path has a list of its legs, of as many threes of numbers."""
+    start = {"form": "move", **members(("lane", "turn"), words[1:3])}
+    if words[3:4] == ["path"]:
+        return {**start, "shape": "path", **members(("x0", "y0"), words[4:6]), "legs": [number(word) for word in words[6:]]}
+    if len(words) < 4 or words[3] not in SHAPES:
+        raise Refused("no shape")
+    return {**start, "shape": words[3], **members(SHAPES[words[3]], words[4:])}
+
+
 def line_value(words):
     """The value of a script's line."""
     form = words[0]
     if form == "operator":
-        if len(words) < 3 or words[2] not in ("switch", "stop"):
+        if len(words) < 3 or words[2] not in ORDERS:
             raise Refused("no order")
-        names = ("moment", "name") if words[2] == "switch" else ("moment",)
-        return {"form": words[2], **members(names, words[1:2] + words[3:])}
+        return {"form": words[2], **members(ORDERS[words[2]], words[1:2] + words[3:])}
     if form[:1].isdecimal():
-        return {"form": "event", **members(("vehicle", "moment"), words[:2]), "message": of_kind(MESSAGES, words[2:])}
+        return {"form": "event", **members(("vehicle", "moment"), words[:2]), "message": message_value(words[2:])}
     if form == "times":
-        return {"form": form, **members(TIMES.get(len(words) - 1, ()), words[1:])}
+        return {"form": form, **members(TIMES.get(len(words) - 1, ()), words[1:], texts=())}
     if form == "move":
-        if len(words) < 4 or words[3] not in SHAPES:
-            raise Refused("no shape")
-        return {"form": form, **members(("lane", "turn"), words[1:3]), "shape": words[3], **members(SHAPES[words[3]], words[4:])}
+        return move_value(words)
     if form == "phase":
         return {"form": form, **members(("red", "green"), words[1:3]), "lanes": [number(word) for word in words[3:]]}
     if form in ("up", "down"):
         fates = [word if word in ("d", "l", "r") else number(word) for word in words[2:]]
         return {"form": form, **members(("v",), words[1:2]), "fates": fates}
     if form == "plan":
-        return {"form": form, **members(PLAN + ("window",) * (len(words) == 14), words[1:])}
+        return {"form": form, **members(PLANS.get(len(words), PLAN), words[1:])}
     if form not in FORMS:
         raise Refused(f"{form!r} begins nothing")
     return {"form": form, **members(FORMS[form], words[1:])}
@@ -90,9 +109,7 @@ def reply_value(words):
 
 
 def act_value(words):
-    if words[:1] == ["switch"]:
-        return {"kind": "switch", **members(("policy",), words[1:])}
-    return {"kind": "stop"} if words == ["stop"] else of_kind(MESSAGES, words)
+    return of_kind(ACTS, words) if words[:1] and words[0] in ACTS else message_value(words)
 
 
 def entry_value(words):
@@ -123,12 +140,12 @@ def value_of(line):
     return line_value(words)
 
 
-def take(value, names):
+def take(value, names, texts=TEXTS):
     """The words of these members, which are to be all that the value has beside its form or kind."""
     if set(value) - {"form", "kind"} != set(names) - {"kind"}:
         raise Refused(f"members {sorted(value)}")
     for name in names:
-        if isinstance(value[name], bool) or not isinstance(value[name], str if name in TEXTS else int):
+        if isinstance(value[name], bool) or not isinstance(value[name], str if name in texts else int):
             raise Refused(f"{name} is {value[name]!r}")
     return [str(value[name]) for name in names]
 
@@ -145,24 +162,39 @@ def without(value, *names):
     return {name: value[name] for name in value if name not in names}
 
 
+def message_words(value):
+    if "latest" not in value:
+        return kind_words(MESSAGES, value)
+    return kind_words(MESSAGES, without(value, "latest")) + take({"latest": value["latest"]}, ("latest",))
+
+
+def move_words(value):
+    shape = value.get("shape")
+    legs = value["legs"] if shape == "path" else []
+    if len(legs) % 3 or (not legs and shape == "path"):
+        raise Refused("no legs")
+    names = ("x0", "y0") if shape == "path" else SHAPES[shape]
+    lane, turn, *numbers = take(without(value, "shape", *["legs"] * (shape == "path")), ("lane", "turn") + names)
+    return ["move", lane, turn, shape, *numbers, *map(str, legs)]
+
+
 def line_words(value):
     form = value["form"]
     if form == "event":
-        return take(without(value, "message"), ("vehicle", "moment")) + kind_words(MESSAGES, value["message"])
-    if form in ("switch", "stop"):
-        moment, *name = take(value, ("moment", "name") if form == "switch" else ("moment",))
-        return ["operator", moment, form, *name]
+        return take(without(value, "message"), ("vehicle", "moment")) + message_words(value["message"])
+    if form in ORDERS:
+        moment, *others = take(value, ORDERS[form])
+        return ["operator", moment, form, *others]
     if form == "times":
-        return [form, *take(value, TIMES[6 if "early" in value else 5])]
-    if form == "move" and value.get("shape") in SHAPES:
-        lane, turn, *numbers = take(without(value, "shape"), ("lane", "turn") + SHAPES[value["shape"]])
-        return [form, lane, turn, value["shape"], *numbers]
+        return [form, *take(value, TIMES[5 + ("early" in value) + ("window" in value)], texts=())]
+    if form == "move":
+        return move_words(value)
     if form == "phase":
         return [form, *take(without(value, "lanes"), ("red", "green")), *map(str, value["lanes"])]
     if form in ("up", "down"):
         return [form, *take(without(value, "fates"), ("v",)), *map(str, value["fates"])]
     if form == "plan":
-        return [form, *take(value, PLAN + ("window",) * ("window" in value))]
+        return [form, *take(value, PLANS[13 + ("window" in value) + ("wait" in value)])]
     if form not in FORMS:
         raise Refused(f"{form!r} is no form")
     return [form, *take(value, FORMS[form])]
@@ -177,9 +209,7 @@ def reply_words(value):
 
 
 def act_words(value):
-    if value.get("kind") in ("switch", "stop"):
-        return [value["kind"], *take(value, ("policy",) if value["kind"] == "switch" else ())]
-    return kind_words(MESSAGES, value)
+    return kind_words(ACTS, value) if value.get("kind") in ACTS else message_words(value)
 
 
 def words_of(value):

@@ -1,5 +1,5 @@
-"""The plain manager beside the cases, the examples, its own rows and the program. Whatever two of these say of one script is the
-same. Scripts of version 4 are asked of the program as soon as that reads them."""
+"""The plain manager beside the cases, the examples and the program. Whatever two of these say of one script is the
+same."""
 import io
 
 import pytest
@@ -24,10 +24,9 @@ def case_words(case):
 
 
 def is_plain(case):
-    """Whether the plain manager knows the case's words, and its script isn't one that names version 4 to be refused."""
+    """Whether the plain manager knows the case's words."""
     words = case_words(case)
-    versions = [line for line in (case / "input").read_bytes().split(b"\n") if line.startswith(b"aim ")]
-    return words[:1] and words[0] in OWN and "-h" not in words and versions[:1] != [b"aim 4"]
+    return words[:1] and words[0] in OWN and "-h" not in words
 
 
 def folders(place):
@@ -38,29 +37,9 @@ def wanted(case):
     return int((case / "status").read_text()), (case / "output").read_bytes()
 
 
-def reads_version_four(program):
-    return program.run("replay", script="aim 4\n").text == "bad line 2 end\n"
-
-
 def test_cases(checks):
-    """Of versions 1 to 3."""
     for case in filter(is_plain, folders("tests/cases")):
         checks(case.name, texts.ran_otherwise(plainly(case_words(case), (case / "input").read_bytes()), *wanted(case)))
-
-
-def test_rows(checks):
-    """Of version 4, found by hand."""
-    for case in folders("tests/plain/rows/version4"):
-        checks(case.name, texts.ran_otherwise(plainly(case_words(case), (case / "input").read_bytes()), *wanted(case)))
-
-
-def test_rows_of_the_program(program, checks):
-    """The same rows, where the program reads version 4. Else it has to refuse that version."""
-    rows = folders("tests/plain/rows/version4") if reads_version_four(program) else []
-    for case in rows:
-        checks(case.name, texts.ran_otherwise(program.run(*case_words(case), script=(case / "input").read_bytes()), *wanted(case)))
-    for version in (5,) if rows else (4, 5):
-        checks.same(f"version {version}", "bad line 1 version\n", program.run("replay", script=f"aim {version}\n").text)
 
 
 def test_examples(checks):
@@ -73,7 +52,7 @@ def test_examples(checks):
 @pytest.mark.parametrize("command", wide.COMMANDS)
 def test_beside_the_program(program, checks, command):
     """Scripts by seeds, a quarter of them spoilt."""
-    for version in VERSIONS if reads_version_four(program) else VERSIONS[:3]:
+    for version in VERSIONS:
         for seed in SEEDS:
             words, script = wide.made(command, seed, version)
             ran = program.run(*words, script=script)

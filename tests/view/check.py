@@ -9,6 +9,7 @@ import sys
 import tempfile
 import time
 
+import arrivals
 import browser
 import layouts
 import links
@@ -304,7 +305,7 @@ def check_many(page):
 
 
 PARTS = (check_outputs, check_play, check_presses, check_links_and_routes, check_tab_key, check_time_keys,
-         check_choosing_keys, *texts.PARTS, *links.PARTS, *looks.PARTS, *layouts.PARTS, check_long, check_many)
+         check_choosing_keys, *texts.PARTS, *links.PARTS, *looks.PARTS, *layouts.PARTS, *arrivals.PARTS, check_long, check_many)
 
 
 def check_parts():

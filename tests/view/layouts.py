@@ -14,9 +14,9 @@ GRID_BODY = "vehicles 8\nbegin\nuntil 60\nend\n"
 
 
 def heads():
-    """The heads of the examples that are one crossing's."""
+    """The heads of the examples, and of what stands among the outputs, that are one crossing's."""
     found = {}
-    for path in sorted(runs.EXAMPLES.glob("*.aim")):
+    for path in sorted(runs.EXAMPLES.glob("*.aim")) + sorted(runs.OUTPUTS.glob("*.aim")):
         text = path.read_text()
         if not text.startswith("crossings "):
             found[text[: text.index("vehicles ")]] = path.stem
@@ -59,7 +59,7 @@ def at_the_least(head):
     spacing = int(lines[1].split(" ")[3])
     for at, line in enumerate(lines):
         words = line.split(" ")
-        if words[0] == "move":
+        if words[0] == "move" and words[3] != "path":
             numbers = list(map(int, words[4:-1]))
             points = list(zip(numbers[::2], numbers[1::2]))
             reach = max(abs(a - b) for one, other in zip(points, points[1:]) for a, b in zip(one, other))
@@ -79,6 +79,7 @@ def check_judged(page):
     some, own = random.Random(62), heads()
     texts = [head + BODY for head in own] + [changed(some, some.choice(own)) + BODY for _ in range(700)]
     texts += [head + BODY for head in at_the_least(own[0]) + at_the_least(own[-1])]
+    texts += [head + re.search("^policy .*$", head, re.M).group(0) + "\n" + BODY for head in own]
     grid = (runs.EXAMPLES / "route.aim").read_text()
     grids = [changed(some, grid[: grid.index("vehicles ")]) for _ in range(200)]
     texts += [head + GRID_BODY for head in grids if head.startswith("crossings ")]
@@ -88,7 +89,7 @@ def check_judged(page):
     judge("heads that the page judges otherwise than the program", [], wrong[:3])
     kinds = {re.sub(r"bad line \d+ ", "", each) for each in said}
     judge("kinds of faults that came", {"words", "number", "range", "order", "version", "grid", "buffers", "times", "lane",
-                                        "move", "spacing", "policy", "phase", "whole"} - kinds, set())
+                                        "move", "spacing", "border", "policy", "phase", "whole"} - kinds, set())
 
 
 # ---- The form: what it writes beside the program's answers, and what it says of a vehicle beside a request of it.
@@ -111,7 +112,7 @@ def drafts(count):
         if at >= len(ROADS):
             for word, values in (("spans", (512, 3000, 8192, 131072)), ("horizon", (40, 200, 3000, 8192)),
                                  ("edge", (2, 5, 60)), ("fixed", (0, 250, 900)), ("half", (0, 450, 1300)),
-                                 ("spacing", (50, 100, 99)), ("early", (0, 2, 6)), ("version", (1, 2, 3))):
+                                 ("spacing", (50, 100, 99)), ("early", (0, 2, 6)), ("version", (1, 2, 3, 4))):
                 if some.random() < 0.3:
                     numbers[word] = some.choice(values)
         way = roads(some) if at >= len(ROADS) else {"counts": ROADS[at], "wide": 3000, "room": 3000, "right": at % 2 == 0,
@@ -212,7 +213,7 @@ def check_least(page):
 
 
 def check_ends(page):
-    """Paths that begin or end inside the ground are told, and the program takes them."""
+    """Paths that begin or end inside the ground are told, and the program takes them up to version 3."""
     path = runs.program()
     page.empty()
     way = {"counts": [1, 1, 1, 1], "wide": 3000, "room": 3000, "right": True, "oneway": False}
@@ -223,6 +224,8 @@ def check_ends(page):
         judge(f"ends inside the ground: {points}", kinds, found & {"begin", "end"})
         if path:
             judge(f"which the program takes: {points}", "whole", said_of(path, own["text"] + BODY))
+        faults = page.ask("draftedBy", way, {"version": 4}, {}, points)["said"]["faults"]
+        judge(f"in version 4 it is a fault: {points}", ["border"] * bool(kinds), [each["kind"] for each in faults])
 
 
 def clipped(shape, axis, bound, sign):

@@ -32,6 +32,12 @@ def words_of(script):
     return ["drive", "1"] if re.search(r"^until ", text, re.M) else ["replay"]
 
 
+def script_of(name):
+    """The script of that name: an example, or one that shows nothing but what is tested."""
+    beside = EXAMPLES / f"{name}.aim"
+    return beside if beside.is_file() else OUTPUTS / f"{name}.aim"
+
+
 def output_of(name):
     """The stored output of a script: beside the example, or among the outputs."""
     beside = EXAMPLES / f"{name}.out"

@@ -97,8 +97,8 @@ def as_json(path, kind):
 def check_json(page):
     """Scripts and journals of JSON lines show what their words show; what the program prints as JSON is read."""
     path = runs.program()
-    for name in ("first", "refusal", "lights", "emergency", "session"):
-        script, output = runs.EXAMPLES / f"{name}.aim", runs.output_of(name)
+    for name in ("first", "window", "refusal", "lights", "emergency", "session", "quiet"):
+        script, output = runs.script_of(name), runs.output_of(name)
         page.open(script, output)
         wanted = page.ask("journalNow")
         lines = page.folder / f"{name}.json-script", page.folder / f"{name}.json-out"

@@ -18,6 +18,7 @@ SAMPLES = (
     ("phases", "Lights on twelve lanes", "step=345"),
     ("lossy", "Two vehicles and faulty links", "step=22&vehicle=0"),
     ("refusal", "A refusal, and why", "entry=1"),
+    ("window", "Two vehicles that meet, with windows", "step=20&vehicle=1"),
 )
 
 

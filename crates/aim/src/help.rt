@@ -179,7 +179,7 @@ Tells the version of the program, and the versions of scripts that it reads.
 
 /// The versions of the program, and of the scripts that it reads.
 pub const VERSIONS: &[u8] = b"aim 1.0.0
-scripts 1 to 3
+scripts 1 to 4
 ";
 
 impl Topic {

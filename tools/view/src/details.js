@@ -126,11 +126,20 @@ function bodyWord(journal, i) {
     `(${(journal.$speed[i] * 3.6 / state.ms).toFixed(1)} km/h)${gains}${journal.$urgent[i] ? ", emergency" : ""}`;
 }
 
+function askedWord(journal, i) {
+  const wide = journal.$latest[i] - journal.$arrive[i];
+  return hasWindow(journal, i) ? `a window: steps ${withSeconds(journal.$arrive[i])} to ${withSeconds(journal.$latest[i])}, ` +
+    `${wide} later at most` : `step ${withSeconds(journal.$arrive[i])}`;
+}
+
 function aboutEntry(i) {
   const crossing = crossingNow(), { journal } = crossing, v = journal.$caller[i], found = named(journal, i);
   const list = [["position", String(i)], ["step", withSeconds(journal.$now[i])]];
   if (v !== OPERATOR && journal.$act[i] <= CHANGE)
-    list.push(["vehicle", bodyWord(journal, i)]);
+    list.push(["vehicle", bodyWord(journal, i)], ["asked for", askedWord(journal, i)]);
+  if (journal.$reply[i] === CONFIRM && hasWindow(journal, i)) list.push(["granted",
+    `step ${withSeconds(journal.$from[i])}, ` + (journal.$from[i] === journal.$arrive[i] ? "the first of them"
+      : `${journal.$from[i] - journal.$arrive[i]} behind the first: none before is free`)]);
   if (journal.$reply[i] === CONFIRM) list.push(["may enter",
     `from step ${withSeconds(Math.max(0, journal.$from[i] - journal.$early[i]))} to ` +
     withSeconds(journal.$from[i] + journal.$late[i])], ["crosses", `until step ${withSeconds(journal.$last[i])}`],
@@ -151,6 +160,8 @@ function aboutEntry(i) {
   if (journal.$reply[i] === REJECT && journal.$reason[i] === 9) buttons.append(goTo(`Lane ${journal.$a[i]}`,
     () => choose({ kind: "lane", lane: journal.$a[i] })));
   if (v !== OPERATOR) buttons.append(goTo(`Vehicle ${v}`, () => choose({ kind: "vehicle", v })));
+  else if (journal.$act[i] === QUIET) buttons.append(goTo(`Lane ${journal.$lane[i]}`,
+    () => choose({ kind: "lane", lane: journal.$lane[i] })));
   return [make("h2", {}, `Entry ${i}`), make("p", {}, `${askWord(crossing, i)}. `,
     make("b", {}, capital(`${answerWord(crossing, i)}.`))), pairs(list), buttons,
     make("p", { class: "mono", style: "overflow-wrap: anywhere; color: var(--soft)" }, crossing.textOf(i))];
@@ -225,7 +236,7 @@ function aboutTile(tile) {
     body.append(line);
   }
   const lanes = layout.lanes.filter(lane => laneTiles(layout, lane)[tile]).map(lane => lane.at),
-    claims = lanes.filter(lane => crossing.claimingAt(step) & 1 << lane);
+    claims = lanes.filter(lane => crossing.claimingAt(step, known) & 1 << lane);
   const holder = holdersOf(crossing, step, known)[tile];
   const list = [["in step " + step, [holder >= 0 ? `reserved by vehicle ${holder}` : "not reserved",
     ...claims.map(lane => `claimed by the green of lane ${lane}`)].join(", ")],
@@ -243,15 +254,31 @@ const goToPlain = (label, act) => {
   return button;
 };
 
+const shapeWord = path => path.found?.legs ? `${path.found.legs.length / 3} legs` : path.shape;
+
+// The steps in which a lane is quiet, as stretches: orders that meet make one.
+function quietWords(quiets) {
+  const found = [];
+  for (const { from, until } of quiets.filter(each => each.until > each.from)) {
+    if (found.length && from <= found.at(-1)[1]) found.at(-1)[1] = Math.max(found.at(-1)[1], until);
+    else found.push([from, until]);
+  }
+  const shown = found.slice(0, 12).map(([from, until]) => `${from}–${until - 1}`).join(", ");
+  return found.length ? `in the steps ${shown}${found.length > 12 ? `, and ${found.length - 12} more stretches` : ""}` : "";
+}
+
 function aboutLane(at) {
   const crossing = crossingNow(), { layout } = crossing, lane = layout.lanes[at],
     tiles = laneTiles(layout, lane).reduce((sum, is) => sum + is, 0), step = stepNow(),
     { policy } = crossing.policyAt(step), found = layout.policies[policy];
   const list = [["moves", Object.entries(lane.moves).map(([turn,
-    path]) => `${turn} (${path.shape}, ${path.m} parts)`).join(", ") || "none"], ["lane tile set", `${tiles} tiles`]];
-  if (found?.lights) list.push([`in step ${step}`,
-    crossing.greenAt(step) & 1 << at ? "green" : crossing.claimingAt(step) & 1 << at
-    ? "no more green, and its tiles are still claimed" : "not green"]);
+    path]) => `${turn} (${shapeWord(path)}, ${path.m} parts)`).join(", ") || "none"], ["lane tile set", `${tiles} tiles`]];
+  const known = knownNow(), claims = crossing.claimingAt(step, known) & 1 << at;
+  if (found?.lights) list.push([`in step ${step}`, crossing.greenAt(step) & 1 << at
+    ? !(crossing.quietAt(step, known) & 1 << at) ? "green" : claims ? "green and quiet; its tiles are still claimed"
+      : "green and quiet: its green keeps nobody off" : claims ? "no more green, and its tiles are still claimed" : "not green"]);
+  const quiets = quietWords(crossing.quiets[at]);
+  if (quiets) list.push(["quiet", quiets]);
   for (const each of layout.policies.filter(other => other.lights)) list.push([`phases of ${each.name}`,
     each.phases.map((phase, i) => phase.lanes.includes(at)
     ? `${i}: green for ${phase.green} steps behind ${phase.red} of red` : null).filter(Boolean).join("; ") || "none"]);

@@ -3,9 +3,11 @@
 
 const SIDES = ["west", "south", "east", "north"];
 const GRID_WORDS = ["side", "n", "spacing", "fixed", "half", "spans"];
-const TIME_WORDS = ["horizon", "longest", "clearance", "early", "late", "edge"];
+const TIME_WORDS = ["horizon", "longest", "clearance", "early", "late", "edge", "window"];
 const START = { version: 3, side: 12000, n: 24, spacing: 100, fixed: 250, half: 1300, spans: 8192, horizon: 3000,
-  longest: 100, clearance: 300, early: 2, late: 2, edge: 5 };
+  longest: 100, clearance: 300, early: 2, late: 2, edge: 5, window: 200 };
+// The times that a version has. EARLY is both inner buffers in version 1; windows come with version 4.
+const timesOf = version => TIME_WORDS.filter(word => word === "late" ? version > 1 : word !== "window" || version >= 4);
 // Vehicles as they are: their true length and width, and their speeds at steps of 20 ms.
 const VEHICLES = {
   car: { length: 4500, width: 1900, speed: 200, max: 280, accel: 2 },
@@ -16,19 +18,30 @@ const VEHICLES = {
 
 // The head of a draft, line by line. A move whose number of parts isn't given has the least that the spacing allows.
 function draftLines(draft) {
-  const times = TIME_WORDS.filter(word => draft.version > 1 || word !== "late").map(word => draft[word]);
+  const times = timesOf(draft.version).map(word => draft[word]);
   return [`aim ${draft.version}`, `grid ${GRID_WORDS.map(word => draft[word]).join(" ")}`, `times ${times.join(" ")}`,
     `lanes ${draft.lanes.length}`,
     ...draft.lanes.flatMap((lane, at) => lane.moves.map(move => ["move", at, move.turn, shapeOf(move),
-      ...move.points.flat(), partsOf(draft, move)].join(" "))),
+      ...numbersOf(draft, move)].join(" "))),
     ...draft.policies.flatMap(policy => [`policy ${policy.name} ${policy.kind}`,
       ...policy.phases.map(({ red, green, lanes }) => `phase ${red} ${green} ${lanes.join(" ")}`)])];
 }
-const shapeOf = move => move.points.length === 2 ? "line" : "curve";
+// A move with `legs` is a path of them, and has the parts of each there. Others have their parts in `m`.
+const shapeOf = move => move.legs ? "path" : move.points.length === 2 ? "line" : "curve";
 const draftText = draft => draftLines(draft).join("\n") + "\n";
 
 const NAMES = ["x0", "y0", "x1", "y1", "x2", "y2"];
 const foundOf = points => Object.fromEntries(points.flat().map((value, i) => [NAMES[i], value]));
+// The numbers of a move's line behind its shape, and its values as a line has them.
+const numbersOf = (draft, move) => !move.legs ? [...move.points.flat(), partsOf(draft, move)]
+  : [...move.points[0], ...legsOf(draft, move)];
+const legsOf = (draft, move) => move.legs.flatMap((parts, i) => [...move.points[i + 1],
+  partsOf(draft, { points: move.points.slice(i, i + 2), m: parts })]);
+function valuesOf(draft, move) {
+  if (!move.legs) return { ...foundOf(move.points), m: partsOf(draft, move) };
+  const [x0, y0] = move.points[0], legs = legsOf(draft, move);
+  return { x0, y0, legs, m: legs.reduce((sum, value, i) => i % 3 === 2 ? sum + value : sum, 0) };
+}
 
 // The number of parts of a move: as given, or the least that keeps stations within the spacing and makes the way that a
 // vehicle counts no shorter than the path.
@@ -53,17 +66,24 @@ const pointAt = ([[x0, y0], [x1, y1], end], t) => end
   ? [(1 - t) ** 2 * x0 + 2 * t * (1 - t) * x1 + t * t * end[0], (1 - t) ** 2 * y0 + 2 * t * (1 - t) * y1 + t * t * end[1]]
   : [x0 + (x1 - x0) * t, y0 + (y1 - y0) * t];
 
+// The move of a draft that a line says.
+function moveOf(turn, { found, m }) {
+  if (!found.legs) {
+    const points = [0, 2, 4].filter(i => NAMES[i] in found).map(i => [found[NAMES[i]], found[NAMES[i + 1]]]);
+    return { turn, points, m };
+  }
+  const each = Array.from({ length: found.legs.length / 3 }, (_, i) => found.legs.slice(3 * i, 3 * i + 3));
+  return { turn, points: [[found.x0, found.y0], ...each.map(([x, y]) => [x, y])], legs: each.map(([, , parts]) => parts) };
+}
+
 // The draft that a head says, as far as it has no fault.
 function draftOf(script) {
   const layout = script.crossings[0], draft = { ...START, lanes: [], policies: [] };
   if (!layout) return draft;
   draft.version = layout.version;
-  for (const word of [...GRID_WORDS, ...TIME_WORDS]) if (layout[word] !== undefined) draft[word] = layout[word];
-  draft.lanes = layout.lanes.map(lane => ({ moves: TURNS.filter(turn => lane.moves[turn]).map(turn => {
-    const { found, m } = lane.moves[turn];
-    const points = [0, 2, 4].filter(i => NAMES[i] in found).map(i => [found[NAMES[i]], found[NAMES[i + 1]]]);
-    return { turn, points, m };
-  }) }));
+  for (const word of [...GRID_WORDS, ...timesOf(layout.version)]) if (layout[word] !== undefined) draft[word] = layout[word];
+  draft.lanes = layout.lanes.map(lane => ({ moves: TURNS.filter(turn => lane.moves[turn]).map(turn =>
+    moveOf(turn, lane.moves[turn])) }));
   draft.policies = layout.policies.map(({ name, kind, phases }) => ({ name, kind, phases }));
   return draft;
 }
@@ -115,10 +135,11 @@ function lightsFor(policies, lanes, clearance) {
 const WHAT_TO_DO = {
   words: "Write the line in its form.", number: "Write a number without sign, point and leading zeros.",
   range: "Write a number that the place may have.", order: "Put the line in its place.",
-  unknown: "Begin the line with one of the head's words.", version: "Write 1, 2 or 3.",
+  unknown: "Begin the line with one of the head's words.", version: "Write 1, 2, 3 or 4.",
   grid: "Mend the numbers of the ground.", buffers: "Make EDGE at least EARLY and LATE.", times: "Mend the times.",
   lane: "Have 1 to 16 lanes.", move: "Keep points on the ground, a turn once in a lane, and M from 1 to 4096.",
-  spacing: "Take a greater M, or a greater SPACING.", policy: "Give each policy a name of its own.",
+  spacing: "Take a greater M, or a greater SPACING.",
+  border: "Let it begin and end at the border, or take version 3.", policy: "Give each policy a name of its own.",
   phase: "Give a light policy phases, red at least CLEARANCE, and no two lanes whose tile sets meet.",
   vehicle: "Have a vehicle.", long: "Make the line shorter.", end: "The text lacks its end.",
   crossing: "Have 1 to 8 crossings.",

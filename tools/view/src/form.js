@@ -12,6 +12,7 @@ const NUMBER_WORDS = {
   horizon: ["HORIZON", "steps", "as far ahead as one may reserve"], longest: ["LONGEST", "steps", "until one may ask again"],
   clearance: ["CLEARANCE", "steps", "tiles stay claimed behind a green"], early: ["EARLY", "steps", "before a vehicle, inside"],
   late: ["LATE", "steps", "behind a vehicle, inside"], edge: ["EDGE", "steps", "before and behind it, at the border"],
+  window: ["WINDOW", "steps", "the longest window of arrivals"],
   length: ["length", "mm", ""], width: ["width", "mm", ""], speed: ["speed", "mm/step", "at the line"],
   max: ["greatest", "mm/step", "the greatest speed"], accel: ["gain", "mm/step²", ""],
 };
@@ -64,10 +65,9 @@ async function readDraft() {
 // Behind a move at fault the others are drawn all the same, and so is that one, as far as it can be.
 function drawFaulty(layout) {
   drafted.draft.lanes.forEach((lane, at) => lane.moves.forEach(move => {
-    const found = { ...foundOf(move.points), m: partsOf(drafted.draft, move) }, inside = move.points.flat().every(value =>
-      value <= layout.side);
+    const found = valuesOf(drafted.draft, move), inside = move.points.flat().every(value => value <= layout.side);
     if (!layout.lanes[at].moves[move.turn] && inside && found.m <= 4096)
-      layout.lanes[at].moves[move.turn] = new Path(found, move.points.length === 2 ? "line" : "curve");
+      layout.lanes[at].moves[move.turn] = new Path(found, shapeOf(move));
   }));
 }
 
@@ -108,7 +108,10 @@ function remedyOf({ kind }) {
   if (kind === "half") return set("half", Math.ceil(drafted.vehicle.width / 2) + layout.spacing + layout.fixed, 100000);
   if (kind === "way") return { word: "the least M in all moves", act: () => {
     keepUndo();
-    for (const each of drafted.draft.lanes) for (const move of each.moves) move.m = null;
+    for (const move of drafted.draft.lanes.flatMap(each => each.moves)) {
+      if (move.legs) move.legs = move.legs.map(() => null);
+      else move.m = null;
+    }
     changed(true);
   } };
   return null;
@@ -126,8 +129,8 @@ function pickMove(picked) {
 function fillForm() {
   const { draft, vehicle } = drafted, done = () => changed(true);
   $("ground").replaceChildren(...GRID_WORDS.map(word => numberField(draft, word, done)));
-  $("draftedtimes").replaceChildren(...TIME_WORDS.filter(word => draft.version > 1 || word !== "late").map(word =>
-    numberField(draft, word, done)), make("label", { class: "field" }, make("span", {}, "version"), choice(["1", "2", "3"],
+  $("draftedtimes").replaceChildren(...timesOf(draft.version).map(word => numberField(draft, word, done)),
+    make("label", { class: "field" }, make("span", {}, "version"), choice(["1", "2", "3", "4"],
     String(draft.version), "version", value => { keepUndo(); draft.version = +value; done(); })));
   const revehicle = () => { fillForm(); drawSketch(); tellSoon(); };
   $("vehicle").replaceChildren(make("div", { class: "go" }, ...Object.keys(VEHICLES).map(name => press(name, () => {
@@ -143,6 +146,7 @@ function fillMoves() {
   const { draft } = drafted, rows = draft.lanes.flatMap((lane, at) => [
     make("div", { class: "lanerow" }, make("b", {}, `Lane ${at}`),
       press("+ line", () => beginMove(at, 2)), press("+ curve", () => beginMove(at, 3)),
+      ...(draft.version >= 4 ? [press("+ path", () => beginMove(at, MOST_POINTS))] : []),
       press("remove the lane", () => removeLane(at))),
     ...lane.moves.map((move, place) => moveRow(lane, at, move, place))]);
   $("moves").replaceChildren(...rows, ...(draft.lanes.length < 16 ? [press("Add a lane", () => {
@@ -150,6 +154,23 @@ function fillMoves() {
     draft.lanes.push({ moves: [] });
     changed(true);
   })] : []));
+}
+
+// The number of parts of a move, or of a leg of its path.
+function partsField(at, move, leg = null) {
+  const { draft } = drafted, name = leg === null ? "M" : `M${leg + 1}`, given = leg === null ? move.m : move.legs[leg];
+  const least = leg === null ? partsOf(draft, move) : legsOf(draft, move)[3 * leg + 2];
+  const parts = make("input", { type: "number", min: 1, max: 4096, value: given ?? "", placeholder: least,
+    "aria-label": `${name} of lane ${at} ${move.turn}: empty is the least`,
+    title: `${name}, the number of parts: empty is the least` });
+  parts.addEventListener("change", () => {
+    keepUndo();
+    const value = Math.round(+parts.value) || null;
+    if (leg === null) move.m = value;
+    else move.legs[leg] = value;
+    changed(false);
+  });
+  return [make("span", { class: "soft" }, name), parts];
 }
 
 function moveRow(lane, at, move, place) {
@@ -168,12 +189,10 @@ function moveRow(lane, at, move, place) {
     });
     return input;
   };
-  const parts = make("input", { type: "number", min: 1, max: 4096, value: move.m ?? "", placeholder: partsOf(drafted.draft, move),
-    "aria-label": `M of lane ${at} ${move.turn}: empty is the least`, title: "M, the number of parts: empty is the least" });
-  parts.addEventListener("change", () => { keepUndo(); move.m = Math.round(+parts.value) || null; changed(false); });
   row.append(choice(TURNS, move.turn, "turn", value => { keepUndo(); move.turn = value; changed(true); }),
-    make("span", { class: "soft" }, move.points.length === 2 ? "line" : "curve"),
-    ...move.points.flatMap((_, i) => [point(i, 0), point(i, 1)]), make("span", { class: "soft" }, "M"), parts,
+    make("span", { class: "soft" }, shapeOf(move)),
+    ...move.points.flatMap((_, i) => [point(i, 0), point(i, 1), ...(move.legs && i ? partsField(at, move, i - 1) : [])]),
+    ...(move.legs ? [] : partsField(at, move)),
     press("×", () => { keepUndo(); lane.moves.splice(place, 1); drafted.picked = null; changed(true); },
       { "aria-label": `Remove the move ${move.turn} of lane ${at}` }));
   return row;
@@ -191,6 +210,9 @@ function removeLane(at) {
   changed(true);
 }
 
+// A path has 32 legs at most.
+const MOST_POINTS = 33;
+
 function beginMove(lane, wanted) {
   drafted.begun = { lane, wanted, points: [] };
   tellBegun();
@@ -201,11 +223,12 @@ function beginMove(lane, wanted) {
 function tellBegun() {
   const { begun } = drafted;
   $("begun").textContent = !begun ? "" : `Lane ${begun.lane}: press ` + (begun.points.length === 0 ? "where it begins"
+    : begun.wanted === MOST_POINTS ? "where its next leg ends (the last place again, or Enter: it is whole)"
     : begun.wanted === 3 && begun.points.length === 1 ? "the place that pulls it" : "where it ends") + " (Escape: not at all)";
 }
 
 function fillPolicies() {
-  const { draft } = drafted, kinds = KINDS.slice(0, draft.version === 3 ? 4 : 3);
+  const { draft } = drafted, kinds = KINDS.slice(0, draft.version >= 3 ? 4 : 3);
   const field = (of, word, label, most) => {
     const input = make("input", { type: "number", min: 0, max: most, value: of[word], "aria-label": label });
     input.addEventListener("change", () => { keepUndo(); of[word] = Math.round(+input.value) || 0; changed(false); });

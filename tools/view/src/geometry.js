@@ -7,7 +7,8 @@ class Path {
     Object.assign(this, { shape, m: found.m });
     this.xs = new Int32Array(found.m + 1);
     this.ys = new Int32Array(found.m + 1);
-    for (let j = 0; j <= found.m; j++) {
+    if (shape === "path") this.placeLegs(found);
+    else for (let j = 0; j <= found.m; j++) {
       if (shape === "line") {
         this.xs[j] = onLine(found.x0, found.x1, found.m, j);
         this.ys[j] = onLine(found.y0, found.y1, found.m, j);
@@ -15,6 +16,20 @@ class Path {
         this.xs[j] = onCurve(found.x0, found.x1, found.x2, found.m, j);
         this.ys[j] = onCurve(found.y0, found.y1, found.y2, found.m, j);
       }
+    }
+  }
+  // The stations of legs: each begins at the station at which the one before it ends.
+  placeLegs({ x0, y0, legs }) {
+    let first = 0, x = x0, y = y0;
+    for (let i = 0; i < legs.length; i += 3) {
+      const [toX, toY, parts] = legs.slice(i, i + 3);
+      for (let j = 0; j <= parts; j++) {
+        this.xs[first + j] = onLine(x, toX, parts, j);
+        this.ys[first + j] = onLine(y, toY, parts, j);
+      }
+      first += parts;
+      x = toX;
+      y = toY;
     }
   }
   // The first station that is farther from the next one than the spacing, in x or in y; -1 where there is none.

@@ -8,13 +8,14 @@ const PARAMS = "LANE TURN ARRIVE SPEED MAX ACCEL LENGTH WIDTH CLASS";
 const JSON_FORMS = {
   aim: "aim N", grid: "grid SIDE N SPACING STATIC HALF SPANS", lanes: "lanes N", policy: "policy NAME KIND",
   vehicles: "vehicles N", begin: "begin", end: "end", until: "until STEP", stop: "operator MOMENT stop",
-  switch: "operator MOMENT switch NAME", change: "change V STEP LEAD", cancel: "cancel V STEP",
-  plan: "plan V FIRST LEAD RESEND LANE TURN SPEED MAX ACCEL LENGTH WIDTH CLASS WINDOW?",
+  switch: "operator MOMENT switch NAME", quiet: "operator MOMENT quiet LANE UNTIL", change: "change V STEP LEAD",
+  cancel: "cancel V STEP", plan: "plan V FIRST LEAD RESEND LANE TURN SPEED MAX ACCEL LENGTH WIDTH CLASS WINDOW? WAIT?",
 };
-const MESSAGE_FORMS = { request: `request SEQ ${PARAMS}`, change: `change SEQ ID ${PARAMS}`, cancel: "cancel SEQ ID",
-  done: "done SEQ ID" };
+const MESSAGE_FORMS = { request: `request SEQ ${PARAMS} LATEST?`, change: `change SEQ ID ${PARAMS} LATEST?`,
+  cancel: "cancel SEQ ID", done: "done SEQ ID" };
+const ACT_FORMS = { switch: "switch POLICY", stop: "stop", quiet: "quiet LANE UNTIL" };
 const REPLY_FORMS = { confirm: "confirm ID START EARLY LATE TRIAL LAST", ack: "ack ID", "emergency-stop": "emergency-stop",
-  stale: "stale LAST", switched: "switched FROM", stopped: "stopped" };
+  stale: "stale LAST", switched: "switched FROM", stopped: "stopped", quieted: "quieted" };
 
 class Unsaid extends Error {}
 
@@ -45,8 +46,7 @@ function replyWords(value) {
 
 function entryWords(value) {
   const { position, caller, moment, act, reply } = value;
-  const said = act?.kind === "switch" ? `switch ${member(act.policy, "policy", "an order")}`
-    : act?.kind === "stop" ? "stop" : messageWords(act);
+  const said = act?.kind in ACT_FORMS ? wordsBy(ACT_FORMS[act.kind], act, "an order") : messageWords(act);
   return ["position", "caller", "moment"].map(name => member({ position, caller, moment }[name], name, "an entry")).join(" ") +
     ` ${said} -> ${replyWords(reply)}`;
 }
@@ -68,8 +68,10 @@ function lineOfJson(value) {
   }
   const where = `a line of the form ${value.form}`;
   switch (value.form) {
-    case "times": return wordsBy("internal" in value ? FORMS.times1 : FORMS.times, value, where);
-    case "move": return wordsBy(FORMS[value.shape], value, where);
+    case "times": return wordsBy(formIn("times", "internal" in value ? 1 : "window" in value ? 4 : 3), value, where);
+    case "move": return value.shape === "path"
+      ? `${wordsBy("move LANE TURN path X0 Y0", value, where)} ${listWords(value.legs, where)}`
+      : wordsBy(FORMS[value.shape], value, where);
     case "phase": return `${wordsBy("phase RED GREEN", value, where)} ${listWords(value.lanes, where)}`;
     case "up": case "down": return `${wordsBy(`${value.form} V`, value, where)} ${listWords(value.fates, where)}`;
     case "event": return `${["vehicle", "moment"].map(name => member(value[name], name, where)).join(" ")} ` +

@@ -46,8 +46,8 @@ function placeLetters(items) {
 
 function shortLetter(text) {
   const words = text.split(" ");
-  if (words[0] === "request") return `request ${words[1]}, for ${words[4]}`;
-  if (words[0] === "change") return `change ${words[1]}, for ${words[5]}`;
+  if (words[0] === "request") return `request ${words[1]}, for ${words.slice(4, 5).concat(words.slice(11)).join("–")}`;
+  if (words[0] === "change") return `change ${words[1]}, for ${words.slice(5, 6).concat(words.slice(12)).join("–")}`;
   if (words[0] === "confirm") return `confirm ${words[1]}, from ${words[2]}`;
   return words[0] === "reject" ? `✕ ${text.slice(7).split(" next ")[0]}` : text;
 }

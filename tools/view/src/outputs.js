@@ -27,6 +27,18 @@ function readLog(lines, words, section) {
   section.logs.get(v).push(item);
 }
 
+// The places of an order in an entry, into its numbers; the number of words up to there.
+function readAct(lines, words, into) {
+  const first = numberOf(words[4] ?? ""), until = numberOf(words[5] ?? "");
+  if (words[3] === "stop") { into.act = STOP; return 4; }
+  if (words[3] === "switch" && first >= 0) { Object.assign(into, { act: SWITCH, ref: first }); return 5; }
+  if (words[3] === "quiet" && first >= 0 && first <= 255 && until >= 0) {
+    Object.assign(into, { act: QUIET, lane: first, latest: until });
+    return 6;
+  }
+  throw lines.fault("an operator's act is: switch POLICYNUMBER, or stop, or quiet LANE UNTIL");
+}
+
 function readEntry(lines, words, section, into) {
   Object.assign(into, BLANK);
   const position = numberOf(words[0]);
@@ -38,11 +50,7 @@ function readEntry(lines, words, section, into) {
     throw lines.fault("an entry is: POSITION CALLER MOMENT ACT -> REPLY");
   let at;
   if (into.caller === OPERATOR) {
-    into.act = words[3] === "stop" ? STOP : SWITCH;
-    at = words[3] === "stop" ? 4 : 5;
-    into.ref = into.act === SWITCH ? numberOf(words[4] ?? "") : 0;
-    if ((words[3] !== "stop" && words[3] !== "switch") || into.ref < 0)
-      throw lines.fault("an operator's act is: switch POLICYNUMBER, or stop");
+    at = readAct(lines, words, into);
   } else at = readMessage(lines, words, 3, into);
   if (words[at] !== "->") throw lines.fault(`"->" is wanted behind the act, not "${words[at] ?? ""}"`);
   if (readReply(lines, words, at + 1, into) !== words.length)

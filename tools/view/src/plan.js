@@ -150,18 +150,21 @@ function laneMarks(layout, least = 11) {
 }
 const laneMark = lane => view.marks.get(lane.at) ?? null;
 
-function drawMarks(context, layout, green, chosen) {
+// A lane whose green keeps nobody off, since it is quiet, has a dashed round.
+function drawMarks(context, layout, green, chosen, quiet = 0) {
   for (const lane of layout.lanes) {
     const mark = laneMark(lane);
     if (!mark) continue;
-    const lit = green & 1 << lane.at, lights = layout.policies.some(policy => policy.lights);
+    const hushed = quiet & 1 << lane.at, lit = green & ~quiet & 1 << lane.at, lights = layout.policies.some(policy => policy.lights);
     context.beginPath();
     context.arc(mark.x, mark.y, 9, 0, 7);
     context.fillStyle = lit ? tints.lamp : tints.card;
     context.fill();
     context.lineWidth = chosen === lane.at ? 3 : 1.5;
-    context.strokeStyle = chosen === lane.at ? tints.accent : lit ? tints.lamp : lights ? tints.wait : tints.line;
+    context.strokeStyle = chosen === lane.at ? tints.accent : lit || hushed ? tints.lamp : lights ? tints.wait : tints.line;
+    context.setLineDash(hushed ? [3, 3] : []);
     context.stroke();
+    context.setLineDash([]);
     view.labels.put({ word: String(lane.at), x: mark.x, y: mark.y + .5, size: 11, ink: lit ? tints.card : tints.ink });
   }
 }
@@ -413,9 +416,9 @@ function drawTileMarks(context, layout) {
   if (document.activeElement === plan) box(state.tile, tints.ink, true);
 }
 
-function drawClaims(context, crossing, layout, step) {
+function drawClaims(context, crossing, layout, step, known) {
   view.claimed = null;
-  const claiming = crossing.claimingAt(step);
+  const claiming = crossing.claimingAt(step, known);
   if (!state.layers.greens || !claiming) return;
   const claimed = new Uint8Array(layout.n ** 2);
   layout.lanes.forEach(lane => {
@@ -478,7 +481,7 @@ function drawPlan() {
   laneMarks(layout);
   drawGround(context, layout);
   drawLaneTiles(context, layout, pickedLane());
-  drawClaims(context, crossing, layout, step);
+  drawClaims(context, crossing, layout, step, known);
   view.holders = new Int32Array(layout.n ** 2).fill(-1);
   if (state.layers.reserved) drawReserved(context, crossing, step, known);
   const vehicles = crossing.crossingIn(step, known, aheadNow());
@@ -489,7 +492,7 @@ function drawPlan() {
   view.bodies = vehicles.map(vehicle => ({ v: vehicle.v,
     outline: drawBody(context, crossing, vehicle, share, false).outline }));
   drawNamed(context, crossing);
-  drawMarks(context, layout, crossing.greenAt(step), pickedLane());
+  drawMarks(context, layout, crossing.greenAt(step), pickedLane(), crossing.quietAt(step, known));
   if (state.layers.names) drawAsking(context, crossing, known, Math.floor(state.time));
   drawTileMarks(context, layout);
   view.labels.draw(context);

@@ -5,9 +5,9 @@ const MOST = 4294967295, LATEST = 1073741824, OPERATOR = 65536;
 const TURNS = ["left", "straight", "right"], KINDS = ["fcfs", "emerg", "light", "light-emerg"];
 const REASONS = ["", "holds", "no-reservation", "begun", "too-soon", "bad", "late", "far", "distance", "emergency",
   "green", "taken", "reused"];
-const FIELDS = ["lane", "turn", "arrive", "max", "speed", "accel", "length", "width", "steps", "spans"];
-const REQUEST = 0, CHANGE = 1, CANCEL = 2, DONE = 3, SWITCH = 4, STOP = 5;
-const CONFIRM = 0, REJECT = 1, ACK = 2, HALT = 3, STALE = 4, SWITCHED = 5, STOPPED = 6;
+const FIELDS = ["lane", "turn", "arrive", "max", "speed", "accel", "length", "width", "steps", "spans", "latest"];
+const REQUEST = 0, CHANGE = 1, CANCEL = 2, DONE = 3, SWITCH = 4, STOP = 5, QUIET = 6;
+const CONFIRM = 0, REJECT = 1, ACK = 2, HALT = 3, STALE = 4, SWITCHED = 5, STOPPED = 6, QUIETED = 7;
 
 // A fault of a text. `kind` is the word of `bad line N KIND` by which the program refuses a line of a head.
 class Fault extends Error {
@@ -50,18 +50,31 @@ function numberOf(word) {
   return value >= 0 && value <= MOST && String(value) === word ? value : -1;
 }
 
-// The forms of script lines: places in capitals are numbers, unless named below.
+// The forms of script lines: places in capitals are numbers, unless named below. A form that differs between versions has
+// the first one of its own behind its name.
 const FORMS = {
   aim: "aim N", crossings: "crossings N", grid: "grid SIDE N SPACING STATIC HALF SPANS",
-  times1: "times HORIZON LONGEST CLEARANCE INTERNAL EDGE", times: "times HORIZON LONGEST CLEARANCE EARLY LATE EDGE",
+  times1: "times HORIZON LONGEST CLEARANCE INTERNAL EDGE", times2: "times HORIZON LONGEST CLEARANCE EARLY LATE EDGE",
+  times4: "times HORIZON LONGEST CLEARANCE EARLY LATE EDGE WINDOW",
   lanes: "lanes N", line: "move LANE TURN line X0 Y0 X1 Y1 M", curve: "move LANE TURN curve X0 Y0 X1 Y1 X2 Y2 M",
   policy: "policy NAME KIND", vehicles: "vehicles N", begin: "begin", until: "until STEP", end: "end",
-  plan: "plan V FIRST LEAD RESEND LANE TURN SPEED MAX ACCEL LENGTH WIDTH CLASS",
+  plan1: "plan V FIRST LEAD RESEND LANE TURN SPEED MAX ACCEL LENGTH WIDTH CLASS",
   plan3: "plan V FIRST LEAD RESEND LANE TURN SPEED MAX ACCEL LENGTH WIDTH CLASS WINDOW",
-  leg: "leg V CROSSING FIRST LEAD RESEND LANE TURN SPEED MAX ACCEL LENGTH WIDTH CLASS",
+  plan4: "plan V FIRST LEAD RESEND LANE TURN SPEED MAX ACCEL LENGTH WIDTH CLASS WINDOW WAIT",
+  leg1: "leg V CROSSING FIRST LEAD RESEND LANE TURN SPEED MAX ACCEL LENGTH WIDTH CLASS",
+  leg4: "leg V CROSSING FIRST LEAD RESEND LANE TURN SPEED MAX ACCEL LENGTH WIDTH CLASS WAIT",
   change: "change V STEP LEAD", cancel: "cancel V STEP",
 };
+const PATH_FORM = "move LANE TURN path X0 Y0 X1 Y1 M1 X2 Y2 M2 ..";
 const PLACES = { TURN: TURNS, CLASS: ["car", "emergency"], WINDOW: ["early", "start"] };
+
+// The form of a line of that name in a version.
+function formIn(name, version) {
+  for (let at = version; at > 0; at--) if (FORMS[name + at]) return FORMS[name + at];
+  return FORMS[name];
+}
+// WINDOW is a word of a plan, and a number of the times.
+const wordsIn = (form, place) => form.startsWith("times ") ? undefined : PLACES[place];
 
 // A number of a line, or a fault: of the kind `number` where the word isn't the one spelling of one, of the kind `range`
 // where it is too great.
@@ -80,7 +93,7 @@ function formed(lines, words, form, version = 3) {
   for (let i = 1; i < places.length; i++) {
     const place = places[i], word = words[i];
     if (place === place.toLowerCase()) continue;
-    if (place in PLACES) {
+    if (wordsIn(form, place)) {
       if (!PLACES[place].includes(word))
         throw lines.fault(`${place} is one of ${PLACES[place].join(", ")}, not "${word}"`);
       found[place.toLowerCase()] = word;
@@ -89,7 +102,7 @@ function formed(lines, words, form, version = 3) {
         throw lines.fault(`a name is 1 to 16 small letters, digits or "-", not "${word}"`);
       found.name = word;
     } else if (place === "KIND") {
-      const kinds = KINDS.slice(0, version === 3 ? 4 : 3);
+      const kinds = KINDS.slice(0, version >= 3 ? 4 : 3);
       if (!kinds.includes(word)) throw lines.fault(`a policy's kind is one of ${kinds.join(", ")}, not "${word}"`);
       found.kind = word;
     } else found[place.toLowerCase()] = numbered(lines, place, word, place === "LANE" ? 255 : MOST);
@@ -102,6 +115,13 @@ function within(lines, name, value, low, high, kind = "range") {
 }
 
 const REQUESTED = "LANE TURN ARRIVE SPEED MAX ACCEL LENGTH WIDTH CLASS";
+
+// The latest arrival of a message, which is above its arrival.
+function readLatest(lines, word, into, behind) {
+  into.latest = numberOf(word);
+  if (into.latest <= into.arrive) throw lines.fault(`LATEST is a number above ARRIVE, ${into.arrive}, not "${word}"`, "range");
+  return behind;
+}
 
 // The places of a message behind its keyword, into the numbers of an entry; the number of words it has, or a fault.
 function readMessage(lines, words, at, into) {
@@ -123,7 +143,8 @@ function readMessage(lines, words, at, into) {
     if (Math.min(into.seq, into.ref, into.lane, into.turn, into.arrive, into.speed, into.max, into.accel, into.length,
       into.width, into.urgent) < 0)
       throw lines.fault(`a ${kind} is: ${kind} SEQ ${into.act === CHANGE ? "ID " : ""}${REQUESTED}`);
-    return from + 9;
+    into.latest = into.arrive;
+    return /^[0-9]/.test(words[from + 9] ?? "") ? readLatest(lines, words[from + 9], into, from + 10) : from + 9;
   }
   if (kind === "cancel" || kind === "done") {
     into.act = kind === "cancel" ? CANCEL : DONE;
@@ -188,11 +209,13 @@ function readReply(lines, words, at, into) {
   if (kind === "switched") return one(SWITCHED, "FROM");
   if (kind === "emergency-stop") { into.reply = HALT; return at + 1; }
   if (kind === "stopped") { into.reply = STOPPED; return at + 1; }
-  throw lines.fault(`no reply begins with "${kind ?? ""}": confirm, reject, ack, emergency-stop, stale, switched, stopped`);
+  if (kind === "quieted") { into.reply = QUIETED; return at + 1; }
+  throw lines.fault(`no reply begins with "${kind ?? ""}": confirm, reject, ack, emergency-stop, stale, switched, stopped, quieted`);
 }
 
+// The numbers of an entry. An order that makes a lane quiet has UNTIL as `latest`.
 const BLANK = { caller: 0, moment: 0, act: 0, seq: 0, ref: 0, lane: 0, turn: 0, arrive: 0, speed: 0, max: 0, accel: 0,
-  length: 0, width: 0, urgent: 0,
+  length: 0, width: 0, urgent: 0, latest: 0,
   reply: 0, id: 0, from: 0, early: 0, late: 0, fast: 0, last: 0, reason: 0, a: 0, b: 0, c: 0, d: 0, next: 0, held: -1 };
 
 // A journal: columns of numbers, one of each per entry, so that many entries stay small.
@@ -200,7 +223,7 @@ const COLUMNS = { start: Uint32Array, end: Uint32Array, line: Uint32Array, calle
   now: Uint32Array, act: Uint8Array,
   seq: Uint32Array, ref: Uint32Array, lane: Uint8Array, turn: Uint8Array, arrive: Uint32Array, speed: Uint32Array,
     max: Uint32Array, accel: Uint32Array,
-  length: Uint32Array, width: Uint32Array, urgent: Uint8Array, reply: Uint8Array, id: Uint32Array, from: Uint32Array,
+  length: Uint32Array, width: Uint32Array, urgent: Uint8Array, latest: Uint32Array, reply: Uint8Array, id: Uint32Array, from: Uint32Array,
     early: Uint32Array, late: Uint32Array,
   fast: Uint8Array, last: Uint32Array, reason: Uint8Array, a: Float64Array, b: Uint32Array, c: Uint32Array,
     d: Uint32Array, next: Uint32Array,

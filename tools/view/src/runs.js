@@ -31,6 +31,7 @@ class Crossing {
     for (const v of this.logs.keys()) if (v >= script.vehicles)
       throw new Fault(output.name, 0, null, `it has a log of vehicle ${v}, which the script hasn't`);
     this.changes = [{ from: 0, policy: 0 }];
+    this.quiets = this.layout.lanes.map(() => []);
     this.stopped = false;
     this.mailed = !this.drives && this.isMailed();
     const end = (vehicle, at) => {
@@ -42,6 +43,7 @@ class Crossing {
       this.agree(output, i);
       if (v === OPERATOR) {
         if (act === SWITCH && reply === SWITCHED) this.changes.push({ from: journal.$id[i], policy: journal.$ref[i] });
+        if (act === QUIET) this.addQuiet(i);
         journal.$row[i] = ROW.order;
         journal.$fresh[i] = 1;
         continue;
@@ -60,6 +62,11 @@ class Crossing {
     this.findLetters();
     this.span();
   }
+  // An order makes a lane quiet from its own now on. Of a lane they add up: `most` is the latest end of those so far.
+  addQuiet(i) {
+    const { journal } = this, quiets = this.quiets[journal.$lane[i]], until = journal.$latest[i];
+    quiets.push({ entry: i, from: journal.$now[i], until, most: Math.max(until, quiets.at(-1)?.most ?? 0) });
+  }
   // A fault where the entry isn't the answer to this script's call, or isn't of its layout.
   agree(output, i) {
     const { journal, script } = this, v = journal.$caller[i];
@@ -67,6 +74,10 @@ class Crossing {
     if (v !== OPERATOR && v >= script.vehicles) throw fault(`the script has no vehicle ${v}, so this isn't its output`);
     if (v === OPERATOR && journal.$act[i] === SWITCH && journal.$ref[i] >= this.layout.policies.length)
       throw fault(`the script has no policy ${journal.$ref[i]}, so this isn't its output`);
+    if (v === OPERATOR && (journal.$act[i] === QUIET) !== (journal.$reply[i] === QUIETED))
+      throw fault("an order that makes a lane quiet, and no other, is answered quieted");
+    if (v === OPERATOR && journal.$act[i] === QUIET && journal.$lane[i] >= this.layout.lanes.length)
+      throw fault(`the script has no lane ${journal.$lane[i]}, so this isn't its output`);
     if (this.drives) { if (v !== OPERATOR) this.agreePlan(fault, i); return; }
     if (this.mailed) return;
     if (3 * i >= script.calls.length) throw fault("the script has no further event, so this isn't its output");
@@ -115,7 +126,8 @@ class Crossing {
     const same = journal.$lane[i] === plan.lane && TURNS[journal.$turn[i]] === plan.turn &&
       journal.$speed[i] === plan.speed && journal.$max[i] === plan.max &&
       journal.$accel[i] === plan.accel && journal.$length[i] === plan.length && journal.$width[i] === plan.width &&
-        journal.$urgent[i] === (plan.class === "emergency" ? 1 : 0);
+        journal.$urgent[i] === (plan.class === "emergency" ? 1 : 0) &&
+      journal.$latest[i] - journal.$arrive[i] === (plan.wait ?? 0);
     if (!same) throw fault(`the script's plan of vehicle ${v} says something else, so this isn't its output`);
   }
   // The place of a grant. Its motion must end where the confirm says: else the output is another layout's.
@@ -124,7 +136,11 @@ class Crossing {
     const fault = wanted => new Fault(output.name, journal.$line[i], this.textOf(i), wanted);
     if (!motion) throw fault("the layout of the script has no such lane and turn, so this isn't its output");
     if (journal.$id[i] !== i) throw fault(`a confirm's id is its position, ${i}`);
-    if (journal.$from[i] !== journal.$arrive[i]) throw fault("a confirm's start is the arrival that was asked for");
+    if (journal.$from[i] < journal.$arrive[i] || journal.$from[i] > journal.$latest[i])
+      throw fault(journal.$latest[i] > journal.$arrive[i] ? "a confirm's start is in the window that was asked for"
+        : "a confirm's start is the arrival that was asked for");
+    if (layout.version >= 4 && this.gains(i) !== (journal.$fast[i] === 1))
+      throw fault("from version 4 on a confirm is of the one trial that is made");
     if (journal.$last[i] !== journal.$from[i] + motion.steps - 1)
       throw fault("by the layout of the script this crossing ends at step " +
         `${journal.$from[i] + motion.steps - 1}, so this isn't its output`);
@@ -137,10 +153,13 @@ class Crossing {
   }
   textOf(i) { return this.text.slice(this.journal.$start[i], this.journal.$end[i]); }
   get text() { return this.section.text; }
-  // The motion of an entry's message: of the trial that was granted, or of the steady one.
+  // Whether the fast trial of an entry's message is made.
+  gains(i) { return this.journal.$accel[i] > 0 && this.journal.$speed[i] < this.journal.$max[i]; }
+  // The motion of an entry's message: of the trial that was granted, or else of the one by which it is judged: up to
+  // version 3 the steady one, and then the one that is made.
   motionOf(i) {
     const { journal } = this, turn = TURNS[journal.$turn[i]], path = this.layout.lanes[journal.$lane[i]]?.moves[turn];
-    const fast = journal.$reply[i] === CONFIRM && journal.$fast[i] === 1,
+    const fast = journal.$reply[i] === CONFIRM ? journal.$fast[i] === 1 : this.layout.version >= 4 && this.gains(i),
       found = { speed: journal.$speed[i], max: journal.$max[i], gain: fast ? journal.$accel[i] : 0,
       length: journal.$length[i], width: journal.$width[i] };
     if (!path || found.speed < 1 || found.speed > found.max || found.length < 1 || found.length > 30000 ||
@@ -240,11 +259,11 @@ class Crossing {
   // The runs of steps in which a grant reserves a tile, as pairs, in order.
   reservedRuns(at, tile) {
     const entry = this.grants.entry[at], runs = this.motionOf(entry).runs(this.layout.fixed), found = [];
-    const arrive = this.journal.$arrive[entry], { edge, early, late } = this.layout, border = isEdge(this.layout, tile);
+    const start = this.journal.$from[entry], { edge, early, late } = this.layout, border = isEdge(this.layout, tile);
     for (let i = 0; i < runs.length; i += 3) {
       if (runs[i] !== tile) continue;
-      const from = Math.max(0, arrive + runs[i + 1] - (border ? edge : early)),
-        to = arrive + runs[i + 2] + (border ? edge : late);
+      const from = Math.max(0, start + runs[i + 1] - (border ? edge : early)),
+        to = start + runs[i + 2] + (border ? edge : late);
       if (found.length && from <= found.at(-1)[1] + 1) found.at(-1)[1] = Math.max(found.at(-1)[1], to);
       else found.push([from, to]);
     }
@@ -252,7 +271,7 @@ class Crossing {
   }
   eachReserved(at, step, tell) {
     const entry = this.grants.entry[at], runs = this.motionOf(entry).runs(this.layout.fixed),
-      { edge, early, late, n } = this.layout, k = step - this.journal.$arrive[entry];
+      { edge, early, late, n } = this.layout, k = step - this.journal.$from[entry];
     for (let i = 0; i < runs.length; i += 3) {
       const tile = runs[i], row = (tile / n) | 0, col = tile % n,
         border = row === 0 || col === 0 || row === n - 1 || col === n - 1;
@@ -299,11 +318,33 @@ class Crossing {
     }
     return 0;
   }
-  // The lanes that claim their tiles in a step, as bits: green in it, or at most the clearance before it.
-  claimingAt(step) {
+  // Whether a lane is quiet in a step, by so many entries: its last order so far that had begun by then, or one before it,
+  // ends later.
+  isQuiet(lane, step, known = this.journal.count) {
+    const quiets = this.quiets[lane] ?? [];
+    let low = 0, high = quiets.length;
+    while (low < high) {
+      const middle = (low + high) >> 1;
+      if (quiets[middle].from <= step && quiets[middle].entry < known) low = middle + 1;
+      else high = middle;
+    }
+    return low > 0 && quiets[low - 1].most > step;
+  }
+  // Of the lanes that are green in a step, as bits, those that are quiet: their greens keep nobody off.
+  quietAt(step, known = this.journal.count, bits = this.greenAt(step)) {
+    let found = 0;
+    for (let lane = 0; bits >> lane; lane++) if (bits & 1 << lane && this.isQuiet(lane, step, known)) found |= 1 << lane;
+    return found;
+  }
+  // The lanes that claim their tiles in a step, as bits: green in it, or at most the clearance before it, and not quiet
+  // then.
+  claimingAt(step, known = this.journal.count) {
     let bits = 0;
     if (!this.layout.policies.some(policy => policy.lights)) return 0;
-    for (let s = Math.max(0, step - this.layout.clearance); s <= step; s++) bits |= this.greenAt(s);
+    for (let s = Math.max(0, step - this.layout.clearance); s <= step; s++) {
+      const green = this.greenAt(s);
+      bits |= green & ~this.quietAt(s, known, green);
+    }
     return bits;
   }
   // The chart of a step as `aim chart` prints it, from the north row down.
@@ -433,11 +474,12 @@ const BAD = { long: "it has more than 400 bytes.", end: "the script is at its en
   words: "a word is missing, surplus, or none of those allowed.", number: "a number's place has another spelling.",
     range: "a number is out of its place's range.",
   unsupported: "this program doesn't do that yet.", order: "such a line may not stand at that place.",
-    version: "the version isn't 1, 2 or 3.",
+    version: "the version isn't 1, 2, 3 or 4.",
   grid: "a number of the grid is out of its range.", buffers: "an inner buffer exceeds the edge buffer.",
     times: "a time is out of its range.",
-  lane: "the number of lanes isn't 1 to 16.", move: "this lane can't have this move.",
+  lane: "the number of lanes isn't 1 to 16, or an order names none of them.", move: "this lane can't have this move.",
     spacing: "two neighbouring stations are too far apart.",
+  border: "the move begins or ends inside the ground.",
   policy: "the name was given before, or wasn't given.", phase: "a phase is wrong or missing.",
     vehicle: "no such vehicle, or none at all.",
   moment: "the moment is too great, or out of order.", driver: "a driver's line is out of its range or doubled.",

@@ -21,7 +21,7 @@ function readGrid(lines, words, layout) {
 }
 
 function readTimes(lines, words, layout) {
-  const found = formed(lines, words, layout.version === 1 ? FORMS.times1 : FORMS.times);
+  const found = formed(lines, words, formIn("times", layout.version));
   if (layout.version === 1) found.early = found.late = found.internal;
   if (found.early > found.edge || found.late > found.edge)
     throw lines.fault("no inner buffer is greater than EDGE", "buffers");
@@ -29,34 +29,69 @@ function readTimes(lines, words, layout) {
   within(lines, "LONGEST", found.longest, 1, 65536, "times");
   within(lines, "CLEARANCE", found.clearance, 0, 1024, "times");
   within(lines, "EDGE", found.edge, 0, 1024, "times");
+  if (layout.version >= 4) within(lines, "WINDOW", found.window, 0, found.horizon, "times");
   Object.assign(layout, { horizon: found.horizon, longest: found.longest, clearance: found.clearance,
-    early: found.early, late: found.late, edge: found.edge });
+    early: found.early, late: found.late, edge: found.edge, window: found.window ?? 0 });
+}
+
+const shapesIn = version => version >= 4 ? ["line", "curve", "path"] : ["line", "curve"];
+const shapeFault = (lines, words, version) =>
+  lines.fault(`the fourth word of a move is ${shapesIn(version).join(" or ")}, not "${words[3] ?? ""}"`);
+
+// The values of a move, by their places in small letters. Of a path `legs` has three numbers a leg, and m is the sum of
+// its parts.
+function formedMove(lines, words, version) {
+  if (!shapesIn(version).includes(words[3])) throw shapeFault(lines, words, version);
+  if (words[3] !== "path") return formed(lines, words, FORMS[words[3]]);
+  const legs = (words.length - 6) / 3;
+  if (!Number.isInteger(legs) || legs < 1 || legs > 32)
+    throw lines.fault(`a path has 1 to 32 legs, of three numbers each: ${PATH_FORM}`);
+  const found = formed(lines, words.slice(0, 6), "move LANE TURN path X0 Y0");
+  found.legs = words.slice(6).map((word, i) => numbered(lines, `${"XYM"[i % 3]}${Math.floor(i / 3) + 1}`, word));
+  found.m = found.legs.reduce((sum, value, i) => i % 3 === 2 ? sum + value : sum, 0);
+  return found;
+}
+
+// The places of a move's numbers that are millimetres, with their names.
+function placesOf(found) {
+  if (found.legs)
+    return [["X0", found.x0], ["Y0", found.y0], ...found.legs.map((value, i) => [`${"XYM"[i % 3]}${Math.floor(i / 3) + 1}`, value])]
+      .filter(([name]) => name[0] !== "M");
+  return ["x0", "y0", "x1", "y1", "x2", "y2"].filter(name => name in found).map(name => [name.toUpperCase(), found[name]]);
 }
 
 function readMove(lines, words, layout) {
-  const shape = words[3];
-  if (shape !== "line" && shape !== "curve")
-    throw lines.fault(`the fourth word of a move is line or curve, not "${shape ?? ""}"`);
-  const found = formed(lines, words, FORMS[shape]);
+  const shape = words[3], found = formedMove(lines, words, layout.version);
   if (found.lane >= layout.lanes.length)
     throw lines.fault(`LANE is 0 to ${layout.lanes.length - 1}, not ${found.lane}`, "move");
-  within(lines, "M", found.m, 1, 4096, "move");
+  if (found.legs?.some((value, i) => i % 3 === 2 && value === 0)) throw lines.fault("each leg has 1 part or more", "move");
+  within(lines, found.legs ? "the sum of all M" : "M", found.m, 1, 4096, "move");
   if (layout.lanes[found.lane].moves[found.turn])
     throw lines.fault(`lane ${found.lane} has its move ${found.turn} already`, "move");
-  for (const place of ["x0", "y0", "x1", "y1", "x2", "y2"])
-    if (place in found) within(lines, place.toUpperCase(), found[place], 0, layout.side, "move");
+  for (const [name, value] of placesOf(found)) within(lines, name, value, 0, layout.side, "move");
   const path = new Path(found, shape), wide = path.wideStep(layout.spacing);
   if (wide >= 0)
-    throw lines.fault(`stations ${wide} and ${wide + 1} are more than ${layout.spacing} mm apart; M is at least ` +
-      `${leastParts(found, shape, layout.spacing)} here`, "spacing");
+    throw lines.fault(`stations ${wide} and ${wide + 1} are more than ${layout.spacing} mm apart` + (found.legs ? ""
+      : `; M is at least ${leastParts(found, shape, layout.spacing)} here`), "spacing");
+  if (layout.version >= 4) toBorder(lines, layout, path);
   Object.assign(path, { line: lines.number, found });
   layout.lanes[found.lane].moves[found.turn] = path;
 }
 
+// From version 4 on a move begins and ends at the border of the ground.
+function toBorder(lines, layout, path) {
+  for (const [j, word] of [[0, "begins"], [path.m, "ends"]])
+    if (!isOnBorder(layout, path.xs[j], path.ys[j]))
+      throw lines.fault(`it ${word} at ${path.xs[j]}, ${path.ys[j]}, inside the ground; x or y is 0 or ${layout.side} there`,
+        "border");
+}
+
+const isOnBorder = ({ side }, x, y) => [x, y].some(value => value === 0 || value === side);
+
 // The least number of parts with which no two neighbouring stations are farther apart than the spacing.
 function leastParts(found, shape, spacing) {
   const reach = (...at) => Math.max(...at.slice(1).map((value, i) => Math.abs(value - at[i])));
-  const far = shape === "line" ? Math.max(reach(found.x0, found.x1), reach(found.y0, found.y1))
+  const far = shape !== "curve" ? Math.max(reach(found.x0, found.x1), reach(found.y0, found.y1))
     : 2 * Math.max(reach(found.x0, found.x1, found.x2), reach(found.y0, found.y1, found.y2));
   for (let m = Math.max(1, Math.floor(far / spacing / 2) - 2); m <= 4096; m++)
     if (new Path({ ...found, m }, shape).wideStep(spacing) < 0) return m;
@@ -120,18 +155,18 @@ const BEHIND = { start: ["aim", "crossings"], crossings: ["aim"], aim: ["grid"],
   lanes: ["move", "policy", "vehicles"], move: ["move", "policy", "vehicles"],
   policy: ["policy", "phase", "vehicles"], phase: ["policy", "phase", "vehicles"], vehicles: ["begin"] };
 const BODY = ["operator", "until", "plan", "change", "cancel", "up", "down", "end", "leg", "crossings"];
+const HEADS = [...Object.keys(BEHIND).slice(2), "begin", ...BODY];
 
 // How a line is spelled comes before its place: the first fault of its words, if there is one.
 function spelled(lines, words, version) {
-  const [head] = words, event = /^[0-9]/.test(head), form = head === "move" ? FORMS[words[3]]
-    : head === "times" && version === 1 ? FORMS.times1 : FORMS[head];
-  if (!event && !form && !BODY.includes(head) && head !== "phase" && head !== "move")
+  const [head] = words, event = /^[0-9]/.test(head);
+  if (!event && !HEADS.includes(head))
     throw lines.fault(`no line begins with "${head.slice(0, 40)}"`, "unknown");
   if (event && !["request", "change", "cancel", "done"].includes(words[2]))
     throw lines.fault("a line that begins with a number is an event: VEHICLE MOMENT MESSAGE");
-  if (head === "move" && !form) throw lines.fault(`the fourth word of a move is line or curve, not "${words[3] ?? ""}"`);
-  if (head === "phase") spelledPhase(lines, words);
-  else if (form && !BODY.includes(head)) formed(lines, words, form, version);
+  if (head === "move") formedMove(lines, words, version);
+  else if (head === "phase") spelledPhase(lines, words);
+  else if (!event && !BODY.includes(head)) formed(lines, words, formIn(head, version), version);
 }
 
 function spelledPhase(lines, words) {
@@ -154,7 +189,7 @@ function readHeadLine(lines, words, script, last) {
       : `${BEHIND[last].join(" or ")} is wanted here, not "${head}"`, "order");
   if (head === "aim") {
     const found = formed(lines, words, FORMS.aim).n;
-    within(lines, "the version", found, 1, 3, "version");
+    within(lines, "the version", found, 1, 4, "version");
     if (more && found !== version) throw lines.fault("all crossings have the version of the first", "version");
   }
   if (more || head === "vehicles") {
@@ -173,8 +208,9 @@ function readHeadLine(lines, words, script, last) {
 }
 
 function readPlan(lines, words, script) {
-  const version = script.crossings[0].version, found = formed(lines, words, version === 3 ? FORMS.plan3 : FORMS.plan);
+  const found = formed(lines, words, formIn("plan", script.crossings[0].version));
   within(lines, "V", found.v, 0, script.vehicles - 1);
+  within(lines, "WAIT", found.wait ?? 0, 0, 65536);
   if (script.plans.has(found.v)) throw lines.fault(`vehicle ${found.v} has a plan already`);
   script.plans.set(found.v, found);
 }
@@ -193,6 +229,19 @@ function readFates(lines, words, script) {
   script[words[0]].set(v, fates);
 }
 
+// An order of the operator: a switch, a stop or, from version 4 on, a lane that is quiet.
+function readOrder(lines, words, layout) {
+  const moment = numberOf(words[1] ?? ""), act = words[2], count = { switch: 4, stop: 3, quiet: layout.version >= 4 ? 5 : -1 }[act];
+  if (moment < 0 || words.length !== count)
+    throw lines.fault("an order is: operator MOMENT switch NAME, or operator MOMENT stop" + (layout.version >= 4
+      ? ", or operator MOMENT quiet LANE UNTIL" : ""));
+  if (act === "switch" && !layout.policies.some(each => each.name === words[3]))
+    throw lines.fault(`no policy is named ${words[3]}`);
+  if (act !== "quiet") return;
+  if (numberOf(words[3]) < 0 || numberOf(words[3]) >= layout.lanes.length) throw lines.fault(`there is no lane ${words[3]}`);
+  if (numberOf(words[4]) < 0) throw lines.fault(`UNTIL is a step, not "${words[4]}"`);
+}
+
 // One line of the body of a script. What the page draws is kept; an event's text stays where it stands.
 function readBody(lines, words, script, into) {
   const head = words[0], first = head.charCodeAt(0);
@@ -202,15 +251,12 @@ function readBody(lines, words, script, into) {
       throw lines.fault("an event is: VEHICLE MOMENT MESSAGE");
     within(lines, "VEHICLE", into.caller, 0, script.vehicles - 1);
     within(lines, "MOMENT", into.moment, 0, LATEST);
-    if (readMessage(lines, words, 2, into) !== words.length)
+    if (readMessage(lines, words, 2, into) !== words.length ||
+      (script.crossings[0].version < 4 && into.act <= CHANGE && into.latest > into.arrive))
       throw lines.fault(`there are more words than a ${words[2]} has`);
     script.calls.push(lines.start, lines.end, lines.number);
   } else if (head === "operator") {
-    const moment = numberOf(words[1] ?? ""), stop = words[2] === "stop";
-    const policy = script.crossings[0].policies.findIndex(each => each.name === words[3]);
-    if (moment < 0 || words.length !== (stop ? 3 : 4) || (!stop && words[2] !== "switch"))
-      throw lines.fault("an order is: operator MOMENT switch NAME, or operator MOMENT stop");
-    if (!stop && policy < 0) throw lines.fault(`no policy is named ${words[3]}`);
+    readOrder(lines, words, script.crossings[0]);
     script.calls.push(lines.start, lines.end, lines.number);
   } else if (head === "until") {
     if (script.until !== null || script.calls.length) throw lines.fault("until stands directly behind begin, once");
@@ -221,8 +267,9 @@ function readBody(lines, words, script, into) {
   } else if (head === "plan" && script.kind !== "grid") {
     readPlan(lines, words, script);
   } else if (head === "leg" && script.kind === "grid") {
-    const found = formed(lines, words, FORMS.leg);
+    const found = formed(lines, words, formIn("leg", script.crossings[0].version));
     within(lines, "V", found.v, 0, script.vehicles - 1);
+    within(lines, "WAIT", found.wait ?? 0, 0, 65536);
     within(lines, "CROSSING", found.crossing, 0, script.crossings.length - 1);
     if (!script.legs.has(found.v)) script.legs.set(found.v, []);
     script.legs.get(found.v).push(found);

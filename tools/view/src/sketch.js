@@ -110,8 +110,9 @@ function drawTrueBody(context, layout, path) {
 
 // The points of the move that is picked, and of the one that is being drawn: squares at the ends, a round that pulls.
 function drawHandles(context) {
-  const points = drafted.begun?.points ?? pickedMove()?.points ?? [];
-  if (points.length === 3) {
+  const { begun } = drafted, points = begun?.points ?? pickedMove()?.points ?? [];
+  const curved = points.length === 3 && (begun ? begun.wanted === 3 : !pickedMove().legs);
+  if (curved) {
     context.setLineDash([3, 4]);
     context.strokeStyle = tints.soft;
     context.lineWidth = 1;
@@ -121,7 +122,7 @@ function drawHandles(context) {
     context.setLineDash([]);
   }
   points.forEach(([x, y], i) => {
-    const round = points.length === 3 && i === 1, now = i === drafted.point && !drafted.begun;
+    const round = curved && i === 1, now = i === drafted.point && !drafted.begun;
     context.beginPath();
     if (round) context.arc(view.x(x), view.y(y), 7, 0, 7);
     else context.rect(view.x(x) - 6, view.y(y) - 6, 12, 12);
@@ -188,17 +189,18 @@ sketch.addEventListener("pointerup", () => {
 
 // A move that is drawn gets its next point; with the last one it is a move of the lane that is picked.
 function addPoint(place) {
-  const { begun } = drafted;
-  begun.points.push(place);
-  if (begun.points.length < begun.wanted) { tellBegun(); drawSketch(); return; }
+  const { begun } = drafted, { points, wanted } = begun, again = wanted === MOST_POINTS && String(points.at(-1)) === String(place);
+  if (!again) points.push(place);
+  if (again ? points.length < 2 : points.length < wanted) { tellBegun(); drawSketch(); return; }
   keepUndo();
   const { lanes } = drafted.draft, lane = begun.lane;
   while (lanes.length <= lane && lanes.length < 16) lanes.push({ moves: [] });
-  const turn = TURNS.find(each => !lanes[lane].moves.some(move => move.turn === each) && each === turnOf(begun.points)) ??
+  const turn = TURNS.find(each => !lanes[lane].moves.some(move => move.turn === each) && each === turnOf(points)) ??
     TURNS.find(each => !lanes[lane].moves.some(move => move.turn === each));
   drafted.begun = null;
   if (turn) {
-    lanes[lane].moves.push({ turn, points: begun.points, m: null });
+    lanes[lane].moves.push(wanted === MOST_POINTS ? { turn, points, legs: points.slice(1).map(() => null) }
+      : { turn, points, m: null });
     drafted.picked = { lane, move: lanes[lane].moves.length - 1 };
   }
   tellBegun();
@@ -207,7 +209,7 @@ function addPoint(place) {
 
 // The turn that points make: by the angle from the first way to the last one.
 function turnOf(points) {
-  const [a, b, c = points[1]] = points, d = points.length === 3 ? b : a;
+  const [a, b] = points, [d, c] = points.slice(-2);
   const cross = (b[0] - a[0]) * (c[1] - d[1]) - (b[1] - a[1]) * (c[0] - d[0]);
   return points.length === 2 || cross === 0 ? "straight" : cross > 0 ? "left" : "right";
 }
@@ -225,6 +227,8 @@ sketch.addEventListener("keydown", event => {
   else if ((event.key === "m" || event.key === "M") && moves.length) {
     const at = moves.findIndex(each => each.lane === drafted.picked?.lane && each.move === drafted.picked?.move);
     pickMove(moves[(at + (event.key === "m" ? 1 : -1) + moves.length) % moves.length]);
+  } else if (event.key === "Enter" && drafted.begun?.wanted === MOST_POINTS && drafted.begun.points.length > 1) {
+    addPoint(drafted.begun.points.at(-1));
   } else if (event.key === "Escape" && drafted.begun) { drafted.begun = null; tellBegun(); drawSketch(); }
   else return;
   event.preventDefault();

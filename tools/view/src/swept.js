@@ -104,10 +104,12 @@ function spansOf(layout, motion) {
 }
 
 // What a vehicle needs on a path: the LENGTH to ask with, the steps and spans of its trials, how far ahead its last cell
-// is at least, the STATIC that covers its body, and the path's true length.
+// is at least, the STATIC that covers its body, and the path's true length. Up to version 3 it is judged by the steady
+// trial, and from version 4 on by the one that is made.
 function needsOf(layout, path, vehicle) {
   const length = lengthToAsk(path, vehicle, layout.spacing), { speed, max, accel, width } = vehicle;
-  const motions = [0, ...(accel > 0 && speed < max ? [accel] : [])].map(gain => new Motion(layout, path, { speed, max, gain,
+  const made = accel > 0 && speed < max, gains = layout.version >= 4 ? [made ? accel : 0] : made ? [0, accel] : [0];
+  const motions = gains.map(gain => new Motion(layout, path, { speed, max, gain,
     length, width }));
   const counted = motions[0].steps > 2048 ? [] : motions.map(motion => spansOf(layout, motion));
   const half = halfForBody(layout, path, vehicle, length) - Math.ceil(width / 2) - layout.spacing;

@@ -93,13 +93,16 @@ function drawGreens(context, crossing, top, wide) {
   const least = Math.min(...layout.policies.flatMap(policy => policy.phases.map(phase => phase.green)));
   const dense = scale > least / 2;
   const bits = Array.from({ length: Math.ceil(wide) }, (_, x) => crossing.greenAt(Math.floor(from + (x + .5) * scale)));
+  const quiet = bits.map((lit, x) => crossing.quietAt(Math.floor(from + (x + .5) * scale), undefined, lit));
   layout.lanes.forEach((lane, at) => {
     const y = top + at * (high + 1);
     context.fillStyle = tints.shade;
     context.fillRect(0, y, wide, high);
     context.fillStyle = tints.lamp;
     context.globalAlpha = dense ? .45 : .8;
-    for (let x = 0; x < wide; x++) if (bits[x] & 1 << at) context.fillRect(x, y, 1, high);
+    // A green that keeps nobody off, since the lane is quiet, is a thin line.
+    for (let x = 0; x < wide; x++)
+      if (bits[x] & 1 << at) context.fillRect(x, quiet[x] & 1 << at ? y + high / 2 - .5 : y, 1, quiet[x] & 1 << at ? 1 : high);
     context.globalAlpha = 1;
   });
 }
@@ -218,7 +221,25 @@ function drawTime() {
   }
   const cursor = (stepOfCursor() - span.from + .5) / (span.to - span.from) * wide - 1;
   for (const line of document.querySelectorAll(".cursor")) line.style.left = `${Math.max(0, Math.min(wide - 2, cursor))}px`;
+  placeWindow(crossing, span, wide);
   $("span").textContent = `steps ${Math.floor(span.from)} to ${Math.ceil(span.to) - 1}`;
+}
+
+// The window of arrivals of the chosen entry, or of the chosen vehicle's last asking so far, as a bar on the axis: from its
+// first step to its last one, with a line at the start that was granted.
+function placeWindow(crossing, span, wide) {
+  const { journal } = crossing, { chosen } = state, asked = i => i !== undefined && journal.$act[i] <= CHANGE;
+  const i = chosen?.kind === "entry" ? chosen.i : chosen?.kind === "vehicle"
+    ? Array.from(crossing.entriesOf(chosen.v)).findLast(each => each < knownNow() && asked(each)) : undefined;
+  const shown = asked(i) && hasWindow(journal, i), bar = $("asked"), start = $("granted");
+  bar.hidden = !shown;
+  start.hidden = !shown || journal.$reply[i] !== CONFIRM;
+  if (!shown) return;
+  const place = step => Math.max(-4, Math.min(wide + 4, (step - span.from) / (span.to - span.from) * wide));
+  const from = place(journal.$arrive[i]);
+  bar.style.left = `${from}px`;
+  bar.style.width = `${Math.max(2, place(journal.$latest[i] + 1) - from)}px`;
+  start.style.left = `${place(journal.$from[i] + .5) - 1.5}px`;
 }
 
 const stepOfCursor = () => state.pinned ? state.pinned.step : state.time;

@@ -3,10 +3,16 @@
 
 const capital = text => text.charAt(0).toUpperCase() + text.slice(1);
 const tileWord = (row, col) => `tile row ${row}, column ${col}`;
-const paramsWord = (journal, i) => `lane ${journal.$lane[i]} ${TURNS[journal.$turn[i]]}, arriving in step ${journal.$arrive[i]}`;
+// The arrivals that a message asks for: one step, or a window.
+const hasWindow = (journal, i) => journal.$act[i] <= CHANGE && journal.$latest[i] > journal.$arrive[i];
+const arrivalsWord = (journal, i) => hasWindow(journal, i) ? `${journal.$arrive[i]}–${journal.$latest[i]}` : `${journal.$arrive[i]}`;
+const paramsWord = (journal, i) => `lane ${journal.$lane[i]} ${TURNS[journal.$turn[i]]}, arriving in ` +
+  (hasWindow(journal, i) ? "one of the steps " : "step ") + arrivalsWord(journal, i);
 
 function askWord(crossing, i) {
   const { journal, layout } = crossing, v = journal.$caller[i];
+  if (v === OPERATOR && journal.$act[i] === QUIET)
+    return `The operator says that lane ${journal.$lane[i]} is quiet before step ${journal.$latest[i]}`;
   if (v === OPERATOR) return journal.$act[i] === STOP ? "The operator stops all grants"
     : `The operator switches to ${layout.policies[journal.$ref[i]]?.name}`;
   const who = `Vehicle ${v}`;
@@ -41,6 +47,8 @@ function answerWord(crossing, i) {
     case HALT: return "emergency stop";
     case STALE: return `stale: message ${journal.$id[i]} came before`;
     case SWITCHED: return `in force from step ${journal.$id[i]}`;
+    case QUIETED: return journal.$latest[i] > journal.$now[i] ? "in these steps its greens keep nobody off"
+      : "that is no step any more";
     default: return "stopped";
   }
 }
@@ -49,9 +57,10 @@ function shortWord(crossing, i) {
   const { journal } = crossing, v = journal.$caller[i],
     again = !journal.$fresh[i] && journal.$row[i] === ROW.again ? " (again)" : "";
   if (v === OPERATOR && journal.$act[i] === STOP) return "operator: stop";
+  if (v === OPERATOR && journal.$act[i] === QUIET) return `operator: lane ${journal.$lane[i]} quiet before ${journal.$latest[i]}`;
   if (v === OPERATOR) return `operator: switch to ${crossing.layout.policies[journal.$ref[i]]?.name} from ${journal.$id[i]}`;
   const act = ["asks", "changes", "cancels", "done"][journal.$act[i]],
-    lane = journal.$act[i] <= CHANGE ? ` lane ${journal.$lane[i]} for ${journal.$arrive[i]}` : "";
+    lane = journal.$act[i] <= CHANGE ? ` lane ${journal.$lane[i]} for ${arrivalsWord(journal, i)}` : "";
   const reply = [`✓ ${journal.$from[i]} to ${journal.$last[i]}`, `✕ ${REASONS[journal.$reason[i]]}`, "ack",
     "■ emergency stop", "stale"][journal.$reply[i]];
   return `v${v} ${act}${lane} → ${reply}${again}`;
