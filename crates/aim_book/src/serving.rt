@@ -254,6 +254,7 @@ impl<L: Ledger> Desk<L> {
             IsManaged layout.now n (h ++ (record { caller = OPERATOR; moment = moment; act = Act.Order order; reply = result }) ∷ [])
             (now_of (h ++ (record { caller = OPERATOR; moment = moment; act = Act.Order order; reply = result }) ∷ []) 0) self.new }
         ensures room { self.new.timeline.room ≡ self.old.timeline.room }
+        ensures quiets { length self.new.timeline.quiets ≤ length self.old.timeline.quiets + 1 }
         ensures cost { steps.new ≡ steps.old + self.old.reservations.table.size * min (max self.old.reservations.table.current moment - self.old.reservations.table.current) self.old.reservations.table.horizon }
     {
         self.go_on(moment, steps);

@@ -9,6 +9,7 @@ use Rattle.aim_messages.specs.declared.entries.Entry.{Entry}
 use Rattle.aim_layout.specs.Intersection.{Intersection}
 use Rattle.aim_sheets.specs.Spans.{in_spans}
 use Rattle.aim_rules.specs.Claims.{green_by, is_claimed, is_claimed_by}
+use Rattle.aim_rules.specs.Quiets.{Quiet, is_quiet, is_quiet_in}
 use Rattle.aim_rules.specs.History.{Fresh, fresh, now_of}
 use Rattle.aim_rules.specs.Holds.{is_granted, reservations}
 use Rattle.aim_rules.specs.Kept.{changes, has_cell, kept, policy_in}
@@ -96,11 +97,14 @@ module _ {L : Type 0} (i : Intersection) (n : ℕ) (h : List Entry) (d : Desk L)
       let few = m.few in
       true≢false (sym has ∙ other_fails v 65536 (is_reserved d.reservations.rows.items v c) (λ same. omega (arith, same, below, few)) fails))
 
--- the lane that claims a cell, by the changes of a history
-pub claimant : (i : Intersection) (h : List Entry) (c : Cell) (told : Option ℕ) → length i.lanes ≤ 16 → told ≡ green_by i (policy_in (changes h)) c 16 → IsClaimant i h c told
-claimant i h c (Some lane) few is =
-    let p = least_passes (length i.lanes) (λ k. not (k == 16) && is_claimed_by i (policy_in (changes h)) k c) lane is in
-    (p.0, sym (claimed_by i h lane c) ∙ (and_parts (not (lane == 16)) (is_claimed_by i (policy_in (changes h)) lane c) p.1).1)
-claimant i h c None few is = some_below_none (length i.lanes) (λ k. is_claimed i h k c) (λ k l.
-    sym (claimed_by i h k c)
-    ∙ other_fails k 16 (is_claimed_by i (policy_in (changes h)) k c) (λ same. omega (arith, same, l, few)) (least_none (length i.lanes) (λ k. not (k == 16) && is_claimed_by i (policy_in (changes h)) k c) is k l))
+-- the lane that claims a cell, by the changes of a history, and by quiets that have the same steps quiet as it has
+pub claimant : (i : Intersection) (h : List Entry) (qs : List Quiet) (c : Cell) (told : Option ℕ) → length i.lanes ≤ 16 → ((lane s : ℕ) → is_quiet_in qs lane s ≡ is_quiet h lane s) → told ≡ green_by i (policy_in (changes h)) (is_quiet_in qs) c 16
+    → IsClaimant i h c told
+claimant i h qs c (Some lane) few are is =
+    let claims = λ (k : ℕ). is_claimed_by i (policy_in (changes h)) (is_quiet_in qs) k c in
+    let p = least_passes (length i.lanes) (λ k. not (k == 16) && claims k) lane is in
+    (p.0, sym (claimed_by i h qs lane c are) ∙ (and_parts (not (lane == 16)) (claims lane) p.1).1)
+claimant i h qs c None few are is = some_below_none (length i.lanes) (λ k. is_claimed i h k c) (λ k l.
+    sym (claimed_by i h qs k c are)
+    ∙ other_fails k 16 (is_claimed_by i (policy_in (changes h)) (is_quiet_in qs) k c) (λ same. omega (arith, same, l, few))
+    (least_none (length i.lanes) (λ k. not (k == 16) && is_claimed_by i (policy_in (changes h)) (is_quiet_in qs) k c) is k l))

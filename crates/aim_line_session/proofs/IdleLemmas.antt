@@ -32,6 +32,7 @@ managed_in i n h at d m = let r = m.desk.reserved in record {
     callers = m.desk.callers;
     reserved = record { many = r.many; rows = r.rows; size = r.size; horizon = r.horizon; current = r.current; cells = r.cells };
     changes = m.desk.changes;
+    quiets = m.desk.quiets;
     distances = m.desk.distances;
     sixteen = m.desk.sixteen;
     calls = m.desk.calls;
@@ -46,6 +47,7 @@ serves_in h s w = record {
   managed = managed_in s.layout s.vehicles h _ s.desk w.managed;
   place = w.place;
   changed = w.changed;
+  quieted = w.quieted;
   timeline = w.timeline;
   known = w.known;
   spans = w.spans;
@@ -95,6 +97,7 @@ full_in : (K L : Type 0) (l : Line) (s : IdleServer) → IsFull l (server_joined
 full_in K L (line.Event vehicle moment message) s full = full
 full_in K L (line.SwitchTo moment name) s full = full
 full_in K L (line.StopAt moment) s full = full
+full_in K L (line.QuietAt moment lane until) s full = full
 full_in K L l s full = absurd full
 
 -- a line comes to the same

@@ -52,11 +52,13 @@ served_message h e old new w below same managed timeline known spans sheets =
     let kept : new.pool.count + kept_below old.vehicles (h ++ e ∷ []) ≡ old.vehicles + 2 = omega (arith, sheets, before, after, moved, all) in
     let pushed : changes (h ++ e ∷ []) ≡ changes h = sym m.desk.changes ∙ ap (λ (t : Changes). t.pushed) timeline ∙ w.managed.desk.changes in
     let changed = w.changed in
+    let quieted = w.quieted in
     let place = w.place in
     record {
       managed = rw (layout, vehicles) m;
       place = omega (arith, ap (λ s. s.entries) same, length-append h (e ∷ []), place);
       changed = omega (arith, ap (λ s. s.orders) same, ap length pushed, changed);
+      quieted = omega (arith, ap (λ s. s.orders) same, ap (λ (t : Changes). length t.quiets) timeline, quieted);
       timeline = ap (λ (t : Changes). t.room) timeline ∙ w.timeline;
       known = rw layout known;
       spans = rw layout (spans ∙ w.spans);
@@ -67,8 +69,8 @@ served_message h e old new w below same managed timeline known spans sheets =
 pub served_order : {L : Type 0} (h : List Entry) (e : Entry) (old new : DeskServer L) → Serves h old → e.caller ≡ OPERATOR
     → new ≡ record old { desk = new.desk; entries = old.entries + 1; orders = old.orders + 1 }
     → IsManaged old.layout old.vehicles (h ++ e ∷ []) (now_of (h ++ e ∷ []) 0) new.desk → new.desk.timeline.room ≡ old.desk.timeline.room
-    → Serves (h ++ e ∷ []) new
-served_order h e old new w operator same managed timeline =
+    → length new.desk.timeline.quiets ≤ length old.desk.timeline.quiets + 1 → Serves (h ++ e ∷ []) new
+served_order h e old new w operator same managed timeline one =
     let layout : new.layout ≡ old.layout = ap (λ s. s.layout) same in
     let vehicles : new.vehicles ≡ old.vehicles = ap (λ s. s.vehicles) same in
     let pool : new.pool ≡ old.pool = ap (λ s. s.pool) same in
@@ -76,17 +78,21 @@ served_order h e old new w operator same managed timeline =
     let others : kept_below old.vehicles (h ++ e ∷ []) ≡ kept_below old.vehicles h = kept_by_others old.vehicles h e (omega (arith, few, operator)) in
     let all = w.sheets in
     let changed = w.changed in
+    let quieted = w.quieted in
     let place = w.place in
     record {
       managed = rw (layout, vehicles) managed;
       place = omega (arith, ap (λ s. s.entries) same, length-append h (e ∷ []), place);
       changed = omega (arith, ap (λ s. s.orders) same, changed_more h e, changed);
+      quieted = omega (arith, ap (λ s. s.orders) same, one, quieted);
       timeline = timeline ∙ w.timeline;
       known = rw (layout, ap (λ s. s.shapes) same) w.known;
       spans = rw (layout, pool) w.spans;
       sheets = rw (vehicles, pool, others) all;
     }
 
--- there is room for a further change
-pub room_left : {L : Type 0} (h : List Entry) (s : DeskServer L) → Serves h s → s.orders < MOST_ENTRIES → length s.desk.timeline.pushed < s.desk.timeline.room
-room_left h s w below = let changed = w.changed in let room = w.timeline in omega (arith, ap length w.managed.desk.changes, changed, room)
+-- there is room for a further change, and for a further quiet
+pub room_left : {L : Type 0} (h : List Entry) (s : DeskServer L) → Serves h s → s.orders < MOST_ENTRIES → (length s.desk.timeline.pushed < s.desk.timeline.room) × (length s.desk.timeline.quiets < s.desk.timeline.room)
+room_left h s w below =
+    let changed = w.changed in let quieted = w.quieted in let room = w.timeline in
+    (omega (arith, ap length w.managed.desk.changes, changed, room, below), omega (arith, quieted, room, below))

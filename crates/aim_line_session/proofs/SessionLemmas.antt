@@ -14,13 +14,15 @@ use Rattle.aim_messages.specs.declared.entries.Entry.{Entry}
 use Rattle.aim_messages.specs.declared.entries.Order.{Order}
 use Rattle.aim_messages.specs.declared.entries.Order.TheVariants as order
 use Rattle.aim_messages.specs.declared.entries.Act.TheVariants as act
-use Rattle.aim_messages.specs.declared.entries.TheConstants.{LATEST_MOMENT}
+use Rattle.aim_messages.specs.declared.entries.TheConstants.{LATEST_MOMENT, OPERATOR}
+use Rattle.aim_layout.specs.Intersection.{Intersection}
 use Rattle.aim_rules.specs.Journals.{Call, journal, entry_of}
+use Rattle.aim_rules.specs.Legal.{IsOfLayout}
 use Rattle.aim_script.specs.declared.decisions.Kind.{Kind}
 use Rattle.aim_script.specs.declared.decisions.Kind.TheVariants as why
 use Rattle.aim_script.specs.declared.settings.Setting.{Setting}
 use Rattle.aim_script.specs.Order.{part_after, is_end, in_body, nothing, belongs}
-use Rattle.aim_script.specs.Said.{version_in, name_in, names_of, number_of, layout_of, vehicles_in, call_in, calls_of, last_of}
+use Rattle.aim_script.specs.Said.{version_after, version_in, name_in, names_of, number_of, layout_of, vehicles_in, call_in, calls_of, last_of}
 use Rattle.aim_script.specs.Kinds.{kind_of_fault, limit_of}
 use Rattle.aim_script.specs.Verdicts.{bad, of_read}
 use Rattle.aim_script_reading.specs.Verdicts.{decides, goes_on}
@@ -170,7 +172,7 @@ quiet_says : {L : Type 0} (before : List Line) (s : Progress L) (at lane until :
 quiet_says before s at lane until going st = quiet_kind before at lane until (body_of before s st going) ∙ rw (st.played.version, st.played.layout) refl
 
 -- the version is the fourth at least, and the lane is there
-pub quiet_of_layout : (version lanes at lane : ℕ) → quiet_fault version lanes at lane ≡ None → (4 ≤ version) × (lane < lanes) × (at ≤ LATEST_MOMENT)
+quiet_of_layout : (version lanes at lane : ℕ) → quiet_fault version lanes at lane ≡ None → (4 ≤ version) × (lane < lanes) × (at ≤ LATEST_MOMENT)
 quiet_of_layout version lanes at lane none = go (nat_lt version 4) refl (nat_le lanes lane) refl (nat_lt LATEST_MOMENT at) refl none
   where
     go : (a : Bool) → nat_lt version 4 ≡ a → (b : Bool) → nat_le lanes lane ≡ b → (c : Bool) → nat_lt LATEST_MOMENT at ≡ c
@@ -179,6 +181,17 @@ quiet_of_layout version lanes at lane none = go (nat_lt version 4) refl (nat_le 
     go false x true y c z is = absurd (cc)
     go false x false y true z is = absurd (cc)
     go false x false y false z is = (grind (arith, nat_tests), grind (arith, nat_tests), grind (arith, nat_tests))
+
+version_said : (lines : List Line) → (layout_of lines).version ≡ version_after lines
+unfolding layout_of
+version_said lines = refl
+
+pub quiet_allowed : {L : Type 0} (before : List Line) (s : Progress L) (at lane until : ℕ) → quiet_fault (version_number s.version) (length s.server.layout.lanes) at lane ≡ None → Stands before s
+    → IsOfLayout s.server.layout s.server.vehicles OPERATOR (act.Order (order.Quiet lane until))
+quiet_allowed before s at lane until none st =
+    let is = quiet_of_layout (version_number s.version) (length s.server.layout.lanes) at lane none in
+    let version : s.server.layout.version ≡ version_number s.version = ap (λ (i : Intersection). i.version) (sym st.played.layout) ∙ version_said before ∙ st.played.version in
+    (rw version is.0, is.1)
 
 pub quiet_came : {L : Type 0} (before : List Line) (s new : Progress L) (at lane until : ℕ) (r : Result (Option Answered) Untaken) → s.ended ≡ false
     → quiet_fault (version_number s.version) (length s.server.layout.lanes) at lane ≡ None → Stands before s → IsOrdered before at (order.Quiet lane until) s new r

@@ -24,6 +24,7 @@ pub record Serves {L : Type 0} (h : List Entry) (s : DeskServer L) : Type 0 wher
   pub managed : IsManaged s.layout s.vehicles h (now_of h 0) s.desk
   pub place : s.entries ≡ length h
   pub changed : length (changes h) ≤ s.orders
+  pub quieted : length s.desk.timeline.quiets ≤ s.orders
   pub timeline : s.desk.timeline.room ≡ MOST_ENTRIES
   pub known : ArePreparedFor s.layout s.shapes
   pub spans : s.pool.room ≡ s.layout.grid.spans

@@ -11,6 +11,7 @@ returns-clause-serves g c =
       managed = c.in_ok-desk.ensures.managed;
       place = refl;
       changed = omega arith;
+      quieted = c.in_ok-desk.ensures.managed.desk.quiets.few;
       timeline = c.in_ok-desk.ensures.timeline;
       known = c.in_ok-shapes.ensures;
       spans = ap (λ (p : Stock). p.room) c.in_ok-pool.ensures ∙ spans;
